@@ -1,0 +1,4 @@
+pub mod Bytes
+pub mod HostName
+pub mod Name
+pub mod Quad
