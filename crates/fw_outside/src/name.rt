@@ -31,7 +31,7 @@ pub fn is_name_byte(byte: u8) -> bool
     byte.is_ascii_alphanumeric() || byte == b'.' || byte == b'-' || byte == b'_'
 }
 
-fn all_name_bytes(text: &[u8]) -> bool
+pub(crate) fn all_name_bytes(text: &[u8]) -> bool
     ensures { result ≡ list_all is_name_byte text.now }
 {
     text.iter().all(|byte| is_name_byte(*byte))
@@ -51,7 +51,9 @@ impl Name {
         if !is_name(text) {
             return None;
         }
-        Some(Name { text: copy_of(text) })
+        Some(Name {
+            text: copy_of(text),
+        })
     }
 
     /// Its bytes.

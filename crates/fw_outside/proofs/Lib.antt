@@ -1,0 +1,2 @@
+pub mod HostNameLemmas
+pub mod QuadLemmas
