@@ -1,2 +1,3 @@
 pub mod HostNameLemmas
 pub mod QuadLemmas
+pub mod TankLemmas

@@ -1,6 +1,15 @@
 pub mod Bytes
+pub mod Cabinet
+pub mod Counts
+pub mod Drain
 pub mod Host
 pub mod HostName
 pub mod Name
 pub mod Peer
+pub mod Plan
 pub mod Quad
+pub mod Shelf
+pub mod Spring
+pub mod Supply
+pub mod Tank
+pub mod Telling

@@ -1,0 +1,3 @@
+/// A device failed, and has counted it.
+#[derive(Clone, Copy, Debug, PartialEq, Eq)]
+pub struct Failed;

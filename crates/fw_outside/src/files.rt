@@ -1,0 +1,21 @@
+ghost use Rattle.std.specs.Prelude.{IfSome, IfNone};
+ghost use Rattle.fw_outside.specs.Cabinet.{Cabinet, Opens, Misses, TakesBack};
+
+use crate::Source;
+
+/// Files by name, each of which can be read from its beginning.
+pub trait Files: Drop {
+    type Src: Source;
+
+    /// The names with their bytes, and the counts.
+    ghost cabinet: { Self → Cabinet };
+
+    /// A new source of the bytes under a name, or nothing where there is none to be had.
+    fn source(&mut self, name: &[u8]) -> Option<Self::Src>
+        ensures found { IfSome result (λ source. Opens name.now (Self.Src.spring source) (cabinet self.old) (cabinet self.new)) }
+        ensures missing { IfNone result (Misses (cabinet self.old) (cabinet self.new)) };
+
+    /// Takes a source back, and counts it where it had failed or been idle.
+    fn back(&mut self, source: Self::Src)
+        ensures { TakesBack (Self.Src.spring source) (cabinet self.old) (cabinet self.new) };
+}
