@@ -37,6 +37,15 @@ pub fn append_decimal<const N: usize>(out: &mut ArrayVec<u8, N>, number: u64)
     append(out, buffer.format(number).as_bytes());
 }
 
+/// Appends a number of 32 bits, which has at most ten digits, to a buffer with room for so many.
+pub fn append_u32<const N: usize>(out: &mut ArrayVec<u8, N>, number: u32)
+    requires { array_vec_len out.old + 10 ≤ N }
+    ensures items { out.new.items ≡ out.old.items ++ decimal number }
+    ensures room { array_vec_len out.new ≤ array_vec_len out.old + 10 }
+{
+    append_decimal(out, u64::from(number));
+}
+
 /// A buffer with these bytes, which fit.
 pub fn copy_of<const N: usize>(bytes: &[u8]) -> ArrayVec<u8, N>
     requires { length bytes.now ≤ N }

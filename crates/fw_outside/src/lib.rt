@@ -19,7 +19,7 @@ mod quad;
 mod sink;
 mod source;
 
-pub use bytes::{append, append_byte, append_decimal, copy_of, lower_copy_of};
+pub use bytes::{append, append_byte, append_decimal, append_u32, copy_of, lower_copy_of};
 pub use calls::Calls;
 pub use failed::Failed;
 pub use files::Files;

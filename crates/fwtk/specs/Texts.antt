@@ -1,0 +1,31 @@
+-- The lines that a run writes to the log and prints.
+use Rattle.std.specs.Prelude.{ℕ, List, [], ◌∷◌, ◌++◌, flat_map, codes}
+use Rattle.std.specs.Fmt.{decimal}
+use Rattle.fw_outside.specs.Peer.{peer_text}
+use Rattle.fw_outside.specs.declared.peer.Peer.{Peer}
+use Rattle.gate_rules.specs.Service.{service_text}
+use Rattle.gate_rules.specs.declared.service.Service.{Service}
+use Rattle.gate_rules.specs.declared.verdict.Verdict.{Verdict}
+use Rattle.gate_rules.specs.declared.verdict.Verdict.TheVariants.{Permit, Deny}
+
+-- `permit` or `deny`, and the number of a verdict's line
+abbrev pub verdict_word : Verdict → List ℕ
+verdict_word (Permit line) = codes "permit"
+verdict_word (Deny line) = codes "deny"
+
+abbrev pub verdict_line : Verdict → ℕ
+verdict_line (Permit line) = line
+verdict_line (Deny line) = line
+
+-- the log's line of a verdict: `permit SERVICE PEER line N`
+abbrev pub decision_text : Verdict → Service → Peer → List ℕ
+decision_text verdict service peer = verdict_word verdict ++ codes " " ++ service_text service ++ codes " " ++ peer_text peer ++ codes " line " ++ decimal (verdict_line verdict) ++ codes "\n"
+
+-- the program of a permit line with its words, where it has one: `exec WORD WORD`
+abbrev pub exec_text : List (List ℕ) → List ℕ
+exec_text [] = []
+exec_text (word ∷ words) = codes "exec" ++ flat_map (λ w. 32 ∷ w) (word ∷ words) ++ codes "\n"
+
+-- what is printed of a verdict: `permit line N`, and the program's line
+abbrev pub print_text : Verdict → List (List ℕ) → List ℕ
+print_text verdict exec = verdict_word verdict ++ codes " line " ++ decimal (verdict_line verdict) ++ codes "\n" ++ exec_text exec
