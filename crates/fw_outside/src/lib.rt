@@ -1,4 +1,15 @@
-//! What the firewall's programs meet outside themselves.
+//! What the firewall's programs meet outside themselves: bytes that come, bytes that go, files, and the plain types that
+//! all of them speak of.
+//!
+//! Each kind of device is a trait with one ghost member, a plain record that says what the device means: what was taken
+//! from it and is left, what was given to it, and how often it failed. Each method has a clause that says what its answer
+//! does to that record. A device may tell what it holds or not; the clauses on counts hold in any case, and those on
+//! contents where it tells. Only a device itself can raise its counts, so a fault that a program reports has its cause in
+//! one of them.
+//!
+//! The versions in memory ([`MemSource`], [`MemSink`], [`MemFiles`]) tell all, and fail exactly at the calls that they
+//! are told. The plain types are read exactly: [`Host::read`], [`HostName::read`], [`Name::read`] and [`read_quad`] give a
+//! value exactly for the texts that they say, and what is written is that text again.
 #![tactic(auto)]
 
 mod bytes;
@@ -36,3 +47,6 @@ pub use peer::Peer;
 pub use quad::{dotted_quad, read_quad};
 pub use sink::Sink;
 pub use source::{Got, Source};
+
+#[cfg(test)]
+mod tests;
