@@ -1,0 +1,4 @@
+pub mod Glob
+pub mod Party
+pub mod Pattern
+pub mod PatternList

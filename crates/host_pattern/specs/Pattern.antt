@@ -1,0 +1,41 @@
+-- How a pattern is written: an optional `!`, and a body. `!` is the byte 33, `*` is 42.
+use Rattle.std.specs.Prelude.{ℕ, List, [], ◌∷◌, length, position, Bool, true, false, not, ◌&&◌, ◌||◌, ◌==◌, nat_lt, nat_le, if◌then◌else◌, Option, Some, None, Result, Ok, Err}
+use Rattle.std.specs.List.{list_all}
+use Rattle.fw_outside.specs.Bytes.{is_name_byte}
+use Rattle.host_pattern.specs.declared.fault.PatternFault.{PatternFault}
+use Rattle.host_pattern.specs.declared.fault.PatternFault.TheVariants.{Empty, TooLong, BadByte}
+
+-- a pattern as it is written: whether it begins with `!`, and the rest
+pub record Written : Type 0 where
+  pub negated : Bool
+  pub body : List ℕ
+
+-- a letter, a digit, a period, a dash, an underscore or a star
+abbrev pub is_body_byte : ℕ → Bool
+is_body_byte b = is_name_byte b || b == 42
+
+-- 1 to 255 of them
+abbrev pub is_body : List ℕ → Bool
+is_body body = nat_lt 0 (length body) && nat_le (length body) 255 && list_all is_body_byte body
+
+abbrev pub begins_negated : List ℕ → Bool
+begins_negated [] = false
+begins_negated (b ∷ rest) = b == 33
+
+abbrev pub body_of : List ℕ → List ℕ
+body_of [] = []
+body_of (b ∷ rest) = if b == 33 then rest else b ∷ rest
+
+abbrev pub unless_bad : Option ℕ → Written → Result Written PatternFault
+unless_bad None pattern = Ok pattern
+unless_bad (Some at) pattern = Err (BadByte at)
+
+abbrev pub with_body : Bool → List ℕ → Result Written PatternFault
+with_body negated body =
+    if length body == 0 then Err Empty
+    else if nat_lt 255 (length body) then Err TooLong
+    else unless_bad (position (λ b. not (is_body_byte b)) body) (record { negated = negated; body = body })
+
+-- the pattern that a text is, or what is wrong with its body
+unfoldable pub parsed : List ℕ → Result Written PatternFault
+parsed text = with_body (begins_negated text) (body_of text)

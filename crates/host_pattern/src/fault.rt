@@ -1,0 +1,53 @@
+//! What may be wrong with a pattern, and with a list of them.
+ghost use Rattle.std.specs.Prelude.{◌≡◌};
+ghost use Rattle.host_pattern.specs.declared.fault.ListFault.TheVariants.{NoMemory};
+
+use std::alloc::{AllocError, AllocFailed};
+use thiserror::Error;
+
+/// Why a text is no pattern: the first of these that applies. The body is the text without a leading `!`.
+#[derive(Clone, Copy, Debug, PartialEq, Eq, Error)]
+pub enum PatternFault {
+    /// The body is empty.
+    #[error("empty pattern")]
+    Empty,
+    /// The body is longer than 255 bytes.
+    #[error("pattern longer than 255 bytes")]
+    TooLong,
+    /// The body's byte at this place, counted from 0, is the first that may not stand there.
+    #[error("byte {at} of the pattern may not stand there")]
+    BadByte { at: usize },
+}
+
+/// Why words are no list of patterns: the first of these that applies, or want of memory.
+#[derive(Clone, Copy, Debug, PartialEq, Eq, Error)]
+pub enum ListFault {
+    /// There are no words.
+    #[error("no patterns")]
+    None,
+    /// There are more than 64 words.
+    #[error("more than 64 patterns")]
+    TooMany,
+    /// The word at this place, counted from 0, is the first that is no pattern.
+    #[error("pattern {at}: {why}")]
+    Bad { at: usize, why: PatternFault },
+    /// There was no memory for the list.
+    #[error("out of memory")]
+    NoMemory,
+}
+
+impl From<AllocError> for ListFault {
+    ghost from_gives = { λ _ e. e ≡ NoMemory };
+
+    fn from(_: AllocError) -> ListFault {
+        ListFault::NoMemory
+    }
+}
+
+impl<T: Drop> From<AllocFailed<T>> for ListFault {
+    ghost from_gives = { λ _ e. e ≡ NoMemory };
+
+    fn from(_: AllocFailed<T>) -> ListFault {
+        ListFault::NoMemory
+    }
+}

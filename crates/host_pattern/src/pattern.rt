@@ -1,0 +1,107 @@
+ghost use Rattle.std.specs.Prelude.{◌≡◌, ◌+◌, IsTrue};
+ghost use Rattle.host_pattern.specs.Pattern.{is_body_byte, is_body, with_body, parsed};
+ghost use Rattle.host_pattern.specs.Party.{body_matches};
+
+use crate::fault::PatternFault;
+use crate::party::body_matches;
+use crate::steps::Steps;
+use arrayvec::ArrayVec;
+use fw_outside::{Peer, copy_of, is_name_byte};
+use std::marker::Model;
+use std::sync::ledger::Ledger;
+
+const LONGEST: usize = 255;
+
+/// A pattern for hosts, as it was written: an optional `!`, and a body of 1 to 255 letters, digits, `.`, `-`, `_` and `*`.
+#[derive(Drop)]
+pub struct Pattern {
+    negated: bool,
+    body: ArrayVec<u8, 255>,
+}
+
+impl Model for Pattern {
+    ghost use Rattle.std.specs.Prelude.{IsTrue};
+    ghost use Rattle.host_pattern.specs.Pattern.{Written, is_body};
+
+    ghost Value = { Written };
+
+    ghost view = { λ pattern. record { negated = pattern.negated; body = pattern.body.items } };
+
+    ghost invariant = { λ pattern. IsTrue (is_body pattern.body.items) };
+}
+
+fn is_body_byte(byte: u8) -> bool
+    ensures { result ≡ is_body_byte byte }
+{
+    is_name_byte(byte) || byte == b'*'
+}
+
+impl Pattern {
+    /// The pattern that a text is.
+    ///
+    /// # Errors
+    ///
+    /// The first that applies: `Empty` where nothing but perhaps a leading `!` stands, `TooLong` where more than 255 bytes
+    /// follow, `BadByte` at the first that is no letter, digit, `.`, `-`, `_` or `*`.
+    #[tactic(auto, unfolding(crate::specs::Pattern::parsed))]
+    pub fn parse(text: &[u8]) -> Result<Pattern, PatternFault>
+        ensures { result ≡ parsed text.now }
+    {
+        match text {
+            [b'!', body @ ..] => Pattern::with_body(true, body),
+            _ => Pattern::with_body(false, text),
+        }
+    }
+
+    fn with_body(negated: bool, body: &[u8]) -> Result<Pattern, PatternFault>
+        ensures { result ≡ with_body negated body.now }
+    {
+        if body.is_empty() {
+            return Err(PatternFault::Empty);
+        }
+        if body.len() > LONGEST {
+            return Err(PatternFault::TooLong);
+        }
+        match body.iter().position(|byte| !is_body_byte(*byte)) {
+            Some(at) => Err(PatternFault::BadByte { at }),
+            None => Ok(Pattern {
+                negated,
+                body: copy_of(body),
+            }),
+        }
+    }
+
+    /// Whether it begins with `!`.
+    pub fn negated(&self) -> bool
+        ensures { result ≡ self.now.negated }
+    {
+        self.negated
+    }
+
+    /// What follows the `!`, in the case in which it was written.
+    pub fn body(&self) -> &[u8]
+        ensures body { result.now ≡ self.now.body }
+        ensures form { IsTrue (is_body self.now.body) }
+    {
+        self.body.as_slice()
+    }
+
+    /// An equal pattern.
+    pub fn twin(&self) -> Pattern
+        ensures { result ≡ self.now }
+    {
+        Pattern {
+            negated: self.negated,
+            body: copy_of(self.body.as_slice()),
+        }
+    }
+
+    /// Whether the body matches the party, whether or not the pattern begins with `!`. It is one step.
+    pub fn matches<L: Ledger>(&self, party: &Peer, steps: &mut Steps<L>) -> bool
+        ensures answer { result ≡ body_matches self.now.body party.now }
+        ensures one_step { steps.new ≡ steps.old + 1 }
+    {
+        steps.tick();
+        body_matches(self.body.as_slice(), party)
+    }
+}
