@@ -1,1 +1,4 @@
+pub mod ListLemmas
+pub mod PartyLemmas
+pub mod PatternLemmas
 pub mod WalkLemmas

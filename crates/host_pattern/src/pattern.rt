@@ -1,4 +1,4 @@
-ghost use Rattle.std.specs.Prelude.{◌≡◌, ◌+◌, IsTrue};
+ghost use Rattle.std.specs.Prelude.{◌≡◌, ◌+◌, not, position, IsTrue};
 ghost use Rattle.host_pattern.specs.Pattern.{is_body_byte, is_body, with_body, parsed};
 ghost use Rattle.host_pattern.specs.Party.{body_matches};
 
@@ -36,6 +36,13 @@ fn is_body_byte(byte: u8) -> bool
     is_name_byte(byte) || byte == b'*'
 }
 
+/// The place of the first byte that may not stand in a body.
+fn bad_place(body: &[u8]) -> Option<usize>
+    ensures { result ≡ position (λ b. not (is_body_byte b)) body.now }
+{
+    body.iter().position(|byte| !is_body_byte(*byte))
+}
+
 impl Pattern {
     /// The pattern that a text is.
     ///
@@ -62,7 +69,7 @@ impl Pattern {
         if body.len() > LONGEST {
             return Err(PatternFault::TooLong);
         }
-        match body.iter().position(|byte| !is_body_byte(*byte)) {
+        match bad_place(body) {
             Some(at) => Err(PatternFault::BadByte { at }),
             None => Ok(Pattern {
                 negated,
