@@ -1,5 +1,6 @@
 -- Which texts a pattern stands for. A star is the byte 42.
-use Rattle.std.specs.Prelude.{ℕ, List, [], ◌∷◌, Bool, true, false, ◌||◌, ◌&&◌, ◌==◌, if◌then◌else◌}
+use Rattle.std.specs.Prelude.{ℕ, List, [], ◌∷◌, Bool, true, false, ◌||◌, ◌&&◌, ◌==◌, not, if◌then◌else◌}
+use Rattle.std.specs.List.{list_all}
 
 -- whether the test holds of some suffix of a text: of the whole, of what is left without its first byte, .., of the empty one
 abbrev pub some_suffix : (List ℕ → Bool) → List ℕ → Bool
@@ -20,3 +21,7 @@ is_nothing (c ∷ t) = false
 unfoldable pub glob : List ℕ → List ℕ → Bool
 glob [] t = is_nothing t
 glob (c ∷ rest) t = if c == 42 then some_suffix (glob rest) t else begins_then c (glob rest) t
+
+-- without a star
+abbrev pub is_plain : List ℕ → Bool
+is_plain p = list_all (λ b. not (b == 42)) p

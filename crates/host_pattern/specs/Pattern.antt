@@ -39,3 +39,7 @@ with_body negated body =
 -- the pattern that a text is, or what is wrong with its body
 unfoldable pub parsed : List ℕ → Result Written PatternFault
 parsed text = with_body (begins_negated text) (body_of text)
+
+-- the text of a pattern
+abbrev pub written : Written → List ℕ
+written pattern = if pattern.negated then 33 ∷ pattern.body else pattern.body

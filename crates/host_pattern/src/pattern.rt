@@ -1,12 +1,12 @@
 ghost use Rattle.std.specs.Prelude.{◌≡◌, ◌+◌, not, position, IsTrue};
-ghost use Rattle.host_pattern.specs.Pattern.{is_body_byte, is_body, with_body, parsed};
+ghost use Rattle.host_pattern.specs.Pattern.{is_body_byte, is_body, with_body, parsed, written};
 ghost use Rattle.host_pattern.specs.Party.{body_matches};
 
 use crate::fault::PatternFault;
 use crate::party::body_matches;
 use crate::steps::Steps;
 use arrayvec::ArrayVec;
-use fw_outside::{Peer, copy_of, is_name_byte};
+use fw_outside::{Peer, append, copy_of, is_name_byte};
 use std::marker::Model;
 use std::sync::ledger::Ledger;
 
@@ -91,6 +91,17 @@ impl Pattern {
         ensures form { IsTrue (is_body self.now.body) }
     {
         self.body.as_slice()
+    }
+
+    /// Sets `out` to its text, as it was written.
+    pub fn write(&self, out: &mut ArrayVec<u8, 256>)
+        ensures { out.new.items ≡ written self.now }
+    {
+        out.clear();
+        if self.negated {
+            out.push(b'!');
+        }
+        append(out, self.body());
     }
 
     /// An equal pattern.
