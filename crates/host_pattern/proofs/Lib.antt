@@ -1,3 +1,4 @@
+pub mod Examples
 pub mod GlobLaws
 pub mod ListLemmas
 pub mod PartyLaws

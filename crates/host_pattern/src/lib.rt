@@ -15,3 +15,6 @@ pub use list::PatternList;
 pub use pattern::Pattern;
 pub use steps::Steps;
 pub use word::Word;
+
+#[cfg(test)]
+mod tests;

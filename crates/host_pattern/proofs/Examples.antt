@@ -1,0 +1,75 @@
+-- The definitions, computed.
+use Rattle.std.proofs.Common.{◌≡◌, ℕ, List, [], ◌∷◌, Bool, true, false, Option, Some, None, Result, Ok, Err, refl}
+use Rattle.std.specs.Prelude.{codes}
+use Rattle.fw_outside.specs.declared.peer.Peer.{Peer}
+use Rattle.host_pattern.specs.declared.fault.PatternFault.TheVariants.{Empty, BadByte}
+use Rattle.host_pattern.specs.declared.fault.ListFault.TheVariants as fault
+use Rattle.host_pattern.specs.Glob.{glob}
+use Rattle.host_pattern.specs.Party.{body_matches}
+use Rattle.host_pattern.specs.Pattern.{Written, parsed}
+use Rattle.host_pattern.specs.PatternList.{list_matches, patterns_tested, list_parsed}
+
+empty_run : glob (codes "a*b") (codes "ab") ≡ true
+unfolding glob
+empty_run = refl
+
+goes_back : glob (codes "*a*ab") (codes "xaaab") ≡ true
+unfolding glob
+goes_back = refl
+
+ends_early : glob (codes "a*b") (codes "abc") ≡ false
+unfolding glob
+ends_early = refl
+
+two_stars : glob (codes "**") [] ≡ true
+unfolding glob
+two_stars = refl
+
+abbrev by_address : Peer
+by_address = record { addr = Some (192 ∷ 33 ∷ 112 ∷ 7 ∷ []); name = None }
+
+abbrev by_both : Peer
+by_both = record { addr = Some (192 ∷ 33 ∷ 112 ∷ 7 ∷ []); name = Some (codes "relay.tis.com") }
+
+nameless_is_unknown : body_matches (codes "UnKnown") by_address ≡ true
+unfolding body_matches
+nameless_is_unknown = refl
+
+nameless_has_no_domain : body_matches (codes "*.tis.com") by_address ≡ false
+unfolding body_matches
+nameless_has_no_domain = refl
+
+upper_case_matches : body_matches (codes "*.TIS.com") by_both ≡ true
+unfolding body_matches glob
+upper_case_matches = refl
+
+subnet : body_matches (codes "192.33.112.*") by_address ≡ true
+unfolding body_matches glob
+subnet = refl
+
+abbrev not_this_one : List Written
+not_this_one = record { negated = true; body = codes "192.33.112.7" } ∷ record { negated = false; body = codes "192.*" } ∷ []
+
+first_decides : list_matches not_this_one by_address ≡ false
+unfolding list_matches body_matches glob
+first_decides = refl
+
+one_test : patterns_tested not_this_one by_address ≡ 1
+unfolding patterns_tested body_matches glob
+one_test = refl
+
+no_body : parsed (codes "!") ≡ Err Empty
+unfolding parsed
+no_body = refl
+
+second_mark : parsed (codes "!!a") ≡ Err (BadByte 0)
+unfolding parsed
+second_mark = refl
+
+kept_case : parsed (codes "!A.b") ≡ Ok record { negated = true; body = codes "A.b" }
+unfolding parsed
+kept_case = refl
+
+bad_word : list_parsed (record { text = codes "a"; quoted = false } ∷ record { text = codes "b c"; quoted = true } ∷ []) ≡ Err (fault.Bad 1 (BadByte 1))
+unfolding list_parsed parsed
+bad_word = refl
