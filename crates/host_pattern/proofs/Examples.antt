@@ -1,5 +1,5 @@
 -- The definitions, computed.
-use Rattle.std.proofs.Common.{◌≡◌, ℕ, List, [], ◌∷◌, Bool, true, false, Option, Some, None, Result, Ok, Err, refl}
+use Rattle.std.proofs.Common.{◌≡◌, List, [], ◌∷◌, true, false, Some, None, Ok, Err, refl}
 use Rattle.std.specs.Prelude.{codes}
 use Rattle.fw_outside.specs.declared.peer.Peer.{Peer}
 use Rattle.host_pattern.specs.declared.fault.PatternFault.TheVariants.{Empty, BadByte}
@@ -43,20 +43,28 @@ upper_case_matches : body_matches (codes "*.TIS.com") by_both ≡ true
 unfolding body_matches glob
 upper_case_matches = refl
 
-subnet : body_matches (codes "192.33.112.*") by_address ≡ true
-unfolding body_matches glob
+subnet : glob (codes "192.33.112.*") (codes "192.33.112.7") ≡ true
+unfolding glob
 subnet = refl
 
+name_is_no_address : body_matches (codes "1*") record { addr = None; name = Some (codes "1host") } ≡ false
+unfolding body_matches
+name_is_no_address = refl
+
 abbrev not_this_one : List Written
-not_this_one = record { negated = true; body = codes "192.33.112.7" } ∷ record { negated = false; body = codes "192.*" } ∷ []
+not_this_one = record { negated = true; body = codes "mail.*" } ∷ record { negated = true; body = codes "relay.*" } ∷ record { negated = false; body = codes "*.tis.com" } ∷ []
 
-first_decides : list_matches not_this_one by_address ≡ false
+second_decides : list_matches not_this_one by_both ≡ false
 unfolding list_matches body_matches glob
-first_decides = refl
+second_decides = refl
 
-one_test : patterns_tested not_this_one by_address ≡ 1
+two_tests : patterns_tested not_this_one by_both ≡ 2
 unfolding patterns_tested body_matches glob
-one_test = refl
+two_tests = refl
+
+none_decides : list_matches not_this_one by_address ≡ false
+unfolding list_matches body_matches glob
+none_decides = refl
 
 no_body : parsed (codes "!") ≡ Err Empty
 unfolding parsed

@@ -1,11 +1,11 @@
 -- What patterns with one star, or none, stand for.
-use Rattle.std.proofs.Common.{◌≡◌, ℕ, ◌-◌, ◌<◌, ◌≤◌, suc, List, [], ◌∷◌, ◌++◌, length, drop, Bool, true, false, not, ◌&&◌, ◌||◌, ◌==◌, nat_eq, IsTrue, refl, sym, ◌∙◌, ap, arith, inl, inr}
+use Rattle.std.proofs.Common.{◌≡◌, ℕ, ◌-◌, suc, List, [], ◌∷◌, ◌++◌, length, Bool, true, false, ◌||◌, ◌==◌, nat_eq, IsTrue, refl, sym, ◌∙◌, ap, arith, inl, inr}
 use Rattle.std.proofs.lemmas.List.{drop_all}
 use Rattle.std.proofs.lemmas.Bool.{and_parts, not-true, false_from_ne_true, cases_lt}
-use Rattle.std.specs.List.{list_all, starts_with, ends_with}
+use Rattle.std.specs.List.{starts_with, ends_with}
 use Rattle.std.specs.Str.{bytes_eq}
-use lib.Pointwise.{pointwise, pointwise_long}
-use Rattle.host_pattern.specs.Glob.{glob, some_suffix, begins_then, is_nothing, is_plain}
+use lib.Pointwise.{pointwise_long}
+use Rattle.host_pattern.specs.Glob.{glob, some_suffix, is_nothing, is_plain}
 
 pub plain : (p t : List ℕ) → IsTrue (is_plain p) → glob p t ≡ bytes_eq p t
 unfolding glob
@@ -40,7 +40,7 @@ or_nothing false = refl
 ends : (p t : List ℕ) → IsTrue (is_plain p) → some_suffix (glob p) t ≡ ends_with nat_eq t p
 ends p [] h = plain p [] h ∙ ap (λ s. bytes_eq p s) (sym (drop_all (0 - length p) [] (omega arith)))
 ends p (c ∷ t) h = elim (cases_lt (length t) (length p)) [
-    inl short ↦ (
+  | inl short ↦ (
       let whole : suc (length t) - length p ≡ 0 = omega arith in
       let none : length t - length p ≡ 0 = omega arith in
       let rest : some_suffix (glob p) t ≡ false = ends p t h ∙ rw none (other_length p t (λ e. omega arith)) in
@@ -49,7 +49,7 @@ ends p (c ∷ t) h = elim (cases_lt (length t) (length p)) [
       let one : suc (length t) - length p ≡ suc (length t - length p) = omega arith in
       let first : glob p (c ∷ t) ≡ false = plain p (c ∷ t) h ∙ other_length p (c ∷ t) (λ e. omega arith) in
       rw (one, first) (ends p t h))
-  ]
+]
 
 pub at_beginning : (p t : List ℕ) → IsTrue (is_plain p) → glob (42 ∷ p) t ≡ ends_with nat_eq t p
 unfolding glob

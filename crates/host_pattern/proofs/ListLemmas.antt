@@ -1,7 +1,6 @@
 -- Lists of patterns, one pattern or word further.
-use Rattle.std.proofs.Common.{◌≡◌, ℕ, ◌+◌, ◌≤◌, ◌<◌, List, [], ◌∷◌, length, drop, min, Bool, true, false, not, refl, sym, ◌∙◌, ap, arith, get_or}
+use Rattle.std.proofs.Common.{◌≡◌, ℕ, ◌+◌, ◌≤◌, ◌<◌, List, ◌∷◌, length, drop, Bool, true, false, not, refl, sym, ◌∙◌, ap, arith, get_or}
 use Rattle.std.proofs.lemmas.List.{drop_more, drop_all}
-use Rattle.std.specs.List.{find, position_or_len}
 use Rattle.fw_outside.specs.declared.peer.Peer.{Peer}
 use Rattle.host_pattern.specs.Pattern.{Written}
 use Rattle.host_pattern.specs.PatternList.{matches, list_matches, patterns_tested}

@@ -1,5 +1,5 @@
 -- The walk of a pattern P and a text T with one point to go back to.
-use Rattle.std.proofs.Common.{◌≡◌, ◌≢◌, ◌⊎◌, ℕ, zero, suc, ◌+◌, ◌-◌, ◌*◌, ◌<◌, ◌≤◌, List, [], ◌∷◌, length, take, drop, Bool, true, false, ◌||◌, ◌&&◌, ◌==◌, Option, Some, None, refl, sym, ◌∙◌, ap, subst, arith, slice_index, inl, inr}
+use Rattle.std.proofs.Common.{◌≡◌, ◌≢◌, ℕ, zero, suc, ◌+◌, ◌-◌, ◌*◌, ◌<◌, ◌≤◌, List, [], ◌∷◌, length, take, drop, Bool, true, false, ◌||◌, ◌&&◌, ◌==◌, Option, Some, None, refl, sym, ◌∙◌, ap, subst, arith, slice_index, inl, inr}
 use Rattle.std.proofs.lemmas.Bool.Decides.{nat_tests}
 use Rattle.std.proofs.Math.Nat.{mul-le-mul_right}
 use Rattle.std.proofs.Math.ListN.{get_or-map}
@@ -8,7 +8,7 @@ use Rattle.std.specs.Str.{str_to_ascii_lowercase}
 use Rattle.std.proofs.lemmas.List.{drop_more, drop_all, drop-drop, length-map, drop-map, take_rest}
 use Rattle.std.proofs.lemmas.Bool.{or_cases, eq-eqb, eqb-true, eqb-false, ne_eqb, or_right, and_parts, both_ways, cases_lt, cases_eq, cases_Bool}
 use Rattle.std.specs.List.{list_all}
-use Rattle.host_pattern.specs.Glob.{glob, some_suffix, begins_then, is_nothing}
+use Rattle.host_pattern.specs.Glob.{glob, some_suffix, begins_then}
 use Rattle.host_pattern.specs.declared.walk.Back.{Back}
 
 -- whether the rest of the pattern behind the last star globs a later suffix of the text
@@ -95,7 +95,7 @@ retry_place P T p t (Some b) le since h =
     let e : b.pattern + n ≡ p = omega arith in
     let passed = glob_passes P n b.pattern (drop r.0 (drop b.text T)) (omega arith) (λ k low high. since.plain k low (omega arith)) r.1 in
     let at : drop n (drop r.0 (drop b.text T)) ≡ drop (t + 1 + r.0) T =
-        rw (drop-drop r.0 b.text T, drop-drop n (b.text + r.0) T) (ap (λ i. drop i T) (omega arith)) in
+    rw (drop-drop r.0 b.text T, drop-drop n (b.text + r.0) T) (ap (λ i. drop i T) (omega arith)) in
     (r.0, rw (← e) (subst (λ S. glob (drop (b.pattern + n) P) S ≡ true) at passed))
 
 -- The steps of the walk
@@ -122,12 +122,12 @@ star_taken P T p t back pl tl star way = record {
       let rest : List ℕ → Bool = glob (drop (p + 1) P) in
       let here : glob (drop p P) (drop t T) ≡ some_suffix rest (drop t T) = glob_star P p (drop t T) pl star in
       let kept : (retry P T back ≡ true) → some_suffix rest (drop t T) ≡ true = λ h.
-          let r = retry_place P T p t back (omega arith) way.star h in
-          let one : some_suffix rest (drop (t + 1 + r.0) T) ≡ true = sym (glob_star P p (drop (t + 1 + r.0) T) pl star) ∙ r.1 in
-          let two = suffix_place rest (drop (t + 1 + r.0) T) one in
-          let e : t + 1 + r.0 + two.0 ≡ t + (1 + r.0 + two.0) = omega arith in
-          suffix_from rest (drop t T) (1 + r.0 + two.0)
-          (rw drop-drop (rw (← e) (rw (← drop-drop two.0 (t + 1 + r.0) T) two.1))) in
+      let r = retry_place P T p t back (omega arith) way.star h in
+      let one : some_suffix rest (drop (t + 1 + r.0) T) ≡ true = sym (glob_star P p (drop (t + 1 + r.0) T) pl star) ∙ r.1 in
+      let two = suffix_place rest (drop (t + 1 + r.0) T) one in
+      let e : t + 1 + r.0 + two.0 ≡ t + (1 + r.0 + two.0) = omega arith in
+      suffix_from rest (drop t T) (1 + r.0 + two.0)
+      (rw drop-drop (rw (← e) (rw (← drop-drop two.0 (t + 1 + r.0) T) two.1))) in
       way.same ∙ ap (λ b. b || retry P T back) here ∙ absorbs _ _ kept ∙ suffix_first rest T t;
   star = record { begun = omega arith; tied = omega arith; plain = λ k low high. absurd (omega arith) };
 }
@@ -139,7 +139,7 @@ both_on P T p t back pl tl ne e way = record {
   at = omega arith;
   same =
       let here : glob (drop p P) (drop t T) ≡ glob (drop (p + 1) P) (drop (t + 1) T) =
-          glob_plain P p (drop t T) pl ne ∙ rw (drop_more T t 0 tl, eq-eqb _ _ e) refl in
+      glob_plain P p (drop t T) pl ne ∙ rw (drop_more T t 0 tl, eq-eqb _ _ e) refl in
       way.same ∙ ap (λ b. b || retry P T back) here;
   star = since_on P p t back ne way.star;
 }
@@ -151,9 +151,9 @@ Differs P T p t = p < length P → (slice_index P p ≢ 42) × (slice_index P p 
 fails_here : (P T : List ℕ) (p t : ℕ) → t < length T → Differs P T p t → glob (drop p P) (drop t T) ≡ false
 unfolding glob
 fails_here P T p t tl differs = elim (cases_lt p (length P)) [
-    inl below ↦ (let d = differs below in glob_plain P p (drop t T) below d.0 ∙ rw (drop_more T t 0 tl, ne_eqb _ _ d.1) refl)
+  | inl below ↦ (let d = differs below in glob_plain P p (drop t T) below d.0 ∙ rw (drop_more T t 0 tl, ne_eqb _ _ d.1) refl)
   | inr above ↦ rw (drop_all p P above, drop_more T t 0 tl) refl
-  ]
+]
 
 -- where it fails, the rest behind the last star is tried one byte further on
 pub back_again : (P T : List ℕ) (p t : ℕ) (b : Back) → t < length T → Differs P T p t → IsOnTheWay P T p t (Some b) → IsOnTheWay P T b.pattern b.text (Some record { pattern = b.pattern; text = b.text + 1 })
@@ -179,8 +179,8 @@ stars_alone (c ∷ P) = elim (cases_Bool (c == 42)) [ inl e ↦ rw e (stars_alon
 pub ends_here : (P T : List ℕ) (p t : ℕ) (back : Option Back) → length T ≤ t → IsOnTheWay P T p t back → list_all (λ c. c == 42) (drop p P) ≡ glob P T
 ends_here P T p t back le way =
     let kept : (retry P T back ≡ true) → glob (drop p P) (drop t T) ≡ true = λ h.
-        let r = retry_place P T p t back way.place way.star h in
-        rw (drop_all t T le) (subst (λ S. glob (drop p P) S ≡ true) (drop_all (t + 1 + r.0) T (omega arith)) r.1) in
+    let r = retry_place P T p t back way.place way.star h in
+    rw (drop_all t T le) (subst (λ S. glob (drop p P) S ≡ true) (drop_all (t + 1 + r.0) T (omega arith)) r.1) in
     stars_alone (drop p P) ∙ ap (glob (drop p P)) (sym (drop_all t T le)) ∙ sym (way.same ∙ absorbs _ _ kept)
 
 pub starts_here : (P T : List ℕ) → IsOnTheWay P T 0 0 None
@@ -224,9 +224,9 @@ differs_past B T p t past le = absurd (let short : p < length B = rw length-map 
 
 same_star : (c : ℕ) → (c == 42) ≡ (to_ascii_lowercase c == 42)
 same_star c = elim (cases_eq c 42) [
-    inl e ↦ rw e refl
+  | inl e ↦ rw e refl
   | inr ne ↦ ne_eqb c 42 ne ∙ sym (ne_eqb (to_ascii_lowercase c) 42 (λ e. ne (low_star c e)))
-  ]
+]
 
 same_stars : (B : List ℕ) → list_all (λ c. c == 42) B ≡ list_all (λ c. c == 42) (str_to_ascii_lowercase B)
 same_stars [] = refl

@@ -11,59 +11,49 @@ ghost use Rattle.host_pattern.specs.PatternList.{list_matches};
 /// Without a star a pattern stands for itself alone.
 pub fn plain_is_itself()
     ensures { (p t : List ℕ) → IsTrue (is_plain p) → glob p t ≡ bytes_eq p t }
-{
-}
+{}
 
 /// A star at the end stands for whatever follows: `10.*` for every text that begins with `10.`, and `*` for every text.
 pub fn star_at_end()
     ensures { (p t : List ℕ) → IsTrue (is_plain p) → glob (p ++ 42 ∷ []) t ≡ starts_with nat_eq t p }
-{
-}
+{}
 
 /// A star at the beginning stands for whatever comes before: `*.tis.com` for every text that ends with `.tis.com`.
 pub fn star_at_beginning()
     ensures { (p t : List ℕ) → IsTrue (is_plain p) → glob (42 ∷ p) t ≡ ends_with nat_eq t p }
-{
-}
+{}
 
 /// A body of stars alone matches every party.
 pub fn stars_match_everyone()
     ensures { (body : List ℕ) (party : Peer) → IsTrue (is_stars body) → IsTrue (body_matches body party) }
-{
-}
+{}
 
 /// A body for names matches no party without a name.
 pub fn names_need_a_name()
     ensures { (body : List ℕ) (party : Peer) → is_unknown body ≡ false → is_for_addresses body ≡ false → party.name ≡ None → body_matches body party ≡ false }
-{
-}
+{}
 
 /// A body for addresses, other than stars alone, matches no party without an address.
 pub fn addresses_need_an_address()
     ensures { (body : List ℕ) (party : Peer) → IsTrue (is_for_addresses body) → is_stars body ≡ false → party.addr ≡ None → body_matches body party ≡ false }
-{
-}
+{}
 
 /// The first pattern whose body matches decides.
 pub fn first_match_decides()
     ensures { (p : Written) (ps : List Written) (party : Peer) → IsTrue (body_matches p.body party) → list_matches (p ∷ ps) party ≡ not p.negated }
-{
-}
+{}
 
 /// A pattern whose body does not match might as well not stand in the list.
 pub fn others_are_passed()
     ensures { (p : Written) (ps : List Written) (party : Peer) → body_matches p.body party ≡ false → list_matches (p ∷ ps) party ≡ list_matches ps party }
-{
-}
+{}
 
 /// The patterns are the texts whose body is 1 to 255 letters, digits, `.`, `-`, `_` and `*`.
 pub fn patterns_are_these()
     ensures { (text : List ℕ) → is_ok (parsed text) ≡ is_body (body_of text) }
-{
-}
+{}
 
 /// A pattern that is written down reads as itself.
 pub fn written_reads_back()
     ensures { (p : Written) → IsTrue (is_body p.body) → parsed (written p) ≡ Ok p }
-{
-}
+{}

@@ -23,8 +23,7 @@ fn is_unknown(body: &[u8]) -> bool
 fn is_for_addresses(body: &[u8]) -> bool
     ensures { result ≡ is_for_addresses body.now }
 {
-    body.iter()
-        .all(|byte| byte.is_ascii_digit() || *byte == b'.' || *byte == b'*')
+    body.iter().all(|byte| byte.is_ascii_digit() || *byte == b'.' || *byte == b'*')
 }
 
 /// Whether there is an address, and the body matches its dotted text.

@@ -175,6 +175,14 @@ fn list_matches<L: Ledger>(list: &PatternList, party: &Peer, blank: Blank) -> bo
     list.matches(party, &mut steps)
 }
 
+fn pattern_says(pattern: &Pattern, party: &Peer) -> bool {
+    pattern_matches::<Brand>(pattern, party, Blank::new(1))
+}
+
+fn list_says(list: &PatternList, party: &Peer) -> bool {
+    list_matches::<Brand>(list, party, Blank::new(1))
+}
+
 fn party(addr: &str, name: &str) -> Peer {
     Peer {
         addr: read_quad(addr.as_bytes()),
@@ -203,8 +211,7 @@ fn patterns_match_as_told(rt: HostRuntime) -> Result<(), Fail> {
         let name = words.next().ok_or("no name")?;
         let text = words.next().ok_or("no pattern")?;
         let pattern = Pattern::parse(text.as_bytes())?;
-        let matches =
-            pattern_matches::<Brand>(&pattern, &party(addr, name), Blank::new(1));
+        let matches = pattern_says(&pattern, &party(addr, name));
         assert_eq!(rt; matches, told == "yes", "{line}");
         lines = lines.saturating_add(1);
     }
@@ -226,7 +233,7 @@ fn lists_match_as_told(rt: HostRuntime) -> Result<(), Fail> {
             texts.push(word(alloc, text.as_bytes(), false)?)?;
         }
         let list = PatternList::parse(alloc, texts.as_slice())?;
-        let matches = list_matches::<Brand>(&list, &party(addr, name), Blank::new(1));
+        let matches = list_says(&list, &party(addr, name));
         assert_eq!(rt; matches, told == "yes", "{line}");
         lines = lines.saturating_add(1);
     }
@@ -305,7 +312,12 @@ fn lists_have_1_to_64_patterns(rt: HostRuntime) -> Result<(), Fail> {
     for _ in 0..64u8 {
         words.push(word(alloc, b"a.*", true)?)?;
     }
-    assert_eq!(rt; PatternList::parse(alloc, words.as_slice())?.patterns().len(), 64);
+    assert_eq!(rt;
+        PatternList::parse(alloc, words.as_slice())?
+            .patterns()
+            .len(),
+        64
+    );
     words.push(word(alloc, b"!", false)?)?;
     assert_eq!(rt; fault_of(alloc, words.as_slice()), ListFault::TooMany);
     Ok(())
@@ -335,7 +347,7 @@ fn a_list_may_be_made_of_patterns(rt: HostRuntime) -> Result<(), Fail> {
     let here = party("10.0.0.5", "-");
     let there = party("10.0.0.6", "-");
     assert_eq!(rt; list.patterns().len(), 2);
-    assert!(rt; !list_matches::<Brand>(&list, &here, Blank::new(1)));
-    assert!(rt; list_matches::<Brand>(&list, &there, Blank::new(1)));
+    assert!(rt; !list_says(&list, &here));
+    assert!(rt; list_says(&list, &there));
     Ok(())
 }

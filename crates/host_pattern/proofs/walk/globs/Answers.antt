@@ -30,9 +30,9 @@ loop-at-preserved c =
     let place = c.loop-at.place in
     let at = c.loop-at.at in
     let differs : Differs (str_to_ascii_lowercase pattern) text place at = elim c.in_default.branch [
-        in_default-via-in-Some+else-is_same w ↦ (let read = w.in-Some.ensures.lookup in differs_at pattern text place at _ (read.3.1 0) w.in-Some.byte-test.1 w.if-is_same.ensures)
+      | in_default-via-in-Some+else-is_same w ↦ (let read = w.in-Some.ensures.lookup in differs_at pattern text place at _ (read.3.1 0) w.in-Some.byte-test.1 w.if-is_same.ensures)
       | in_default-via-in_default w ↦ (let past = rw w.in_default.is at c.get.ensures.lookup in differs_past pattern text place at past.3)
-      ] in
+    ] in
     back_again _ _ place at _ c.loop-at-test.true differs (rw c.in-Some-back.is at c.loop-at.invariant)
 
 pub returns-in-None : goal.returns-in-None
@@ -42,9 +42,9 @@ returns-in-None c =
     let place = c.loop-at.place in
     let at = c.loop-at.at in
     let differs : Differs (str_to_ascii_lowercase pattern) text place at = elim c.in_default.branch [
-        in_default-via-in-Some+else-is_same w ↦ (let read = w.in-Some.ensures.lookup in differs_at pattern text place at _ (read.3.1 0) w.in-Some.byte-test.1 w.if-is_same.ensures)
+      | in_default-via-in-Some+else-is_same w ↦ (let read = w.in-Some.ensures.lookup in differs_at pattern text place at _ (read.3.1 0) w.in-Some.byte-test.1 w.if-is_same.ensures)
       | in_default-via-in_default w ↦ (let past = rw w.in_default.is at c.get.ensures.lookup in differs_past pattern text place at past.3)
-      ] in
+    ] in
     no_way_back _ _ place at c.loop-at-test.true differs (rw c.in-None.is at c.loop-at.invariant)
 
 pub returns : goal.returns

@@ -7,5 +7,5 @@ abbrev pub invariant-loop-at : goal.invariant-loop-at
 invariant-loop-at l = record {
   room : length l.patterns.items ≡ l.at;
   good_ones : l.patterns.items ++ filter_map good (drop l.at l.words) ≡ filter_map good l.words;
-  bad_ones : filter_map bad (enumerate_from l.at (drop l.at l.words)) ≡ filter_map bad (enumerate_from 0 l.words)
+  bad_ones : filter_map bad (enumerate_from l.at (drop l.at l.words)) ≡ filter_map bad (enumerate_from 0 l.words);
 }
