@@ -1,4 +1,7 @@
-use fw_outside::{Files, Sink};
+ghost use Rattle.std.specs.Prelude.{◌≡◌};
+ghost use Rattle.fw_outside.specs.Drain.{Gives};
+
+use fw_outside::{Failed, Files, Sink};
 use std::marker::Model;
 
 /// The kinds of device that a run is given.
@@ -9,6 +12,7 @@ pub trait Kit {
 }
 
 /// The devices that a run is given.
+#[derive(Drop)]
 pub struct World<T: Kit> {
     /// Where the permission table stands.
     pub files: T::Files,
@@ -28,4 +32,24 @@ impl<T: Kit> Model for World<T> {
         output = T.Output.drain w.output;
         logs = T.Logs.drain w.logs;
     } };
+}
+
+impl<T: Kit> World<T> {
+    // Gives a text to standard output.
+    pub(crate) fn print(&mut self, text: &[u8]) -> Result<(), Failed>
+        ensures output { Gives result text.now self.old.output self.new.output }
+        ensures logs { self.new.logs ≡ self.old.logs }
+        ensures files { self.new.files ≡ self.old.files }
+    {
+        self.output.give(text)
+    }
+
+    // Gives a line to the log.
+    pub(crate) fn log(&mut self, line: &[u8]) -> Result<(), Failed>
+        ensures logs { Gives result line.now self.old.logs self.new.logs }
+        ensures output { self.new.output ≡ self.old.output }
+        ensures files { self.new.files ≡ self.old.files }
+    {
+        self.logs.give(line)
+    }
 }

@@ -1,12 +1,83 @@
-//! The firewall's program.
+//! The firewall's program. `main` makes the devices and hands them to [`run`], which does the rest.
 #![tactic(auto)]
 
+use fw_outside::{NoMemory, Octets, Sink};
+use real::{Paths, Process, Writing};
+use std::alloc::Global;
+use std::env;
+use std::io::ErrorKind;
+use std::process::ExitCode;
+
+mod deciding;
+mod fault;
+mod finding;
 mod kit;
+mod real;
+mod run;
 mod texts;
 mod words;
 
+pub use fault::{Device, Fault};
 pub use kit::{Kit, World};
+pub use run::run;
 pub use texts::LogLine;
-pub use words::{Command, Query, read_command, table_named};
+pub use words::{Command, Query, read_command};
 
-fn main() {}
+const HELP: &[u8] = b"usage: fwtk [-t FILE] netacl DAEMON ADDR\n";
+
+const VERSION: &[u8] = b"fwtk 2.1\n";
+
+// The words of the command line, or why there are none.
+fn read_words(rt: &HostRuntime) -> Result<Vec<Octets>, Fault> {
+    let alloc = rt.alloc();
+    let args = match env::args(rt) {
+        Ok(args) => args,
+        Err(e) if e.kind() == ErrorKind::OutOfMemory => return Err(Fault::Memory),
+        Err(_) => return Err(Fault::Usage),
+    };
+    let mut words = Vec::new(alloc);
+    for arg in args.skip(1) {
+        let word = Octets::copy(alloc, arg.as_bytes())?;
+        words.push(word)?;
+    }
+    Ok(words)
+}
+
+// What is printed for a word alone that asks for no run.
+fn answer(words: &[Octets]) -> Option<&'static [u8]> {
+    match words {
+        [word] if word.bytes() == b"--help".as_slice() => Some(HELP),
+        [word] if word.bytes() == b"--version".as_slice() => Some(VERSION),
+        _ => None,
+    }
+}
+
+fn tell(rt: &HostRuntime, fault: Fault) -> u8 {
+    let line = fault.text();
+    let _ = Writing::new(rt.stderr()).give(line.as_slice());
+    fault.status()
+}
+
+fn serve(rt: HostRuntime) -> Result<u8, Fault> {
+    let words = read_words(&rt)?;
+    let mut output = Writing::new(rt.stdout());
+    if let Some(text) = answer(&words) {
+        return match output.give(text) {
+            Ok(()) => Ok(0),
+            Err(_) => Err(Fault::Outside(Device::Output)),
+        };
+    }
+    let mut world: World<Process<HostRuntime>> = World {
+        files: Paths::new(rt),
+        output,
+        logs: Writing::new(rt.stderr()),
+    };
+    Ok(run(rt.alloc(), &words, &mut world))
+}
+
+fn main(rt: HostRuntime) -> ExitCode {
+    match serve(rt) {
+        Ok(status) => ExitCode::from(status),
+        Err(fault) => ExitCode::from(tell(&rt, fault)),
+    }
+}

@@ -1,2 +1,5 @@
 pub mod Label
+pub mod Reading
 pub mod Service
+pub mod Verdict
+pub mod Why

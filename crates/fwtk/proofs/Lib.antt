@@ -1,0 +1,4 @@
+pub mod DecidingLemmas
+pub mod FindingLemmas
+pub mod RunLemmas
+pub mod StatusLemmas

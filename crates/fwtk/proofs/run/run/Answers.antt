@@ -1,0 +1,13 @@
+use Rattle.fwtk.specs.Run.{Ran}
+use Rattle.fwtk.proofs.StatusLemmas.{for_usage, only_for_usage, outside, ruled}
+use Rattle.fwtk.proofs.run.run.Goals as goal
+
+pub returns : goal.returns
+returns g c =
+    let ran : Ran c.args.words.now c.end.result c.args.world.now c.end.new.world = record { outcome = c.obey-outcome.result; middle = c.obey-outcome.new.world; does = c.obey-outcome.ensures; ends = c.end.ensures } in
+    record {
+      ran = ran;
+      usage = (only_for_usage c.args.words.now c.end.result c.args.world.now c.end.new.world ran, for_usage c.args.words.now c.end.result c.args.world.now c.end.new.world ran);
+      ruled = ruled c.args.words.now c.end.result c.args.world.now c.end.new.world ran;
+      outside = outside c.args.words.now c.end.result c.args.world.now c.end.new.world ran;
+    }

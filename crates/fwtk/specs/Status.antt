@@ -1,0 +1,27 @@
+-- What the status of a run says.
+use Rattle.std.specs.Prelude.{◌≡◌, ℕ, ◌≤◌, ◌⊎◌, List, Option, Some, None, Result, Ok, Err}
+use Rattle.fw_outside.specs.Counts.{Rose}
+use Rattle.fw_outside.specs.declared.peer.Peer.{Peer}
+use Rattle.gate_rules.specs.Verdict.{verdict_of}
+use Rattle.fwtk.specs.declared.fault.Fault.{Fault}
+use Rattle.fwtk.specs.declared.words.Command.{Command}
+use Rattle.fwtk.specs.declared.words.Command.TheVariants.{Netacl}
+use Rattle.fwtk.specs.Desk.{Desk}
+use Rattle.fwtk.specs.Ruling.{OfText, Rules, ruling}
+use Rattle.fwtk.specs.Run.{verdict_status}
+
+-- 0 or 1 by the verdict of the rules, and 3 where a line can't be read; else a device failed, or there was no memory
+abbrev pub IsRuled : Result Rules Fault → Peer → ℕ → Type 0
+IsRuled (Ok rules) peer status = (status ≡ verdict_status (verdict_of rules peer)) ⊎ (4 ≤ status)
+IsRuled (Err fault) peer status = (status ≡ 3) ⊎ (4 ≤ status)
+
+-- the status of a command is ruled by the table's text, where the files tell it
+abbrev pub IsRuledBy : List ℕ → Option Command → Desk → ℕ → Type 0
+IsRuledBy name None old status = Unit {0}
+IsRuledBy name (Some (Netacl query)) old status = OfText old.files.holds name (λ text. IsRuled (ruling text query.service) query.peer status)
+
+-- a device's own count rose
+abbrev pub SomeRose : Desk → Desk → Type 0
+SomeRose old new =
+    (Rose old.files.missing new.files.missing ⊎ Rose old.files.read_faults new.files.read_faults)
+    ⊎ (Rose old.output.faults new.output.faults ⊎ Rose old.logs.faults new.logs.faults)

@@ -1,0 +1,58 @@
+//! From the files to the rules of a service.
+ghost use Rattle.std.specs.Prelude.{◌≡◌};
+ghost use Rattle.fwtk.specs.Finding.{Finds, ReadsRules, ReadsTable, fault_of};
+
+use crate::{Device, Fault};
+use fw_outside::Files;
+use gate_rules::{Rules, RulesFault, Service};
+use netperm_table::{Table, TableFault};
+use std::alloc::Global;
+
+fn fault_of(fault: TableFault) -> Fault
+    ensures { result ≡ fault_of fault }
+{
+    match fault {
+        TableFault::ReadFault => Fault::Outside(Device::Table),
+        TableFault::NoMemory => Fault::Memory,
+        TableFault::NotBuilt { .. } => Fault::Table(fault),
+    }
+}
+
+fn read_table<F: Files>(alloc: Global, files: &mut F, name: &[u8]) -> Result<Table, Fault>
+    ensures { ReadsTable name.now result (F.cabinet files.old) (F.cabinet files.new) }
+{
+    let Some(mut source) = files.source(name) else {
+        return Err(Fault::Outside(Device::Table));
+    };
+    let read = Table::read(alloc, &mut source);
+    files.back(source);
+    match read {
+        Ok(table) => Ok(table),
+        Err(fault) => Err(fault_of(fault)),
+    }
+}
+
+fn read_rules(alloc: Global, table: &Table, service: &Service) -> Result<Rules, Fault>
+    ensures { ReadsRules service.now table.now result }
+{
+    match Rules::of(alloc, table, service) {
+        Ok(rules) => Ok(rules),
+        Err(RulesFault::Rule(fault)) => Err(Fault::Rule(fault)),
+        Err(RulesFault::NoMemory) => Err(Fault::Memory),
+    }
+}
+
+/// The rules that the table with this name has for a service.
+pub(crate) fn find_rules<F: Files>(
+    alloc: Global,
+    files: &mut F,
+    name: &[u8],
+    service: &Service,
+) -> Result<Rules, Fault>
+    ensures { Finds name.now service.now result (F.cabinet files.old) (F.cabinet files.new) }
+{
+    match read_table(alloc, files, name) {
+        Ok(table) => read_rules(alloc, &table, service),
+        Err(fault) => Err(fault),
+    }
+}

@@ -1,0 +1,98 @@
+ghost use Rattle.std.specs.Prelude.{◌≡◌, ◌↔◌};
+ghost use Rattle.fwtk.specs.Fault.{fault_text};
+ghost use Rattle.fwtk.specs.Finding.{Finds};
+ghost use Rattle.fwtk.specs.Run.{Decides, Does, Ends, Ran, Tells};
+ghost use Rattle.fwtk.specs.Status.{IsRuledBy, SomeRose};
+ghost use Rattle.fwtk.specs.Words.{command_of, table_named};
+
+use crate::deciding::decide;
+use crate::finding::find_rules;
+use crate::words::{read_command, table_named};
+use crate::{Command, Fault, Kit, Query, World};
+use fw_outside::Octets;
+use gate_rules::Rules;
+use std::alloc::Global;
+
+// The rules of the query's service, which only the files are asked for.
+fn rules_for<T: Kit>(
+    alloc: Global,
+    name: &[u8],
+    query: &Query,
+    world: &mut World<T>,
+) -> Result<Rules, Fault>
+    ensures found { Finds name.now query.now.service result world.old.files world.new.files }
+    ensures output { world.new.output ≡ world.old.output }
+    ensures logs { world.new.logs ≡ world.old.logs }
+{
+    find_rules(alloc, &mut world.files, name, &query.service)
+}
+
+// Decides for one service and peer.
+fn netacl<T: Kit>(
+    alloc: Global,
+    name: &[u8],
+    query: &Query,
+    world: &mut World<T>,
+) -> Result<u8, Fault>
+    ensures { Decides name.now query.now result world.old world.new }
+{
+    match rules_for(alloc, name, query, world) {
+        Ok(rules) => decide(alloc, &rules, query, world),
+        Err(fault) => Err(fault),
+    }
+}
+
+// Does what the words ask for.
+fn obey<T: Kit>(alloc: Global, words: &[Octets], world: &mut World<T>) -> Result<u8, Fault>
+    ensures { Does (table_named words.now) (command_of words.now) result world.old world.new }
+{
+    match read_command(words) {
+        None => Err(Fault::Usage),
+        Some(Command::Netacl(query)) => netacl(alloc, table_named(words), &query, world),
+    }
+}
+
+// Tells the log of a fault. A line that can't be written changes nothing.
+fn tell<T: Kit>(world: &mut World<T>, fault: Fault)
+    ensures { Tells (fault_text fault) world.old world.new }
+{
+    let line = fault.text();
+    let _ = world.log(line.as_slice());
+}
+
+// The status of an outcome; a fault is told first.
+fn end<T: Kit>(world: &mut World<T>, outcome: Result<u8, Fault>) -> u8
+    ensures { Ends outcome result world.old world.new }
+{
+    match outcome {
+        Ok(status) => status,
+        Err(fault) => {
+            tell(world, fault);
+            fault.status()
+        }
+    }
+}
+
+/// Runs a command line over the devices of a world, and answers the exit status:
+///
+/// - 0 where the table permits the peer, 1 where it denies it;
+/// - 2 where the words are no command;
+/// - 3 where a line of the table, or of the service, can't be read;
+/// - 4 where a device failed, which its count shows;
+/// - 5 for want of memory.
+///
+/// A status from 2 on is told to the log in one line that names its cause. The verdict is logged before it is printed, so
+/// a denial that was logged stands even if it couldn't be printed.
+pub fn run<T: Kit>(alloc: Global, words: &[Octets], world: &mut World<T>) -> u8
+    // What each status means, and what the devices were given.
+    ensures ran { Ran words.now result world.old world.new }
+    // 2 is exactly for words that are no command.
+    ensures usage { (result ≡ 2) ↔ (command_of words.now ≡ None) }
+    // 0, 1 and 3 are exactly by the table's text, where the files tell it and no device fails.
+    ensures ruled { IsRuledBy (table_named words.now) (command_of words.now) world.old result }
+    // 4 is only for a device whose own count rose.
+    ensures outside { result ≡ 4 → SomeRose world.old world.new }
+{
+    let outcome = obey(alloc, words, world);
+    end(world, outcome)
+}

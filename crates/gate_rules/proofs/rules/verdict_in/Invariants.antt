@@ -1,0 +1,7 @@
+use Rattle.std.proofs.Common.{◌≡◌, drop}
+use Rattle.std.specs.Prelude.{find}
+use Rattle.gate_rules.specs.Verdict.{decided_by, matches}
+use Rattle.gate_rules.proofs.rules.verdict_in.Given as goal
+
+abbrev pub invariant-loop-rule : goal.invariant-loop-rule
+invariant-loop-rule g l = decided_by (find (matches l.peer) (drop l.rule-index l.rules)) ≡ decided_by (find (matches l.peer) l.rules)

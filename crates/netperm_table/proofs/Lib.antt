@@ -1,0 +1,4 @@
+pub mod LineLemmas
+pub mod ProgressLemmas
+pub mod TakingLemmas
+pub mod WordLemmas

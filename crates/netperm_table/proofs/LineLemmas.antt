@@ -1,0 +1,84 @@
+-- How a text is cut into lines.
+use Rattle.std.proofs.Common.{◌≡◌, ℕ, ◌+◌, ◌-◌, ◌<◌, ◌≤◌, Bool, true, false, List, [], ◌∷◌, ◌++◌, length, take, refl, sym, ap, ◌∙◌, arith, append_assoc, length-append}
+use Rattle.std.specs.Prelude.{cond, ◌==◌, slice_index, All}
+use Rattle.std.specs.List.{slice_split, onto_first}
+use Rattle.std.specs.Str.Lines.{lines, lines_of_parts, strip_carriage_return}
+use Rattle.std.proofs.lemmas.Bool.Decides.{nat_tests}
+use Rattle.std.proofs.lemmas.List.{append-nil, length-take-le}
+use Rattle.std.proofs.lemmas.List.Splits.{slice_split_at, slice_split_none, slice_split-cons_yes, slice_split-cons_no}
+use Rattle.std.proofs.lemmas.List.Elements.{All-push}
+
+abbrev pub is_lf : ℕ → Bool
+is_lf b = b == 10
+
+-- no byte is an LF
+abbrev pub IsOneLine : List ℕ → Type 0
+IsOneLine bytes = All (λ b. (b == 10) ≡ false) bytes
+
+-- a list that isn't empty
+record Parts (parts : List (List ℕ)) : Type 0 where
+  first : List ℕ
+  more : List (List ℕ)
+  is : parts ≡ first ∷ more
+
+parts_of : (bytes : List ℕ) → Parts (slice_split is_lf bytes)
+parts_of [] = record { first = []; more = []; is = refl }
+parts_of (b ∷ bytes) = by (is_lf b) refl (parts_of bytes)
+  where
+    by : (v : Bool) → is_lf b ≡ v → Parts (slice_split is_lf bytes) → Parts (slice_split is_lf (b ∷ bytes))
+    by true h p = record { first = []; more = slice_split is_lf bytes; is = slice_split-cons_yes is_lf b bytes h }
+    by false h p = record { first = b ∷ p.first; more = p.more; is = slice_split-cons_no is_lf b bytes h ∙ ap (onto_first b) p.is }
+
+lines_of_more : (line : List ℕ) (parts : List (List ℕ)) → Parts parts → lines_of_parts (line ∷ parts) ≡ strip_carriage_return line ∷ lines_of_parts parts
+lines_of_more line parts p = rw p.is refl
+
+-- a line that ends in LF, and the lines after it
+pub lines_first : (line rest : List ℕ) → IsOneLine line → lines (line ++ 10 ∷ rest) ≡ strip_carriage_return line ∷ lines rest
+lines_first line rest one =
+    ap lines_of_parts (slice_split_at is_lf line 10 rest one refl) ∙ lines_of_more line (slice_split is_lf rest) (parts_of rest)
+
+not_zero : (n : ℕ) → 0 < n → (n == 0) ≡ false
+not_zero n some = grind (arith, nat_tests)
+
+-- the last line, which has no LF
+pub lines_one : (line : List ℕ) → IsOneLine line → 0 < length line → lines line ≡ line ∷ []
+lines_one line one some = ap lines_of_parts (slice_split_none is_lf line one) ∙ rw (not_zero (length line) some) refl
+
+-- the first line of a text, which has so many bytes at least, but for a CR that is dropped
+pub record FirstLine (text : List ℕ) (long : ℕ) : Type 0 where
+  pub first : List ℕ
+  pub more : List (List ℕ)
+  pub is : lines text ≡ first ∷ more
+  pub least : long ≤ length first + 1
+
+stripped_least : (line : List ℕ) → length line ≤ length (strip_carriage_return line) + 1
+stripped_least line = by (slice_index line (length line - 1) == 13) (length-take-le (length line - 1) line (omega arith))
+  where
+    by : (v : Bool) → length (take (length line - 1) line) ≡ length line - 1 → length line ≤ length (cond v (take (length line - 1) line) line) + 1
+    by true h = omega arith
+    by false h = omega arith
+
+-- bytes without LF are the beginning of one line
+pub first_line : (line rest : List ℕ) → IsOneLine line → 0 < length line + length rest → FirstLine (line ++ rest) (length line)
+first_line line [] one some =
+    let whole = lines_one line one (omega arith) in
+    record { first = line; more = []; is = rw (append-nil line) whole; least = omega arith }
+first_line line (b ∷ rest) one some = by (is_lf b) refl (λ h. first_line (line ++ b ∷ []) rest (All-push (λ b. (b == 10) ≡ false) line b one h) (omega (arith, length-append line (b ∷ []))))
+  where
+    ends : b ≡ 10 → FirstLine (line ++ b ∷ rest) (length line)
+    ends h = record { first = strip_carriage_return line; more = lines rest; is = rw h (lines_first line rest one); least = stripped_least line }
+
+    lf : is_lf b ≡ true → b ≡ 10
+    lf h = grind (arith, nat_tests)
+
+    goes_on : FirstLine ((line ++ b ∷ []) ++ rest) (length (line ++ b ∷ [])) → FirstLine (line ++ b ∷ rest) (length line)
+    goes_on longer = record {
+      first = longer.first;
+      more = longer.more;
+      is = rw (sym (append_assoc line (b ∷ []) rest)) longer.is;
+      least = omega (arith, longer.least, length-append line (b ∷ []));
+    }
+
+    by : (v : Bool) → is_lf b ≡ v → (is_lf b ≡ false → FirstLine ((line ++ b ∷ []) ++ rest) (length (line ++ b ∷ []))) → FirstLine (line ++ b ∷ rest) (length line)
+    by true h more = ends (lf h)
+    by false h more = goes_on (more h)

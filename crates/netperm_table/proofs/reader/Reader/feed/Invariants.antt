@@ -1,0 +1,15 @@
+use Rattle.std.proofs.Common.{◌<◌, ◌≤◌, length}
+use Rattle.netperm_table.specs.Progress.{Leads, farthest, reached}
+use Rattle.netperm_table.proofs.reader.Reader.feed.Given as goal
+
+abbrev pub invariant-loop-rest : goal.invariant-loop-rest
+invariant-loop-rest l = record {
+  leads : Leads l.fn.self l.fn.bytes l.self l.rest;
+  shorter : length l.rest ≤ length l.fn.bytes;
+  far : reached l.fn.self ≤ reached l.self;
+  farther : length l.rest < length l.fn.bytes → reached l.fn.self < reached l.self;
+  within : length l.rest < length l.fn.bytes → reached l.self ≤ farthest;
+}
+
+abbrev pub decreases-loop-rest : goal.decreases-loop-rest
+decreases-loop-rest l = length l.rest

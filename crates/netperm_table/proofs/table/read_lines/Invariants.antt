@@ -1,0 +1,13 @@
+use Rattle.std.proofs.Common.{◌-◌, ◌≤◌}
+use Rattle.netperm_table.specs.Progress.{farthest, reached}
+use Rattle.netperm_table.proofs.TakingLemmas.{ReadsOn}
+use Rattle.netperm_table.proofs.table.read_lines.Given as goal
+
+abbrev pub invariant-loop-reader : goal.invariant-loop-reader
+invariant-loop-reader g l = record {
+  reads : ReadsOn (g.S.Source.spring l.fn.from) (g.S.Source.spring l.from) l.reader;
+  within : reached l.reader ≤ farthest;
+}
+
+abbrev pub decreases-loop-reader : goal.decreases-loop-reader
+decreases-loop-reader g l = farthest - reached l.reader

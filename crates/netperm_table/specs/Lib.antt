@@ -1,0 +1,7 @@
+pub mod Bytes
+pub mod Fault
+pub mod Progress
+pub mod Reading
+pub mod Table
+pub mod Taking
+pub mod Words

@@ -1,0 +1,57 @@
+-- What reading a table does to its source.
+use Rattle.std.specs.Prelude.{◌≡◌, ℕ, ◌⊎◌, Bool, true, false, List, Option, Some, None, Result, Ok, Err}
+use Rattle.fw_outside.specs.Counts.{Rose}
+use Rattle.fw_outside.specs.Spring.{Spring}
+use Rattle.fw_outside.specs.Telling.{grown, preceded, IsOver}
+use Rattle.netperm_table.specs.declared.line.Line.{Line}
+use Rattle.netperm_table.specs.declared.table_fault.TableFault.{TableFault}
+use Rattle.netperm_table.specs.declared.table_fault.TableFault.TheVariants.{NotBuilt, ReadFault, NoMemory}
+use Rattle.netperm_table.specs.Table.{table_of}
+
+-- the first of the bytes that were left were taken, and nothing else changed
+pub record Took (old new : Spring) : Type 0 where
+  pub part : List ℕ
+  pub rest : Option (List ℕ)
+  pub next : old.left ≡ preceded part rest
+  pub is : new ≡ record old { taken = grown old.taken part; left = rest }
+
+-- bytes were taken to the end of what was left
+pub record TookAll (old new : Spring) : Type 0 where
+  pub took : Took old new
+  pub over : IsOver new.left
+
+-- the first of the bytes that were left were taken, and then the source failed or nothing came in time: one of the counts rose, and the other stands
+pub record Stopped (old new : Spring) : Type 0 where
+  pub part : List ℕ
+  pub rest : Option (List ℕ)
+  pub faults : ℕ
+  pub idles : ℕ
+  pub next : old.left ≡ preceded part rest
+  pub rose : (Rose old.faults faults × (idles ≡ old.idles)) ⊎ (Rose old.idles idles × (faults ≡ old.faults))
+  pub is : new ≡ record old { taken = grown old.taken part; left = rest; faults = faults; idles = idles }
+
+-- what an answer leaves of the source
+abbrev pub Leaves : Result (List Line) TableFault → Spring → Spring → Type 0
+Leaves (Ok _) old new = TookAll old new
+Leaves (Err ReadFault) old new = Stopped old new
+Leaves (Err (NotBuilt _)) old new = Took old new
+Leaves (Err NoMemory) old new = Took old new
+
+-- whether the answer is that the source failed
+abbrev pub is_read_fault : Result (List Line) TableFault → Bool
+is_read_fault (Ok _) = false
+is_read_fault (Err ReadFault) = true
+is_read_fault (Err (NotBuilt _)) = false
+is_read_fault (Err NoMemory) = false
+
+-- the lines are those of the text that was left, where that is told
+abbrev pub AreLinesOf : Option (List ℕ) → List Line → Type 0
+AreLinesOf None lines = Unit {0}
+AreLinesOf (Some text) lines = table_of text ≡ Ok lines
+
+-- the fault is that of the text that was left, where that is told and a line is at fault
+abbrev pub IsFaultOf : Option (List ℕ) → TableFault → Type 0
+IsFaultOf None fault = Unit {0}
+IsFaultOf (Some text) ReadFault = Unit {0}
+IsFaultOf (Some text) NoMemory = Unit {0}
+IsFaultOf (Some text) (NotBuilt line) = table_of text ≡ Err (NotBuilt line)
