@@ -19,7 +19,7 @@ use Rattle.fwtk.specs.Desk.{Desk}
 use Rattle.fwtk.specs.Fault.{fault_text, status_of}
 use Rattle.fwtk.specs.Ruling.{OfText, Rules, ruling}
 use Rattle.fwtk.specs.Run.{Decides, Does, Ends, FilesFailed, NotRead, Ran, Tells, verdict_status}
-use Rattle.fwtk.specs.Status.{IsRuled, IsRuledBy, SomeRose}
+use Rattle.fwtk.specs.Status.{Fails, IsRuled, IsRuledBy, SomeRose, WantsMemory}
 use Rattle.fwtk.specs.Words.{command_of, table_named}
 use Rattle.fwtk.proofs.FindingLemmas.{of_text}
 
@@ -65,17 +65,17 @@ of_any : {P : List ℕ → Type 0} (holds : Option (List (List ℕ × List ℕ))
 of_any None name all = tt
 of_any (Some files) name all = all_some (held files name) all
 
-ruled_high : (read : Result Rules Fault) (peer : Peer) (status : ℕ) → 4 ≤ status → IsRuled read peer status
-ruled_high (Ok rules) peer status high = inr high
-ruled_high (Err fault) peer status high = inr high
+ruled_other : (other : ℕ → Type 0) (read : Result Rules Fault) (peer : Peer) (status : ℕ) → other status → IsRuled other read peer status
+ruled_other other (Ok rules) peer status h = inr h
+ruled_other other (Err fault) peer status h = inr h
 
-ruled_ok : (read : Result Rules Fault) (rules : Rules) (peer : Peer) (status : ℕ) → read ≡ Ok rules → status ≡ verdict_status (verdict_of rules peer) → IsRuled read peer status
+ruled_ok : (read : Result Rules Fault) (rules : Rules) (peer : Peer) (status : ℕ) → read ≡ Ok rules → status ≡ verdict_status (verdict_of rules peer) → IsRuled Fails read peer status
 ruled_ok read rules peer status is told = rw is (inl told)
 
-ruled_fault : (read : Result Rules Fault) (fault : Fault) (peer : Peer) (status : ℕ) → read ≡ Err fault → status ≡ 3 → IsRuled read peer status
+ruled_fault : (read : Result Rules Fault) (fault : Fault) (peer : Peer) (status : ℕ) → read ≡ Err fault → status ≡ 3 → IsRuled Fails read peer status
 ruled_fault read fault peer status is told = rw is (inl told)
 
-ruled_decision : (name : List ℕ) (query : Query) (outcome : Result ℕ Fault) (old mid new : Desk) (status : ℕ) → Decides name query outcome old mid → Ends outcome status mid new → OfText old.files.holds name (λ text. IsRuled (ruling text query.service) query.peer status)
+ruled_decision : (name : List ℕ) (query : Query) (outcome : Result ℕ Fault) (old mid new : Desk) (status : ℕ) → Decides name query outcome old mid → Ends outcome status mid new → OfText old.files.holds name (λ text. IsRuled Fails (ruling text query.service) query.peer status)
 ruled_decision name query (Ok n) old mid new status does ends =
     of_text old.files.holds name (λ text is. ruled_ok (ruling text query.service) does.rules query.peer status is (ends.0 ∙ does.told.status_is)) does.of_table
 ruled_decision name query (Err Usage) old mid new status does ends = absurd does
@@ -84,15 +84,15 @@ ruled_decision name query (Err (Table fault)) old mid new status does ends =
 ruled_decision name query (Err (Rule fault)) old mid new status does ends =
     of_text old.files.holds name (λ text is. ruled_fault (ruling text query.service) (Rule fault) query.peer status is ends.0) does.of_table
 ruled_decision name query (Err (Outside which)) old mid new status does ends =
-    let ended = ends.0 in let high : 4 ≤ status = omega arith in of_any old.files.holds name (λ text. ruled_high (ruling text query.service) query.peer status high)
+    of_any old.files.holds name (λ text. ruled_other Fails (ruling text query.service) query.peer status (inl ends.0))
 ruled_decision name query (Err Memory) old mid new status does ends =
-    let ended = ends.0 in let high : 4 ≤ status = omega arith in of_any old.files.holds name (λ text. ruled_high (ruling text query.service) query.peer status high)
+    of_any old.files.holds name (λ text. ruled_other Fails (ruling text query.service) query.peer status (inr ends.0))
 
-ruled_command : (name : List ℕ) (command : Option Command) (outcome : Result ℕ Fault) (old mid new : Desk) (status : ℕ) → Does name command outcome old mid → Ends outcome status mid new → IsRuledBy name command old status
+ruled_command : (name : List ℕ) (command : Option Command) (outcome : Result ℕ Fault) (old mid new : Desk) (status : ℕ) → Does name command outcome old mid → Ends outcome status mid new → IsRuledBy Fails name command old status
 ruled_command name None outcome old mid new status does ends = tt
 ruled_command name (Some (Netacl query)) outcome old mid new status does ends = ruled_decision name query outcome old mid new status does ends
 
-pub ruled : (words : List (List ℕ)) (status : ℕ) (old new : Desk) → Ran words status old new → IsRuledBy (table_named words) (command_of words) old status
+pub ruled : (words : List (List ℕ)) (status : ℕ) (old new : Desk) → Ran words status old new → IsRuledBy Fails (table_named words) (command_of words) old status
 ruled words status old new ran = ruled_command (table_named words) (command_of words) ran.outcome old ran.middle new status ran.does ran.ends
 
 -- a count that rose has risen, however it goes on
@@ -138,3 +138,19 @@ outside_command name (Some (Netacl query)) outcome old mid new status does ends 
 
 pub outside : (words : List (List ℕ)) (status : ℕ) (old new : Desk) → Ran words status old new → status ≡ 4 → SomeRose old new
 outside words status old new ran is = outside_command (table_named words) (command_of words) ran.outcome old ran.middle new status ran.does ran.ends is
+
+-- what isn't 4 is ruled, or wants memory
+unless_four : (read : Result Rules Fault) (peer : Peer) (status : ℕ) → (status ≡ 4 → ⊥) → IsRuled Fails read peer status → IsRuled WantsMemory read peer status
+unless_four (Ok rules) peer status never (inl is) = inl is
+unless_four (Ok rules) peer status never (inr (inl four)) = absurd (never four)
+unless_four (Ok rules) peer status never (inr (inr five)) = inr five
+unless_four (Err fault) peer status never (inl is) = inl is
+unless_four (Err fault) peer status never (inr (inl four)) = absurd (never four)
+unless_four (Err fault) peer status never (inr (inr five)) = inr five
+
+unless_four_by : (name : List ℕ) (command : Option Command) (old : Desk) (status : ℕ) → (status ≡ 4 → ⊥) → IsRuledBy Fails name command old status → IsRuledBy WantsMemory name command old status
+unless_four_by name None old status never h = tt
+unless_four_by name (Some (Netacl query)) old status never h = of_text old.files.holds name (λ text. unless_four (ruling text query.service) query.peer status never) h
+
+pub complete : (words : List (List ℕ)) (status : ℕ) (old new : Desk) → Ran words status old new → (SomeRose old new → ⊥) → IsRuledBy WantsMemory (table_named words) (command_of words) old status
+complete words status old new ran none = unless_four_by (table_named words) (command_of words) old status (λ four. none (outside words status old new ran four)) (ruled words status old new ran)

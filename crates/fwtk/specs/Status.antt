@@ -1,5 +1,5 @@
 -- What the status of a run says.
-use Rattle.std.specs.Prelude.{◌≡◌, ℕ, ◌≤◌, ◌⊎◌, List, Option, Some, None, Result, Ok, Err}
+use Rattle.std.specs.Prelude.{◌≡◌, ℕ, ◌⊎◌, List, Option, Some, None, Result, Ok, Err}
 use Rattle.fw_outside.specs.Counts.{Rose}
 use Rattle.fw_outside.specs.declared.peer.Peer.{Peer}
 use Rattle.gate_rules.specs.Verdict.{verdict_of}
@@ -10,15 +10,23 @@ use Rattle.fwtk.specs.Desk.{Desk}
 use Rattle.fwtk.specs.Ruling.{OfText, Rules, ruling}
 use Rattle.fwtk.specs.Run.{verdict_status}
 
--- 0 or 1 by the verdict of the rules, and 3 where a line can't be read; else a device failed, or there was no memory
-abbrev pub IsRuled : Result Rules Fault → Peer → ℕ → Type 0
-IsRuled (Ok rules) peer status = (status ≡ verdict_status (verdict_of rules peer)) ⊎ (4 ≤ status)
-IsRuled (Err fault) peer status = (status ≡ 3) ⊎ (4 ≤ status)
+-- 0 or 1 by the verdict of the rules, and 3 where a line can't be read; else other holds of the status
+abbrev pub IsRuled : (ℕ → Type 0) → Result Rules Fault → Peer → ℕ → Type 0
+IsRuled other (Ok rules) peer status = (status ≡ verdict_status (verdict_of rules peer)) ⊎ other status
+IsRuled other (Err fault) peer status = (status ≡ 3) ⊎ other status
 
 -- the status of a command is ruled by the table's text, where the files tell it
-abbrev pub IsRuledBy : List ℕ → Option Command → Desk → ℕ → Type 0
-IsRuledBy name None old status = Unit {0}
-IsRuledBy name (Some (Netacl query)) old status = OfText old.files.holds name (λ text. IsRuled (ruling text query.service) query.peer status)
+abbrev pub IsRuledBy : (ℕ → Type 0) → List ℕ → Option Command → Desk → ℕ → Type 0
+IsRuledBy other name None old status = Unit {0}
+IsRuledBy other name (Some (Netacl query)) old status = OfText old.files.holds name (λ text. IsRuled other (ruling text query.service) query.peer status)
+
+-- there was no memory
+abbrev pub WantsMemory : ℕ → Type 0
+WantsMemory status = status ≡ 5
+
+-- a device failed, or there was no memory
+abbrev pub Fails : ℕ → Type 0
+Fails status = (status ≡ 4) ⊎ WantsMemory status
 
 -- a device's own count rose
 abbrev pub SomeRose : Desk → Desk → Type 0

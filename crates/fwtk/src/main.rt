@@ -81,3 +81,6 @@ fn main(rt: HostRuntime) -> ExitCode {
         Err(fault) => ExitCode::from(tell(&rt, fault)),
     }
 }
+
+#[cfg(test)]
+mod tests;

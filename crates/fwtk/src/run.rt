@@ -2,7 +2,7 @@ ghost use Rattle.std.specs.Prelude.{◌≡◌, ◌↔◌};
 ghost use Rattle.fwtk.specs.Fault.{fault_text};
 ghost use Rattle.fwtk.specs.Finding.{Finds};
 ghost use Rattle.fwtk.specs.Run.{Decides, Does, Ends, Ran, Tells};
-ghost use Rattle.fwtk.specs.Status.{IsRuledBy, SomeRose};
+ghost use Rattle.fwtk.specs.Status.{Fails, IsRuledBy, SomeRose, WantsMemory};
 ghost use Rattle.fwtk.specs.Words.{command_of, table_named};
 
 use crate::deciding::decide;
@@ -88,10 +88,12 @@ pub fn run<T: Kit>(alloc: Global, words: &[Octets], world: &mut World<T>) -> u8
     ensures ran { Ran words.now result world.old world.new }
     // 2 is exactly for words that are no command.
     ensures usage { (result ≡ 2) ↔ (command_of words.now ≡ None) }
-    // 0, 1 and 3 are exactly by the table's text, where the files tell it and no device fails.
-    ensures ruled { IsRuledBy (table_named words.now) (command_of words.now) world.old result }
+    // 0, 1 and 3 are by the table's text, where the files tell it; else a device failed, or there was no memory.
+    ensures ruled { IsRuledBy Fails (table_named words.now) (command_of words.now) world.old result }
     // 4 is only for a device whose own count rose.
     ensures outside { result ≡ 4 → SomeRose world.old world.new }
+    // So where no count rose, the status is by the table's text, or there was no memory.
+    ensures complete { ¬ (SomeRose world.old world.new) → IsRuledBy WantsMemory (table_named words.now) (command_of words.now) world.old result }
 {
     let outcome = obey(alloc, words, world);
     end(world, outcome)

@@ -1,3 +1,5 @@
+ghost use Rattle.std.specs.Prelude.{◌<◌};
+
 use super::*;
 use fw_outside::{Calls, MemFiles, MemSink};
 use std::process::Abort;
@@ -13,6 +15,7 @@ impl Kit for Memory {
 }
 
 /// The calls at which each device fails, and those at which the table's source is idle.
+#[derive(Drop)]
 struct Failing {
     table: Calls,
     idle: Calls,
@@ -34,7 +37,7 @@ fn none_failing() -> Failing {
 struct Row {
     name: &'static str,
     table: &'static [u8],
-    words: [&'static [u8]; 3],
+    words: &'static [&'static [u8]],
     print: &'static [u8],
     log: &'static [u8],
     status: u8,
@@ -44,7 +47,7 @@ const PERMIT_FIRST: &[u8] = b"netacl-in.telnetd: permit-hosts 192.33.112.* -exec
 
 const DENY_FIRST: &[u8] = b"netacl-in.telnetd: deny-hosts *\nnetacl-in.telnetd: permit-hosts 192.33.112.* -exec /usr/libexec/telnetd\n";
 
-const ASK: [&[u8]; 3] = [b"netacl", b"in.telnetd", b"192.33.112.7"];
+const ASK: &[&[u8]] = &[b"netacl", b"in.telnetd", b"192.33.112.7"];
 
 const PERMITTED: Row = Row {
     name: "permitted",
@@ -81,7 +84,7 @@ fn octets(alloc: Global, words: &[&[u8]]) -> Result<Vec<Octets>, Fail> {
     Ok(out)
 }
 
-fn check(rt: &(impl Abort + Alloc<A = Global>), row: &Row, piece: usize, failing: Failing) -> Result<(), Fail>
+fn check(rt: &(impl Abort + AllocGlobal), row: &Row, piece: usize, failing: Failing) -> Result<(), Fail>
     requires { 0 < piece }
 {
     let alloc = rt.alloc();
@@ -96,10 +99,184 @@ fn check(rt: &(impl Abort + Alloc<A = Global>), row: &Row, piece: usize, failing
         output: MemSink::new(alloc, 4096, output)?,
         logs: MemSink::new(alloc, 4096, logs)?,
     };
-    let words = octets(alloc, &row.words)?;
+    let words = octets(alloc, row.words)?;
     let status = run(alloc, &words, &mut world);
     assert!(rt; world.output.bytes() == row.print, "print: {}", row.name);
     assert!(rt; world.logs.bytes() == row.log, "log: {}", row.name);
     assert!(rt; status == row.status, "status: {}", row.name);
     Ok(())
+}
+
+const ROWS: &[Row] = &[
+    PERMITTED,
+    DENIED,
+    Row {
+        name: "an empty table denies by line 0",
+        table: b"",
+        words: ASK,
+        print: b"deny line 0\n",
+        log: b"deny netacl-in.telnetd unknown/192.33.112.7 line 0\n",
+        status: 1,
+    },
+    Row {
+        name: "a quoted word is not read yet",
+        table: b"netacl-in.telnetd: permit-hosts \"10.1.1.1\"\n",
+        words: ASK,
+        print: b"",
+        log: b"fault table line 1 not built\n",
+        status: 3,
+    },
+    Row {
+        name: "a setting is not read yet",
+        table: b"netacl-in.telnetd: timeout 60\n",
+        words: ASK,
+        print: b"",
+        log: b"fault rule line 1 not built\n",
+        status: 3,
+    },
+    Row {
+        name: "three numbers are no address",
+        table: PERMIT_FIRST,
+        words: &[b"netacl", b"in.telnetd", b"10.0.0"],
+        print: b"",
+        log: b"fault usage\n",
+        status: 2,
+    },
+    Row {
+        name: "a label has no colon",
+        table: PERMIT_FIRST,
+        words: &[b"netacl", b"in:telnetd", b"10.0.0.1"],
+        print: b"",
+        log: b"fault usage\n",
+        status: 2,
+    },
+    Row {
+        name: "no words are no command",
+        table: PERMIT_FIRST,
+        words: &[],
+        print: b"",
+        log: b"fault usage\n",
+        status: 2,
+    },
+    Row {
+        name: "another file is missing",
+        table: PERMIT_FIRST,
+        words: &[b"-t", b"other", b"netacl", b"in.telnetd", b"10.0.0.1"],
+        print: b"",
+        log: b"fault outside table\n",
+        status: 4,
+    },
+    Row {
+        name: "the file is named",
+        table: PERMIT_FIRST,
+        words: &[b"-t", b"/usr/local/etc/netperm-table", b"netacl", b"in.telnetd", b"192.33.112.7"],
+        print: b"permit line 1\nexec /usr/libexec/telnetd\n",
+        log: b"permit netacl-in.telnetd unknown/192.33.112.7 line 1\n",
+        status: 0,
+    },
+    Row {
+        name: "an empty file name is no command",
+        table: PERMIT_FIRST,
+        words: &[b"-t", b"", b"netacl", b"in.telnetd", b"192.33.112.7"],
+        print: b"",
+        log: b"fault usage\n",
+        status: 2,
+    },
+    Row {
+        name: "a file twice is no command",
+        table: PERMIT_FIRST,
+        words: &[b"-t", b"a", b"-t", b"b", b"netacl"],
+        print: b"",
+        log: b"fault usage\n",
+        status: 2,
+    },
+    Row {
+        name: "comments, another service, any service, arguments and no last line end",
+        table: b"# hosts\r\n\r\nnetacl-in.ftpd: timeout 60\n*: deny-hosts 10.*\n*: permit-hosts 192.* 10.* -exec a b c\n\tnetacl-in.telnetd : permit-hosts *",
+        words: ASK,
+        print: b"permit line 5\nexec a b c\n",
+        log: b"permit netacl-in.telnetd unknown/192.33.112.7 line 5\n",
+        status: 0,
+    },
+    Row {
+        name: "the first line that can't be read counts",
+        table: b"netacl-in.telnetd: permit-hosts *\nno colon\nnetacl-in.telnetd: \"\n",
+        words: ASK,
+        print: b"",
+        log: b"fault table line 2 not built\n",
+        status: 3,
+    },
+];
+
+#[test]
+fn rows_are_answered_in_pieces_of_any_size(rt: HostRuntime) -> Result<(), Fail> {
+    for row in ROWS {
+        for piece in [1, 3, 4096] {
+            check(&rt, row, piece, none_failing())?;
+        }
+    }
+    Ok(())
+}
+
+#[test]
+fn a_table_that_fails_or_idles_is_told(rt: HostRuntime) -> Result<(), Fail> {
+    let told = Row {
+        print: b"",
+        log: b"fault outside table\n",
+        status: 4,
+        ..PERMITTED
+    };
+    for call in 0..12 {
+        let fails = Failing {
+            table: Calls::onward(call),
+            ..none_failing()
+        };
+        check(&rt, &told, 10, fails)?;
+        let idles = Failing {
+            idle: Calls::of(rt.alloc(), &[call])?,
+            ..none_failing()
+        };
+        check(&rt, &told, 10, idles)?;
+    }
+    Ok(())
+}
+
+#[test]
+fn a_log_that_fails_is_told_where_it_can(rt: HostRuntime) -> Result<(), Fail> {
+    let once = Failing {
+        logs: Calls::of(rt.alloc(), &[0])?,
+        ..none_failing()
+    };
+    let told = Row {
+        print: b"",
+        log: b"fault outside log\n",
+        status: 4,
+        ..PERMITTED
+    };
+    check(&rt, &told, 4096, once)?;
+    let always = Failing {
+        logs: Calls::onward(0),
+        ..none_failing()
+    };
+    check(&rt, &Row { log: b"", ..told }, 4096, always)
+}
+
+#[test]
+fn an_output_that_fails_is_told_but_for_a_denial(rt: HostRuntime) -> Result<(), Fail> {
+    let fails = Failing {
+        output: Calls::onward(0),
+        ..none_failing()
+    };
+    let told = Row {
+        print: b"",
+        log: b"permit netacl-in.telnetd unknown/192.33.112.7 line 1\nfault outside output\n",
+        status: 4,
+        ..PERMITTED
+    };
+    check(&rt, &told, 4096, fails)?;
+    let fails = Failing {
+        output: Calls::onward(0),
+        ..none_failing()
+    };
+    check(&rt, &Row { print: b"", ..DENIED }, 4096, fails)
 }
