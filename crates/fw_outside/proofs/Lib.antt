@@ -1,3 +1,5 @@
 pub mod HostNameLemmas
+pub mod NumberLemmas
 pub mod QuadLemmas
 pub mod TankLemmas
+pub mod VerbLemmas

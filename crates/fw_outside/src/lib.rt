@@ -14,6 +14,7 @@
 
 mod bytes;
 mod calls;
+mod dest;
 mod failed;
 mod files;
 mod host;
@@ -23,15 +24,20 @@ mod mem_sink;
 mod mem_source;
 mod name;
 mod no_memory;
+mod number;
 mod octets;
 mod octets_list;
 mod peer;
+mod port;
 mod quad;
 mod sink;
 mod source;
+mod verb;
+mod verb_list;
 
 pub use bytes::{append, append_byte, append_decimal, append_u32, copy_of, lower_copy_of};
 pub use calls::Calls;
+pub use dest::Dest;
 pub use failed::Failed;
 pub use files::Files;
 pub use host::Host;
@@ -41,12 +47,18 @@ pub use mem_sink::MemSink;
 pub use mem_source::MemSource;
 pub use name::{Name, is_name_byte};
 pub use no_memory::NoMemory;
+pub use number::{in_range, read_number};
 pub use octets::Octets;
 pub use octets_list::OctetsList;
 pub use peer::Peer;
+pub use port::{read_numbered_port, read_port};
 pub use quad::{dotted_quad, read_quad};
 pub use sink::Sink;
 pub use source::{Got, Source};
+pub use verb::Verb;
+pub use verb_list::VerbList;
 
 #[cfg(test)]
 mod tests;
+#[cfg(test)]
+mod value_tests;

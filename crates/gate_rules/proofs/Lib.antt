@@ -1,1 +1,4 @@
-pub mod ReadingLemmas
+pub mod DraftLemmas
+pub mod ListsLemmas
+pub mod RulesLemmas
+pub mod WordsLemmas

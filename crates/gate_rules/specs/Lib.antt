@@ -1,5 +1,10 @@
+pub mod Attribute
 pub mod Label
+pub mod Lists
+pub mod Operation
+pub mod Options
 pub mod Reading
 pub mod Service
+pub mod Settings
 pub mod Verdict
 pub mod Why

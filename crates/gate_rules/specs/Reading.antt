@@ -1,85 +1,141 @@
 -- What the lines of a service say.
-use Rattle.std.specs.Prelude.{◌≡◌, ℕ, Bool, true, false, not, ◌&&◌, ◌||◌, List, [], ◌∷◌, ◌++◌, drop, map, filter, Option, Some, None, Result, Ok, Err, codes, nat_eq, if◌then◌else◌}
-use Rattle.std.specs.List.{list_all, list_any, starts_with, before_first, position_or_len}
-use Rattle.std.specs.Option.{option_map}
-use Rattle.std.specs.Result.{result_ok}
+use Rattle.std.specs.Prelude.{◌≡◌, ℕ, Bool, true, false, ◌||◌, ◌==◌, is_none, List, [], ◌∷◌, ◌++◌, filter, Option, Some, None, Result, Ok, Err, codes, if◌then◌else◌}
+use Rattle.std.specs.List.{list_any}
 use Rattle.std.specs.Str.{bytes_eq}
-use Rattle.host_pattern.specs.Party.{is_for_addresses}
+use Rattle.fw_outside.specs.Port.{port_of}
 use Rattle.host_pattern.specs.Pattern.{Written}
-use Rattle.host_pattern.specs.PatternList.{list_parsed}
 use Rattle.host_pattern.specs.declared.word.Word.{Word}
 use Rattle.netperm_table.specs.declared.line.Line.{Line}
+use Rattle.gate_rules.specs.declared.attribute.Attribute.{Attribute}
+use Rattle.gate_rules.specs.declared.attribute.Attribute.TheVariants as attribute
 use Rattle.gate_rules.specs.declared.fault.RuleFault.{RuleFault}
 use Rattle.gate_rules.specs.declared.fault.RulesFault.{RulesFault}
 use Rattle.gate_rules.specs.declared.fault.RulesFault.TheVariants as faults
-use Rattle.gate_rules.specs.declared.fault.Why.TheVariants.{NotBuilt}
+use Rattle.gate_rules.specs.declared.fault.Why.{Why}
+use Rattle.gate_rules.specs.declared.fault.Why.TheVariants.{MissingValue, BadNumber}
+use Rattle.gate_rules.specs.declared.options.Options.{Options}
 use Rattle.gate_rules.specs.declared.rule.Rule.{Rule}
+use Rattle.gate_rules.specs.declared.said.Said.{Said}
+use Rattle.gate_rules.specs.declared.said.Said.TheVariants.{Nothing, Ruled, Set}
 use Rattle.gate_rules.specs.declared.service.Service.{Service}
-use Rattle.gate_rules.specs.Service.{keyword}
+use Rattle.gate_rules.specs.declared.setting.Assigned.{Assigned}
+use Rattle.gate_rules.specs.declared.setting.Setting.{Setting}
+use Rattle.gate_rules.specs.Attribute.{attribute_of}
+use Rattle.gate_rules.specs.Lists.{hosts_alone, hosts_in, mapped, options_in, patterns_of}
+use Rattle.gate_rules.specs.Operation.{operation}
+use Rattle.gate_rules.specs.Options.{no_options, options_of}
+use Rattle.gate_rules.specs.Service.{is_smap, keyword, plug_port}
+use Rattle.gate_rules.specs.Settings.{set_to}
+
+-- the rules of a service in the order of their lines, and what lines set
+pub record RuleBook : Type 0 where
+  pub rules : List Rule
+  pub settings : List Assigned
 
 -- a line is the service's where one of its keywords is the service's or a star
 abbrev pub is_of : List ℕ → Line → Bool
 is_of key line = list_any (λ word. bytes_eq word key || bytes_eq word (codes "*")) line.keywords
 
--- an option begins with a dash, and isn't quoted
-abbrev pub is_option : Word → Bool
-is_option word = not word.quoted && starts_with nat_eq word.text (codes "-")
+-- a line that permits or denies these hosts; its options stand after its hosts, and so do their faults
+abbrev pub ruled : ℕ → Bool → Result (List Written) Why → Result Options Why → Result Said Why
+ruled number permits (Err why) options = Err why
+ruled number permits (Ok hosts) (Err why) = Err why
+ruled number permits (Ok hosts) (Ok options) = Ok (Ruled (record { line = number; permits = permits; hosts = hosts; options = options }))
 
--- the words of the host list: those before the first option
-abbrev pub hosts_in : List Word → List Word
-hosts_in words = before_first is_option words
+abbrev pub permit_said : Service → ℕ → List Word → Result Said Why
+permit_said service number words = ruled number true (patterns_of (hosts_in words)) (options_of service 0 (options_in words))
 
--- the first option and what follows it
-abbrev pub options_in : List Word → List Word
-options_in words = drop (position_or_len is_option words) words
+abbrev pub deny_said : ℕ → List Word → Result Said Why
+deny_said number words = ruled number false (hosts_alone words) (Ok no_options)
 
--- the host list, where its patterns are made of digits, periods and stars
-unfoldable pub plain_hosts : List Word → Option (List Written)
-plain_hosts words = if list_all (λ word. is_for_addresses word.text) words then result_ok (list_parsed words) else None
+-- a target must be there, and is missed at the end of the line
+abbrev pub with_target : Result Options Why → Result Options Why
+with_target (Err why) = Err why
+with_target (Ok options) = if is_none options.plug_to then Err MissingValue else Ok options
 
--- the words after `-exec`, at least one, or none where no option stands
-abbrev pub plain_exec : List Word → Option (List (List ℕ))
-plain_exec [] = Some []
-plain_exec (option ∷ []) = None
-plain_exec (option ∷ word ∷ words) = if bytes_eq option.text (codes "-exec") then Some (map (λ w. w.text) (word ∷ words)) else None
+-- a line for another port is read, and says nothing
+abbrev pub where_ours : Bool → Said → Said
+where_ours true said = said
+where_ours false said = Nothing
 
-abbrev pub permit_rule : ℕ → Option (List Written) → Option (List (List ℕ)) → Option Rule
-permit_rule number (Some hosts) (Some exec) = Some (record { line = number; permits = true; hosts = hosts; options = record { exec = exec } })
-permit_rule number None _ = None
-permit_rule number (Some hosts) None = None
+-- the rule of a line of the plug, whichever port it is for
+abbrev pub plug_rule : Service → ℕ → ℕ → List Word → Result Said Why
+plug_rule service number port words = ruled number true (patterns_of (hosts_in words)) (with_target (options_of service port (options_in words)))
 
-abbrev pub deny_rule : ℕ → Option (List Written) → List Word → Option Rule
-deny_rule number (Some hosts) [] = Some (record { line = number; permits = false; hosts = hosts; options = record { exec = [] } })
-deny_rule number (Some hosts) (option ∷ more) = None
-deny_rule number None _ = None
+abbrev pub plug_said : Service → ℕ → Option ℕ → List Word → Result Said Why
+plug_said service number None words = Err BadNumber
+plug_said service number (Some port) words = mapped (where_ours (port == plug_port service)) (plug_rule service number port words)
 
--- the rule that a line is, where it is a plain one
-abbrev pub rule_of : Line → Option Rule
-rule_of line =
-    if bytes_eq line.attribute (codes "permit-hosts") then permit_rule line.number (plain_hosts (hosts_in line.words)) (plain_exec (options_in line.words))
-    else if bytes_eq line.attribute (codes "deny-hosts") then deny_rule line.number (plain_hosts (hosts_in line.words)) (options_in line.words)
-    else None
+-- a port, hosts and options
+abbrev pub port_said : Service → ℕ → List Word → Result Said Why
+port_said service number [] = Err MissingValue
+port_said service number (word ∷ words) = plug_said service number (port_of word.text) words
 
--- these rules, and then more
-abbrev pub with_rules : List Rule → Result (List Rule) RuleFault → Result (List Rule) RuleFault
-with_rules some (Ok more) = Ok (some ++ more)
-with_rules some (Err fault) = Err fault
+abbrev pub set_said : Setting → ℕ → List Word → Result Said Why
+set_said which number words = mapped (λ value. Set (record { which = which; value = value; line = number })) (set_to which words)
 
--- a rule, and then those of the lines after it; its fault comes before theirs
-abbrev pub rule_then : ℕ → Option Rule → Result (List Rule) RuleFault → Result (List Rule) RuleFault
-rule_then number None more = Err (record { line = number; why = NotBuilt })
-rule_then number (Some rule) more = with_rules (rule ∷ []) more
+abbrev pub operation_said : List Word → Result Said Why
+operation_said words = mapped (λ hosts. Nothing) (operation words)
 
--- the rules that these lines are, or the first that is none
-abbrev pub rules_in : List Line → Result (List Rule) RuleFault
-rules_in [] = Ok []
-rules_in (line ∷ lines) = rule_then line.number (rule_of line) (rules_in lines)
+-- what a line says by its attribute
+abbrev pub said_as : Attribute → Service → ℕ → List Word → Result Said Why
+said_as attribute.Permit service number words = permit_said service number words
+said_as attribute.Deny service number words = deny_said number words
+said_as attribute.Port service number words = port_said service number words
+said_as (attribute.Sets which) service number words = set_said which number words
+said_as attribute.Operation service number words = operation_said words
+said_as attribute.Other service number words = Ok Nothing
 
--- the rules of the service, or the fault of its first line that is none
-abbrev pub rules_of : Service → List Line → Result (List Rule) RuleFault
-rules_of service lines = rules_in (filter (is_of (keyword service)) lines)
+-- what a line says to a service, or why it can't be read
+unfoldable pub said_by : Service → Line → Result Said Why
+said_by service line = said_as (attribute_of service line.attribute) service line.number line.words
+
+-- what some lines say, and then others
+abbrev pub with_book : RuleBook → Result RuleBook RuleFault → Result RuleBook RuleFault
+with_book some (Err fault) = Err fault
+with_book some (Ok more) = Ok (record { rules = some.rules ++ more.rules; settings = some.settings ++ more.settings })
+
+-- what some lines say, and then one more
+abbrev pub and_said : RuleBook → Said → RuleBook
+and_said book Nothing = book
+and_said book (Ruled rule) = record book { rules = book.rules ++ rule ∷ [] }
+and_said book (Set assigned) = record book { settings = book.settings ++ assigned ∷ [] }
+
+-- what one line says, before what the others say
+abbrev pub with_said : Said → RuleBook → RuleBook
+with_said Nothing book = book
+with_said (Ruled rule) book = record book { rules = rule ∷ book.rules }
+with_said (Set assigned) book = record book { settings = assigned ∷ book.settings }
+
+-- a line, and then the lines after it; its fault comes before theirs
+abbrev pub said_then : ℕ → Result Said Why → Result RuleBook RuleFault → Result RuleBook RuleFault
+said_then number (Err why) more = Err (record { line = number; why = why })
+said_then number (Ok said) (Err fault) = Err fault
+said_then number (Ok said) (Ok book) = Ok (with_said said book)
+
+-- what these lines say, or the first that can't be read
+abbrev pub book_of : Service → List Line → Result RuleBook RuleFault
+book_of service [] = Ok (record { rules = []; settings = [] })
+book_of service (line ∷ lines) = said_then line.number (said_by service line) (book_of service lines)
+
+-- the line that permits every host
+abbrev pub everyone : Rule
+everyone = record { line = 0; permits = true; hosts = record { negated = false; body = codes "*" } ∷ []; options = no_options }
+
+-- for `smap` a line with number 0 permits every host after the last line
+abbrev pub last_rules : Bool → List Rule
+last_rules true = everyone ∷ []
+last_rules false = []
+
+abbrev pub closed : List Rule → Result RuleBook RuleFault → Result RuleBook RuleFault
+closed last (Err fault) = Err fault
+closed last (Ok book) = Ok (record book { rules = book.rules ++ last })
+
+-- what the table says to the service, or the first of the service's lines that can't be read
+abbrev pub rules_of : Service → List Line → Result RuleBook RuleFault
+rules_of service lines = closed (last_rules (is_smap service)) (book_of service (filter (is_of (keyword service)) lines))
 
 -- a fault of the rules is the one that the lines have, but for want of memory
-abbrev pub IsFaultIn : Result (List Rule) RuleFault → RulesFault → Type 0
+abbrev pub IsFaultIn : Result RuleBook RuleFault → RulesFault → Type 0
 IsFaultIn read (faults.Rule fault) = read ≡ Err fault
 IsFaultIn read faults.NoMemory = Unit {0}

@@ -1,12 +1,18 @@
--- What the rules of a service decide of a peer.
-use Rattle.std.specs.Prelude.{ℕ, Bool, ◌==◌, ◌&&◌, List, find, Option, Some, None, if◌then◌else◌}
+-- What the rules of a service decide of a peer, and what they say besides.
+use Rattle.std.specs.Prelude.{ℕ, Bool, true, ◌+◌, ◌==◌, ◌&&◌, List, [], ◌∷◌, find, length, Option, Some, None, if◌then◌else◌}
 use Rattle.std.specs.Option.{option_map}
+use Rattle.fw_outside.specs.Dest.{party_of}
+use Rattle.fw_outside.specs.declared.dest.Dest.{Dest}
 use Rattle.fw_outside.specs.declared.peer.Peer.{Peer}
+use Rattle.host_pattern.specs.Pattern.{Written}
 use Rattle.host_pattern.specs.PatternList.{list_matches}
 use Rattle.gate_rules.specs.declared.options.Options.{Options}
 use Rattle.gate_rules.specs.declared.rule.Rule.{Rule}
+use Rattle.gate_rules.specs.declared.setting.Setting.{Setting}
 use Rattle.gate_rules.specs.declared.verdict.Verdict.{Verdict}
 use Rattle.gate_rules.specs.declared.verdict.Verdict.TheVariants.{Permit, Deny}
+use Rattle.gate_rules.specs.Reading.{RuleBook}
+use Rattle.gate_rules.specs.Settings.{is_same}
 
 -- what the first matching rule says, and a denial by line 0 where none matches
 abbrev pub decided_by : Option Rule → Verdict
@@ -18,9 +24,32 @@ abbrev pub matches : Peer → Rule → Bool
 matches peer rule = list_matches rule.hosts peer
 
 -- the first rule whose host list matches the peer decides
-unfoldable pub verdict_of : List Rule → Peer → Verdict
-verdict_of rules peer = decided_by (find (matches peer) rules)
+unfoldable pub verdict_of : RuleBook → Peer → Verdict
+verdict_of book peer = decided_by (find (matches peer) book.rules)
+
+-- how many patterns all host lists have
+abbrev pub patterns_in : List Rule → ℕ
+patterns_in [] = 0
+patterns_in (rule ∷ rules) = length rule.hosts + patterns_in rules
 
 -- the options of the permit line with this number
-abbrev pub options_at : List Rule → ℕ → Option Options
-options_at rules line = option_map (λ rule. rule.options) (find (λ rule. rule.permits && rule.line == line) rules)
+abbrev pub options_at : RuleBook → ℕ → Option Options
+options_at book line = option_map (λ rule. rule.options) (find (λ rule. rule.permits && rule.line == line) book.rules)
+
+-- the value and the line of the first line that sets it
+abbrev pub setting_of : RuleBook → Setting → Option (ℕ × ℕ)
+setting_of book which = option_map (λ set. (set.value, set.line)) (find (λ set. is_same set.which which) book.settings)
+
+-- whether the list of `-dest` matches, where there is one
+abbrev pub list_allows : Option (List Written) → Peer → Bool
+list_allows None party = true
+list_allows (Some patterns) party = list_matches patterns party
+
+-- how many patterns that list has
+abbrev pub list_length : Option (List Written) → ℕ
+list_length None = 0
+list_length (Some patterns) = length patterns
+
+-- whether the options let a client go to a destination
+abbrev pub allows : Options → Dest → Bool
+allows options dest = list_allows options.dest (party_of dest)

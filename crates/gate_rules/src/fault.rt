@@ -6,12 +6,33 @@ ghost use Rattle.gate_rules.specs.declared.fault.RulesFault.TheVariants.{NoMemor
 use std::alloc::{AllocError, AllocFailed};
 use thiserror::Error;
 
-/// What is wrong with a line.
+/// What is wrong with a line: the cause of its leftmost bad word.
 #[derive(Clone, Copy, Debug, PartialEq, Eq, Error)]
 pub enum Why {
-    /// It is no plain rule.
-    #[error("not built")]
-    NotBuilt,
+    /// A host list, or the list of `-dest`, is empty.
+    #[error("no hosts")]
+    NoHosts,
+    /// A word of a list of patterns is no pattern.
+    #[error("bad pattern")]
+    BadPattern,
+    /// A 65th pattern or a 33rd verb stands in a list.
+    #[error("too many")]
+    TooMany,
+    /// The service has no such option.
+    #[error("unknown option")]
+    UnknownOption,
+    /// The line ends before a word that must be there, or no verb stands between braces.
+    #[error("missing value")]
+    MissingValue,
+    /// No closing brace follows.
+    #[error("open brace")]
+    OpenBrace,
+    /// A word in the place of a number or a port is none, or is out of range.
+    #[error("bad number")]
+    BadNumber,
+    /// Any other word that fits nothing at its place.
+    #[error("bad word")]
+    BadWord,
 }
 
 impl Why {
@@ -20,7 +41,14 @@ impl Why {
         ensures { result.now ≡ why_text self.now }
     {
         match self {
-            Why::NotBuilt => b"not built",
+            Why::NoHosts => b"no hosts",
+            Why::BadPattern => b"bad pattern",
+            Why::TooMany => b"too many",
+            Why::UnknownOption => b"unknown option",
+            Why::MissingValue => b"missing value",
+            Why::OpenBrace => b"open brace",
+            Why::BadNumber => b"bad number",
+            Why::BadWord => b"bad word",
         }
     }
 }

@@ -1,13 +1,20 @@
-//! Reading a line as a rule.
-ghost use Rattle.std.specs.Prelude.{◌≡◌, ◌≤◌, ◌||◌, length, map, position, codes, IfOk};
-ghost use Rattle.std.specs.List.{list_all, position_or_len};
+//! Reading a line by its attribute.
+ghost use Rattle.std.specs.Prelude.{◌≡◌, ◌||◌, ◌==◌, true, false, Ok, Err, codes, is_none, IfOk};
 ghost use Rattle.std.specs.Str.{bytes_eq};
-ghost use Rattle.host_pattern.specs.Party.{is_for_addresses};
-ghost use Rattle.gate_rules.specs.Reading.{deny_rule, hosts_in, is_of, is_option, options_in, permit_rule, plain_exec, plain_hosts, rule_of};
+ghost use Rattle.gate_rules.specs.Lists.{mapped};
+ghost use Rattle.gate_rules.specs.Options.{no_options};
+ghost use Rattle.gate_rules.specs.Reading.{deny_said, is_of, operation_said, permit_said, plug_rule, plug_said, port_said, ruled, said_as, said_by, set_said, where_ours, with_target};
 
-use crate::{Options, Rule};
-use fw_outside::{NoMemory, Octets, OctetsList};
-use host_pattern::{ListFault, PatternList, Word};
+use crate::attribute::{Attribute, attribute_of};
+use crate::draft::options_of;
+use crate::lists::{Reading, hosts_alone, patterns_of};
+use crate::operation::operation;
+use crate::said::Said;
+use crate::setting::set_to;
+use crate::words::{hosts_in, options_in};
+use crate::{Assigned, Options, Rule, Service, Setting, Why};
+use fw_outside::{Octets, read_port};
+use host_pattern::{PatternList, Word};
 use netperm_table::Line;
 use std::alloc::Global;
 
@@ -17,162 +24,158 @@ fn is_key(word: &Octets, key: &[u8]) -> bool
     word.bytes() == key || word.bytes() == b"*".as_slice()
 }
 
-/// Whether one of the line's keywords is this one or a star.
+// Whether one of the line's keywords is this one or a star.
 pub(crate) fn is_of(line: &Line, key: &[u8]) -> bool
     ensures { result ≡ is_of key.now line.now }
 {
-    line.keywords.as_slice().iter().any(|word| is_key(word, key))
-}
-
-fn is_option(word: &Word) -> bool
-    ensures { result ≡ is_option word.now }
-{
-    !word.quoted && word.text.bytes().starts_with(b"-")
-}
-
-// The place of the first option.
-fn find_option(words: &[Word]) -> Option<usize>
-    ensures { result ≡ position is_option words.now }
-{
-    words.iter().position(|word| is_option(word))
-}
-
-// How many words come before the first option.
-fn count_of_hosts(words: &[Word]) -> usize
-    ensures count { result ≡ position_or_len is_option words.now }
-    ensures within { result ≤ length words.now }
-{
-    find_option(words).unwrap_or(words.len())
-}
-
-fn hosts_in(words: &[Word]) -> &[Word]
-    ensures { result.now ≡ hosts_in words.entry.now }
-{
-    &words[..count_of_hosts(words)]
-}
-
-fn options_in(words: &[Word]) -> &[Word]
-    ensures { result.now ≡ options_in words.entry.now }
-{
-    &words[count_of_hosts(words)..]
-}
-
-fn is_for_addresses(word: &Word) -> bool
-    ensures { result ≡ is_for_addresses word.now.text }
-{
-    word.text
-        .bytes()
+    line.keywords
+        .as_slice()
         .iter()
-        .all(|byte| byte.is_ascii_digit() || *byte == b'.' || *byte == b'*')
+        .any(|word| is_key(word, key))
 }
 
-fn all_for_addresses(words: &[Word]) -> bool
-    ensures { result ≡ list_all (λ word. is_for_addresses word.text) words.now }
+// The rule of a line with these hosts and these options.
+fn ruled(number: u32, permits: bool, hosts: PatternList, options: Options) -> Said
+    ensures { ruled number permits (Ok hosts) (Ok options) ≡ Ok result }
 {
-    words.iter().all(|word| is_for_addresses(word))
+    Said::Ruled(Rule {
+        line: number,
+        permits,
+        hosts,
+        options,
+    })
 }
 
-#[tactic(auto, unfolding(crate::specs::Reading::plain_hosts))]
-fn plain_hosts(alloc: Global, words: &[Word]) -> Result<Option<PatternList>, NoMemory>
-    ensures { IfOk result (λ hosts. hosts ≡ plain_hosts words.now) }
+fn permit_said(alloc: Global, service: &Service, number: u32, words: &[Word]) -> Reading<Said>
+    ensures { IfOk result (λ read. read ≡ permit_said service.now number words.now) }
 {
-    if !all_for_addresses(words) {
-        return Ok(None);
-    }
-    match PatternList::parse(alloc, words) {
-        Ok(hosts) => Ok(Some(hosts)),
-        Err(ListFault::NoMemory) => Err(NoMemory),
-        Err(_) => Ok(None),
-    }
-}
-
-fn texts_of(alloc: Global, words: &[Word]) -> Result<OctetsList, NoMemory>
-    ensures { IfOk result (λ texts. texts ≡ map (λ w. w.text) words.now) }
-{
-    let mut texts = OctetsList::new(alloc);
-    for word in words {
-        let text = Octets::copy(alloc, word.text.bytes())?;
-        if texts.push(text).is_err() {
-            return Err(NoMemory);
-        }
-    }
-    Ok(texts)
-}
-
-fn is_exec(word: &Word) -> bool
-    ensures { result ≡ bytes_eq word.now.text (codes "-exec") }
-{
-    word.text.bytes() == b"-exec".as_slice()
-}
-
-fn plain_exec(alloc: Global, options: &[Word]) -> Result<Option<OctetsList>, NoMemory>
-    ensures { IfOk result (λ exec. exec ≡ plain_exec options.now) }
-{
-    match options {
-        [] => Ok(Some(OctetsList::new(alloc))),
-        [_] => Ok(None),
-        [option, words @ ..] => {
-            if !is_exec(option) {
-                return Ok(None);
-            }
-            Ok(Some(texts_of(alloc, words)?))
-        }
+    let hosts = match patterns_of(alloc, hosts_in(words))? {
+        Ok(hosts) => hosts,
+        Err(why) => return Ok(Err(why)),
+    };
+    match options_of(alloc, service, 0, options_in(words))? {
+        Ok(options) => Ok(Ok(ruled(number, true, hosts, options))),
+        Err(why) => Ok(Err(why)),
     }
 }
 
-fn permit_rule(alloc: Global, line: &Line) -> Result<Option<Rule>, NoMemory>
-    ensures { IfOk result (λ rule. rule ≡ permit_rule line.now.number (plain_hosts (hosts_in line.now.words)) (plain_exec (options_in line.now.words))) }
+fn deny_said(alloc: Global, number: u32, words: &[Word]) -> Reading<Said>
+    ensures { IfOk result (λ read. read ≡ deny_said number words.now) }
+{
+    match hosts_alone(alloc, words)? {
+        Ok(hosts) => Ok(Ok(ruled(number, false, hosts, Options::none(alloc)))),
+        Err(why) => Ok(Err(why)),
+    }
+}
+
+// Options without a target miss one.
+fn with_target(options: Options) -> Result<Options, Why>
+    ensures { result ≡ with_target (Ok options) }
+{
+    if options.plug_to.is_none() {
+        return Err(Why::MissingValue);
+    }
+    Ok(options)
+}
+
+// The rule of a plug's line, whichever port it is for.
+fn plug_rule(
+    alloc: Global,
+    service: &Service,
+    number: u32,
+    port: u16,
+    words: &[Word],
+) -> Reading<Said>
+    ensures { IfOk result (λ read. read ≡ plug_rule service.now number port words.now) }
+{
+    let hosts = match patterns_of(alloc, hosts_in(words))? {
+        Ok(hosts) => hosts,
+        Err(why) => return Ok(Err(why)),
+    };
+    let options = match options_of(alloc, service, port, options_in(words))? {
+        Ok(options) => options,
+        Err(why) => return Ok(Err(why)),
+    };
+    match with_target(options) {
+        Ok(options) => Ok(Ok(ruled(number, true, hosts, options))),
+        Err(why) => Ok(Err(why)),
+    }
+}
+
+fn where_ours(ours: bool, said: Said) -> Said
+    ensures { result ≡ where_ours ours said }
+{
+    if ours { said } else { Said::Nothing }
+}
+
+fn plug_said(
+    alloc: Global,
+    service: &Service,
+    number: u32,
+    port: Option<u16>,
+    words: &[Word],
+) -> Reading<Said>
+    ensures { IfOk result (λ read. read ≡ plug_said service.now number port words.now) }
+{
+    let Some(port) = port else {
+        return Ok(Err(Why::BadNumber));
+    };
+    match plug_rule(alloc, service, number, port, words)? {
+        Ok(said) => Ok(Ok(where_ours(port == service.plug_port(), said))),
+        Err(why) => Ok(Err(why)),
+    }
+}
+
+fn port_said(alloc: Global, service: &Service, number: u32, words: &[Word]) -> Reading<Said>
+    ensures { IfOk result (λ read. read ≡ port_said service.now number words.now) }
+{
+    match words {
+        [] => Ok(Err(Why::MissingValue)),
+        [word, more @ ..] => plug_said(alloc, service, number, read_port(word.text.bytes()), more),
+    }
+}
+
+fn set_said(which: Setting, number: u32, words: &[Word]) -> Result<Said, Why>
+    ensures { result ≡ set_said which number words.now }
+{
+    match set_to(which, words) {
+        Ok(value) => Ok(Said::Set(Assigned {
+            which,
+            value,
+            line: number,
+        })),
+        Err(why) => Err(why),
+    }
+}
+
+fn operation_said(alloc: Global, words: &[Word]) -> Reading<Said>
+    ensures { IfOk result (λ read. read ≡ operation_said words.now) }
+{
+    match operation(alloc, words)? {
+        Ok(_) => Ok(Ok(Said::Nothing)),
+        Err(why) => Ok(Err(why)),
+    }
+}
+
+fn said_as(alloc: Global, attribute: Attribute, service: &Service, line: &Line) -> Reading<Said>
+    ensures { IfOk result (λ read. read ≡ said_as attribute service.now line.now.number line.now.words) }
 {
     let words = line.words.as_slice();
-    let Some(hosts) = plain_hosts(alloc, hosts_in(words))? else {
-        return Ok(None);
-    };
-    let Some(exec) = plain_exec(alloc, options_in(words))? else {
-        return Ok(None);
-    };
-    Ok(Some(Rule {
-        line: line.number,
-        permits: true,
-        hosts,
-        options: Options { exec },
-    }))
+    match attribute {
+        Attribute::Permit => permit_said(alloc, service, line.number, words),
+        Attribute::Deny => deny_said(alloc, line.number, words),
+        Attribute::Port => port_said(alloc, service, line.number, words),
+        Attribute::Sets(which) => Ok(set_said(which, line.number, words)),
+        Attribute::Operation => operation_said(alloc, words),
+        Attribute::Other => Ok(Ok(Said::Nothing)),
+    }
 }
 
-fn deny_rule(alloc: Global, line: &Line) -> Result<Option<Rule>, NoMemory>
-    ensures { IfOk result (λ rule. rule ≡ deny_rule line.now.number (plain_hosts (hosts_in line.now.words)) (options_in line.now.words)) }
+/// What a line says to a service, or why it can't be read.
+#[tactic(auto, unfolding(crate::specs::Reading::said_by))]
+pub(crate) fn said_by(alloc: Global, service: &Service, line: &Line) -> Reading<Said>
+    ensures { IfOk result (λ read. read ≡ said_by service.now line.now) }
 {
-    let words = line.words.as_slice();
-    let Some(hosts) = plain_hosts(alloc, hosts_in(words))? else {
-        return Ok(None);
-    };
-    if !options_in(words).is_empty() {
-        return Ok(None);
-    }
-    Ok(Some(Rule {
-        line: line.number,
-        permits: false,
-        hosts,
-        options: Options {
-            exec: OctetsList::new(alloc),
-        },
-    }))
-}
-
-fn is_attribute(line: &Line, text: &[u8]) -> bool
-    ensures { result ≡ bytes_eq line.now.attribute text.now }
-{
-    line.attribute.bytes() == text
-}
-
-/// The rule that the line is, or nothing where it is none.
-pub(crate) fn rule_of(alloc: Global, line: &Line) -> Result<Option<Rule>, NoMemory>
-    ensures { IfOk result (λ rule. rule ≡ rule_of line.now) }
-{
-    if is_attribute(line, b"permit-hosts") {
-        return permit_rule(alloc, line);
-    }
-    if is_attribute(line, b"deny-hosts") {
-        return deny_rule(alloc, line);
-    }
-    Ok(None)
+    let attribute = attribute_of(service, line.attribute.bytes());
+    said_as(alloc, attribute, service, line)
 }

@@ -1,88 +1,42 @@
-ghost use Rattle.std.specs.Prelude.{◌≡◌, List, ◌∷◌, Result, filter, find, IfOk, IfErr, OnOk};
+ghost use Rattle.std.specs.Prelude.{◌≡◌, ◌+◌, ◌≤◌, List, [], ◌∷◌, ◌++◌, Result, filter, find, length, IfOk, IfErr, OnOk};
 ghost use Rattle.std.specs.Option.{option_copied};
-ghost use Rattle.gate_rules.specs.Reading.{IsFaultIn, is_of, rule_of, rule_then, rules_in, rules_of, with_rules};
 ghost use Rattle.gate_rules.specs.declared.fault.RuleFault.{RuleFault};
-ghost use Rattle.gate_rules.specs.declared.rule.Rule.{Rule};
+ghost use Rattle.gate_rules.specs.Reading.{IsFaultIn, RuleBook, and_said, book_of, closed, is_of, everyone, last_rules, rules_of, said_by, said_then, with_book, with_said};
+ghost use Rattle.gate_rules.specs.Settings.{is_same};
+ghost use Rattle.gate_rules.specs.Verdict.{decided_by, matches, options_at, patterns_in, setting_of, verdict_of};
 ghost use Rattle.netperm_table.specs.declared.line.Line.{Line};
-ghost use Rattle.gate_rules.specs.Verdict.{decided_by, matches, options_at, verdict_of};
 
-use crate::reading::{is_of, rule_of};
-use crate::{Options, Rule, RuleFault, RulesFault, Service, Verdict, Why};
+use crate::reading::{is_of, said_by};
+use crate::said::Said;
+use crate::setting::is_same;
+use crate::{Assigned, Options, Rule, RuleFault, RulesFault, Service, Setting, Verdict};
 use arrayvec::ArrayVec;
 use fw_outside::Peer;
-use host_pattern::Steps;
+use host_pattern::{Pattern, PatternList, Steps};
 use netperm_table::{Line, Table};
 use std::alloc::Global;
 use std::marker::Model;
 use std::sync::ledger::Ledger;
 
-/// The rules of a service, in the order of their lines.
+/// What a table says to a service: its rules in the order of their lines, and its settings.
 #[derive(Drop)]
 pub struct Rules {
     rules: Vec<Rule>,
+    settings: Vec<Assigned>,
 }
 
 impl Model for Rules {
-    ghost use Rattle.std.specs.Prelude.{List};
-    ghost use Rattle.gate_rules.specs.declared.rule.Rule.{Rule};
+    ghost use Rattle.gate_rules.specs.Reading.{RuleBook};
 
-    ghost Value = { List Rule };
+    ghost Value = { RuleBook };
 
-    ghost view = { λ rules. rules.rules.items };
-}
-
-// Adds the rule that a line is.
-fn add_rule(alloc: Global, rules: &mut Vec<Rule>, line: &Line) -> Result<(), RulesFault>
-    ensures ok { OnOk result ((more : Result (List Rule) RuleFault) →
-        with_rules rules.new.items more ≡ with_rules rules.old.items (rule_then line.now.number (rule_of line.now) more)) }
-    ensures fault { IfErr result (λ e. (more : Result (List Rule) RuleFault) →
-        IsFaultIn (with_rules rules.old.items (rule_then line.now.number (rule_of line.now) more)) e) }
-{
-    match rule_of(alloc, line)? {
-        Some(rule) => {
-            rules.push(rule)?;
-            Ok(())
-        }
-        None => Err(RulesFault::Rule(RuleFault {
-            line: line.number,
-            why: Why::NotBuilt,
-        })),
-    }
-}
-
-// Adds the rule that a line is, where it has the keyword.
-fn add_line(
-    alloc: Global,
-    rules: &mut Vec<Rule>,
-    line: &Line,
-    key: &[u8],
-) -> Result<(), RulesFault>
-    ensures ok { OnOk result ((lines : List Line) → with_rules rules.new.items (rules_in (filter (is_of key.now) lines))
-        ≡ with_rules rules.old.items (rules_in (filter (is_of key.now) (line.now ∷ lines)))) }
-    ensures fault { IfErr result (λ e. (lines : List Line) →
-        IsFaultIn (with_rules rules.old.items (rules_in (filter (is_of key.now) (line.now ∷ lines)))) e) }
-{
-    if !is_of(line, key) {
-        return Ok(());
-    }
-    add_rule(alloc, rules, line)
-}
-
-// The rules of the lines that have the keyword.
-fn rules_with(alloc: Global, lines: &[Line], key: &[u8]) -> Result<Vec<Rule>, RulesFault>
-    ensures ok { IfOk result (λ rules. rules_in (filter (is_of key.now) lines.now) ≡ Ok rules.items) }
-    ensures fault { IfErr result (IsFaultIn (rules_in (filter (is_of key.now) lines.now))) }
-{
-    let mut rules = Vec::new(alloc);
-    for line in lines {
-        add_line(alloc, &mut rules, line, key)?;
-    }
-    Ok(rules)
+    ghost view = { λ rules. record { rules = rules.rules.items; settings = rules.settings.items } };
 }
 
 // What the first of the rules decides whose host list matches the peer.
 fn verdict_in<L: Ledger>(rules: &[Rule], peer: &Peer, steps: &mut Steps<L>) -> Verdict
-    ensures { result ≡ decided_by (find (matches peer.now) rules.now) }
+    ensures answer { result ≡ decided_by (find (matches peer.now) rules.now) }
+    ensures bound { steps.new ≤ steps.old + patterns_in rules.now }
 {
     for rule in rules {
         if rule.hosts.matches(peer, steps) {
@@ -92,26 +46,140 @@ fn verdict_in<L: Ledger>(rules: &[Rule], peer: &Peer, steps: &mut Steps<L>) -> V
     Verdict::Deny { line: 0 }
 }
 
+// The line that permits every host.
+#[tactic(auto, using(crate::proofs::RulesLemmas::star_parsed))]
+fn everyone(alloc: Global) -> Result<Rule, RulesFault>
+    ensures ok { IfOk result (λ rule. rule ≡ everyone) }
+    ensures fault { IfErr result (λ e. e ≡ RulesFault.NoMemory) }
+{
+    let Ok(star) = Pattern::parse(b"*") else {
+        unreachable!();
+    };
+    let mut patterns = Vec::with_capacity(alloc, 1)?;
+    patterns.push(star)?;
+    Ok(Rule {
+        line: 0,
+        permits: true,
+        hosts: PatternList::of(patterns),
+        options: Options::none(alloc),
+    })
+}
+
 impl Rules {
-    /// The rules that the table has for a service.
+    /// What the table says to a service.
     ///
     /// # Errors
     ///
-    /// `Rule` with the first line of the service that is no rule, and why. Or `NoMemory`.
+    /// `Rule` with the first line of the service that can't be read, and the cause of its leftmost bad word. Or
+    /// `NoMemory`.
     pub fn of(alloc: Global, table: &Table, service: &Service) -> Result<Rules, RulesFault>
         ensures ok { IfOk result (λ rules. rules_of service.now table.now ≡ Ok rules) }
         ensures fault { IfErr result (IsFaultIn (rules_of service.now table.now)) }
     {
-        let mut key = ArrayVec::new();
-        service.write_keyword(&mut key);
-        let rules = rules_with(alloc, table.lines(), key.as_slice())?;
-        Ok(Rules { rules })
+        Rules::of_lines(alloc, table.lines(), service)
     }
 
-    /// What they decide of a peer: the first whose host list matches decides, and none denies by line 0.
+    // What the lines say to a service.
+    pub(crate) fn of_lines(
+        alloc: Global,
+        lines: &[Line],
+        service: &Service,
+    ) -> Result<Rules, RulesFault>
+        ensures ok { IfOk result (λ rules. rules_of service.now lines.now ≡ Ok rules) }
+        ensures fault { IfErr result (IsFaultIn (rules_of service.now lines.now)) }
+    {
+        let mut key = ArrayVec::new();
+        service.write_keyword(&mut key);
+        let mut rules = Rules::said(alloc, lines, service, key.as_slice())?;
+        rules.close(alloc, service.is_smap())?;
+        Ok(rules)
+    }
+
+    // What the lines with the keyword say to a service.
+    fn said(
+        alloc: Global,
+        lines: &[Line],
+        service: &Service,
+        key: &[u8],
+    ) -> Result<Rules, RulesFault>
+        ensures ok { IfOk result (λ rules. book_of service.now (filter (is_of key.now) lines.now) ≡ Ok rules) }
+        ensures fault { IfErr result (IsFaultIn (book_of service.now (filter (is_of key.now) lines.now))) }
+    {
+        let mut rules = Rules {
+            rules: Vec::new(alloc),
+            settings: Vec::new(alloc),
+        };
+        for line in lines {
+            rules.add_line(alloc, line, service, key)?;
+        }
+        Ok(rules)
+    }
+
+    // Adds what the line says, where it has the keyword.
+    fn add_line(
+        &mut self,
+        alloc: Global,
+        line: &Line,
+        service: &Service,
+        key: &[u8],
+    ) -> Result<(), RulesFault>
+        ensures ok { OnOk result ((lines : List Line) → with_book self.new (book_of service.now (filter (is_of key.now) lines))
+            ≡ with_book self.old (book_of service.now (filter (is_of key.now) (line.now ∷ lines)))) }
+        ensures fault { IfErr result (λ e. (lines : List Line) →
+            IsFaultIn (with_book self.old (book_of service.now (filter (is_of key.now) (line.now ∷ lines)))) e) }
+    {
+        if !is_of(line, key) {
+            return Ok(());
+        }
+        self.add_ours(alloc, line, service)
+    }
+
+    // Adds what a line of the service says.
+    fn add_ours(&mut self, alloc: Global, line: &Line, service: &Service) -> Result<(), RulesFault>
+        ensures ok { OnOk result ((more : Result RuleBook RuleFault) →
+            with_book self.new more ≡ with_book self.old (said_then line.now.number (said_by service.now line.now) more)) }
+        ensures fault { IfErr result (λ e. (more : Result RuleBook RuleFault) →
+            IsFaultIn (with_book self.old (said_then line.now.number (said_by service.now line.now) more)) e) }
+    {
+        match said_by(alloc, service, line)? {
+            Ok(said) => self.add(said),
+            Err(why) => Err(RulesFault::Rule(RuleFault {
+                line: line.number,
+                why,
+            })),
+        }
+    }
+
+    // Adds what a line says.
+    fn add(&mut self, said: Said) -> Result<(), RulesFault>
+        ensures ok { OnOk result (self.new ≡ and_said self.old said) }
+        ensures fault { IfErr result (λ e. e ≡ RulesFault.NoMemory) }
+    {
+        match said {
+            Said::Nothing => (),
+            Said::Ruled(rule) => self.rules.push(rule)?,
+            Said::Set(assigned) => self.settings.push(assigned)?,
+        }
+        Ok(())
+    }
+
+    // Adds the line that permits every host, where there is to be one.
+    fn close(&mut self, alloc: Global, for_all: bool) -> Result<(), RulesFault>
+        ensures ok { OnOk result (self.new ≡ record self.old { rules = self.old.rules ++ last_rules for_all }) }
+        ensures fault { IfErr result (λ e. e ≡ RulesFault.NoMemory) }
+    {
+        if for_all {
+            self.rules.push(everyone(alloc)?)?;
+        }
+        Ok(())
+    }
+
+    /// What they decide of a peer: the first whose host list matches decides, and none denies by line 0. It takes no
+    /// memory, and makes at most one step a pattern.
     #[tactic(auto, unfolding(crate::specs::Verdict::verdict_of))]
     pub fn verdict<L: Ledger>(&self, peer: &Peer, steps: &mut Steps<L>) -> Verdict
-        ensures { result ≡ verdict_of self.now peer.now }
+        ensures answer { result ≡ verdict_of self.now peer.now }
+        ensures bound { steps.new ≤ steps.old + patterns_in self.now.rules }
     {
         verdict_in(&self.rules, peer, steps)
     }
@@ -124,5 +192,15 @@ impl Rules {
             .iter()
             .find(|rule| rule.permits && rule.line == line)
             .map(|rule| &rule.options)
+    }
+
+    /// The value of a setting and the number of the first line that sets it, or nothing where none does.
+    pub fn setting(&self, which: Setting) -> Option<(u64, u32)>
+        ensures { result ≡ setting_of self.now which }
+    {
+        self.settings
+            .iter()
+            .find(|assigned| is_same(assigned.which, which))
+            .map(|assigned| (assigned.value, assigned.line))
     }
 }

@@ -8,7 +8,7 @@ use Rattle.std.proofs.lemmas.List.{append-nil}
 use Rattle.std.proofs.lemmas.List.Elements.{All-append}
 use Rattle.netperm_table.specs.declared.line.Line.{Line}
 use Rattle.netperm_table.specs.declared.table_fault.TableFault.{TableFault}
-use Rattle.netperm_table.specs.declared.table_fault.TableFault.TheVariants.{NotBuilt}
+use Rattle.netperm_table.specs.declared.table_fault.TableFault.TheVariants.{LongLine, ManyLines}
 use Rattle.netperm_table.specs.Progress.{Progress, start, Keeps, Leads, Shows, table_with}
 use Rattle.netperm_table.specs.Reading.{reading}
 use Rattle.netperm_table.specs.Table.{with_lines, line_then, table_from, table_of}
@@ -75,30 +75,30 @@ first_fault made number long text fault first read =
     ap (λ ls. with_lines made (table_from number ls)) first.is ∙ fault_then made fault _ (table_from (number + 1) first.more) read
 
 -- no line has a number over 65,535
-many : (number : ℕ) (bytes : List ℕ) → 65535 < number → reading number bytes ≡ Err (NotBuilt number)
+many : (number : ℕ) (bytes : List ℕ) → 65535 < number → reading number bytes ≡ Err ManyLines
 many number bytes over = rw (lt-ltb 65535 number over) refl
 
-pub many_lines : (p : Progress) (bytes : List ℕ) → IsOneLine p.line → 65535 < p.number → 0 < length bytes → Shows p bytes (NotBuilt p.number)
+pub many_lines : (p : Progress) (bytes : List ℕ) → IsOneLine p.line → 65535 < p.number → 0 < length bytes → Shows p bytes ManyLines
 many_lines p bytes one over some = record {
   same = λ rest.
       let first = first_line p.line (bytes ++ rest) one (omega (arith, length-append bytes rest)) in
-      first_fault p.made p.number (length p.line) (p.line ++ (bytes ++ rest)) (NotBuilt p.number) first (many p.number first.first over);
+      first_fault p.made p.number (length p.line) (p.line ++ (bytes ++ rest)) ManyLines first (many p.number first.first over);
 }
 
 not_over : (number : ℕ) → number ≤ 65535 → nat_lt 65535 number ≡ false
 not_over number within = grind (arith, nat_tests)
 
 -- no line has more than 2,048 bytes
-long : (number : ℕ) (bytes : List ℕ) → number ≤ 65535 → 2048 < length bytes → reading number bytes ≡ Err (NotBuilt number)
+long : (number : ℕ) (bytes : List ℕ) → number ≤ 65535 → 2048 < length bytes → reading number bytes ≡ Err (LongLine number)
 long number bytes within over = rw (not_over number within, lt-ltb 2048 (length bytes) over) refl
 
-pub long_line : (p : Progress) (bytes : List ℕ) → IsOneLine p.line → IsOneLine bytes → p.number ≤ 65535 → 2049 < length p.line + length bytes → Shows p bytes (NotBuilt p.number)
+pub long_line : (p : Progress) (bytes : List ℕ) → IsOneLine p.line → IsOneLine bytes → p.number ≤ 65535 → 2049 < length p.line + length bytes → Shows p bytes (LongLine p.number)
 long_line p bytes one also within over = record {
   same = λ rest.
       let length_is = length-append p.line bytes in
       let first = first_line (p.line ++ bytes) rest (All-append (λ b. (b == 10) ≡ false) p.line bytes one also) (omega arith) in
       rw (sym (append_assoc p.line bytes rest))
-      (first_fault p.made p.number (length (p.line ++ bytes)) ((p.line ++ bytes) ++ rest) (NotBuilt p.number) first (long p.number first.first within (omega (arith, first.least))));
+      (first_fault p.made p.number (length (p.line ++ bytes)) ((p.line ++ bytes) ++ rest) (LongLine p.number) first (long p.number first.first within (omega (arith, first.least))));
 }
 
 -- the text ends after a line that ended

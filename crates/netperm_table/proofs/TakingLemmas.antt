@@ -9,7 +9,7 @@ use Rattle.fw_outside.specs.Spring.{Spring, Came, Ended, Broke, Idled}
 use Rattle.fw_outside.specs.Telling.{grown, preceded, IsOver}
 use Rattle.netperm_table.specs.declared.line.Line.{Line}
 use Rattle.netperm_table.specs.declared.table_fault.TableFault.{TableFault}
-use Rattle.netperm_table.specs.declared.table_fault.TableFault.TheVariants.{NotBuilt, ReadFault, NoMemory}
+use Rattle.netperm_table.specs.declared.table_fault.TableFault.TheVariants.{LongLine, NulByte, NoColon, NoKeyword, OpenQuote, NoAttribute, ManyLines, ReadFault, NoMemory}
 use Rattle.netperm_table.specs.Progress.{Progress, Leads, Shows, start, table_with}
 use Rattle.netperm_table.specs.Table.{table_of}
 use Rattle.netperm_table.specs.Taking.{AreLinesOf, IsFaultOf, Leaves, is_read_fault, Stopped, Took, TookAll}
@@ -93,20 +93,28 @@ reads_more first now new reader after n piece r came leads = record {
   leads = leads_more reader r.part (take n piece) after r.leads leads;
 }
 
+fault_of_left : (left : Option (List ℕ)) (e : TableFault) → ((text : List ℕ) → left ≡ Some text → e ≢ NoMemory → table_of text ≡ Err e) → IsFaultOf left e
+fault_of_left None e h = tt
+fault_of_left (Some text) ReadFault h = tt
+fault_of_left (Some text) NoMemory h = tt
+fault_of_left (Some text) (LongLine n) h = h text refl (λ same. absurd (cc))
+fault_of_left (Some text) (NulByte n) h = h text refl (λ same. absurd (cc))
+fault_of_left (Some text) (NoColon n) h = h text refl (λ same. absurd (cc))
+fault_of_left (Some text) (NoKeyword n) h = h text refl (λ same. absurd (cc))
+fault_of_left (Some text) (OpenQuote n) h = h text refl (λ same. absurd (cc))
+fault_of_left (Some text) (NoAttribute n) h = h text refl (λ same. absurd (cc))
+fault_of_left (Some text) ManyLines h = h text refl (λ same. absurd (cc))
+
 -- a fault that the first part shows is the text's
-fault_of : (left : Option (List ℕ)) (part : List ℕ) (rest : Option (List ℕ)) (e : TableFault) → left ≡ preceded part rest → (e ≢ NoMemory → Shows start part e) → IsFaultOf left e
-fault_of None part rest e next shows = tt
-fault_of (Some text) part rest ReadFault next shows = tt
-fault_of (Some text) part rest NoMemory next shows = tt
-fault_of (Some text) part None (NotBuilt line) next shows = absurd (cc)
-fault_of (Some text) part (Some more) (NotBuilt line) next shows =
+shown : (left : Option (List ℕ)) (part : List ℕ) (rest : Option (List ℕ)) (e : TableFault) (text : List ℕ) → left ≡ Some text → left ≡ preceded part rest → Shows start part e → table_of text ≡ Err e
+shown left part None e text told next shows = absurd (cc)
+shown left part (Some more) e text told next shows =
     let whole : text ≡ part ++ more = cc in
-    let other : NotBuilt line ≢ NoMemory = λ same. absurd (cc) in
-    rw whole (sym (starts (part ++ more)) ∙ (shows other).same more)
+    rw whole (sym (starts (part ++ more)) ∙ shows.same more)
 
 pub reads_fault : (first now new : Spring) (reader : Progress) (n : ℕ) (piece : List ℕ) (e : TableFault) → ReadsOn first now reader → Came n piece now new → (e ≢ NoMemory → Shows reader (take n piece) e) → IsFaultOf first.left e
 reads_fault first now new reader n piece e r came shows =
-    fault_of first.left (r.part ++ take n piece) came.rest e (next_more first now new reader n piece r came) (λ some. shows_more reader r.part (take n piece) e r.leads (shows some))
+    fault_of_left first.left e (λ text told some. shown first.left (r.part ++ take n piece) came.rest e text told (next_more first now new reader n piece r came) (shows_more reader r.part (take n piece) e r.leads (shows some)))
 
 -- the answer at the end is that of the text
 at_end : (left : Option (List ℕ)) (part : List ℕ) (rest : Option (List ℕ)) (reader : Progress) (text : List ℕ) → left ≡ Some text → left ≡ preceded part rest → IsOver rest → Leads start part reader [] → table_of text ≡ table_with reader []
@@ -121,12 +129,6 @@ over_now first now reader r over = let left = ap (λ s. s.left) r.is in rw (← 
 lines_of_left : (left : Option (List ℕ)) (lines : List Line) → ((text : List ℕ) → left ≡ Some text → table_of text ≡ Ok lines) → AreLinesOf left lines
 lines_of_left None lines h = tt
 lines_of_left (Some text) lines h = h text refl
-
-fault_of_left : (left : Option (List ℕ)) (e : TableFault) → ((text : List ℕ) → left ≡ Some text → e ≢ NoMemory → table_of text ≡ Err e) → IsFaultOf left e
-fault_of_left None e h = tt
-fault_of_left (Some text) ReadFault h = tt
-fault_of_left (Some text) NoMemory h = tt
-fault_of_left (Some text) (NotBuilt line) h = h text refl (λ same. absurd (cc))
 
 pub ends_with_lines : (first now new : Spring) (reader : Progress) (lines : List Line) → ReadsOn first now reader → Ended now new → table_with reader [] ≡ Ok lines → AreLinesOf first.left lines
 ends_with_lines first now new reader lines r ended made =
@@ -146,7 +148,13 @@ took_all first now new reader r ended = record { took = took_end first now new r
 pub leaves_fault : (first new : Spring) (e : TableFault) → e ≢ ReadFault → Took first new → Leaves (Err e) first new
 leaves_fault first new ReadFault other t = absurd (other refl)
 leaves_fault first new NoMemory other t = t
-leaves_fault first new (NotBuilt line) other t = t
+leaves_fault first new (LongLine n) other t = t
+leaves_fault first new (NulByte n) other t = t
+leaves_fault first new (NoColon n) other t = t
+leaves_fault first new (NoKeyword n) other t = t
+leaves_fault first new (OpenQuote n) other t = t
+leaves_fault first new (NoAttribute n) other t = t
+leaves_fault first new ManyLines other t = t
 
 pub leaves_failed : (first now new : Spring) (reader : Progress) → ReadsOn first now reader → Broke now new ⊎ Idled now new → Stopped first new
 leaves_failed first now new reader r failed = by failed
@@ -198,5 +206,11 @@ stopped_failed old new s = rw s.is (some_failed s.faults s.idles (by s.rose))
 pub failed_by : (result : Result (List Line) TableFault) (old new : Spring) → Leaves result old new → has_failed old ≡ false → has_failed new ≡ is_read_fault result
 failed_by (Ok _) old new l none = same_failed old new l.took none
 failed_by (Err ReadFault) old new l none = stopped_failed old new l
-failed_by (Err (NotBuilt _)) old new l none = same_failed old new l none
+failed_by (Err (LongLine n)) old new l none = same_failed old new l none
+failed_by (Err (NulByte n)) old new l none = same_failed old new l none
+failed_by (Err (NoColon n)) old new l none = same_failed old new l none
+failed_by (Err (NoKeyword n)) old new l none = same_failed old new l none
+failed_by (Err (OpenQuote n)) old new l none = same_failed old new l none
+failed_by (Err (NoAttribute n)) old new l none = same_failed old new l none
+failed_by (Err ManyLines) old new l none = same_failed old new l none
 failed_by (Err NoMemory) old new l none = same_failed old new l none

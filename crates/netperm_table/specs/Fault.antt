@@ -1,16 +1,28 @@
 -- What is wrong with a table, as the log says it.
 use Rattle.std.specs.Prelude.{ℕ, List, [], Option, Some, None, codes}
 use Rattle.netperm_table.specs.declared.table_fault.TableFault.{TableFault}
-use Rattle.netperm_table.specs.declared.table_fault.TableFault.TheVariants.{NotBuilt, ReadFault, NoMemory}
+use Rattle.netperm_table.specs.declared.table_fault.TableFault.TheVariants.{LongLine, NulByte, NoColon, NoKeyword, OpenQuote, NoAttribute, ManyLines, ReadFault, NoMemory}
 
--- the line that can't be read
+-- the line at fault
 abbrev pub line_of : TableFault → Option ℕ
-line_of (NotBuilt line) = Some line
+line_of (LongLine line) = Some line
+line_of (NulByte line) = Some line
+line_of (NoColon line) = Some line
+line_of (NoKeyword line) = Some line
+line_of (OpenQuote line) = Some line
+line_of (NoAttribute line) = Some line
+line_of ManyLines = Some 65536
 line_of ReadFault = None
 line_of NoMemory = None
 
--- what the line lacks or has too much of, and nothing where no line is at fault
+-- what is wrong with it, and nothing where no line is at fault
 abbrev pub why_text : TableFault → List ℕ
-why_text (NotBuilt line) = codes "not built"
+why_text (LongLine line) = codes "long line"
+why_text (NulByte line) = codes "nul byte"
+why_text (NoColon line) = codes "no colon"
+why_text (NoKeyword line) = codes "no keyword"
+why_text (OpenQuote line) = codes "open quote"
+why_text (NoAttribute line) = codes "no attribute"
+why_text ManyLines = codes "many lines"
 why_text ReadFault = []
 why_text NoMemory = []

@@ -5,7 +5,7 @@ use Rattle.fw_outside.specs.Spring.{Spring}
 use Rattle.fw_outside.specs.Telling.{grown, preceded, IsOver}
 use Rattle.netperm_table.specs.declared.line.Line.{Line}
 use Rattle.netperm_table.specs.declared.table_fault.TableFault.{TableFault}
-use Rattle.netperm_table.specs.declared.table_fault.TableFault.TheVariants.{NotBuilt, ReadFault, NoMemory}
+use Rattle.netperm_table.specs.declared.table_fault.TableFault.TheVariants.{ReadFault, NoMemory}
 use Rattle.netperm_table.specs.Table.{table_of}
 
 -- the first of the bytes that were left were taken, and nothing else changed
@@ -34,15 +34,13 @@ pub record Stopped (old new : Spring) : Type 0 where
 abbrev pub Leaves : Result (List Line) TableFault → Spring → Spring → Type 0
 Leaves (Ok _) old new = TookAll old new
 Leaves (Err ReadFault) old new = Stopped old new
-Leaves (Err (NotBuilt _)) old new = Took old new
-Leaves (Err NoMemory) old new = Took old new
+Leaves (Err _) old new = Took old new
 
 -- whether the answer is that the source failed
 abbrev pub is_read_fault : Result (List Line) TableFault → Bool
 is_read_fault (Ok _) = false
 is_read_fault (Err ReadFault) = true
-is_read_fault (Err (NotBuilt _)) = false
-is_read_fault (Err NoMemory) = false
+is_read_fault (Err _) = false
 
 -- the lines are those of the text that was left, where that is told
 abbrev pub AreLinesOf : Option (List ℕ) → List Line → Type 0
@@ -54,4 +52,4 @@ abbrev pub IsFaultOf : Option (List ℕ) → TableFault → Type 0
 IsFaultOf None fault = Unit {0}
 IsFaultOf (Some text) ReadFault = Unit {0}
 IsFaultOf (Some text) NoMemory = Unit {0}
-IsFaultOf (Some text) (NotBuilt line) = table_of text ≡ Err (NotBuilt line)
+IsFaultOf (Some text) fault = table_of text ≡ Err fault

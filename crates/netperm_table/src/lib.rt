@@ -4,8 +4,9 @@
 //! or the fault of the first line that has no reading.
 #![tactic(auto)]
 
-mod cut_line;
+mod cut;
 mod line;
+mod part;
 mod read_line;
 mod reader;
 mod table;

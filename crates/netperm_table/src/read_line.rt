@@ -1,26 +1,28 @@
 //! One line of a table.
-ghost use Rattle.std.specs.Prelude.{◌≡◌, ◌≢◌, ◌==◌, not, find, is_some, option_copied, position, IfOk, IfErr, IfSome, Ok, Err};
-ghost use Rattle.std.specs.List.{list_any, before_first, after_first};
-ghost use Rattle.netperm_table.specs.Bytes.{is_blank, is_colon, is_special};
-ghost use Rattle.netperm_table.specs.Reading.{is_skipped, line_of_one, line_with, reading};
-ghost use Rattle.netperm_table.specs.Words.{keywords_of, words_of};
+ghost use Rattle.std.specs.Prelude.{◌≡◌, ◌≢◌, ◌==◌, not, find, option_copied, IfOk, IfErr, Ok, Err};
+ghost use Rattle.std.specs.List.{list_any};
+ghost use Rattle.netperm_table.specs.Bytes.{is_blank, is_nul};
+ghost use Rattle.netperm_table.specs.Reading.{is_skipped, line_for, line_with, reading};
+ghost use Rattle.netperm_table.specs.Words.{keywords_of, with_word, word_of, words_of};
 
+use crate::cut::cut_at;
 use crate::line::{Line, Words};
+use crate::part::{OpenQuote, Part, is_blank, next_part};
 use crate::table_fault::TableFault;
-use crate::words::{is_blank, next_word, read_keywords, read_words};
+use crate::words::{read_keywords, read_words};
 use fw_outside::{Octets, OctetsList};
 use std::alloc::Global;
 
 /// The greatest number of a line.
 pub(crate) const LAST_LINE: u32 = 65_535;
 
-/// The most bytes of a line, without its end.
-pub(crate) const LONGEST: usize = 2048;
+// The most bytes of a line, without its end.
+const LONGEST: usize = 2048;
 
-fn has_special(bytes: &[u8]) -> bool
-    ensures { result ≡ list_any is_special bytes.now }
+fn has_nul(bytes: &[u8]) -> bool
+    ensures { result ≡ list_any is_nul bytes.now }
 {
-    bytes.iter().any(|byte| *byte == 0 || *byte == b'"' || *byte == b'{' || *byte == b'}')
+    bytes.iter().any(|byte| *byte == 0)
 }
 
 // The first byte that isn't a blank.
@@ -39,25 +41,30 @@ fn is_skipped(bytes: &[u8]) -> bool
     }
 }
 
-fn find_colon(bytes: &[u8]) -> Option<usize>
-    ensures { result ≡ position is_colon bytes.now }
+// The line with these keywords, this attribute, and the words that follow it.
+fn with_attribute(
+    alloc: Global,
+    number: u32,
+    keywords: OctetsList,
+    part: &Part,
+) -> Result<Option<Line>, TableFault>
+    ensures ok { IfOk result (λ line. line_with number keywords (with_word (word_of part.now.text.now part.now.quoted) (words_of part.now.rest.now)) ≡ Ok line) }
+    ensures err { IfErr result (λ e. e ≢ TableFault.NoMemory → line_with number keywords (with_word (word_of part.now.text.now part.now.quoted) (words_of part.now.rest.now)) ≡ Err e) }
+    ensures own { IfErr result (λ e. e ≢ TableFault.ReadFault) }
 {
-    bytes.iter().position(|byte| *byte == b':')
-}
-
-// What stands before the first colon, and what stands after it.
-fn cut_at_colon(bytes: &[u8]) -> Option<(&[u8], &[u8])>
-    ensures is { is_some result ≡ list_any is_colon bytes.now }
-    ensures front { IfSome result (λ r. r.0.now ≡ before_first is_colon bytes.now) }
-    ensures back { IfSome result (λ r. r.1.now ≡ after_first is_colon bytes.now) }
-{
-    match find_colon(bytes) {
-        Some(at) => Some((&bytes[..at], &bytes[at + 1..])),
-        None => None,
+    let attribute = Octets::copy(alloc, part.text)?;
+    match read_words(alloc, part.rest)? {
+        None => Err(TableFault::OpenQuote { line: number }),
+        Some(words) => Ok(Some(Line {
+            number,
+            keywords,
+            attribute,
+            words: Words::of(words),
+        })),
     }
 }
 
-// The line with these keywords, and these words after its colon.
+// The line with these keywords, and these bytes after its colon.
 fn with_words(
     alloc: Global,
     number: u32,
@@ -68,31 +75,27 @@ fn with_words(
     ensures err { IfErr result (λ e. e ≢ TableFault.NoMemory → line_with number keywords (words_of bytes.now) ≡ Err e) }
     ensures own { IfErr result (λ e. e ≢ TableFault.ReadFault) }
 {
-    let Some((attribute, rest)) = next_word(bytes) else {
-        return Err(TableFault::NotBuilt { line: number });
-    };
-    Ok(Some(Line {
-        number,
-        keywords,
-        attribute: Octets::copy(alloc, attribute)?,
-        words: Words::of(read_words(alloc, rest)?),
-    }))
+    match next_part(bytes) {
+        Err(OpenQuote) => Err(TableFault::OpenQuote { line: number }),
+        Ok(None) => Err(TableFault::NoAttribute { line: number }),
+        Ok(Some(part)) => with_attribute(alloc, number, keywords, &part),
+    }
 }
 
 // The line with what stands before its colon, and what stands after it.
-fn read_parts(
+fn read_sides(
     alloc: Global,
     number: u32,
     front: &[u8],
     back: &[u8],
 ) -> Result<Option<Line>, TableFault>
-    ensures ok { IfOk result (λ line. line_of_one number (keywords_of front.now) (words_of back.now) ≡ Ok line) }
-    ensures err { IfErr result (λ e. e ≢ TableFault.NoMemory → line_of_one number (keywords_of front.now) (words_of back.now) ≡ Err e) }
+    ensures ok { IfOk result (λ line. line_for number (keywords_of front.now) (words_of back.now) ≡ Ok line) }
+    ensures err { IfErr result (λ e. e ≢ TableFault.NoMemory → line_for number (keywords_of front.now) (words_of back.now) ≡ Err e) }
     ensures own { IfErr result (λ e. e ≢ TableFault.ReadFault) }
 {
     let keywords = read_keywords(alloc, front)?;
-    if keywords.len() != 1 {
-        return Err(TableFault::NotBuilt { line: number });
+    if keywords.is_empty() {
+        return Err(TableFault::NoKeyword { line: number });
     }
     with_words(alloc, number, keywords, back)
 }
@@ -108,19 +111,19 @@ pub(crate) fn read_line(
     ensures own { IfErr result (λ e. e ≢ TableFault.ReadFault) }
 {
     if number > LAST_LINE {
-        return Err(TableFault::NotBuilt { line: number });
+        return Err(TableFault::ManyLines);
     }
     if bytes.len() > LONGEST {
-        return Err(TableFault::NotBuilt { line: number });
+        return Err(TableFault::LongLine { line: number });
     }
-    if has_special(bytes) {
-        return Err(TableFault::NotBuilt { line: number });
+    if has_nul(bytes) {
+        return Err(TableFault::NulByte { line: number });
     }
     if is_skipped(bytes) {
         return Ok(None);
     }
-    match cut_at_colon(bytes) {
-        None => Err(TableFault::NotBuilt { line: number }),
-        Some((front, back)) => read_parts(alloc, number, front, back),
+    match cut_at(b':', bytes) {
+        None => Err(TableFault::NoColon { line: number }),
+        Some((front, back)) => read_sides(alloc, number, front, back),
     }
 }

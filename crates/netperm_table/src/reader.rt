@@ -3,7 +3,7 @@ ghost use Rattle.std.specs.Prelude.{◌≡◌, ◌≢◌, ◌<◌, ◌≤◌, �
 ghost use Rattle.netperm_table.specs.Progress.{Keeps, Leads, Shows, farthest, reached, start, table_with};
 ghost use Rattle.netperm_table.specs.Reading.{reading};
 
-use crate::cut_line::{cut_at_line_end, without_return};
+use crate::cut::{cut_at_line_end, without_return};
 use crate::line::Line;
 use crate::read_line::{LAST_LINE, read_line};
 use crate::table_fault::TableFault;
@@ -81,7 +81,7 @@ impl Reader {
         ensures own { IfErr result (λ e. e ≢ TableFault.ReadFault) }
     {
         if bytes.len() > self.line.remaining_capacity() {
-            return Err(TableFault::NotBuilt { line: self.number });
+            return Err(TableFault::LongLine { line: self.number });
         }
         append(&mut self.line, bytes);
         Ok(())
@@ -114,7 +114,7 @@ impl Reader {
         ensures own { IfErr result (λ e. e ≢ TableFault.ReadFault) }
     {
         if self.number > LAST_LINE {
-            return Err(TableFault::NotBuilt { line: self.number });
+            return Err(TableFault::ManyLines);
         }
         let (line, rest) = cut_at_line_end(bytes);
         self.gather(line)?;

@@ -5,12 +5,30 @@ ghost use Rattle.netperm_table.specs.declared.table_fault.TableFault.TheVariants
 use std::alloc::{AllocError, AllocFailed};
 use thiserror::Error;
 
-/// Why a table wasn't read. Lines are counted from 1.
+/// Why a table wasn't read. Lines are counted from 1, skipped ones included.
 #[derive(Clone, Copy, Debug, PartialEq, Eq, Error)]
 pub enum TableFault {
-    /// This line is the first that isn't plain.
-    #[error("line {line} is not built")]
-    NotBuilt { line: u32 },
+    /// This line has over 2,048 bytes, without its LF and the CR before that.
+    #[error("line {line} is too long")]
+    LongLine { line: u32 },
+    /// This line has a byte 0.
+    #[error("line {line} has a byte 0")]
+    NulByte { line: u32 },
+    /// This line has no colon.
+    #[error("line {line} has no colon")]
+    NoColon { line: u32 },
+    /// This line has nothing but commas and blanks before its colon.
+    #[error("line {line} has no keyword")]
+    NoKeyword { line: u32 },
+    /// In this line a word after the colon begins with a quote, and no second quote follows.
+    #[error("line {line} has an open quote")]
+    OpenQuote { line: u32 },
+    /// This line has no word after its colon.
+    #[error("line {line} has no attribute")]
+    NoAttribute { line: u32 },
+    /// There is a line after the 65,535th.
+    #[error("there are too many lines")]
+    ManyLines,
     /// The source failed, or nothing came from it in time.
     #[error("the source failed")]
     ReadFault,
@@ -49,7 +67,13 @@ impl TableFault {
         ensures { result ≡ line_of self.now }
     {
         match self {
-            TableFault::NotBuilt { line } => Some(*line),
+            TableFault::LongLine { line }
+            | TableFault::NulByte { line }
+            | TableFault::NoColon { line }
+            | TableFault::NoKeyword { line }
+            | TableFault::OpenQuote { line }
+            | TableFault::NoAttribute { line } => Some(*line),
+            TableFault::ManyLines => Some(65_536),
             TableFault::ReadFault | TableFault::NoMemory => None,
         }
     }
@@ -59,7 +83,13 @@ impl TableFault {
         ensures { result.now ≡ why_text self.now }
     {
         match self {
-            TableFault::NotBuilt { .. } => b"not built",
+            TableFault::LongLine { .. } => b"long line",
+            TableFault::NulByte { .. } => b"nul byte",
+            TableFault::NoColon { .. } => b"no colon",
+            TableFault::NoKeyword { .. } => b"no keyword",
+            TableFault::OpenQuote { .. } => b"open quote",
+            TableFault::NoAttribute { .. } => b"no attribute",
+            TableFault::ManyLines => b"many lines",
             TableFault::ReadFault | TableFault::NoMemory => b"",
         }
     }

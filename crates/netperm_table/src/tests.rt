@@ -5,33 +5,35 @@ use fw_outside::{Calls, MemSource, Octets};
 use std::alloc::Global;
 use std::test::Fail;
 
-// A line: its number, keywords, attribute, and words, each with whether it stood in quotes.
-type Row<'a> = (u32, &'a [&'a [u8]], &'a [u8], &'a [(&'a [u8], bool)]);
-
-fn are_keywords(list: &[Octets], texts: &[&[u8]]) -> bool {
-    list.len() == texts.len()
-        && list
-            .iter()
-            .zip(texts)
-            .all(|(one, text)| one.bytes() == *text)
+// Adds a line as text: its number, each keyword before `|`, the attribute, each word in brackets, or in quotes where it stood in quotes.
+fn show_line(alloc: Global, out: &mut Vec<u8>, line: &Line) -> Result<(), TableFault> {
+    let number = format!(in alloc; "{}<", line.number)?;
+    out.extend_from_slice(number.as_bytes())?;
+    for keyword in line.keywords.as_slice() {
+        out.extend_from_slice(keyword.bytes())?;
+        out.push(b'|')?;
+    }
+    out.extend_from_slice(line.attribute.bytes())?;
+    for word in line.words.as_slice() {
+        let (open, close) = if word.quoted {
+            (b'"', b'"')
+        } else {
+            (b'[', b']')
+        };
+        out.push(open)?;
+        out.extend_from_slice(word.text.bytes())?;
+        out.push(close)?;
+    }
+    Ok(())
 }
 
-fn are_words(words: &Words, texts: &[(&[u8], bool)]) -> bool {
-    let list = words.as_slice();
-    list.len() == texts.len()
-        && list.iter().zip(texts).all(|(word, text)| word.text.bytes() == text.0
-            && word.quoted == text.1)
-}
-
-fn is_row(line: &Line, row: &Row) -> bool {
-    line.number == row.0
-        && are_keywords(line.keywords.as_slice(), row.1)
-        && line.attribute.bytes() == row.2
-        && are_words(&line.words, row.3)
-}
-
-fn are_rows(lines: &[Line], rows: &[Row]) -> bool {
-    lines.len() == rows.len() && lines.iter().zip(rows).all(|(line, row)| is_row(line, row))
+fn show(alloc: Global, lines: &[Line]) -> Result<Vec<u8>, TableFault> {
+    let mut out = Vec::new(alloc);
+    for line in lines {
+        show_line(alloc, &mut out, line)?;
+        out.push(b'>')?;
+    }
+    Ok(out)
 }
 
 fn read(alloc: Global, text: &[u8], piece: usize) -> Result<Table, TableFault>
@@ -42,46 +44,51 @@ fn read(alloc: Global, text: &[u8], piece: usize) -> Result<Table, TableFault>
     Table::read(alloc, &mut source)
 }
 
-fn fault_of(alloc: Global, text: &[u8]) -> Option<TableFault> {
-    read(alloc, text, 4096).err()
+#[test]
+fn pieces_of_any_size_give_the_same_lines(rt: HostRuntime) -> Result<(), Fail> {
+    let alloc = rt.alloc();
+    let text =
+        b"# netperm-table\r\n\r\nnetacl-in.telnetd: permit-hosts 192.33.112.*\t -exec /usr/libexec/telnetd\r\n \t# more\n, *\t:x\nftp-gw, tn-gw,,smap : permit-hosts * -log { retr stor }\n\n*:y \"z z\"\r";
+    let want =
+        b"3<netacl-in.telnetd|permit-hosts[192.33.112.*][-exec][/usr/libexec/telnetd]>5<*|x>6<ftp-gw|tn-gw|smap|permit-hosts[*][-log][{][retr][stor][}]>8<*|y\"z z\"[\r]>";
+    for piece in [1, 2, 3, 7, 4096] {
+        let table = read(alloc, text, piece)?;
+        assert_eq!(&rt;
+            show(alloc, table.lines())?.as_slice(),
+            want.as_slice(),
+            "{piece}"
+        );
+    }
+    Ok(())
 }
 
 #[test]
-fn pieces_of_any_size_give_the_same_lines(rt: HostRuntime) {
-    let text =
-        b"# netperm-table\r\n\r\nnetacl-in.telnetd: permit-hosts 192.33.112.*\t -exec /usr/libexec/telnetd\r\n \t# more\n, *\t:x\n*:y z\r";
-    let rows: [Row; 3] = [
+fn words_are_cut_at_blanks_quotes_and_braces(rt: HostRuntime) -> Result<(), Fail> {
+    let alloc = rt.alloc();
+    let cases: [(&[u8], &[u8]); 8] = [
         (
-            3,
-            &[b"netacl-in.telnetd"],
-            b"permit-hosts",
-            &[
-                (b"192.33.112.*", false),
-                (b"-exec", false),
-                (b"/usr/libexec/telnetd", false),
-            ],
+            b"*: a \"b c\"d{e}f\"g h\"i \"\" \"{\"",
+            b"1<*|a\"b c\"[d][{][e][}][f\"g][h\"i]\"\"\"{\">",
         ),
-        (5, &[b"*"], b"x", &[]),
-        (6, &[b"*"], b"y", &[(b"z\r", false)]),
+        (b"*:\"permit hosts\"\"x\"", b"1<*|permit hosts\"x\">"),
+        (b"*: { }", b"1<*|{[}]>"),
+        (b"*:: #b", b"1<*|:[#b]>"),
+        (b"\"a,{: b", b"1<\"a|{|b>"),
+        (b" a b\t,c:\td\t", b"1<a|b|c|d>"),
+        (b"a:b\rc\r\r\n", b"1<a|b\rc\r>"),
+        (b"\xff:\xfe", b"1<\xff|\xfe>"),
     ];
-    for piece in [1, 2, 3, 7, 4096] {
-        match read(rt.alloc(), text, piece) {
-            Ok(table) => assert!(&rt; are_rows(table.lines(), &rows), "{piece}"),
-            Err(fault) => assert!(&rt; false, "{fault:?}"),
-        }
+    for (text, want) in cases {
+        let table = read(alloc, text, 4096)?;
+        assert_eq!(&rt; show(alloc, table.lines())?.as_slice(), want, "{text:?}");
     }
+    Ok(())
 }
 
 #[test]
 fn a_table_of_no_lines_is_read(rt: HostRuntime) {
-    for text in [
-        b"".as_slice(),
-        b"\n",
-        b"\r\n\r\n",
-        b" \t",
-        b"#",
-        b"\n \t#a:b\n",
-    ] {
+    let texts: [&[u8]; 6] = [b"", b"\n", b"\r\n\r\n", b" \t", b"#", b"\n \t#a\"{\n"];
+    for text in texts {
         match read(rt.alloc(), text, 1) {
             Ok(table) => assert!(&rt; table.lines().is_empty(), "{text:?}"),
             Err(fault) => assert!(&rt; false, "{fault:?}"),
@@ -107,7 +114,7 @@ fn padded(
 #[test]
 fn a_line_has_at_most_2048_bytes(rt: HostRuntime) -> Result<(), Fail> {
     let alloc = rt.alloc();
-    let fault = Some(TableFault::NotBuilt { line: 1 });
+    let fault = Some(TableFault::LongLine { line: 1 });
     let cases: [(usize, &[u8], Option<TableFault>); 8] = [
         (2046, b"", None),
         (2046, b"\n", None),
@@ -130,49 +137,73 @@ fn a_line_has_at_most_2048_bytes(rt: HostRuntime) -> Result<(), Fail> {
 #[test]
 fn a_table_has_at_most_65535_lines(rt: HostRuntime) -> Result<(), Fail> {
     let alloc = rt.alloc();
-    let many = Some(TableFault::NotBuilt { line: 65536 });
+    let many = Some(TableFault::ManyLines);
     let cases: [(&[u8], Option<TableFault>); 4] = [
         (b"", None),
         (b"\n", many),
         (b"#", many),
-        (b"a", many),
+        (b"\0", many),
     ];
     for (end, want) in cases {
         let text = padded(alloc, b"", 65535, b'\n', end)?;
-        assert_eq!(&rt; fault_of(alloc, &text), want, "{end:?}");
+        assert_eq!(&rt; read(alloc, &text, 4096).err(), want, "{end:?}");
     }
     Ok(())
 }
 
+// The fault of a line, where it has this number.
+fn fault_at(kind: TableFault, line: u32) -> TableFault {
+    match kind {
+        TableFault::LongLine { .. } => TableFault::LongLine { line },
+        TableFault::NulByte { .. } => TableFault::NulByte { line },
+        TableFault::NoColon { .. } => TableFault::NoColon { line },
+        TableFault::NoKeyword { .. } => TableFault::NoKeyword { line },
+        TableFault::OpenQuote { .. } => TableFault::OpenQuote { line },
+        TableFault::NoAttribute { .. } => TableFault::NoAttribute { line },
+        other => other,
+    }
+}
+
 #[test]
-fn the_first_line_that_is_not_plain_is_the_fault(rt: HostRuntime) -> Result<(), Fail> {
+fn the_first_fault_is_the_one_of_the_first_test(rt: HostRuntime) -> Result<(), Fail> {
     let alloc = rt.alloc();
-    let lines: [&[u8]; 10] = [
-        b"tn-gw permit-hosts *",
-        b": permit-hosts *",
-        b", \t: permit-hosts *",
-        b"tn-gw:",
-        b"tn-gw: \t",
-        b"tn-gw, ftp-gw: permit-hosts *",
-        b"tn-gw: permit-hosts \"10.*\"",
-        b"tn-gw: permit-hosts * -dest { 10.* }",
-        b"#\"",
-        b"\0",
+    let zeros = padded(alloc, b"", 2049, 0, b"")?;
+    let cases: [(&[u8], TableFault); 16] = [
+        (&zeros, TableFault::LongLine { line: 1 }),
+        (b"#\0", TableFault::NulByte { line: 1 }),
+        (b"a\0", TableFault::NulByte { line: 1 }),
+        (b"tn-gw permit-hosts *", TableFault::NoColon { line: 1 }),
+        (b"\"", TableFault::NoColon { line: 1 }),
+        (b": permit-hosts *", TableFault::NoKeyword { line: 1 }),
+        (b", \t,: permit-hosts *", TableFault::NoKeyword { line: 1 }),
+        (b":\"", TableFault::NoKeyword { line: 1 }),
+        (b":", TableFault::NoKeyword { line: 1 }),
+        (
+            b"tn-gw: permit-hosts \"10.*",
+            TableFault::OpenQuote { line: 1 },
+        ),
+        (b"*:\"", TableFault::OpenQuote { line: 1 }),
+        (b"*: a\"{\"", TableFault::OpenQuote { line: 1 }),
+        (b"*: a \"b\"\"", TableFault::OpenQuote { line: 1 }),
+        (b"tn-gw:", TableFault::NoAttribute { line: 1 }),
+        (b"tn-gw: \t ", TableFault::NoAttribute { line: 1 }),
+        (b"a b,c:", TableFault::NoAttribute { line: 1 }),
     ];
-    for line in lines {
-        let first = padded(alloc, line, 0, 0, b"\n*: a\nno colon\n")?;
-        let third = padded(alloc, b"*: a\r\n\n", 0, 0, line)?;
+    for (line, fault) in cases {
+        let first = padded(alloc, line, 1, b'\n', b"*: a\nno colon\n")?;
+        let third = padded(alloc, b"*: a\r\n#\n", 0, 0, line)?;
+        assert_eq!(&rt; read(alloc, &first, 7).err(), Some(fault), "{line:?}");
         assert_eq!(&rt;
-            fault_of(alloc, &first),
-            Some(TableFault::NotBuilt { line: 1 }),
-            "{line:?}"
-        );
-        assert_eq!(&rt;
-            fault_of(alloc, &third),
-            Some(TableFault::NotBuilt { line: 3 }),
+            read(alloc, &third, 7).err(),
+            Some(fault_at(fault, 3)),
             "{line:?}"
         );
     }
+    let text = b"*: a\n*: b\ntn-gw permit-hosts *\n*: c\n*: \"d\n";
+    assert_eq!(&rt;
+        read(alloc, text, 1).err(),
+        Some(TableFault::NoColon { line: 3 })
+    );
     Ok(())
 }
 
@@ -194,11 +225,8 @@ fn a_source_that_fails_or_is_idle_gives_no_table(rt: HostRuntime) -> Result<(), 
             Calls::onward(call),
         );
         for mut source in [fails, idles] {
-            assert_eq!(&rt;
-                Table::read(alloc, &mut source).err(),
-                Some(TableFault::ReadFault),
-                "{call}"
-            );
+            let fault = Table::read(alloc, &mut source).err();
+            assert_eq!(&rt; fault, Some(TableFault::ReadFault), "{call}");
         }
     }
     Ok(())
@@ -206,8 +234,18 @@ fn a_source_that_fails_or_is_idle_gives_no_table(rt: HostRuntime) -> Result<(), 
 
 #[test]
 fn a_fault_tells_its_line_and_its_text(rt: HostRuntime) {
-    let cases: [(TableFault, Option<u32>, &[u8]); 3] = [
-        (TableFault::NotBuilt { line: 7 }, Some(7), b"not built"),
+    let cases: [(TableFault, Option<u32>, &[u8]); 9] = [
+        (TableFault::LongLine { line: 1 }, Some(1), b"long line"),
+        (TableFault::NulByte { line: 2 }, Some(2), b"nul byte"),
+        (TableFault::NoColon { line: 3 }, Some(3), b"no colon"),
+        (TableFault::NoKeyword { line: 4 }, Some(4), b"no keyword"),
+        (TableFault::OpenQuote { line: 5 }, Some(5), b"open quote"),
+        (
+            TableFault::NoAttribute { line: 6 },
+            Some(6),
+            b"no attribute",
+        ),
+        (TableFault::ManyLines, Some(65536), b"many lines"),
         (TableFault::ReadFault, None, b""),
         (TableFault::NoMemory, None, b""),
     ];

@@ -1,0 +1,14 @@
+-- The first bad byte of what is no record.
+use Rattle.std.specs.Prelude.{◌≡◌, ℕ, ◌≤◌, List, ◌++◌, length, take}
+use Rattle.auth_records.specs.declared.record.Record.{Record}
+use Rattle.auth_records.specs.Spelling.{IsRecord, record_bytes}
+
+-- some record's bytes begin so
+abbrev pub BeginsRecord : List ℕ → Type 0
+BeginsRecord front = (r : Record) × IsRecord r × (rest : List ℕ) × (record_bytes r ≡ front ++ rest)
+
+-- the longest prefix that begins some record's bytes has this length
+pub record IsLongestBeginning (bytes : List ℕ) (at : ℕ) : Type 0 where
+  pub within : at ≤ length bytes
+  pub begins : BeginsRecord (take at bytes)
+  pub longest : (n : ℕ) → n ≤ length bytes → BeginsRecord (take n bytes) → n ≤ at

@@ -1,0 +1,176 @@
+//! What the options of a line say together.
+ghost use Rattle.std.specs.Prelude.{◌≡◌, [], Some, Ok, IfOk, unwrap_or};
+ghost use Rattle.std.specs.Option.{option_or};
+ghost use Rattle.gate_rules.specs.Options.{added, dest_with, draft_of, drafted, finished, options_of};
+
+use crate::given::{Given, option_at, width_at};
+use crate::lists::Reading;
+use crate::words::from;
+use crate::{Options, Service};
+use fw_outside::{Dest, Host, OctetsList, VerbList};
+use host_pattern::{PatternList, Word};
+use std::alloc::Global;
+
+/// The first value of each kind of option.
+#[derive(Drop)]
+pub struct Draft {
+    pub exec: Option<OctetsList>,
+    pub dest: Option<PatternList>,
+    pub auth: Option<VerbList>,
+    pub authall: bool,
+    pub extnd: bool,
+    pub deny: Option<VerbList>,
+    pub log: Option<VerbList>,
+    pub target: Option<Host>,
+    pub port: Option<u16>,
+}
+
+fn first_verbs(kept: Option<VerbList>, verbs: VerbList) -> Option<VerbList>
+    ensures { result ≡ option_or kept (Some verbs) }
+{
+    match kept {
+        Some(kept) => Some(kept),
+        None => Some(verbs),
+    }
+}
+
+fn verbs_or_none(verbs: Option<VerbList>) -> VerbList
+    ensures { result ≡ unwrap_or verbs [] }
+{
+    match verbs {
+        Some(verbs) => verbs,
+        None => VerbList::new(),
+    }
+}
+
+fn texts_or_none(alloc: Global, texts: Option<OctetsList>) -> OctetsList
+    ensures { result ≡ unwrap_or texts [] }
+{
+    match texts {
+        Some(texts) => texts,
+        None => OctetsList::new(alloc),
+    }
+}
+
+fn dest_with(host: Option<Host>, port: u16) -> Option<Dest>
+    ensures { result ≡ dest_with host port }
+{
+    match host {
+        Some(host) => Some(Dest { host, port }),
+        None => None,
+    }
+}
+
+impl Draft {
+    // No option.
+    fn new() -> Draft
+        ensures { result ≡ draft_of [] }
+    {
+        Draft {
+            exec: None,
+            dest: None,
+            auth: None,
+            authall: false,
+            extnd: false,
+            deny: None,
+            log: None,
+            target: None,
+            port: None,
+        }
+    }
+
+    // One more option, which counts unless one of its kind came before.
+    fn with(self, given: Given) -> Draft
+        ensures { result ≡ added self given }
+    {
+        match given {
+            Given::Exec(texts) => Draft {
+                exec: self.exec.or(Some(texts)),
+                ..self
+            },
+            Given::Dest(patterns) => Draft {
+                dest: self.dest.or(Some(patterns)),
+                ..self
+            },
+            Given::Auth(verbs) => Draft {
+                auth: self.auth.or(Some(verbs)),
+                ..self
+            },
+            Given::AuthAll => Draft {
+                authall: true,
+                ..self
+            },
+            Given::Extnd => Draft {
+                extnd: true,
+                ..self
+            },
+            Given::Deny(verbs) => Draft {
+                deny: self.deny.or(Some(verbs)),
+                ..self
+            },
+            Given::Log(verbs) => Draft {
+                log: self.log.or(Some(verbs)),
+                ..self
+            },
+            Given::PlugTo(host) => Draft {
+                target: self.target.or(Some(host)),
+                ..self
+            },
+            Given::Port(port) => Draft {
+                port: self.port.or(Some(port)),
+                ..self
+            },
+        }
+    }
+
+    // The options, on a line with this port.
+    fn finish(self, alloc: Global, port: u16) -> Options
+        ensures { result ≡ finished port self }
+    {
+        Options {
+            exec: texts_or_none(alloc, self.exec),
+            dest: self.dest,
+            auth: self.auth,
+            authall: self.authall,
+            extnd: self.extnd,
+            deny: verbs_or_none(self.deny),
+            log: verbs_or_none(self.log),
+            plug_to: dest_with(self.target, self.port.unwrap_or(port)),
+        }
+    }
+}
+
+// What the options that these words are say together.
+fn drafted(alloc: Global, service: &Service, words: &[Word]) -> Reading<Draft>
+    ensures { IfOk result (λ read. read ≡ drafted service.now words.now) }
+{
+    let mut draft = Draft::new();
+    let mut at = 0;
+    while at < words.len() {
+        let word = &words[at];
+        let after = from(words, at + 1);
+        let given = match option_at(alloc, service, word, after)? {
+            Ok(given) => given,
+            Err(why) => return Ok(Err(why)),
+        };
+        draft = draft.with(given);
+        at += 1 + width_at(service, word, after);
+    }
+    Ok(Ok(draft))
+}
+
+// The options that these words are, on a line with this port.
+#[tactic(auto, unfolding(crate::specs::Options::options_of))]
+pub(crate) fn options_of(
+    alloc: Global,
+    service: &Service,
+    port: u16,
+    words: &[Word],
+) -> Reading<Options>
+    ensures { IfOk result (λ read. read ≡ options_of service.now port words.now) }
+{
+    match drafted(alloc, service, words)? {
+        Ok(draft) => Ok(Ok(draft.finish(alloc, port))),
+        Err(why) => Ok(Err(why)),
+    }
+}

@@ -1,0 +1,131 @@
+//! Lists of patterns and of verbs.
+ghost use Rattle.std.specs.Prelude.{◌≡◌, Ok, Err, IfOk, IfErr, MatchResult};
+ghost use Rattle.gate_rules.specs.Lists.{alone, between, hosts_alone, members_of, patterns_in, patterns_of, verbs_in, verbs_of};
+
+use crate::Why;
+use crate::words::{at_most, before_close, closes, hosts_in, is_close, is_open, options_in};
+use fw_outside::{NoMemory, Verb, VerbList};
+use host_pattern::{Pattern, PatternList, Word};
+use std::alloc::Global;
+
+const MOST_PATTERNS: usize = 64;
+
+const MOST_VERBS: usize = 32;
+
+/// What is read, or why it can't be; or there was no memory.
+pub type Reading<T> = Result<Result<T, Why>, NoMemory>;
+
+// The patterns that the words are.
+#[tactic(auto, unfolding(crate::specs::Lists::patterns_of))]
+pub(crate) fn patterns_of(alloc: Global, words: &[Word]) -> Reading<PatternList>
+    ensures { IfOk result (λ read. read ≡ patterns_of words.now) }
+{
+    if words.is_empty() {
+        return Ok(Err(Why::NoHosts));
+    }
+    let few = at_most(words, MOST_PATTERNS);
+    let mut patterns = Vec::with_capacity(alloc, few.len())?;
+    for word in few {
+        match Pattern::parse(word.text.bytes()) {
+            Ok(pattern) => patterns.push(pattern)?,
+            Err(_) => return Ok(Err(Why::BadPattern)),
+        }
+    }
+    if words.len() > MOST_PATTERNS {
+        return Ok(Err(Why::TooMany));
+    }
+    Ok(Ok(PatternList::of(patterns)))
+}
+
+// The verbs that the words are.
+#[tactic(auto, unfolding(crate::specs::Lists::verbs_of))]
+fn verbs_of(words: &[Word]) -> Result<VerbList, Why>
+    ensures { result ≡ verbs_of words.now }
+{
+    if words.is_empty() {
+        return Err(Why::MissingValue);
+    }
+    let mut verbs = VerbList::new();
+    let few = at_most(words, MOST_VERBS);
+    for word in few {
+        match Verb::read(word.text.bytes()) {
+            Some(verb) => verbs.push(verb),
+            None => return Err(Why::BadWord),
+        }
+    }
+    if words.len() > MOST_VERBS {
+        return Err(Why::TooMany);
+    }
+    Ok(verbs)
+}
+
+// What stands between an open brace before the words and the first closing one.
+fn between(words: &[Word]) -> Result<&[Word], Why>
+    ensures ok { IfOk result (λ members. between words.entry.now ≡ Ok members.now) }
+    ensures err { IfErr result (λ why. between words.entry.now ≡ Err why) }
+{
+    if closes(words) {
+        Ok(before_close(words))
+    } else {
+        Err(Why::OpenBrace)
+    }
+}
+
+// The members of the list with which the words begin.
+fn members_of(words: &[Word]) -> Result<&[Word], Why>
+    ensures ok { IfOk result (λ members. members_of words.entry.now ≡ Ok members.now) }
+    ensures err { IfErr result (λ why. members_of words.entry.now ≡ Err why) }
+{
+    match words {
+        [] => Err(Why::MissingValue),
+        [word, more @ ..] => {
+            if is_open(word) {
+                between(more)
+            } else if is_close(word) {
+                Err(Why::BadWord)
+            } else {
+                Ok(at_most(words, 1))
+            }
+        }
+    }
+}
+
+// The patterns of the list with which the words begin.
+pub(crate) fn patterns_in(alloc: Global, words: &[Word]) -> Reading<PatternList>
+    ensures { IfOk result (λ read. read ≡ patterns_in words.now) }
+{
+    match members_of(words) {
+        Ok(members) => patterns_of(alloc, members),
+        Err(why) => Ok(Err(why)),
+    }
+}
+
+// The verbs of the list with which the words begin.
+pub(crate) fn verbs_in(words: &[Word]) -> Result<VerbList, Why>
+    ensures { result ≡ verbs_in words.now }
+{
+    match members_of(words) {
+        Ok(members) => verbs_of(members),
+        Err(why) => Err(why),
+    }
+}
+
+fn alone(hosts: Result<PatternList, Why>, words: &[Word]) -> Result<PatternList, Why>
+    ensures { result ≡ alone hosts words.now }
+{
+    match hosts {
+        Err(why) => Err(why),
+        Ok(hosts) => match words {
+            [] => Ok(hosts),
+            [_, ..] => Err(Why::BadWord),
+        },
+    }
+}
+
+// A host list with nothing after it.
+pub(crate) fn hosts_alone(alloc: Global, words: &[Word]) -> Reading<PatternList>
+    ensures { IfOk result (λ read. read ≡ hosts_alone words.now) }
+{
+    let hosts = patterns_of(alloc, hosts_in(words))?;
+    Ok(alone(hosts, options_in(words)))
+}
