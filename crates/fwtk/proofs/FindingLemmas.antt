@@ -4,13 +4,13 @@ use Rattle.std.specs.Prelude.{Option, Some, None, Result, Ok, Err, IfSome}
 use Rattle.fw_outside.specs.Cabinet.{Cabinet, held}
 use Rattle.netperm_table.specs.declared.line.Line.{Line}
 use Rattle.netperm_table.specs.Table.{table_of}
-use Rattle.gate_rules.specs.Reading.{rules_of}
 use Rattle.gate_rules.specs.declared.service.Service.{Service}
 use Rattle.fwtk.specs.declared.fault.Device.TheVariants as device
 use Rattle.fwtk.specs.declared.fault.Fault.{Fault}
 use Rattle.fwtk.specs.declared.fault.Fault.TheVariants.{Usage, Table, Rule, Outside, Memory}
 use Rattle.fwtk.specs.Finding.{Finds, OfTable, ReadsRules, ReadsTable}
-use Rattle.fwtk.specs.Ruling.{OfText, Rules, or_rule_fault, rules_by, ruling}
+use Rattle.fwtk.specs.Ruling.{OfText, or_rule_fault, rules_by, ruling}
+use Rattle.gate_rules.specs.Reading.{RuleBook, rules_of}
 
 if_some : {P Q : List ℕ → Type 0} (text : Option (List ℕ)) → ((bytes : List ℕ) → P bytes → Q bytes) → IfSome text P → IfSome text Q
 if_some None more h = tt
@@ -33,7 +33,7 @@ unfolding ruling
 ruling_of_fault service text fault h = ap (rules_by service) h
 
 -- the rules of the lines are those of the table
-pub finds_by_rules : (name : List ℕ) (service : Service) (lines : List Line) (result : Result Rules Fault) (old new : Cabinet) → OfTable name (λ text. table_of text ≡ Ok lines) old new → ReadsRules service lines result → Finds name service result old new
+pub finds_by_rules : (name : List ℕ) (service : Service) (lines : List Line) (result : Result RuleBook Fault) (old new : Cabinet) → OfTable name (λ text. table_of text ≡ Ok lines) old new → ReadsRules service lines result → Finds name service result old new
 finds_by_rules name service lines (Ok rules) old new read is =
     of_table name old new (λ text h. rw (ruling_of_lines service text lines h, is) refl) read
 finds_by_rules name service lines (Err (Rule fault)) old new read is =

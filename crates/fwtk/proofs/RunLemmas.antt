@@ -9,8 +9,10 @@ use Rattle.fwtk.specs.declared.fault.Fault.TheVariants.{Usage, Table, Rule, Outs
 use Rattle.fwtk.specs.declared.words.Query.{Query}
 use Rattle.fwtk.specs.Desk.{Desk}
 use Rattle.fwtk.specs.Finding.{Finds}
-use Rattle.fwtk.specs.Ruling.{Rules}
-use Rattle.fwtk.specs.Run.{ByRules, Decides, DecidesBy}
+use Rattle.fwtk.specs.Ruling.{}
+use Rattle.gate_rules.specs.Reading.{RuleBook}
+use Rattle.fwtk.specs.Run.{ByRules, ByTable}
+use Rattle.fwtk.proofs.CommandLemmas.{IsCommand}
 
 abbrev desk : Cabinet → Drain → Drain → Desk
 desk files output logs = record { files = files; output = output; logs = logs }
@@ -19,20 +21,20 @@ same_desk : (old new : Desk) → new.files ≡ old.files → new.output ≡ old.
 same_desk old new files output logs =
     ap (λ f. desk f new.output new.logs) files ∙ ap (λ o. desk old.files o new.logs) output ∙ ap (λ l. desk old.files old.output l) logs
 
-decides_here : (name : List ℕ) (query : Query) (rules : Rules) (outcome : Result ℕ Fault) (old new : Desk) → Finds name query.service (Ok rules) old.files old.files → DecidesBy query outcome old new rules → Decides name query outcome old new
-decides_here name query rules (Ok status) old new found told = record { rules = rules; of_table = found.of_text; told = told }
-decides_here name query rules (Err (Outside device.Output)) old new found told = record { rules = rules; of_table = found.of_text; told = told }
-decides_here name query rules (Err (Outside device.Log)) old new found told = record { rules = rules; of_table = found.of_text; told = told }
-decides_here name query rules (Err (Outside device.Table)) old new found told = absurd told
-decides_here name query rules (Err Memory) old new found told = told
-decides_here name query rules (Err Usage) old new found told = told
-decides_here name query rules (Err (Table fault)) old new found told = absurd told
-decides_here name query rules (Err (Rule fault)) old new found told = absurd told
+by_table_here : (does : Result ℕ Fault → Desk → Desk → RuleBook → Type 0) (name : List ℕ) (query : Query) (rules : RuleBook) (outcome : Result ℕ Fault) (old new : Desk) → IsCommand query does → Finds name query.service (Ok rules) old.files old.files → does outcome old new rules → ByTable does name query outcome old new
+by_table_here does name query rules (Ok status) old new command found told = record { rules = rules; of_table = found.of_text; told = told }
+by_table_here does name query rules (Err (Outside device.Output)) old new command found told = record { rules = rules; of_table = found.of_text; told = told }
+by_table_here does name query rules (Err (Outside device.Log)) old new command found told = record { rules = rules; of_table = found.of_text; told = told }
+by_table_here does name query rules (Err (Outside device.Table)) old new command found told = absurd (command.files old new rules told)
+by_table_here does name query rules (Err Memory) old new command found told = command.memory old new rules told
+by_table_here does name query rules (Err Usage) old new command found told = command.usage old new rules told
+by_table_here does name query rules (Err (Table fault)) old new command found told = absurd (command.table fault old new rules told)
+by_table_here does name query rules (Err (Rule fault)) old new command found told = absurd (command.rule fault old new rules told)
 
--- what the rules of the service decide is what the table decides
-pub decides_by : (name : List ℕ) (query : Query) (rules : Rules) (outcome : Result ℕ Fault) (old mid new : Desk) → Finds name query.service (Ok rules) old.files mid.files → mid.output ≡ old.output → mid.logs ≡ old.logs → DecidesBy query outcome mid new rules → Decides name query outcome old new
-decides_by name query rules outcome old mid new found output logs told =
+-- what a command does by the rules of the service it does by the table
+pub by_table : (does : Result ℕ Fault → Desk → Desk → RuleBook → Type 0) (name : List ℕ) (query : Query) (rules : RuleBook) (outcome : Result ℕ Fault) (old mid new : Desk) → IsCommand query does → Finds name query.service (Ok rules) old.files mid.files → mid.output ≡ old.output → mid.logs ≡ old.logs → does outcome mid new rules → ByTable does name query outcome old new
+by_table does name query rules outcome old mid new command found output logs told =
     let same : mid ≡ old = same_desk old mid found.is output logs in
-    let here : DecidesBy query outcome old new rules = rw (← same) told in
+    let here : does outcome old new rules = rw (← same) told in
     let read : Finds name query.service (Ok rules) old.files old.files = record { of_text = found.of_text; is = refl } in
-    decides_here name query rules outcome old new read here
+    by_table_here does name query rules outcome old new command read here

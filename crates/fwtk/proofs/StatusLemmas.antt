@@ -13,14 +13,16 @@ use Rattle.fwtk.specs.declared.fault.Device.TheVariants as device
 use Rattle.fwtk.specs.declared.fault.Fault.{Fault}
 use Rattle.fwtk.specs.declared.fault.Fault.TheVariants.{Usage, Table, Rule, Outside, Memory}
 use Rattle.fwtk.specs.declared.words.Command.{Command}
-use Rattle.fwtk.specs.declared.words.Command.TheVariants.{Netacl}
+use Rattle.fwtk.specs.declared.words.Command.TheVariants as commands
 use Rattle.fwtk.specs.declared.words.Query.{Query}
 use Rattle.fwtk.specs.Desk.{Desk}
 use Rattle.fwtk.specs.Fault.{fault_text, status_of}
-use Rattle.fwtk.specs.Ruling.{OfText, Rules, ruling}
-use Rattle.fwtk.specs.Run.{Decides, Does, Ends, FilesFailed, NotRead, Ran, Tells, verdict_status}
+use Rattle.fwtk.specs.Ruling.{OfText, ruling}
+use Rattle.gate_rules.specs.Reading.{RuleBook}
+use Rattle.fwtk.specs.Run.{ByTable, DecidesBy, Does, Ends, FilesFailed, NotRead, Ran, ShowsBy, Tells, verdict_status}
 use Rattle.fwtk.specs.Status.{Fails, IsRuled, IsRuledBy, SomeRose, WantsMemory}
 use Rattle.fwtk.specs.Words.{command_of, table_named}
+use Rattle.fwtk.proofs.CommandLemmas.{IsCommand, cut_rose, decides_command, shows_command}
 use Rattle.fwtk.proofs.FindingLemmas.{of_text}
 
 verdict_status_low : (verdict : Verdict) → verdict_status verdict ≤ 1
@@ -28,23 +30,24 @@ verdict_status_low (Permit line) = omega arith
 verdict_status_low (Deny line) = omega arith
 
 -- a decision never ends with the status of a faulty command line
-decides_known : (name : List ℕ) (query : Query) (outcome : Result ℕ Fault) (old mid new : Desk) (status : ℕ) → Decides name query outcome old mid → Ends outcome status mid new → status ≡ 2 → ⊥
-decides_known name query (Ok n) old mid new status does ends is =
+decides_known : (does : Result ℕ Fault → Desk → Desk → RuleBook → Type 0) (name : List ℕ) (query : Query) (outcome : Result ℕ Fault) (old mid new : Desk) (status : ℕ) → IsCommand query does → ByTable does name query outcome old mid → Ends outcome status mid new → status ≡ 2 → ⊥
+decides_known doing name query (Ok n) old mid new status command does ends is =
     let low = verdict_status_low (verdict_of does.rules query.peer) in
-    let told = does.told.status_is in
+    let told = command.ok n old mid does.rules does.told in
     let ended = ends.0 in omega arith
-decides_known name query (Err Usage) old mid new status does ends is = does
-decides_known name query (Err (Table fault)) old mid new status does ends is = let ended = ends.0 in omega arith
-decides_known name query (Err (Rule fault)) old mid new status does ends is = let ended = ends.0 in omega arith
-decides_known name query (Err (Outside which)) old mid new status does ends is = let ended = ends.0 in omega arith
-decides_known name query (Err Memory) old mid new status does ends is = let ended = ends.0 in omega arith
+decides_known doing name query (Err Usage) old mid new status command does ends is = does
+decides_known doing name query (Err (Table fault)) old mid new status command does ends is = let ended = ends.0 in omega arith
+decides_known doing name query (Err (Rule fault)) old mid new status command does ends is = let ended = ends.0 in omega arith
+decides_known doing name query (Err (Outside which)) old mid new status command does ends is = let ended = ends.0 in omega arith
+decides_known doing name query (Err Memory) old mid new status command does ends is = let ended = ends.0 in omega arith
 
 refused : (outcome : Result ℕ Fault) (status : ℕ) (mid new : Desk) → outcome ≡ Err Usage → Ends outcome status mid new → status ≡ 2
 refused outcome status mid new is ends = let P : Result ℕ Fault → Type 0 = λ o. Ends o status mid new in (subst P is ends).0
 
 usage_from : (name : List ℕ) (command : Option Command) (outcome : Result ℕ Fault) (old mid new : Desk) (status : ℕ) → Does name command outcome old mid → Ends outcome status mid new → status ≡ 2 → command ≡ None
 usage_from name None outcome old mid new status does ends is = refl
-usage_from name (Some (Netacl query)) outcome old mid new status does ends is = absurd (decides_known name query outcome old mid new status does ends is)
+usage_from name (Some (commands.Table query)) outcome old mid new status does ends is = absurd (decides_known (ShowsBy query) name query outcome old mid new status (shows_command query) does ends is)
+usage_from name (Some (commands.Netacl query)) outcome old mid new status does ends is = absurd (decides_known (DecidesBy query) name query outcome old mid new status (decides_command query) does ends is)
 
 usage_to : (name : List ℕ) (command : Option Command) (outcome : Result ℕ Fault) (old mid new : Desk) (status : ℕ) → command ≡ None → Does name command outcome old mid → Ends outcome status mid new → status ≡ 2
 usage_to name None outcome old mid new status none does ends = refused outcome status mid new does.usage ends
@@ -65,32 +68,33 @@ of_any : {P : List ℕ → Type 0} (holds : Option (List (List ℕ × List ℕ))
 of_any None name all = tt
 of_any (Some files) name all = all_some (held files name) all
 
-ruled_other : (other : ℕ → Type 0) (read : Result Rules Fault) (peer : Peer) (status : ℕ) → other status → IsRuled other read peer status
+ruled_other : (other : ℕ → Type 0) (read : Result RuleBook Fault) (peer : Peer) (status : ℕ) → other status → IsRuled other read peer status
 ruled_other other (Ok rules) peer status h = inr h
 ruled_other other (Err fault) peer status h = inr h
 
-ruled_ok : (read : Result Rules Fault) (rules : Rules) (peer : Peer) (status : ℕ) → read ≡ Ok rules → status ≡ verdict_status (verdict_of rules peer) → IsRuled Fails read peer status
+ruled_ok : (read : Result RuleBook Fault) (rules : RuleBook) (peer : Peer) (status : ℕ) → read ≡ Ok rules → status ≡ verdict_status (verdict_of rules peer) → IsRuled Fails read peer status
 ruled_ok read rules peer status is told = rw is (inl told)
 
-ruled_fault : (read : Result Rules Fault) (fault : Fault) (peer : Peer) (status : ℕ) → read ≡ Err fault → status ≡ 3 → IsRuled Fails read peer status
+ruled_fault : (read : Result RuleBook Fault) (fault : Fault) (peer : Peer) (status : ℕ) → read ≡ Err fault → status ≡ 3 → IsRuled Fails read peer status
 ruled_fault read fault peer status is told = rw is (inl told)
 
-ruled_decision : (name : List ℕ) (query : Query) (outcome : Result ℕ Fault) (old mid new : Desk) (status : ℕ) → Decides name query outcome old mid → Ends outcome status mid new → OfText old.files.holds name (λ text. IsRuled Fails (ruling text query.service) query.peer status)
-ruled_decision name query (Ok n) old mid new status does ends =
-    of_text old.files.holds name (λ text is. ruled_ok (ruling text query.service) does.rules query.peer status is (ends.0 ∙ does.told.status_is)) does.of_table
-ruled_decision name query (Err Usage) old mid new status does ends = absurd does
-ruled_decision name query (Err (Table fault)) old mid new status does ends =
+ruled_decision : (does : Result ℕ Fault → Desk → Desk → RuleBook → Type 0) (name : List ℕ) (query : Query) (outcome : Result ℕ Fault) (old mid new : Desk) (status : ℕ) → IsCommand query does → ByTable does name query outcome old mid → Ends outcome status mid new → OfText old.files.holds name (λ text. IsRuled Fails (ruling text query.service) query.peer status)
+ruled_decision doing name query (Ok n) old mid new status command does ends =
+    of_text old.files.holds name (λ text is. ruled_ok (ruling text query.service) does.rules query.peer status is (ends.0 ∙ command.ok n old mid does.rules does.told)) does.of_table
+ruled_decision doing name query (Err Usage) old mid new status command does ends = absurd does
+ruled_decision doing name query (Err (Table fault)) old mid new status command does ends =
     of_text old.files.holds name (λ text is. ruled_fault (ruling text query.service) (Table fault) query.peer status is ends.0) does.of_table
-ruled_decision name query (Err (Rule fault)) old mid new status does ends =
+ruled_decision doing name query (Err (Rule fault)) old mid new status command does ends =
     of_text old.files.holds name (λ text is. ruled_fault (ruling text query.service) (Rule fault) query.peer status is ends.0) does.of_table
-ruled_decision name query (Err (Outside which)) old mid new status does ends =
+ruled_decision doing name query (Err (Outside which)) old mid new status command does ends =
     of_any old.files.holds name (λ text. ruled_other Fails (ruling text query.service) query.peer status (inl ends.0))
-ruled_decision name query (Err Memory) old mid new status does ends =
+ruled_decision doing name query (Err Memory) old mid new status command does ends =
     of_any old.files.holds name (λ text. ruled_other Fails (ruling text query.service) query.peer status (inr ends.0))
 
 ruled_command : (name : List ℕ) (command : Option Command) (outcome : Result ℕ Fault) (old mid new : Desk) (status : ℕ) → Does name command outcome old mid → Ends outcome status mid new → IsRuledBy Fails name command old status
 ruled_command name None outcome old mid new status does ends = tt
-ruled_command name (Some (Netacl query)) outcome old mid new status does ends = ruled_decision name query outcome old mid new status does ends
+ruled_command name (Some (commands.Netacl query)) outcome old mid new status does ends = ruled_decision (DecidesBy query) name query outcome old mid new status (decides_command query) does ends
+ruled_command name (Some (commands.Table query)) outcome old mid new status does ends = ruled_decision (ShowsBy query) name query outcome old mid new status (shows_command query) does ends
 
 pub ruled : (words : List (List ℕ)) (status : ℕ) (old new : Desk) → Ran words status old new → IsRuledBy Fails (table_named words) (command_of words) old status
 ruled words status old new ran = ruled_command (table_named words) (command_of words) ran.outcome old ran.middle new status ran.does ran.ends
@@ -106,41 +110,39 @@ files_rose : (old mid : Cabinet) → FilesFailed old mid → Rose old.missing mi
 files_rose old mid (inl missed) = inl (rose_at old.missing missed.count mid.missing missed.rose (ap (λ (c : Cabinet). c.missing) missed.is))
 files_rose old mid (inr failed) = inr (rose_at old.read_faults failed.count mid.read_faults failed.rose (ap (λ (c : Cabinet). c.read_faults) failed.is))
 
-cut_rose : (text : List ℕ) (old new : Drain) → Cut text old new → Rose old.faults new.faults
-cut_rose text old new cut = rose_at old.faults cut.count new.faults cut.rose (ap (λ (d : Drain). d.faults) cut.is)
-
 given_later : (told : Result (Unit {0}) Failed) (text : List ℕ) (old new : Drain) → Gives told text old new → old.faults ≤ new.faults
 given_later (Ok _) text old new is = let same = ap (λ (d : Drain). d.faults) is in omega (arith, same)
 given_later (Err _) text old new cut = (cut_rose text old new cut).0
 
-failed_rose : (name : List ℕ) (query : Query) (which : _) (old mid new : Desk) → Decides name query (Err (Outside which)) old mid → Tells (fault_text (Outside which)) mid new → SomeRose old new
-failed_rose name query device.Table old mid new does tells = let P : Cabinet → Type 0 = λ files. Rose old.files.missing files.missing ⊎ Rose old.files.read_faults files.read_faults in
+failed_rose : (does : Result ℕ Fault → Desk → Desk → RuleBook → Type 0) (name : List ℕ) (query : Query) (which : _) (old mid new : Desk) → IsCommand query does → ByTable does name query (Err (Outside which)) old mid → Tells (fault_text (Outside which)) mid new → SomeRose old new
+failed_rose doing name query device.Table old mid new command does tells = let P : Cabinet → Type 0 = λ files. Rose old.files.missing files.missing ⊎ Rose old.files.read_faults files.read_faults in
     inl (subst P (sym tells.files) (files_rose old.files mid.files does.failed))
-failed_rose name query device.Output old mid new does tells = let P : Drain → Type 0 = λ output. Rose old.output.faults output.faults in
-    inr (inl (subst P (sym tells.output) (cut_rose _ old.output mid.output does.told.printed)))
-failed_rose name query device.Log old mid new does tells =
-    inr (inr (rose_on old.logs.faults mid.logs.faults new.logs.faults (cut_rose _ old.logs mid.logs does.told.logged) (given_later tells.told _ mid.logs new.logs tells.logged)))
+failed_rose doing name query device.Output old mid new command does tells = let P : Drain → Type 0 = λ output. Rose old.output.faults output.faults in
+    inr (inl (subst P (sym tells.output) (command.output old mid does.rules does.told)))
+failed_rose doing name query device.Log old mid new command does tells =
+    inr (inr (rose_on old.logs.faults mid.logs.faults new.logs.faults (command.log old mid does.rules does.told) (given_later tells.told _ mid.logs new.logs tells.logged)))
 
-outside_decision : (name : List ℕ) (query : Query) (outcome : Result ℕ Fault) (old mid new : Desk) (status : ℕ) → Decides name query outcome old mid → Ends outcome status mid new → status ≡ 4 → SomeRose old new
-outside_decision name query (Ok n) old mid new status does ends is =
+outside_decision : (does : Result ℕ Fault → Desk → Desk → RuleBook → Type 0) (name : List ℕ) (query : Query) (outcome : Result ℕ Fault) (old mid new : Desk) (status : ℕ) → IsCommand query does → ByTable does name query outcome old mid → Ends outcome status mid new → status ≡ 4 → SomeRose old new
+outside_decision doing name query (Ok n) old mid new status command does ends is =
     let low = verdict_status_low (verdict_of does.rules query.peer) in
-    let told = does.told.status_is in
+    let told = command.ok n old mid does.rules does.told in
     let ended = ends.0 in absurd (omega arith)
-outside_decision name query (Err Usage) old mid new status does ends is = absurd does
-outside_decision name query (Err (Table fault)) old mid new status does ends is = let ended = ends.0 in absurd (omega arith)
-outside_decision name query (Err (Rule fault)) old mid new status does ends is = let ended = ends.0 in absurd (omega arith)
-outside_decision name query (Err (Outside which)) old mid new status does ends is = failed_rose name query which old mid new does ends.1
-outside_decision name query (Err Memory) old mid new status does ends is = let ended = ends.0 in absurd (omega arith)
+outside_decision doing name query (Err Usage) old mid new status command does ends is = absurd does
+outside_decision doing name query (Err (Table fault)) old mid new status command does ends is = let ended = ends.0 in absurd (omega arith)
+outside_decision doing name query (Err (Rule fault)) old mid new status command does ends is = let ended = ends.0 in absurd (omega arith)
+outside_decision doing name query (Err (Outside which)) old mid new status command does ends is = failed_rose doing name query which old mid new command does ends.1
+outside_decision doing name query (Err Memory) old mid new status command does ends is = let ended = ends.0 in absurd (omega arith)
 
 outside_command : (name : List ℕ) (command : Option Command) (outcome : Result ℕ Fault) (old mid new : Desk) (status : ℕ) → Does name command outcome old mid → Ends outcome status mid new → status ≡ 4 → SomeRose old new
 outside_command name None outcome old mid new status does ends is = let two = refused outcome status mid new does.usage ends in absurd (omega arith)
-outside_command name (Some (Netacl query)) outcome old mid new status does ends is = outside_decision name query outcome old mid new status does ends is
+outside_command name (Some (commands.Netacl query)) outcome old mid new status does ends is = outside_decision (DecidesBy query) name query outcome old mid new status (decides_command query) does ends is
+outside_command name (Some (commands.Table query)) outcome old mid new status does ends is = outside_decision (ShowsBy query) name query outcome old mid new status (shows_command query) does ends is
 
 pub outside : (words : List (List ℕ)) (status : ℕ) (old new : Desk) → Ran words status old new → status ≡ 4 → SomeRose old new
 outside words status old new ran is = outside_command (table_named words) (command_of words) ran.outcome old ran.middle new status ran.does ran.ends is
 
 -- what isn't 4 is ruled, or wants memory
-unless_four : (read : Result Rules Fault) (peer : Peer) (status : ℕ) → (status ≡ 4 → ⊥) → IsRuled Fails read peer status → IsRuled WantsMemory read peer status
+unless_four : (read : Result RuleBook Fault) (peer : Peer) (status : ℕ) → (status ≡ 4 → ⊥) → IsRuled Fails read peer status → IsRuled WantsMemory read peer status
 unless_four (Ok rules) peer status never (inl is) = inl is
 unless_four (Ok rules) peer status never (inr (inl four)) = absurd (never four)
 unless_four (Ok rules) peer status never (inr (inr five)) = inr five
@@ -150,7 +152,8 @@ unless_four (Err fault) peer status never (inr (inr five)) = inr five
 
 unless_four_by : (name : List ℕ) (command : Option Command) (old : Desk) (status : ℕ) → (status ≡ 4 → ⊥) → IsRuledBy Fails name command old status → IsRuledBy WantsMemory name command old status
 unless_four_by name None old status never h = tt
-unless_four_by name (Some (Netacl query)) old status never h = of_text old.files.holds name (λ text. unless_four (ruling text query.service) query.peer status never) h
+unless_four_by name (Some (commands.Table query)) old status never h = of_text old.files.holds name (λ text. unless_four (ruling text query.service) query.peer status never) h
+unless_four_by name (Some (commands.Netacl query)) old status never h = of_text old.files.holds name (λ text. unless_four (ruling text query.service) query.peer status never) h
 
 pub complete : (words : List (List ℕ)) (status : ℕ) (old new : Desk) → Ran words status old new → (SomeRose old new → ⊥) → IsRuledBy WantsMemory (table_named words) (command_of words) old status
 complete words status old new ran none = unless_four_by (table_named words) (command_of words) old status (λ four. none (outside words status old new ran four)) (ruled words status old new ran)

@@ -5,12 +5,12 @@ use Rattle.netperm_table.specs.declared.line.Line.{Line}
 use Rattle.netperm_table.specs.declared.table_fault.TableFault.{TableFault}
 use Rattle.netperm_table.specs.declared.table_fault.TableFault.TheVariants as table
 use Rattle.netperm_table.specs.Table.{table_of}
-use Rattle.gate_rules.specs.Reading.{rules_of}
 use Rattle.gate_rules.specs.declared.service.Service.{Service}
 use Rattle.fwtk.specs.declared.fault.Device.TheVariants as device
 use Rattle.fwtk.specs.declared.fault.Fault.{Fault}
 use Rattle.fwtk.specs.declared.fault.Fault.TheVariants.{Usage, Table, Rule, Outside, Memory}
-use Rattle.fwtk.specs.Ruling.{Rules, OfText, ruling}
+use Rattle.fwtk.specs.Ruling.{OfText, ruling}
+use Rattle.gate_rules.specs.Reading.{RuleBook, rules_of}
 use Rattle.fwtk.specs.Run.{FilesFailed}
 
 -- a fact of the text under a name, where the files tell it; the files are as before
@@ -30,7 +30,7 @@ ReadsTable name (Err (Outside device.Log)) old new = ⊥
 ReadsTable name (Err Memory) old new = new ≡ old
 
 -- what reading the rules of a service from lines answers
-abbrev pub ReadsRules : Service → List Line → Result Rules Fault → Type 0
+abbrev pub ReadsRules : Service → List Line → Result RuleBook Fault → Type 0
 ReadsRules service lines (Ok rules) = rules_of service lines ≡ Ok rules
 ReadsRules service lines (Err Usage) = ⊥
 ReadsRules service lines (Err (Table fault)) = ⊥
@@ -39,7 +39,7 @@ ReadsRules service lines (Err (Outside which)) = ⊥
 ReadsRules service lines (Err Memory) = Unit {0}
 
 -- what finding the rules of a service answers and leaves
-abbrev pub Finds : List ℕ → Service → Result Rules Fault → Cabinet → Cabinet → Type 0
+abbrev pub Finds : List ℕ → Service → Result RuleBook Fault → Cabinet → Cabinet → Type 0
 Finds name service (Ok rules) old new = OfTable name (λ text. ruling text service ≡ Ok rules) old new
 Finds name service (Err Usage) old new = ⊥
 Finds name service (Err (Table fault)) old new = OfTable name (λ text. ruling text service ≡ Err (Table fault)) old new
@@ -51,6 +51,6 @@ Finds name service (Err Memory) old new = new ≡ old
 
 -- a fault of the source or of memory is told as one of the files or of memory
 abbrev pub fault_of : TableFault → Fault
-fault_of (table.NotBuilt line) = Table (table.NotBuilt line)
 fault_of table.ReadFault = Outside device.Table
 fault_of table.NoMemory = Memory
+fault_of fault = Table fault

@@ -3,6 +3,7 @@ pub mod Fault
 pub mod Finding
 pub mod Run
 pub mod Ruling
+pub mod Sheet
 pub mod Status
 pub mod Texts
 pub mod Words

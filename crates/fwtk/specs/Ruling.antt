@@ -6,28 +6,24 @@ use Rattle.netperm_table.specs.declared.table_fault.TableFault.{TableFault}
 use Rattle.netperm_table.specs.Table.{table_of}
 use Rattle.gate_rules.specs.declared.fault.RuleFault.{RuleFault}
 use Rattle.gate_rules.specs.declared.options.Options.{Options}
-use Rattle.gate_rules.specs.declared.rule.Rule as rule
 use Rattle.gate_rules.specs.declared.service.Service.{Service}
 use Rattle.gate_rules.specs.declared.verdict.Verdict.{Verdict}
 use Rattle.gate_rules.specs.declared.verdict.Verdict.TheVariants.{Permit, Deny}
-use Rattle.gate_rules.specs.Reading.{rules_of}
+use Rattle.gate_rules.specs.Reading.{RuleBook, rules_of}
 use Rattle.gate_rules.specs.Verdict.{options_at}
 use Rattle.fwtk.specs.declared.fault.Fault.{Fault}
 use Rattle.fwtk.specs.declared.fault.Fault.TheVariants.{Table, Rule}
 
-abbrev pub Rules : Type 0
-Rules = List rule.Rule
-
-abbrev pub or_rule_fault : Result Rules RuleFault → Result Rules Fault
+abbrev pub or_rule_fault : Result RuleBook RuleFault → Result RuleBook Fault
 or_rule_fault (Ok rules) = Ok rules
 or_rule_fault (Err fault) = Err (Rule fault)
 
-abbrev pub rules_by : Service → Result (List Line) TableFault → Result Rules Fault
+abbrev pub rules_by : Service → Result (List Line) TableFault → Result RuleBook Fault
 rules_by service (Ok lines) = or_rule_fault (rules_of service lines)
 rules_by service (Err fault) = Err (Table fault)
 
 -- the rules of the service, or the fault of the first line of the table, or of the service, that can't be read
-unfoldable pub ruling : List ℕ → Service → Result Rules Fault
+unfoldable pub ruling : List ℕ → Service → Result RuleBook Fault
 ruling text service = rules_by service (table_of text)
 
 abbrev pub exec_in : Option Options → List (List ℕ)
@@ -35,7 +31,7 @@ exec_in None = []
 exec_in (Some options) = options.exec
 
 -- the program's words on the permit line that decided
-abbrev pub exec_of : Rules → Verdict → List (List ℕ)
+abbrev pub exec_of : RuleBook → Verdict → List (List ℕ)
 exec_of rules (Permit line) = exec_in (options_at rules line)
 exec_of rules (Deny line) = []
 

@@ -11,11 +11,13 @@ use Rattle.fwtk.specs.declared.fault.Device.TheVariants as device
 use Rattle.fwtk.specs.declared.fault.Fault.{Fault}
 use Rattle.fwtk.specs.declared.fault.Fault.TheVariants.{Usage, Table, Rule, Outside, Memory}
 use Rattle.fwtk.specs.declared.words.Command.{Command}
-use Rattle.fwtk.specs.declared.words.Command.TheVariants.{Netacl}
+use Rattle.fwtk.specs.declared.words.Command.TheVariants as command
 use Rattle.fwtk.specs.declared.words.Query.{Query}
 use Rattle.fwtk.specs.Desk.{Desk}
 use Rattle.fwtk.specs.Fault.{fault_text, status_of}
-use Rattle.fwtk.specs.Ruling.{Rules, OfText, exec_of, ruling}
+use Rattle.fwtk.specs.Ruling.{OfText, exec_of, ruling}
+use Rattle.gate_rules.specs.Reading.{RuleBook}
+use Rattle.fwtk.specs.Sheet.{sheet_text}
 use Rattle.fwtk.specs.Texts.{decision_text, print_text}
 use Rattle.fwtk.specs.Words.{command_of, table_named}
 
@@ -33,8 +35,8 @@ verdict_status (Permit line) = 0
 verdict_status (Deny line) = 1
 
 -- the rules of the service in the table's text, where the files tell it, and a fact of them
-pub record ByRules (name : List ℕ) (query : Query) (files : Cabinet) (P : Rules → Type 0) : Type 0 where
-  pub rules : Rules
+pub record ByRules (name : List ℕ) (query : Query) (files : Cabinet) (P : RuleBook → Type 0) : Type 0 where
+  pub rules : RuleBook
   pub of_table : OfText files.holds name (λ text. ruling text query.service ≡ Ok rules)
   pub told : P rules
 
@@ -82,7 +84,7 @@ Concludes query verdict text (Err (Outside device.Log)) old new = NotLogged quer
 Concludes query verdict text (Err Memory) old new = new ≡ old
 
 -- the verdict that the rules make of the peer is concluded
-abbrev pub DecidesBy : Query → Result ℕ Fault → Desk → Desk → Rules → Type 0
+abbrev pub DecidesBy : Query → Result ℕ Fault → Desk → Desk → RuleBook → Type 0
 DecidesBy query outcome old new rules =
     let verdict = verdict_of rules query.peer in Concludes query verdict (print_text verdict (exec_of rules verdict)) outcome old new
 
@@ -97,16 +99,45 @@ pub record Unreadable (name : List ℕ) (query : Query) (fault : Fault) (old new
   pub of_table : OfText old.files.holds name (λ text. ruling text query.service ≡ Err fault)
   pub is : new ≡ old
 
--- what a decision answers, a status or a fault, and leaves
-abbrev pub Decides : List ℕ → Query → Result ℕ Fault → Desk → Desk → Type 0
-Decides name query (Ok status) old new = ByRules name query old.files (DecidesBy query (Ok status) old new)
-Decides name query (Err Usage) old new = ⊥
-Decides name query (Err (Table fault)) old new = Unreadable name query (Table fault) old new
-Decides name query (Err (Rule fault)) old new = Unreadable name query (Rule fault) old new
-Decides name query (Err (Outside device.Table)) old new = NotRead old new
-Decides name query (Err (Outside device.Output)) old new = ByRules name query old.files (DecidesBy query (Err (Outside device.Output)) old new)
-Decides name query (Err (Outside device.Log)) old new = ByRules name query old.files (DecidesBy query (Err (Outside device.Log)) old new)
-Decides name query (Err Memory) old new = new ≡ old
+-- the text was printed whole
+pub record Shown (verdict : Verdict) (text : List ℕ) (status : ℕ) (old new : Desk) : Type 0 where
+  pub status_is : status ≡ verdict_status verdict
+  pub printed : new.output ≡ with_given old.output text
+  pub logs : new.logs ≡ old.logs
+  pub files : new.files ≡ old.files
+
+-- the output failed within the text
+pub record NotShown (text : List ℕ) (old new : Desk) : Type 0 where
+  pub printed : Cut text old.output new.output
+  pub logs : new.logs ≡ old.logs
+  pub files : new.files ≡ old.files
+
+-- what printing a text of a verdict answers, a status or a fault, and leaves
+abbrev pub Shows : Verdict → List ℕ → Result ℕ Fault → Desk → Desk → Type 0
+Shows verdict text (Ok status) old new = Shown verdict text status old new
+Shows verdict text (Err Usage) old new = ⊥
+Shows verdict text (Err (Table fault)) old new = ⊥
+Shows verdict text (Err (Rule fault)) old new = ⊥
+Shows verdict text (Err (Outside device.Table)) old new = ⊥
+Shows verdict text (Err (Outside device.Output)) old new = NotShown text old new
+Shows verdict text (Err (Outside device.Log)) old new = ⊥
+Shows verdict text (Err Memory) old new = new ≡ old
+
+-- what the rules say of the peer is shown
+abbrev pub ShowsBy : Query → Result ℕ Fault → Desk → Desk → RuleBook → Type 0
+ShowsBy query outcome old new rules =
+    let verdict = verdict_of rules query.peer in Shows verdict (sheet_text rules verdict) outcome old new
+
+-- what a command that needs the rules answers and leaves: what it does by the rules, where they were found, else why not
+abbrev pub ByTable : (Result ℕ Fault → Desk → Desk → RuleBook → Type 0) → List ℕ → Query → Result ℕ Fault → Desk → Desk → Type 0
+ByTable does name query (Ok status) old new = ByRules name query old.files (does (Ok status) old new)
+ByTable does name query (Err Usage) old new = ⊥
+ByTable does name query (Err (Table fault)) old new = Unreadable name query (Table fault) old new
+ByTable does name query (Err (Rule fault)) old new = Unreadable name query (Rule fault) old new
+ByTable does name query (Err (Outside device.Table)) old new = NotRead old new
+ByTable does name query (Err (Outside device.Output)) old new = ByRules name query old.files (does (Err (Outside device.Output)) old new)
+ByTable does name query (Err (Outside device.Log)) old new = ByRules name query old.files (does (Err (Outside device.Log)) old new)
+ByTable does name query (Err Memory) old new = new ≡ old
 
 -- words that are no command
 pub record Refuses (outcome : Result ℕ Fault) (old new : Desk) : Type 0 where
@@ -116,7 +147,8 @@ pub record Refuses (outcome : Result ℕ Fault) (old new : Desk) : Type 0 where
 -- what a command answers and leaves; where there is none, the usage is at fault
 abbrev pub Does : List ℕ → Option Command → Result ℕ Fault → Desk → Desk → Type 0
 Does name None outcome old new = Refuses outcome old new
-Does name (Some (Netacl query)) outcome old new = Decides name query outcome old new
+Does name (Some (command.Netacl query)) outcome old new = ByTable (DecidesBy query) name query outcome old new
+Does name (Some (command.Table query)) outcome old new = ByTable (ShowsBy query) name query outcome old new
 
 -- the log was told of a fault, or failed within its line
 pub record Tells (text : List ℕ) (old new : Desk) : Type 0 where

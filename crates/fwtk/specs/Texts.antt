@@ -21,11 +21,19 @@ verdict_line (Deny line) = line
 abbrev pub decision_text : Verdict → Service → Peer → List ℕ
 decision_text verdict service peer = verdict_word verdict ++ codes " " ++ service_text service ++ codes " " ++ peer_text peer ++ codes " line " ++ decimal (verdict_line verdict) ++ codes "\n"
 
--- the program of a permit line with its words, where it has one: `exec WORD WORD`
-abbrev pub exec_text : List (List ℕ) → List ℕ
-exec_text [] = []
-exec_text (word ∷ words) = codes "exec" ++ flat_map (λ w. 32 ∷ w) (word ∷ words) ++ codes "\n"
+-- a name, and words that each come after a space
+abbrev pub words_line : List ℕ → List (List ℕ) → List ℕ
+words_line name words = name ++ flat_map (λ w. 32 ∷ w) words ++ codes "\n"
 
--- what is printed of a verdict: `permit line N`, and the program's line
+-- that line where there are words, and nothing where there are none
+abbrev pub some_line : List ℕ → List (List ℕ) → List ℕ
+some_line name [] = []
+some_line name (word ∷ words) = words_line name (word ∷ words)
+
+-- the line of a verdict: `permit line N`
+abbrev pub verdict_text : Verdict → List ℕ
+verdict_text verdict = verdict_word verdict ++ codes " line " ++ decimal (verdict_line verdict) ++ codes "\n"
+
+-- what `netacl` prints: the verdict, and the program with its words, where the line has one
 abbrev pub print_text : Verdict → List (List ℕ) → List ℕ
-print_text verdict exec = verdict_word verdict ++ codes " line " ++ decimal (verdict_line verdict) ++ codes "\n" ++ exec_text exec
+print_text verdict exec = verdict_text verdict ++ some_line (codes "exec") exec

@@ -2,8 +2,9 @@
 ghost use Rattle.std.specs.Prelude.{◌≡◌, ◌<◌};
 ghost use Rattle.gate_rules.specs.Verdict.{verdict_of};
 ghost use Rattle.fwtk.specs.Ruling.{exec_of};
-ghost use Rattle.fwtk.specs.Run.{Concludes, DecidesBy, unprinted, verdict_status};
+ghost use Rattle.fwtk.specs.Run.{Concludes, DecidesBy, Shows, ShowsBy, unprinted, verdict_status};
 
+use crate::sheet::sheet_of;
 use crate::texts::{decision_line, print_of};
 use crate::{Device, Fault, Kit, Query, World};
 use fw_outside::{Failed, Octets, Peer};
@@ -93,4 +94,30 @@ pub(crate) fn decide<T: Kit>(
         return Err(Fault::Memory);
     };
     conclude(world, verdict, query, text.bytes())
+}
+
+// Prints a text of a verdict.
+fn show_text<T: Kit>(world: &mut World<T>, verdict: Verdict, text: &[u8]) -> Result<u8, Fault>
+    ensures { Shows verdict text.now result world.old world.new }
+{
+    match world.print(text) {
+        Ok(()) => Ok(status_of(verdict)),
+        Err(Failed) => Err(Fault::Outside(Device::Output)),
+    }
+}
+
+/// Prints the verdict of the rules, the options of a line that permits, and the settings.
+pub(crate) fn show<T: Kit>(
+    alloc: Global,
+    rules: &Rules,
+    query: &Query,
+    world: &mut World<T>,
+) -> Result<u8, Fault>
+    ensures { ShowsBy query.now result world.old world.new rules.now }
+{
+    let verdict = verdict_of(rules, &query.peer);
+    let Ok(text) = sheet_of(alloc, rules, verdict) else {
+        return Err(Fault::Memory);
+    };
+    show_text(world, verdict, text.bytes())
 }

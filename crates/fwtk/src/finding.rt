@@ -14,7 +14,7 @@ fn fault_of(fault: TableFault) -> Fault
     match fault {
         TableFault::ReadFault => Fault::Outside(Device::Table),
         TableFault::NoMemory => Fault::Memory,
-        TableFault::NotBuilt { .. } => Fault::Table(fault),
+        _ => Fault::Table(fault),
     }
 }
 

@@ -14,6 +14,7 @@ mod finding;
 mod kit;
 mod real;
 mod run;
+mod sheet;
 mod texts;
 mod words;
 

@@ -1,11 +1,11 @@
 ghost use Rattle.std.specs.Prelude.{◌≡◌, ◌↔◌};
 ghost use Rattle.fwtk.specs.Fault.{fault_text};
 ghost use Rattle.fwtk.specs.Finding.{Finds};
-ghost use Rattle.fwtk.specs.Run.{Decides, Does, Ends, Ran, Tells};
+ghost use Rattle.fwtk.specs.Run.{ByTable, DecidesBy, Does, Ends, Ran, ShowsBy, Tells};
 ghost use Rattle.fwtk.specs.Status.{Fails, IsRuledBy, SomeRose, WantsMemory};
 ghost use Rattle.fwtk.specs.Words.{command_of, table_named};
 
-use crate::deciding::decide;
+use crate::deciding::{decide, show};
 use crate::finding::find_rules;
 use crate::words::{read_command, table_named};
 use crate::{Command, Fault, Kit, Query, World};
@@ -34,10 +34,25 @@ fn netacl<T: Kit>(
     query: &Query,
     world: &mut World<T>,
 ) -> Result<u8, Fault>
-    ensures { Decides name.now query.now result world.old world.new }
+    ensures { ByTable (DecidesBy query.now) name.now query.now result world.old world.new }
 {
     match rules_for(alloc, name, query, world) {
         Ok(rules) => decide(alloc, &rules, query, world),
+        Err(fault) => Err(fault),
+    }
+}
+
+// Shows what the table says to one service of a peer.
+fn table<T: Kit>(
+    alloc: Global,
+    name: &[u8],
+    query: &Query,
+    world: &mut World<T>,
+) -> Result<u8, Fault>
+    ensures { ByTable (ShowsBy query.now) name.now query.now result world.old world.new }
+{
+    match rules_for(alloc, name, query, world) {
+        Ok(rules) => show(alloc, &rules, query, world),
         Err(fault) => Err(fault),
     }
 }
@@ -49,6 +64,7 @@ fn obey<T: Kit>(alloc: Global, words: &[Octets], world: &mut World<T>) -> Result
     match read_command(words) {
         None => Err(Fault::Usage),
         Some(Command::Netacl(query)) => netacl(alloc, table_named(words), &query, world),
+        Some(Command::Table(query)) => table(alloc, table_named(words), &query, world),
     }
 }
 
@@ -81,8 +97,8 @@ fn end<T: Kit>(world: &mut World<T>, outcome: Result<u8, Fault>) -> u8
 /// - 4 where a device failed, which its count shows;
 /// - 5 for want of memory.
 ///
-/// A status from 2 on is told to the log in one line that names its cause. The verdict is logged before it is printed, so
-/// a denial that was logged stands even if it couldn't be printed.
+/// A status from 2 on is told to the log in one line that names its cause. `netacl` logs the verdict before it prints it,
+/// so a denial that was logged stands even if it couldn't be printed; `table` prints alone.
 pub fn run<T: Kit>(alloc: Global, words: &[Octets], world: &mut World<T>) -> u8
     // What each status means, and what the devices were given.
     ensures ran { Ran words.now result world.old world.new }

@@ -3,7 +3,7 @@ ghost use Rattle.std.specs.Fmt.{decimal};
 ghost use Rattle.arrayvec.specs.ArrayVec.{array_vec_len};
 ghost use Rattle.fw_outside.specs.Peer.{peer_text};
 ghost use Rattle.gate_rules.specs.Service.{service_text};
-ghost use Rattle.fwtk.specs.Texts.{decision_text, exec_text, print_text, verdict_line, verdict_word};
+ghost use Rattle.fwtk.specs.Texts.{decision_text, print_text, some_line, verdict_line, verdict_text, verdict_word};
 
 use arrayvec::ArrayVec;
 use fw_outside::{NoMemory, Octets, Peer, append, append_u32};
@@ -68,7 +68,7 @@ pub fn decision_line(verdict: Verdict, service: &Service, peer: &Peer) -> LogLin
     out
 }
 
-fn push_words(out: &mut Vec<u8>, words: &[Octets]) -> Result<(), NoMemory>
+pub(crate) fn push_words(out: &mut Vec<u8>, words: &[Octets]) -> Result<(), NoMemory>
     ensures { OnOk result (out.new.items ≡ out.old.items ++ flat_map (λ w. 32 ∷ w) words.now) }
 {
     for word in words {
@@ -78,8 +78,9 @@ fn push_words(out: &mut Vec<u8>, words: &[Octets]) -> Result<(), NoMemory>
     Ok(())
 }
 
-fn push_exec(out: &mut Vec<u8>, exec: &[Octets]) -> Result<(), NoMemory>
-    ensures { OnOk result (out.new.items ≡ out.old.items ++ exec_text exec.now) }
+// Adds the line of the program that a permit line names.
+pub(crate) fn push_exec(out: &mut Vec<u8>, exec: &[Octets]) -> Result<(), NoMemory>
+    ensures { OnOk result (out.new.items ≡ out.old.items ++ some_line (codes "exec") exec.now) }
 {
     if exec.is_empty() {
         return Ok(());
@@ -90,8 +91,9 @@ fn push_exec(out: &mut Vec<u8>, exec: &[Octets]) -> Result<(), NoMemory>
     Ok(())
 }
 
-fn verdict_print(verdict: Verdict) -> LogLine
-    ensures { result.items ≡ verdict_word verdict ++ codes " line " ++ decimal (verdict_line verdict) ++ codes "\n" }
+/// The line of a verdict.
+pub(crate) fn verdict_text(verdict: Verdict) -> LogLine
+    ensures { result.items ≡ verdict_text verdict }
 {
     let mut out = ArrayVec::new();
     append(&mut out, verdict_word(verdict));
@@ -101,12 +103,12 @@ fn verdict_print(verdict: Verdict) -> LogLine
     out
 }
 
-/// What is printed of a verdict, with the program's words on a permit line that has some.
+/// What `netacl` prints of a verdict, with the program's words on a permit line that has some.
 pub fn print_of(alloc: Global, verdict: Verdict, exec: &[Octets]) -> Result<Octets, NoMemory>
     ensures { IfOk result (λ text. text ≡ print_text verdict exec.now) }
 {
     let mut out = Vec::new(alloc);
-    out.extend_from_slice(verdict_print(verdict).as_slice())?;
+    out.extend_from_slice(verdict_text(verdict).as_slice())?;
     push_exec(&mut out, exec)?;
     Ok(Octets::of(out))
 }

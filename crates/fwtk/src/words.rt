@@ -1,10 +1,10 @@
 ghost use Rattle.std.specs.Prelude.{◌≡◌};
+ghost use Rattle.std.specs.Option.{option_map};
 ghost use Rattle.std.specs.Str.{bytes_eq};
-ghost use Rattle.fw_outside.specs.Quad.{quad_of};
 ghost use Rattle.gate_rules.specs.Label.{label_of};
-ghost use Rattle.fwtk.specs.Words.{after_options, command_in, command_of, names_table, netacl_of, table_named};
+ghost use Rattle.fwtk.specs.Words.{after_options, command_in, command_of, name_in, names_table, peer_of, query_of, table_named};
 
-use fw_outside::{Octets, Peer, read_quad};
+use fw_outside::{HostName, Octets, Peer, read_quad};
 use gate_rules::{Label, Service};
 
 /// Who asks for which service.
@@ -17,8 +17,10 @@ pub struct Query {
 /// What the words of a command line ask for.
 #[derive(Drop)]
 pub enum Command {
-    /// `netacl DAEMON ADDR`: log and print what the table decides.
+    /// `netacl DAEMON ADDR [NAME]`: log and print what the table decides.
     Netacl(Query),
+    /// `table SERVICE ADDR [NAME]`: print what the table decides and sets.
+    Table(Query),
 }
 
 const DEFAULT_TABLE: &[u8] = b"/usr/local/etc/netperm-table";
@@ -59,25 +61,54 @@ fn after_options(words: &[Octets]) -> &[Octets]
     }
 }
 
-fn netacl(daemon: &[u8], addr: &[u8]) -> Option<Command>
-    ensures { result ≡ netacl_of (label_of daemon.now) (quad_of addr.now) }
+fn name_in(names: &[Octets]) -> Option<Option<HostName>>
+    ensures { result ≡ name_in names.now }
 {
-    let label = Label::read(daemon)?;
-    let addr = read_quad(addr)?;
-    Some(Command::Netacl(Query {
-        service: Service::Netacl(label),
-        peer: Peer {
-            addr: Some(addr),
-            name: None,
-        },
-    }))
+    match names {
+        [] => Some(None),
+        [name] => HostName::read(name.bytes()).map(Some),
+        _ => None,
+    }
+}
+
+fn peer(addr: &Octets, names: &[Octets]) -> Option<Peer>
+    ensures { result ≡ peer_of addr.now names.now }
+{
+    let addr = read_quad(addr.bytes())?;
+    let name = name_in(names)?;
+    Some(Peer {
+        addr: Some(addr),
+        name,
+    })
+}
+
+fn query_for(service: Option<Service>, peer: Option<Peer>) -> Option<Query>
+    ensures { result ≡ query_of service peer }
+{
+    let service = service?;
+    let peer = peer?;
+    Some(Query { service, peer })
+}
+
+fn daemon(label: &Octets) -> Option<Service>
+    ensures { result ≡ option_map Service.Netacl (label_of label.now) }
+{
+    Label::read(label.bytes()).map(Service::Netacl)
 }
 
 fn command_in(words: &[Octets]) -> Option<Command>
     ensures { result ≡ command_in words.now }
 {
     match words {
-        [name, daemon, addr] if is_word(name, b"netacl") => netacl(daemon.bytes(), addr.bytes()),
+        [name, what, addr, names @ ..] => {
+            if is_word(name, b"netacl") {
+                return query_for(daemon(what), peer(addr, names)).map(Command::Netacl);
+            }
+            if is_word(name, b"table") {
+                return query_for(Service::read(what.bytes()), peer(addr, names)).map(Command::Table);
+            }
+            None
+        }
         _ => None,
     }
 }

@@ -1,0 +1,55 @@
+-- What the commands that need the rules have in common.
+use Rattle.std.proofs.Common.{◌≡◌, ℕ, List, refl, ap}
+use Rattle.std.specs.Prelude.{Result, Ok, Err}
+use Rattle.fw_outside.specs.Counts.{Rose}
+use Rattle.fw_outside.specs.Drain.{Cut, Drain}
+use Rattle.gate_rules.specs.Reading.{RuleBook}
+use Rattle.gate_rules.specs.Verdict.{verdict_of}
+use Rattle.fwtk.specs.declared.fault.Device.TheVariants as device
+use Rattle.fwtk.specs.declared.fault.Fault.{Fault}
+use Rattle.fwtk.specs.declared.fault.Fault.TheVariants.{Usage, Table, Rule, Outside, Memory}
+use Rattle.fwtk.specs.declared.words.Query.{Query}
+use Rattle.fwtk.specs.Desk.{Desk}
+use Rattle.fwtk.specs.Run.{DecidesBy, ShowsBy, verdict_status}
+
+-- what a command does by the rules ends with the verdict's status, or with a fault of the output, the log or memory
+pub record IsCommand (query : Query) (does : Result ℕ Fault → Desk → Desk → RuleBook → Type 0) : Type 0 where
+  pub ok : (n : ℕ) (old new : Desk) (rules : RuleBook) → does (Ok n) old new rules → n ≡ verdict_status (verdict_of rules query.peer)
+  pub usage : (old new : Desk) (rules : RuleBook) → does (Err Usage) old new rules → ⊥
+  pub table : (fault : _) (old new : Desk) (rules : RuleBook) → does (Err (Table fault)) old new rules → ⊥
+  pub rule : (fault : _) (old new : Desk) (rules : RuleBook) → does (Err (Rule fault)) old new rules → ⊥
+  pub files : (old new : Desk) (rules : RuleBook) → does (Err (Outside device.Table)) old new rules → ⊥
+  pub output : (old new : Desk) (rules : RuleBook) → does (Err (Outside device.Output)) old new rules → Rose old.output.faults new.output.faults
+  pub log : (old new : Desk) (rules : RuleBook) → does (Err (Outside device.Log)) old new rules → Rose old.logs.faults new.logs.faults
+  pub memory : (old new : Desk) (rules : RuleBook) → does (Err Memory) old new rules → new ≡ old
+
+rose_at : (a b c : ℕ) → Rose a b → c ≡ b → Rose a c
+rose_at a b c rose is = rw is rose
+
+-- a sink that failed within a text has counted it
+pub cut_rose : (text : List ℕ) (old new : Drain) → Cut text old new → Rose old.faults new.faults
+cut_rose text old new cut = rose_at old.faults cut.count new.faults cut.rose (ap (λ (d : Drain). d.faults) cut.is)
+
+pub decides_command : (query : Query) → IsCommand query (DecidesBy query)
+decides_command query = record {
+  ok = λ n old new rules told. told.status_is;
+  usage = λ old new rules told. told;
+  table = λ fault old new rules told. told;
+  rule = λ fault old new rules told. told;
+  files = λ old new rules told. told;
+  output = λ old new rules told. cut_rose _ old.output new.output told.printed;
+  log = λ old new rules told. cut_rose _ old.logs new.logs told.logged;
+  memory = λ old new rules told. told;
+}
+
+pub shows_command : (query : Query) → IsCommand query (ShowsBy query)
+shows_command query = record {
+  ok = λ n old new rules told. told.status_is;
+  usage = λ old new rules told. told;
+  table = λ fault old new rules told. told;
+  rule = λ fault old new rules told. told;
+  files = λ old new rules told. told;
+  output = λ old new rules told. cut_rose _ old.output new.output told.printed;
+  log = λ old new rules told. absurd told;
+  memory = λ old new rules told. told;
+}
