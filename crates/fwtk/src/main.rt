@@ -3,7 +3,6 @@
 
 use fw_outside::{NoMemory, Octets, Sink};
 use real::{Paths, Process, Writing};
-use std::alloc::Global;
 use std::env;
 use std::io::ErrorKind;
 use std::process::ExitCode;
@@ -24,7 +23,7 @@ pub use run::run;
 pub use texts::LogLine;
 pub use words::{Command, Query, read_command};
 
-const HELP: &[u8] = b"usage: fwtk [-t FILE] netacl DAEMON ADDR\n";
+const HELP: &[u8] = b"usage: fwtk [-t FILE] netacl DAEMON ADDR [NAME]\n       fwtk [-t FILE] table SERVICE ADDR [NAME]\n";
 
 const VERSION: &[u8] = b"fwtk 2.1\n";
 
