@@ -79,13 +79,13 @@ mapped_same f g same (Ok x) = ap Ok (same x)
 mapped_same f g same (Err why) = refl
 
 -- the options after some words
-after_drop : (service : Service) (n : ℕ) (words : List Word) → givens_after service n words ≡ givens_after service 0 (drop n words)
+pub after_drop : (service : Service) (n : ℕ) (words : List Word) → givens_after service n words ≡ givens_after service 0 (drop n words)
 unfolding givens_after
 after_drop service zero words = refl
 after_drop service (suc n) [] = refl
 after_drop service (suc n) (word ∷ words) = after_drop service n words
 
-begins : (service : Service) (word : Word) (words : List Word) → givens_after service 0 (word ∷ words) ≡ given_then (option_at service word words) (givens_after service (width_at service word words) words)
+pub begins : (service : Service) (word : Word) (words : List Word) → givens_after service 0 (word ∷ words) ≡ given_then (option_at service word words) (givens_after service (width_at service word words) words)
 unfolding givens_after
 begins service word words = refl
 

@@ -1,4 +1,5 @@
 pub mod DraftLemmas
+pub mod LawLemmas
 pub mod ListsLemmas
 pub mod RulesLemmas
 pub mod WordsLemmas

@@ -1,7 +1,7 @@
 -- What lines say, one after the other.
-use Rattle.std.proofs.Common.{◌≡◌, ℕ, List, [], ◌∷◌, ◌++◌, Bool, false, refl, sym, ◌∙◌, ap, append_assoc}
+use Rattle.std.proofs.Common.{◌≡◌, ℕ, [], ◌∷◌, false, refl, append_assoc}
 use Rattle.std.specs.Prelude.{Result, Ok, Err, codes}
-use Rattle.host_pattern.specs.Pattern.{Written, parsed}
+use Rattle.host_pattern.specs.Pattern.{parsed}
 use Rattle.gate_rules.specs.declared.fault.RuleFault.{RuleFault}
 use Rattle.gate_rules.specs.declared.said.Said.{Said}
 use Rattle.gate_rules.specs.declared.said.Said.TheVariants.{Nothing, Ruled, Set}

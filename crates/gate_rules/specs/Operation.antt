@@ -1,5 +1,5 @@
 -- Lines about operations: who, where and on which hosts. Here they are read for their faults alone.
-use Rattle.std.specs.Prelude.{ℕ, Bool, ◌||◌, is_some, List, [], ◌∷◌, Result, Ok, Err, codes, if◌then◌else◌}
+use Rattle.std.specs.Prelude.{ℕ, Bool, ◌||◌, is_some, List, [], ◌∷◌, Result, Err, codes, if◌then◌else◌}
 use Rattle.std.specs.Str.{bytes_eq}
 use Rattle.fw_outside.specs.Name.{name_of}
 use Rattle.host_pattern.specs.Pattern.{Written}

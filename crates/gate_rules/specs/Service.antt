@@ -1,5 +1,5 @@
 -- The services that a table speaks of.
-use Rattle.std.specs.Prelude.{ℕ, Bool, true, false, List, ◌++◌, drop, length, Option, None, Some, codes, nat_eq, if◌then◌else◌}
+use Rattle.std.specs.Prelude.{ℕ, Bool, true, false, List, ◌++◌, drop, Option, None, Some, codes, nat_eq, if◌then◌else◌}
 use Rattle.std.specs.List.{starts_with}
 use Rattle.std.specs.Fmt.{decimal}
 use Rattle.std.specs.Option.{option_map}

@@ -25,15 +25,6 @@ pub struct Draft {
     pub port: Option<u16>,
 }
 
-fn first_verbs(kept: Option<VerbList>, verbs: VerbList) -> Option<VerbList>
-    ensures { result ≡ option_or kept (Some verbs) }
-{
-    match kept {
-        Some(kept) => Some(kept),
-        None => Some(verbs),
-    }
-}
-
 fn verbs_or_none(verbs: Option<VerbList>) -> VerbList
     ensures { result ≡ unwrap_or verbs [] }
 {
@@ -80,47 +71,21 @@ impl Draft {
     }
 
     // One more option, which counts unless one of its kind came before.
-    fn with(self, given: Given) -> Draft
+    fn with(mut self, given: Given) -> Draft
         ensures { result ≡ added self given }
     {
         match given {
-            Given::Exec(texts) => Draft {
-                exec: self.exec.or(Some(texts)),
-                ..self
-            },
-            Given::Dest(patterns) => Draft {
-                dest: self.dest.or(Some(patterns)),
-                ..self
-            },
-            Given::Auth(verbs) => Draft {
-                auth: self.auth.or(Some(verbs)),
-                ..self
-            },
-            Given::AuthAll => Draft {
-                authall: true,
-                ..self
-            },
-            Given::Extnd => Draft {
-                extnd: true,
-                ..self
-            },
-            Given::Deny(verbs) => Draft {
-                deny: self.deny.or(Some(verbs)),
-                ..self
-            },
-            Given::Log(verbs) => Draft {
-                log: self.log.or(Some(verbs)),
-                ..self
-            },
-            Given::PlugTo(host) => Draft {
-                target: self.target.or(Some(host)),
-                ..self
-            },
-            Given::Port(port) => Draft {
-                port: self.port.or(Some(port)),
-                ..self
-            },
+            Given::Exec(texts) => self.exec = self.exec.or(Some(texts)),
+            Given::Dest(patterns) => self.dest = self.dest.or(Some(patterns)),
+            Given::Auth(verbs) => self.auth = self.auth.or(Some(verbs)),
+            Given::AuthAll => self.authall = true,
+            Given::Extnd => self.extnd = true,
+            Given::Deny(verbs) => self.deny = self.deny.or(Some(verbs)),
+            Given::Log(verbs) => self.log = self.log.or(Some(verbs)),
+            Given::PlugTo(host) => self.target = self.target.or(Some(host)),
+            Given::Port(port) => self.port = self.port.or(Some(port)),
         }
+        self
     }
 
     // The options, on a line with this port.

@@ -12,6 +12,7 @@ mod fault;
 mod given;
 mod kind;
 mod label;
+pub mod laws;
 mod lists;
 mod operation;
 mod options;

@@ -1,4 +1,5 @@
 pub mod LineLemmas
 pub mod ProgressLemmas
+mod Rows
 pub mod TakingLemmas
 pub mod WordLemmas

@@ -1,7 +1,15 @@
 //! The permission table: what its text says, line by line.
 //!
-//! [`Table::read`] takes a table from any source, in whatever pieces it comes, and answers the lines of the whole text
-//! or the fault of the first line that has no reading.
+//! [`Table::read`] takes a table from any source, in whatever pieces the source gives, and needs no more memory at a time
+//! than one piece, one line and the lines that it keeps. Its contract speaks of the whole text that was left in the source,
+//! and never of pieces:
+//!
+//! - `Ok` has the lines of that text, and says that the source was read to its end;
+//! - a fault of a line is that of the first line that can't be read, and the first of the tests that this line fails;
+//! - `ReadFault` comes exactly where a take failed or nothing came in time, and what was read by then isn't answered;
+//! - in any case only a front of the text was taken, and nothing else of the source changed but the count of that failure.
+//!
+//! Want of memory may be answered at any time. Where a source doesn't tell what is left in it, nothing is said of the lines.
 #![tactic(auto)]
 
 mod cut;

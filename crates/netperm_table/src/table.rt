@@ -55,7 +55,10 @@ fn read_lines<S: Source>(alloc: Global, from: &mut S) -> Result<Vec<Line>, Table
 }
 
 impl Table {
-    /// Reads a table to the end of its source, or to its first line without a reading.
+    /// Reads a table to the end of its source, or to its first line without a reading, which is the fault then.
+    ///
+    /// # Errors
+    /// The fault of the first line that fails a test; `ManyLines` where that is the 65,536th line; `ReadFault` where the source failed or nothing came in time; `NoMemory`.
     pub fn read<S: Source>(alloc: Global, from: &mut S) -> Result<Table, TableFault>
         ensures lines { IfOk result (λ table. AreLinesOf (S.spring from.old).left table) }
         ensures fault { IfErr result (λ e. IsFaultOf (S.spring from.old).left e) }

@@ -7,7 +7,7 @@ netacl-in.telnetd | 192.33.112.7 - | permit 1 exec /usr/libexec/telnetd | netacl
 netacl-in.telnetd | 10.0.0.5 - | deny 2 | netacl-in.telnetd: permit-hosts 192.33.112.* -exec /usr/libexec/telnetd // netacl-in.telnetd: deny-hosts *
 netacl-in.telnetd | 192.33.112.7 - | deny 1 | netacl-in.telnetd: deny-hosts * // netacl-in.telnetd: permit-hosts 192.33.112.* -exec /usr/libexec/telnetd
 netacl-in.telnetd | 192.33.112.7 - | deny 0 | #
-netacl-x | 10.0.0.5 - | permit 1 exec /bin/x -exec { a \"b | netacl-x: hosts * -exec /bin/x -exec { a \"b
+netacl-x | 10.0.0.5 - | permit 1 exec /bin/x -exec { a\"b - | netacl-x: hosts * -exec /bin/x -exec { a\"b \"-\"
 smap | 10.1.1.1 - | permit 0 set timeout 60 2 set maxbytes 500 1 | smap, smapd: maxbytes 500 // *: timeout 60 // smapd: timeout 90
 tn-gw | 10.1.1.1 - | deny 0 set timeout 60 2 | smap, smapd: maxbytes 500 // *: timeout 60 // smapd: timeout 90
 tn-gw | 192.33.112.7 - | permit 2 dest 10.* | tn-gw: permit-hosts *.tis.com // tn-gw: permit-hosts unknown -dest 10.* // tn-gw: deny-hosts *

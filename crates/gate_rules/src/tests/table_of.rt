@@ -45,20 +45,16 @@ fn line(alloc: Global, number: u32, text: &str) -> Result<Line, Fail> {
     })
 }
 
-/// The lines of a text in which each line but the last ends in `//`. Words in quotes hold no blank here.
+/// The lines of a text in which each line but the last ends in `//`, at most 20. Words in quotes hold no blank here.
 pub(crate) fn lines_of(alloc: Global, text: &str) -> Result<Vec<Line>, Fail> {
     let mut lines = Vec::new(alloc);
-    let mut number = 0u32;
     let mut rest = text;
-    while let Some((first, more)) = rest.split_once("//") {
-        number = number.saturating_add(1);
+    for number in 1..=20u32 {
+        let (first, more) = rest.split_once("//").unwrap_or((rest, "#"));
         if !first.trim().starts_with('#') {
             lines.push(line(alloc, number, first)?)?;
         }
         rest = more;
-    }
-    if !rest.trim().starts_with('#') {
-        lines.push(line(alloc, number.saturating_add(1), rest)?)?;
     }
     Ok(lines)
 }

@@ -1,6 +1,6 @@
 use Rattle.std.proofs.Common.{◌≡◌, ◌+◌, Ok, Err, drop, sym, ◌∙◌, ap}
-use Rattle.gate_rules.specs.Options.{draft_of, givens_after, option_at}
-use Rattle.gate_rules.proofs.DraftLemmas.{drafted_from, from_end, from_fault, from_next, from_start}
+use Rattle.gate_rules.specs.Options.{option_at}
+use Rattle.gate_rules.proofs.DraftLemmas.{from_end, from_fault, from_next, from_start}
 use Rattle.gate_rules.proofs.draft.drafted.Goals as goal
 
 pub loop-at-init : goal.loop-at-init

@@ -1,4 +1,4 @@
-use Rattle.std.proofs.Common.{◌≡◌, List, ◌∷◌, sym, true}
+use Rattle.std.proofs.Common.{◌≡◌, sym, true}
 use Rattle.std.specs.Prelude.{filter}
 use Rattle.std.proofs.lemmas.Result.{IfErr-weaker}
 use Rattle.gate_rules.specs.Reading.{book_of, is_of}

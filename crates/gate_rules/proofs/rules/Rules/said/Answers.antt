@@ -1,4 +1,4 @@
-use Rattle.std.proofs.Common.{◌≡◌, suc, ◌+◌, ◌<◌, List, ◌∷◌, length, drop, get_or, add-one, drop-cons, sym, ◌∙◌, ap, arith}
+use Rattle.std.proofs.Common.{◌≡◌, suc, ◌+◌, ◌<◌, ◌∷◌, length, drop, add-one, drop-cons, sym, ◌∙◌, ap, arith}
 use Rattle.std.proofs.lemmas.Result.{err_from_is_err_and}
 use Rattle.netperm_table.specs.declared.line.Line.{Line}
 use Rattle.gate_rules.proofs.rules.Rules.said.Goals as goal
