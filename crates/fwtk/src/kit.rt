@@ -7,7 +7,9 @@ use std::marker::Model;
 /// The kinds of device that a run is given.
 pub trait Kit {
     type Files: Files;
+
     type Output: Sink;
+
     type Logs: Sink;
 }
 
@@ -28,9 +30,9 @@ impl<T: Kit> Model for World<T> {
     ghost Value = { Desk };
 
     ghost view = { λ w. record {
-        files = T.Files.cabinet w.files;
-        output = T.Output.drain w.output;
-        logs = T.Logs.drain w.logs;
+      files = T.Files.cabinet w.files;
+      output = T.Output.drain w.output;
+      logs = T.Logs.drain w.logs;
     } };
 }
 

@@ -1,4 +1,11 @@
-//! The firewall's program. `main` makes the devices and hands them to [`run`], which does the rest.
+//! The firewall's program: whoever comes from outside gets no further than the first matching line of the permission table
+//! allows.
+//!
+//! [`run`] is the call that the program makes, over devices that are handed in: the files with the table, standard output
+//! and the log. Its contract says, for every command line, every table and every way in which a device may fail, which
+//! status it answers and what it leaves: the verdict's line stands whole in the log before anything is printed; what is
+//! printed and logged is told byte for byte; and each status has its cause, in the words, in the table's text, or in the
+//! count of a device that rose. `main` makes the devices of a process, and answers `--help` and `--version`.
 #![tactic(auto)]
 
 use fw_outside::{NoMemory, Octets, Sink};
@@ -23,7 +30,8 @@ pub use run::run;
 pub use texts::LogLine;
 pub use words::{Command, Query, read_command};
 
-const HELP: &[u8] = b"usage: fwtk [-t FILE] netacl DAEMON ADDR [NAME]\n       fwtk [-t FILE] table SERVICE ADDR [NAME]\n";
+const HELP: &[u8] =
+    b"usage: fwtk [-t FILE] netacl DAEMON ADDR [NAME]\n       fwtk [-t FILE] table SERVICE ADDR [NAME]\n";
 
 const VERSION: &[u8] = b"fwtk 2.1\n";
 

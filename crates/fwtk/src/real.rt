@@ -4,11 +4,10 @@ ghost use Rattle.std.specs.Prelude.{None};
 
 use crate::Kit;
 use fw_outside::{Failed, Files, Got, Sink, Source};
-use std::fs;
 use std::io::{Read, Stderr, Stdout, Write};
 use std::marker::PhantomData;
 use std::rt::Files as FileSystem;
-use std::str;
+use std::{fs, str};
 
 /// Bytes that are read to their end.
 #[derive(Drop)]
@@ -125,6 +124,8 @@ pub struct Process<R> {
 
 impl<R: FileSystem + Drop> Kit for Process<R> {
     type Files = Paths<R>;
+
     type Output = Writing<Stdout>;
+
     type Logs = Writing<Stderr>;
 }

@@ -152,11 +152,7 @@ fn setting_name(which: Setting) -> &'static [u8]
     }
 }
 
-fn push_set(
-    out: &mut Vec<u8>,
-    which: Setting,
-    set: Option<(u64, u32)>,
-) -> Result<(), NoMemory>
+fn push_set(out: &mut Vec<u8>, which: Setting, set: Option<(u64, u32)>) -> Result<(), NoMemory>
     ensures { OnOk result (out.new.items ≡ out.old.items ++ set_text which set) }
 {
     let Some((value, line)) = set else {

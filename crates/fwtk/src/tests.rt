@@ -1,8 +1,8 @@
 ghost use Rattle.std.specs.Prelude.{◌<◌};
 
 use super::*;
-use std::alloc::Global;
 use fw_outside::{Calls, MemFiles, MemSink};
+use std::alloc::Global;
 use std::process::Abort;
 use std::test::Fail;
 
@@ -11,7 +11,9 @@ struct Memory;
 
 impl Kit for Memory {
     type Files = MemFiles;
+
     type Output = MemSink;
+
     type Logs = MemSink;
 }
 
@@ -44,9 +46,11 @@ struct Row {
     status: u8,
 }
 
-const PERMIT_FIRST: &[u8] = b"netacl-in.telnetd: permit-hosts 192.33.112.* -exec /usr/libexec/telnetd\nnetacl-in.telnetd: deny-hosts *\n";
+const PERMIT_FIRST: &[u8] =
+    b"netacl-in.telnetd: permit-hosts 192.33.112.* -exec /usr/libexec/telnetd\nnetacl-in.telnetd: deny-hosts *\n";
 
-const DENY_FIRST: &[u8] = b"netacl-in.telnetd: deny-hosts *\nnetacl-in.telnetd: permit-hosts 192.33.112.* -exec /usr/libexec/telnetd\n";
+const DENY_FIRST: &[u8] =
+    b"netacl-in.telnetd: deny-hosts *\nnetacl-in.telnetd: permit-hosts 192.33.112.* -exec /usr/libexec/telnetd\n";
 
 const ASK: &[&[u8]] = &[b"netacl", b"in.telnetd", b"192.33.112.7"];
 
@@ -68,7 +72,13 @@ const DENIED: Row = Row {
     status: 1,
 };
 
-fn files_with(alloc: Global, table: &[u8], piece: usize, failing: Calls, idle: Calls) -> Result<MemFiles, Fail>
+fn files_with(
+    alloc: Global,
+    table: &[u8],
+    piece: usize,
+    failing: Calls,
+    idle: Calls,
+) -> Result<MemFiles, Fail>
     requires { 0 < piece }
 {
     let mut entries = Vec::new(alloc);
@@ -85,7 +95,12 @@ fn octets(alloc: Global, words: &[&[u8]]) -> Result<Vec<Octets>, Fail> {
     Ok(out)
 }
 
-fn check(rt: &(impl Abort + AllocGlobal), row: &Row, piece: usize, failing: Failing) -> Result<(), Fail>
+fn check(
+    rt: &(impl Abort + AllocGlobal),
+    row: &Row,
+    piece: usize,
+    failing: Failing,
+) -> Result<(), Fail>
     requires { 0 < piece }
 {
     let alloc = rt.alloc();
@@ -154,7 +169,13 @@ const ROWS: &[Row] = &[
     Row {
         name: "the file is named",
         table: PERMIT_FIRST,
-        words: &[b"-t", b"/usr/local/etc/netperm-table", b"netacl", b"in.telnetd", b"192.33.112.7"],
+        words: &[
+            b"-t",
+            b"/usr/local/etc/netperm-table",
+            b"netacl",
+            b"in.telnetd",
+            b"192.33.112.7",
+        ],
         print: b"permit line 1\nexec /usr/libexec/telnetd\n",
         log: b"permit netacl-in.telnetd unknown/192.33.112.7 line 1\n",
         status: 0,
@@ -365,7 +386,8 @@ const TELNET: &[&[u8]] = &[b"table", b"tn-gw", b"10.0.0.5"];
 
 const SETTINGS: &[u8] = b"smap, smapd: maxbytes 500\n*: timeout 60\nsmapd: timeout 90\n";
 
-const NAMES: &[u8] = b"tn-gw: permit-hosts *.tis.com\ntn-gw: permit-hosts unknown -dest 10.*\ntn-gw: deny-hosts *\n";
+const NAMES: &[u8] =
+    b"tn-gw: permit-hosts *.tis.com\ntn-gw: permit-hosts unknown -dest 10.*\ntn-gw: deny-hosts *\n";
 
 #[test]
 fn rows_are_answered_in_pieces_of_any_size(rt: HostRuntime) -> Result<(), Fail> {
@@ -437,7 +459,15 @@ fn an_output_that_fails_is_told_but_for_a_denial(rt: HostRuntime) -> Result<(), 
         output: Calls::onward(0),
         ..none_failing()
     };
-    check(&rt, &Row { print: b"", ..DENIED }, 4096, fails)
+    check(
+        &rt,
+        &Row {
+            print: b"",
+            ..DENIED
+        },
+        4096,
+        fails,
+    )
 }
 
 fn repeated(alloc: Global, line: &[u8], times: usize) -> Result<Vec<u8>, Fail> {
@@ -448,7 +478,14 @@ fn repeated(alloc: Global, line: &[u8], times: usize) -> Result<Vec<u8>, Fail> {
     Ok(out)
 }
 
-fn told_of(rt: &(impl Abort + AllocGlobal), table: &[u8], words: &[&[u8]], print: &[u8], log: &[u8], status: u8) -> Result<(), Fail> {
+fn told_of(
+    rt: &(impl Abort + AllocGlobal),
+    table: &[u8],
+    words: &[&[u8]],
+    print: &[u8],
+    log: &[u8],
+    status: u8,
+) -> Result<(), Fail> {
     let alloc = rt.alloc();
     let mut world: World<Memory> = World {
         files: files_with(alloc, table, 4096, Calls::none(), Calls::none())?,
@@ -467,10 +504,25 @@ fn told_of(rt: &(impl Abort + AllocGlobal), table: &[u8], words: &[&[u8]], print
 fn a_table_has_65535_lines_of_2048_bytes_at_most(rt: HostRuntime) -> Result<(), Fail> {
     let alloc = rt.alloc();
     let long = repeated(alloc, b"a", 2049)?;
-    told_of(&rt, &long, TELNET, b"", b"fault table line 1 long line\n", 3)?;
+    told_of(
+        &rt,
+        &long,
+        TELNET,
+        b"",
+        b"fault table line 1 long line\n",
+        3,
+    )?;
     let many = repeated(alloc, b"\n", 65536)?;
-    told_of(&rt, &many, TELNET, b"", b"fault table line 65536 many lines\n", 3)?;
-    told_of(&rt, &many[1..], TELNET, b"deny line 0\n", b"", 1)
+    told_of(
+        &rt,
+        &many,
+        TELNET,
+        b"",
+        b"fault table line 65536 many lines\n",
+        3,
+    )?;
+    let most = repeated(alloc, b"\n", 65535)?;
+    told_of(&rt, &most, TELNET, b"deny line 0\n", b"", 1)
 }
 
 #[test]

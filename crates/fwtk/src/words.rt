@@ -105,7 +105,9 @@ fn command_in(words: &[Octets]) -> Option<Command>
                 return query_for(daemon(what), peer(addr, names)).map(Command::Netacl);
             }
             if is_word(name, b"table") {
-                return query_for(Service::read(what.bytes()), peer(addr, names)).map(Command::Table);
+                return query_for(Service::read(what.bytes()), peer(addr, names)).map(
+                    Command::Table,
+                );
             }
             None
         }

@@ -2,7 +2,6 @@ use Rattle.std.specs.Prelude.{Ok, Err}
 use Rattle.fwtk.proofs.DecidingLemmas.{Logged, Printed, told_short, told_whole}
 use Rattle.fwtk.proofs.deciding.conclude.Goals as goal
 
-
 pub returns-in-Err : goal.returns-in-Err
 returns-in-Err g c =
     let logged : Logged c.args.query.now c.args.verdict c.args.world.now c.log.new.self = record { logs = rw (← c.decision_line-line.ensures, ← c.as_slice.ensures.value) c.in-Ok.ensures.logs; output = c.in-Ok.ensures.output; files = c.in-Ok.ensures.files } in
