@@ -1,3 +1,4 @@
+pub mod ChestLemmas
 pub mod HostNameLemmas
 pub mod NumberLemmas
 pub mod QuadLemmas

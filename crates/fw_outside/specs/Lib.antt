@@ -1,10 +1,13 @@
 pub mod Bytes
 pub mod Cabinet
+pub mod Chest
 pub mod Counts
 pub mod Dest
 pub mod Drain
 pub mod Host
 pub mod HostName
+pub mod Keyed
+pub mod KeyedLemmas
 pub mod Name
 pub mod Number
 pub mod Peer
@@ -16,4 +19,5 @@ pub mod Spring
 pub mod Supply
 pub mod Tank
 pub mod Telling
+pub mod Vault
 pub mod Verb

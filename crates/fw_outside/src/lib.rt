@@ -7,7 +7,7 @@
 //! contents where it tells. Only a device itself can raise its counts, so a fault that a program reports has its cause in
 //! one of them.
 //!
-//! The versions in memory ([`MemSource`], [`MemSink`], [`MemFiles`]) tell all, and fail exactly at the calls that they
+//! The versions in memory ([`MemSource`], [`MemSink`], [`MemFiles`], [`MemKeeper`]) tell all, and fail exactly at the calls that they
 //! are told. The plain types are read exactly: [`Host::read`], [`HostName::read`], [`Name::read`] and [`read_quad`] give a
 //! value exactly for the texts that they say, and what is written is that text again.
 #![tactic(auto)]
@@ -19,7 +19,10 @@ mod failed;
 mod files;
 mod host;
 mod host_name;
+mod keep_fault;
+mod keeper;
 mod mem_files;
+mod mem_keeper;
 mod mem_sink;
 mod mem_source;
 mod name;
@@ -42,7 +45,10 @@ pub use failed::Failed;
 pub use files::Files;
 pub use host::Host;
 pub use host_name::HostName;
+pub use keep_fault::KeepFault;
+pub use keeper::Keeper;
 pub use mem_files::MemFiles;
+pub use mem_keeper::MemKeeper;
 pub use mem_sink::MemSink;
 pub use mem_source::MemSource;
 pub use name::{Name, is_name_byte};
@@ -58,6 +64,8 @@ pub use source::{Got, Source};
 pub use verb::Verb;
 pub use verb_list::VerbList;
 
+#[cfg(test)]
+mod keeper_tests;
 #[cfg(test)]
 mod tests;
 #[cfg(test)]

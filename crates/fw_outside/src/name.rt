@@ -1,6 +1,6 @@
 ghost use Rattle.std.specs.Prelude.{◌≡◌, ◌≤◌, length, IsTrue};
 ghost use Rattle.fw_outside.specs.Bytes.{is_name_byte};
-ghost use Rattle.fw_outside.specs.Name.{is_name, name_of};
+ghost use Rattle.fw_outside.specs.Name.{is_before, is_name, name_of};
 ghost use Rattle.std.specs.List.{list_all};
 
 use crate::bytes::copy_of;
@@ -62,6 +62,13 @@ impl Name {
         ensures form { IsTrue (is_name self.now) }
     {
         self.text.as_slice()
+    }
+
+    /// Whether it comes before another name: at the first place where they differ it has the lesser byte, or it ends there.
+    pub fn is_before(&self, other: &Name) -> bool
+        ensures { result ≡ is_before self.now other.now }
+    {
+        self.text().cmp(other.text()).is_lt()
     }
 
     /// An equal name.

@@ -6,5 +6,6 @@ pub mod Options
 pub mod Reading
 pub mod Service
 pub mod Settings
+pub mod Terms
 pub mod Verdict
 pub mod Why

@@ -22,6 +22,7 @@ mod rules;
 mod said;
 mod service;
 mod setting;
+mod terms;
 mod verdict;
 mod words;
 
@@ -32,6 +33,7 @@ pub use rule::Rule;
 pub use rules::Rules;
 pub use service::Service;
 pub use setting::{Assigned, Setting};
+pub use terms::Terms;
 pub use verdict::Verdict;
 
 #[cfg(test)]

@@ -2,7 +2,7 @@
 ghost use Rattle.std.specs.Prelude.{◌≡◌, ◌||◌, ◌==◌, true, false, Ok, Err, codes, is_none, IfOk};
 ghost use Rattle.std.specs.Str.{bytes_eq};
 ghost use Rattle.gate_rules.specs.Lists.{mapped};
-ghost use Rattle.gate_rules.specs.Options.{no_options};
+ghost use Rattle.gate_rules.specs.Options.{options_of};
 ghost use Rattle.gate_rules.specs.Reading.{deny_said, is_of, operation_said, permit_said, plug_rule, plug_said, port_said, ruled, said_as, said_by, set_said, where_ours, with_target};
 
 use crate::attribute::{Attribute, attribute_of};
@@ -12,7 +12,7 @@ use crate::operation::operation;
 use crate::said::Said;
 use crate::setting::set_to;
 use crate::words::{hosts_in, options_in};
-use crate::{Assigned, Options, Rule, Service, Setting, Why};
+use crate::{Assigned, Options, Rule, Service, Setting, Terms, Why};
 use fw_outside::{Octets, read_port};
 use host_pattern::{PatternList, Word};
 use netperm_table::Line;
@@ -35,7 +35,7 @@ pub(crate) fn is_of(line: &Line, key: &[u8]) -> bool
 }
 
 // The rule of a line with these hosts and these options.
-fn ruled(number: u32, permits: bool, hosts: PatternList, options: Options) -> Said
+fn ruled(number: u32, permits: bool, hosts: PatternList, options: Terms) -> Said
     ensures { ruled number permits (Ok hosts) (Ok options) ≡ Ok result }
 {
     Said::Ruled(Rule {
@@ -46,6 +46,23 @@ fn ruled(number: u32, permits: bool, hosts: PatternList, options: Options) -> Sa
     })
 }
 
+// The options that these words are, which take no room where there are no words.
+#[tactic(auto, unfolding(crate::specs::Options::options_of, crate::specs::Options::drafted, crate::specs::Options::givens_after))]
+fn terms_of(alloc: Global, service: &Service, port: u16, words: &[Word]) -> Reading<Terms>
+    ensures { IfOk result (λ read. read ≡ options_of service.now port words.now) }
+{
+    if words.is_empty() {
+        return Ok(Ok(Terms::none()));
+    }
+    match options_of(alloc, service, port, words)? {
+        Ok(options) => {
+            let terms = Terms::of(alloc, options)?;
+            Ok(Ok(terms))
+        }
+        Err(why) => Ok(Err(why)),
+    }
+}
+
 fn permit_said(alloc: Global, service: &Service, number: u32, words: &[Word]) -> Reading<Said>
     ensures { IfOk result (λ read. read ≡ permit_said service.now number words.now) }
 {
@@ -53,7 +70,7 @@ fn permit_said(alloc: Global, service: &Service, number: u32, words: &[Word]) ->
         Ok(hosts) => hosts,
         Err(why) => return Ok(Err(why)),
     };
-    match options_of(alloc, service, 0, options_in(words))? {
+    match terms_of(alloc, service, 0, options_in(words))? {
         Ok(options) => Ok(Ok(ruled(number, true, hosts, options))),
         Err(why) => Ok(Err(why)),
     }
@@ -63,7 +80,7 @@ fn deny_said(alloc: Global, number: u32, words: &[Word]) -> Reading<Said>
     ensures { IfOk result (λ read. read ≡ deny_said number words.now) }
 {
     match hosts_alone(alloc, words)? {
-        Ok(hosts) => Ok(Ok(ruled(number, false, hosts, Options::none(alloc)))),
+        Ok(hosts) => Ok(Ok(ruled(number, false, hosts, Terms::none()))),
         Err(why) => Ok(Err(why)),
     }
 }
@@ -97,7 +114,10 @@ fn plug_rule(
         Err(why) => return Ok(Err(why)),
     };
     match with_target(options) {
-        Ok(options) => Ok(Ok(ruled(number, true, hosts, options))),
+        Ok(options) => {
+            let options = Terms::of(alloc, options)?;
+            Ok(Ok(ruled(number, true, hosts, options)))
+        }
         Err(why) => Ok(Err(why)),
     }
 }

@@ -1,4 +1,4 @@
-ghost use Rattle.std.specs.Prelude.{◌≡◌, ◌+◌, ◌≤◌, List, [], ◌∷◌, ◌++◌, Result, filter, find, length, IfOk, IfErr, OnOk};
+ghost use Rattle.std.specs.Prelude.{◌≡◌, ◌+◌, ◌≤◌, ◌==◌, ◌&&◌, List, [], ◌∷◌, ◌++◌, Result, filter, find, length, IfOk, IfErr, OnOk};
 ghost use Rattle.std.specs.Option.{option_copied};
 ghost use Rattle.gate_rules.specs.declared.fault.RuleFault.{RuleFault};
 ghost use Rattle.gate_rules.specs.Reading.{IsFaultIn, RuleBook, and_said, book_of, closed, is_of, everyone, last_rules, rules_of, said_by, said_then, with_book, with_said};
@@ -9,7 +9,7 @@ ghost use Rattle.netperm_table.specs.declared.line.Line.{Line};
 use crate::reading::{is_of, said_by};
 use crate::said::Said;
 use crate::setting::is_same;
-use crate::{Assigned, Options, Rule, RuleFault, RulesFault, Service, Setting, Verdict};
+use crate::{Assigned, Options, Rule, RuleFault, RulesFault, Service, Setting, Terms, Verdict};
 use arrayvec::ArrayVec;
 use fw_outside::Peer;
 use host_pattern::{Pattern, PatternList, Steps};
@@ -23,14 +23,19 @@ use std::sync::ledger::Ledger;
 pub struct Rules {
     rules: Vec<Rule>,
     settings: Vec<Assigned>,
+    none: Options,
 }
 
 impl Model for Rules {
+    ghost use Rattle.std.specs.Prelude.{◌≡◌};
+    ghost use Rattle.gate_rules.specs.Options.{no_options};
     ghost use Rattle.gate_rules.specs.Reading.{RuleBook};
 
     ghost Value = { RuleBook };
 
     ghost view = { λ rules. record { rules = rules.rules.items; settings = rules.settings.items } };
+
+    ghost invariant = { λ rules. rules.none ≡ no_options };
 }
 
 // What the first of the rules decides whose host list matches the peer.
@@ -44,6 +49,13 @@ fn verdict_in<L: Ledger>(rules: &[Rule], peer: &Peer, steps: &mut Steps<L>) -> V
         }
     }
     Verdict::Deny { line: 0 }
+}
+
+// The permit line with this number.
+fn permit_line(rules: &[Rule], line: u32) -> Option<&Rule>
+    ensures { option_copied result ≡ find (λ rule. rule.permits && rule.line == line) rules.entry.now }
+{
+    rules.iter().find(|rule| rule.permits && rule.line == line)
 }
 
 // The line that permits every host.
@@ -61,7 +73,7 @@ fn everyone(alloc: Global) -> Result<Rule, RulesFault>
         line: 0,
         permits: true,
         hosts: PatternList::of(patterns),
-        options: Options::none(alloc),
+        options: Terms::none(),
     })
 }
 
@@ -108,6 +120,7 @@ impl Rules {
         let mut rules = Rules {
             rules: Vec::new(alloc),
             settings: Vec::new(alloc),
+            none: Options::none(alloc),
         };
         for line in lines {
             rules.add_line(alloc, line, service, key)?;
@@ -188,10 +201,10 @@ impl Rules {
     pub fn options(&self, line: u32) -> Option<&Options>
         ensures { option_copied result ≡ options_at self.entry.now line }
     {
-        self.rules
-            .iter()
-            .find(|rule| rule.permits && rule.line == line)
-            .map(|rule| &rule.options)
+        match permit_line(&self.rules, line) {
+            Some(rule) => Some(rule.options.get(&self.none)),
+            None => None,
+        }
     }
 
     /// The value of a setting and the number of the first line that sets it, or nothing where none does.
