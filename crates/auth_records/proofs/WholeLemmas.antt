@@ -16,62 +16,62 @@ use Rattle.auth_records.proofs.RecordLemmas.{FitsWhere, spell_where, reads_where
 
 -- ---- the record
 
-abbrev R2 : Type 0
-R2 = ℕ × Head
+abbrev After2 : Type 0
+After2 = ℕ × Head
 
-abbrev R3 : Type 0
-R3 = R2 × Names
+abbrev After3 : Type 0
+After3 = After2 × Names
 
-abbrev R4 : Type 0
-R4 = R3 × Option Plain
+abbrev After4 : Type 0
+After4 = After3 × Option Plain
 
-abbrev R5 : Type 0
-R5 = R4 × Option OtpFields
+abbrev After5 : Type 0
+After5 = After4 × Option OtpFields
 
-abbrev r2 : List ℕ → Read R2
+abbrev r2 : List ℕ → Read After2
 r2 = both ℕ Head (byte_at 1 1) (λ a. head_at)
 
-abbrev r3 : List ℕ → Read R3
-r3 = both R2 Names r2 (λ p. names_at)
+abbrev r3 : List ℕ → Read After3
+r3 = both After2 Names r2 (λ p. names_at)
 
-abbrev r4 : List ℕ → Read R4
-r4 = both R3 (Option Plain) r3 (λ p. optional_at p.0.1.has_plain plain_at)
+abbrev r4 : List ℕ → Read After4
+r4 = both After3 (Option Plain) r3 (λ p. optional_at p.0.1.has_plain plain_at)
 
-abbrev r5 : List ℕ → Read R5
-r5 = both R4 (Option OtpFields) r4 (λ p. optional_at p.0.0.1.has_otp otp_at)
+abbrev r5 : List ℕ → Read After5
+r5 = both After4 (Option OtpFields) r4 (λ p. optional_at p.0.0.1.has_otp otp_at)
 
-abbrev FitsR2 : R2 → Type 0
+abbrev FitsR2 : After2 → Type 0
 FitsR2 = FitBoth ℕ Head (InRange 1 1) (λ a. FitsHead)
 
-abbrev FitsR3 : R3 → Type 0
-FitsR3 = FitBoth R2 Names FitsR2 (λ p. FitsNames)
+abbrev FitsR3 : After3 → Type 0
+FitsR3 = FitBoth After2 Names FitsR2 (λ p. FitsNames)
 
-abbrev FitsR4 : R4 → Type 0
-FitsR4 = FitBoth R3 (Option Plain) FitsR3 (λ p. FitsWhere Plain IsPlain p.0.1.has_plain)
+abbrev FitsR4 : After4 → Type 0
+FitsR4 = FitBoth After3 (Option Plain) FitsR3 (λ p. FitsWhere Plain IsPlain p.0.1.has_plain)
 
-abbrev FitsR5 : R5 → Type 0
-FitsR5 = FitBoth R4 (Option OtpFields) FitsR4 (λ p. FitsWhere OtpFields IsOtp p.0.0.1.has_otp)
+abbrev FitsR5 : After5 → Type 0
+FitsR5 = FitBoth After4 (Option OtpFields) FitsR4 (λ p. FitsWhere OtpFields IsOtp p.0.0.1.has_otp)
 
-abbrev spell_r2 : R2 → List ℕ
+abbrev spell_r2 : After2 → List ℕ
 spell_r2 = spell_both ℕ Head one (λ a. head_bytes)
 
-abbrev spell_r3 : R3 → List ℕ
-spell_r3 = spell_both R2 Names spell_r2 (λ p. names_bytes)
+abbrev spell_r3 : After3 → List ℕ
+spell_r3 = spell_both After2 Names spell_r2 (λ p. names_bytes)
 
-abbrev spell_r4 : R4 → List ℕ
-spell_r4 = spell_both R3 (Option Plain) spell_r3 (λ p. spell_where Plain one_plain)
+abbrev spell_r4 : After4 → List ℕ
+spell_r4 = spell_both After3 (Option Plain) spell_r3 (λ p. spell_where Plain one_plain)
 
-abbrev spell_r5 : R5 → List ℕ
-spell_r5 = spell_both R4 (Option OtpFields) spell_r4 (λ p. spell_where OtpFields one_otp)
+abbrev spell_r5 : After5 → List ℕ
+spell_r5 = spell_both After4 (Option OtpFields) spell_r4 (λ p. spell_where OtpFields one_otp)
 
-reads_r5 : Reads R5 r5 FitsR5 spell_r5
+reads_r5 : Reads After5 r5 FitsR5 spell_r5
 reads_r5 =
     let two = reads_both ℕ Head (byte_at 1 1) (λ a. head_at) (InRange 1 1) one (λ a. FitsHead) (λ a. head_bytes) (reads_byte 1 1 (lit≤ tt)) (λ a h. reads_head) in
-    let three = reads_both R2 Names r2 (λ p. names_at) FitsR2 spell_r2 (λ p. FitsNames) (λ p. names_bytes) two (λ p h. reads_names) in
-    let four = reads_both R3 (Option Plain) r3 (λ p. optional_at p.0.1.has_plain plain_at) FitsR3 spell_r3 (λ p. FitsWhere Plain IsPlain p.0.1.has_plain) (λ p. spell_where Plain one_plain) three (λ p h. reads_where Plain plain_at IsPlain one_plain reads_plain p.0.1.has_plain) in
-    reads_both R4 (Option OtpFields) r4 (λ p. optional_at p.0.0.1.has_otp otp_at) FitsR4 spell_r4 (λ p. FitsWhere OtpFields IsOtp p.0.0.1.has_otp) (λ p. spell_where OtpFields one_otp) four (λ p h. reads_where OtpFields otp_at IsOtp one_otp reads_otp p.0.0.1.has_otp)
+    let three = reads_both After2 Names r2 (λ p. names_at) FitsR2 spell_r2 (λ p. FitsNames) (λ p. names_bytes) two (λ p h. reads_names) in
+    let four = reads_both After3 (Option Plain) r3 (λ p. optional_at p.0.1.has_plain plain_at) FitsR3 spell_r3 (λ p. FitsWhere Plain IsPlain p.0.1.has_plain) (λ p. spell_where Plain one_plain) three (λ p h. reads_where Plain plain_at IsPlain one_plain reads_plain p.0.1.has_plain) in
+    reads_both After4 (Option OtpFields) r4 (λ p. optional_at p.0.0.1.has_otp otp_at) FitsR4 spell_r4 (λ p. FitsWhere OtpFields IsOtp p.0.0.1.has_otp) (λ p. spell_where OtpFields one_otp) four (λ p h. reads_where OtpFields otp_at IsOtp one_otp reads_otp p.0.0.1.has_otp)
 
-abbrev fields_in : R5 → Fields
+abbrev fields_in : After5 → Fields
 fields_in x = fields_of x.0.0.0.1 x.0.0.1 x.0.1 x.1
 
 plain_is : (x : Option Plain) → plain_bytes x ≡ spell_where Plain one_plain x
@@ -87,7 +87,7 @@ spelled : (form : ℕ) (h : Head) (n : Names) (plain : Option Plain) (otp : Opti
 unfolding spelling
 spelled form h n plain otp e1 e2 e3 = rw (e1, e2, e3, plain_is plain, otp_is otp) refl
 
-record_to : (x : R5) → FitsR5 x → Fits (fields_in x) × (spelling (fields_in x) ≡ spell_r5 x)
+record_to : (x : After5) → FitsR5 x → Fits (fields_in x) × (spelling (fields_in x) ≡ spell_r5 x)
 record_to x fits =
     let form : x.0.0.0.0 ≡ 1 = omega (arith, fits.0.0.0.0.0, fits.0.0.0.0.1) in
     let head_fits : FitsHead x.0.0.0.1 = fits.0.0.0.1 in
@@ -104,7 +104,7 @@ record_to x fits =
       spelled x.0.0.0.0 x.0.0.0.1 x.0.0.1 x.0.1 x.1 form fits.0.1.0 fits.1.0,
     )
 
-record_from : (f : Fields) → Fits f → (x : R5) × FitsR5 x × (fields_in x ≡ f)
+record_from : (f : Fields) → Fits f → (x : After5) × FitsR5 x × (fields_in x ≡ f)
 record_from f fits =
     let h : Head = record { enabled = f.enabled; has_plain = is_some f.plain; has_otp = is_some f.otp; proto = f.proto; wiz = f.wiz; fails = f.fails; since = f.since } in
     let n : Names = record { name = f.name; long = f.long; group = f.group } in (
@@ -113,16 +113,16 @@ record_from f fits =
       refl,
     )
 
-record_same : (bytes : List ℕ) → record_at bytes ≡ through R5 Fields r5 fields_in bytes
+record_same : (bytes : List ℕ) → record_at bytes ≡ through After5 Fields r5 fields_in bytes
 unfolding record_at
 record_same bytes =
     bind_both ℕ Head (Fields × List ℕ) (byte_at 1 1) (λ a. head_at) (λ x rest. names_at rest >>= λ n. (optional_at x.1.has_plain plain_at n.1 >>= λ plain. (optional_at x.1.has_otp otp_at plain.1 >>= λ otp. Ok (fields_of x.1 n.0 plain.0 otp.0, otp.1)))) bytes
-    ∙ bind_both R2 Names (Fields × List ℕ) r2 (λ p. names_at) (λ x rest. optional_at x.0.1.has_plain plain_at rest >>= λ plain. (optional_at x.0.1.has_otp otp_at plain.1 >>= λ otp. Ok (fields_of x.0.1 x.1 plain.0 otp.0, otp.1))) bytes
-    ∙ bind_both R3 (Option Plain) (Fields × List ℕ) r3 (λ p. optional_at p.0.1.has_plain plain_at) (λ x rest. optional_at x.0.0.1.has_otp otp_at rest >>= λ otp. Ok (fields_of x.0.0.1 x.0.1 x.1 otp.0, otp.1)) bytes
-    ∙ bind_both R4 (Option OtpFields) (Fields × List ℕ) r4 (λ p. optional_at p.0.0.1.has_otp otp_at) (λ x rest. Ok (fields_in x, rest)) bytes
+    ∙ bind_both After2 Names (Fields × List ℕ) r2 (λ p. names_at) (λ x rest. optional_at x.0.1.has_plain plain_at rest >>= λ plain. (optional_at x.0.1.has_otp otp_at plain.1 >>= λ otp. Ok (fields_of x.0.1 x.1 plain.0 otp.0, otp.1))) bytes
+    ∙ bind_both After3 (Option Plain) (Fields × List ℕ) r3 (λ p. optional_at p.0.1.has_plain plain_at) (λ x rest. optional_at x.0.0.1.has_otp otp_at rest >>= λ otp. Ok (fields_of x.0.0.1 x.0.1 x.1 otp.0, otp.1)) bytes
+    ∙ bind_both After4 (Option OtpFields) (Fields × List ℕ) r4 (λ p. optional_at p.0.0.1.has_otp otp_at) (λ x rest. Ok (fields_in x, rest)) bytes
 
 pub reads_record : Reads Fields record_at Fits spelling
-reads_record = reads_same Fields (through R5 Fields r5 fields_in) record_at Fits spelling record_same (reads_through R5 Fields r5 FitsR5 spell_r5 fields_in Fits spelling reads_r5 (record { to = record_to; from = record_from }))
+reads_record = reads_same Fields (through After5 Fields r5 fields_in) record_at Fits spelling record_same (reads_through After5 Fields r5 FitsR5 spell_r5 fields_in Fits spelling reads_r5 (record { to = record_to; from = record_from }))
 
 -- ---- all of the bytes
 
