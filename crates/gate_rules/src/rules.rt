@@ -88,21 +88,9 @@ impl Rules {
         ensures ok { IfOk result (λ rules. rules_of service.now table.now ≡ Ok rules) }
         ensures fault { IfErr result (IsFaultIn (rules_of service.now table.now)) }
     {
-        Rules::of_lines(alloc, table.lines(), service)
-    }
-
-    // What the lines say to a service.
-    pub(crate) fn of_lines(
-        alloc: Global,
-        lines: &[Line],
-        service: &Service,
-    ) -> Result<Rules, RulesFault>
-        ensures ok { IfOk result (λ rules. rules_of service.now lines.now ≡ Ok rules) }
-        ensures fault { IfErr result (IsFaultIn (rules_of service.now lines.now)) }
-    {
         let mut key = ArrayVec::new();
         service.write_keyword(&mut key);
-        let mut rules = Rules::said(alloc, lines, service, key.as_slice())?;
+        let mut rules = Rules::said(alloc, table.lines(), service, key.as_slice())?;
         rules.close(alloc, service.is_smap())?;
         Ok(rules)
     }

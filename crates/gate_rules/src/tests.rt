@@ -14,7 +14,7 @@ use std::alloc::Global;
 use std::marker::Brand;
 use std::sync::ledger::{Blank, Ledger};
 use std::test::Fail;
-use table_of::lines_of;
+use table_of::table_of;
 
 fn service(name: &str) -> Result<Service, Fail> {
     Ok(Service::read(name.trim().as_bytes()).ok_or("no service")?)
@@ -62,8 +62,8 @@ fn faults_are_those_of_the_leftmost_bad_word(rt: HostRuntime) -> Result<(), Fail
     for row in FAULTS.lines() {
         let (name, rest) = row.split_once('|').ok_or("no service")?;
         let (told, table) = rest.split_once('|').ok_or("no table")?;
-        let lines = lines_of(rt.alloc(), table)?;
-        match Rules::of_lines(rt.alloc(), lines.as_slice(), &service(name)?) {
+        let table = table_of(rt.alloc(), table)?;
+        match Rules::of(rt.alloc(), &table, &service(name)?) {
             Ok(_) => assert!(rt; told.trim() == "-", "{row} is read"),
             Err(RulesFault::Rule(fault)) => assert!(rt;
                 Some(fault) == told_fault(told),
@@ -230,8 +230,8 @@ fn tables_say_what_is_told(rt: HostRuntime) -> Result<(), Fail> {
         let (name, rest) = row.split_once('|').ok_or("no service")?;
         let (peer, rest) = rest.split_once('|').ok_or("no peer")?;
         let (told, table) = rest.split_once('|').ok_or("no table")?;
-        let lines = lines_of(alloc, table)?;
-        let rules = Rules::of_lines(alloc, lines.as_slice(), &service(name)?)?;
+        let table = table_of(alloc, table)?;
+        let rules = Rules::of(alloc, &table, &service(name)?)?;
         let mut out = Vec::new(alloc);
         say_verdict(&mut out, &rules, &peer_of(peer)?)?;
         say_settings(&mut out, &rules)?;
@@ -265,8 +265,8 @@ fn destinations_are_those_of_the_line(rt: HostRuntime) -> Result<(), Fail> {
     for row in DESTINATIONS.lines() {
         let (told, rest) = row.split_once('|').ok_or("no answer")?;
         let (host, table) = rest.split_once('|').ok_or("no table")?;
-        let lines = lines_of(alloc, table)?;
-        let rules = Rules::of_lines(alloc, lines.as_slice(), &Service::TnGw)?;
+        let table = table_of(alloc, table)?;
+        let rules = Rules::of(alloc, &table, &Service::TnGw)?;
         let options = rules.options(1).ok_or("no options")?;
         let host = Host::read(host.trim().as_bytes()).ok_or("no host")?;
         let dest = Dest { host, port: 23 };
