@@ -1,10 +1,12 @@
 ghost use Rattle.std.specs.Prelude.{◌<◌};
 
 mod rows;
+mod rule_lines;
 
 use super::*;
 use fw_outside::{Calls, MemFiles, MemSink};
 use rows::{DENIED, NAMES, PERMITTED, ROWS, Row, TELNET};
+use rule_lines::{COUNT_OF_RULE_LINES, RULE_LINES};
 use std::alloc::Global;
 use std::process::Abort;
 use std::test::Fail;
@@ -143,6 +145,20 @@ fn a_log_that_fails_is_told_where_it_can(rt: HostRuntime) -> Result<(), Fail> {
 }
 
 #[test]
+fn a_fault_that_cannot_be_logged_has_its_status(rt: HostRuntime) -> Result<(), Fail> {
+    for row in ROWS {
+        if 1 < row.status {
+            let logs = Failing {
+                logs: Calls::onward(0),
+                ..none_failing()
+            };
+            check(&rt, &Row { log: b"", ..*row }, 4096, logs)?;
+        }
+    }
+    Ok(())
+}
+
+#[test]
 fn an_output_that_fails_is_told_but_for_a_denial(rt: HostRuntime) -> Result<(), Fail> {
     let fails = Failing {
         output: Calls::onward(0),
@@ -180,6 +196,7 @@ fn repeated(alloc: Global, line: &[u8], times: usize) -> Result<Vec<u8>, Fail> {
 
 fn told_of(
     rt: &(impl Abort + AllocGlobal),
+    name: &str,
     table: &[u8],
     words: &[&[u8]],
     print: &[u8],
@@ -194,9 +211,52 @@ fn told_of(
     };
     let words = octets(alloc, words)?;
     let answer = run(alloc, &words, &mut world);
-    assert!(rt; world.output.bytes() == print);
-    assert!(rt; world.logs.bytes() == log);
-    assert_eq!(rt; answer, status);
+    assert!(rt; world.output.bytes() == print, "print: {name}");
+    assert!(rt; world.logs.bytes() == log, "log: {name}");
+    assert!(rt; answer == status, "status {answer}: {name}");
+    Ok(())
+}
+
+// The lines that a text has, in which `;` divides them.
+fn lines_of(alloc: Global, text: &str) -> Result<Vec<u8>, Fail> {
+    let mut out = Vec::new(alloc);
+    for line in text.split(';') {
+        out.extend_from_slice(line.trim().as_bytes())?;
+        out.push(b'\n')?;
+    }
+    Ok(out)
+}
+
+// Whether the line of rules that is told of is answered so.
+fn check_rule_line(
+    rt: &(impl Abort + AllocGlobal),
+    row: &str,
+) -> Result<(), Fail> {
+    let (service, rest) = row.split_once('|').ok_or("no service")?;
+    let (told, table) = rest.split_once('|').ok_or("nothing is told")?;
+    let (service, told) = (service.trim(), told.trim());
+    let alloc = rt.alloc();
+    let table = lines_of(alloc, table)?;
+    let lines = lines_of(alloc, told)?;
+    let words: [&[u8]; 3] = [b"table", service.as_bytes(), b"10.1.2.3"];
+    if told.starts_with("line") {
+        let mut log = Vec::new(alloc);
+        log.extend_from_slice(b"fault rule ")?;
+        log.extend_from_slice(&lines)?;
+        return told_of(rt, row, &table, &words, b"", &log, 3);
+    }
+    let status = u8::from(told.starts_with("deny"));
+    told_of(rt, row, &table, &words, &lines, b"", status)
+}
+
+#[test]
+fn rule_lines_are_told_by_table(rt: HostRuntime) -> Result<(), Fail> {
+    let mut rows = 0u32;
+    for row in RULE_LINES.lines() {
+        check_rule_line(&rt, row)?;
+        rows = rows.saturating_add(1);
+    }
+    assert_eq!(rt; rows, COUNT_OF_RULE_LINES);
     Ok(())
 }
 
@@ -206,6 +266,7 @@ fn a_table_has_65535_lines_of_2048_bytes_at_most(rt: HostRuntime) -> Result<(), 
     let long = repeated(alloc, b"a", 2049)?;
     told_of(
         &rt,
+        "a long line",
         &long,
         TELNET,
         b"",
@@ -215,6 +276,7 @@ fn a_table_has_65535_lines_of_2048_bytes_at_most(rt: HostRuntime) -> Result<(), 
     let many = repeated(alloc, b"\n", 65536)?;
     told_of(
         &rt,
+        "many lines",
         &many,
         TELNET,
         b"",
@@ -222,7 +284,15 @@ fn a_table_has_65535_lines_of_2048_bytes_at_most(rt: HostRuntime) -> Result<(), 
         3,
     )?;
     let most = repeated(alloc, b"\n", 65535)?;
-    told_of(&rt, &most, TELNET, b"deny line 0\n", b"", 1)
+    told_of(
+        &rt,
+        "the most lines",
+        &most,
+        TELNET,
+        b"deny line 0\n",
+        b"",
+        1,
+    )
 }
 
 #[test]
