@@ -3,9 +3,9 @@
 //!
 //! [`run`] is the call that the program makes, over devices that are handed in: the files with the table, standard output
 //! and the log. Its contract says, for every command line, every table and every way in which a device may fail, which
-//! status it answers and what it leaves: the verdict's line stands whole in the log before anything is printed; what is
-//! printed and logged is told byte for byte; and each status has its cause, in the words, in the table's text, or in the
-//! count of a device that rose. `main` makes the devices of a process, and answers `--help` and `--version`.
+//! status it answers and what it leaves: the line of `netacl`'s verdict stands whole in the log before anything is printed;
+//! what is printed and logged is told byte for byte; and each status has its cause, in the words, in the table's text, or in
+//! the count of a device that rose. `main` makes the devices of a process, and answers `--help` and `--version`.
 #![tactic(auto)]
 
 use fw_outside::{NoMemory, Octets, Sink};
