@@ -1,0 +1,3 @@
+pub mod OtpNumber
+pub mod Fits
+pub mod Port

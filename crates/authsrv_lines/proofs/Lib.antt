@@ -1,0 +1,4 @@
+pub mod NumberLemmas
+pub mod ReplyLemmas
+pub mod SpaceLemmas
+pub mod WordLemmas

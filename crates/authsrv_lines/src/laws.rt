@@ -1,0 +1,12 @@
+//! What holds of all replies and all lines.
+ghost use Rattle.std.specs.Prelude.{◌≡◌, List, ℕ, IsTrue, Option, Some};
+ghost use Rattle.auth_events.specs.declared.reply.Reply.{Reply};
+ghost use Rattle.authsrv_lines.specs.Reply.{Answers, IsReply, is_whole, reply_line};
+
+/// What `read_reply` answers is the reply that `reply_text` wrote, and what it reads is what `reply_text` writes of some
+/// reply; no two replies have one text. Each but for the answer to an Open.
+pub fn inverse()
+    ensures written_is_read { (reply : Reply) (answer : Option Reply) → IsReply reply → IsTrue (is_whole reply) → Answers (reply_line reply) answer → answer ≡ Some reply }
+    ensures read_is_written { (line : List ℕ) (reply : Reply) → Answers line (Some reply) → reply_line reply ≡ line }
+    ensures one_reply { (first second : Reply) → IsReply first → IsReply second → IsTrue (is_whole first) → IsTrue (is_whole second) → reply_line first ≡ reply_line second → first ≡ second }
+{}

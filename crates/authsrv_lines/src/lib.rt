@@ -1,0 +1,33 @@
+//! The lines of `authsrv`: what a client writes, and what it is answered.
+//!
+//! [`read_request`] reads a line, and its contract says the answer exactly, by the table of lines in
+//! `specs/Request.antt`. [`reply_text`] writes a reply and [`read_reply`] reads one; both are proved against the one
+//! text of each reply, `reply_line` of `specs/Reply.antt`. So `read_reply` gives a reply exactly for the text that
+//! `reply_text` writes of it, but for the answer to an Open, whose text doesn't hold the session's number. All lines
+//! are without their ends. Nothing here takes memory.
+#![tactic(auto)]
+
+mod command;
+mod denial;
+pub mod laws;
+mod number;
+mod parts;
+mod reply_reading;
+mod reply_writing;
+mod request;
+mod summary;
+mod wire;
+mod words;
+
+pub use denial::denial_text;
+pub use reply_reading::read_reply;
+pub use reply_writing::reply_text;
+pub use request::read_request;
+pub use wire::{Wire, WireFault};
+
+#[cfg(test)]
+mod line_table;
+#[cfg(test)]
+mod reply_tests;
+#[cfg(test)]
+mod tests;
