@@ -228,10 +228,7 @@ fn lines_of(alloc: Global, text: &str) -> Result<Vec<u8>, Fail> {
 }
 
 // Whether the line of rules that is told of is answered so.
-fn check_rule_line(
-    rt: &(impl Abort + AllocGlobal),
-    row: &str,
-) -> Result<(), Fail> {
+fn check_rule_line(rt: &(impl Abort + AllocGlobal), row: &str) -> Result<(), Fail> {
     let (service, rest) = row.split_once('|').ok_or("no service")?;
     let (told, table) = rest.split_once('|').ok_or("nothing is told")?;
     let (service, told) = (service.trim(), told.trim());
