@@ -1,10 +1,10 @@
 -- What keeping and dropping does to a table of names with their bytes.
-use Rattle.std.proofs.Common.{◌≡◌, ℕ, Bool, true, false, cond, List, [], ◌∷◌, ◌++◌, Option, Some, None, is_some, option_map, refl, sym, ap, ◌∙◌}
-use Rattle.std.specs.List.{slice_set, position_or_len}
+use Rattle.std.proofs.Common.{◌≡◌, ℕ, Bool, true, false, cond, List, [], ◌∷◌, ◌++◌, Option, Some, None, is_some, option_map, refl, ap, ◌∙◌}
+use Rattle.std.specs.List.{slice_set}
 use Rattle.std.specs.Str.{bytes_eq}
 use Rattle.fw_outside.specs.Cabinet.{held}
 use Rattle.fw_outside.specs.Chest.{put}
-use Rattle.fw_outside.specs.Keyed.{IsPlaceOf, is_named, replaced, under, without}
+use Rattle.fw_outside.specs.Keyed.{IsPlaceOf, replaced, under, without}
 use Rattle.fw_outside.specs.KeyedLemmas.{set_is_replaced, under_added, under_replaced, under_without}
 use Rattle.fw_outside.specs.Vault.{Table, IsSetTo, name_of}
 

@@ -1,7 +1,7 @@
 -- A text is a dotted quad exactly where its parts between periods are the decimals of four bytes.
-use Rattle.std.proofs.Common.{◌≡◌, ℕ, ◌+◌, ◌-◌, ◌/◌, ◌%◌, ◌<◌, ◌≤◌, ◌^◌, Bool, true, false, ◌&&◌, List, [], ◌∷◌, ◌++◌, length, map, refl, sym, ◌∙◌, ap, subst, arith, lit<, append_assoc, get_or}
-use Rattle.std.specs.Prelude.{nat_lt, ◌==◌, cond, Option, Some, None, codes, not}
-use Rattle.std.specs.List.{join_with_byte, slice_split, All, list_all}
+use Rattle.std.proofs.Common.{◌≡◌, ℕ, ◌+◌, ◌%◌, ◌<◌, ◌≤◌, ◌^◌, Bool, true, false, ◌&&◌, List, [], ◌∷◌, ◌++◌, length, refl, sym, ◌∙◌, ap, subst, arith, lit<, append_assoc}
+use Rattle.std.specs.Prelude.{nat_lt, ◌==◌, Option, Some, None}
+use Rattle.std.specs.List.{join_with_byte, slice_split, All}
 use Rattle.std.specs.Fmt.{decimal}
 use Rattle.std.specs.Str.{bytes_eq}
 use Rattle.std.specs.Str.Parse.{digits_value}

@@ -1,16 +1,17 @@
 -- What files mean, and what opening and giving back does to that.
-use Rattle.std.specs.Prelude.{◌≡◌, ℕ, Bool, ◌||◌, nat_lt, List, Option, Some, None, IsSome, MatchBool}
+use Rattle.std.specs.Prelude.{◌≡◌, ℕ, ◌+◌, ◌-◌, Bool, ◌||◌, nat_lt, List, Option, Some, None, IsSome, MatchBool}
 use Rattle.std.specs.List.{find}
 use Rattle.std.specs.Option.{option_map}
 use Rattle.std.specs.Str.{bytes_eq}
 use Rattle.fw_outside.specs.Counts.{Rose}
 use Rattle.fw_outside.specs.Spring.{Spring, fresh}
 
--- names with their bytes, where the files tell; how often a name gave no source, and how often a source came back that had failed
+-- names with their bytes, where the files tell; how often a name gave no source, and how often a source came back that had failed; how many sources are out, given and not yet back
 pub record Cabinet : Type 0 where
   pub holds : Option (List (List ℕ × List ℕ))
   pub missing : ℕ
   pub read_faults : ℕ
+  pub out : ℕ
 
 -- the bytes under a name: those of the first entry with that name
 abbrev pub held : List (List ℕ × List ℕ) → List ℕ → Option (List ℕ)
@@ -21,12 +22,12 @@ abbrev pub IsUnder : Option (List (List ℕ × List ℕ)) → List ℕ → Optio
 IsUnder None name left = Unit {0}
 IsUnder (Some files) name left = IsSome left × (left ≡ held files name)
 
--- a new source of what stands under the name
+-- a new source of what stands under the name; one more is out
 pub record Opens (name : List ℕ) (source : Spring) (old new : Cabinet) : Type 0 where
   pub left : Option (List ℕ)
   pub new_source : source ≡ fresh left
   pub under : IsUnder old.holds name left
-  pub is : new ≡ old
+  pub is : new ≡ record old { out = old.out + 1 }
 
 -- no source, which is counted
 pub record Misses (old new : Cabinet) : Type 0 where
@@ -44,6 +45,10 @@ pub record Counts (old new : Cabinet) : Type 0 where
   pub rose : Rose old.read_faults count
   pub is : new ≡ record old { read_faults = count }
 
+-- one source fewer is out
+abbrev pub one_back : Cabinet → Cabinet
+one_back old = record old { out = old.out - 1 }
+
 -- what giving a source back leaves
 abbrev pub TakesBack : Spring → Cabinet → Cabinet → Type 0
-TakesBack source old new = MatchBool (has_failed source) (Counts old new) (new ≡ old)
+TakesBack source old new = MatchBool (has_failed source) (Counts (one_back old) new) (new ≡ one_back old)

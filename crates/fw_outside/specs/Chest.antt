@@ -1,5 +1,5 @@
 -- A keeper in memory.
-use Rattle.std.specs.Prelude.{◌≡◌, ℕ, Bool, true, false, List, [], ◌∷◌, ◌++◌, Option, Some, None, Result, Ok, Err, is_some, if◌then◌else◌}
+use Rattle.std.specs.Prelude.{◌≡◌, ℕ, true, false, List, [], ◌∷◌, ◌++◌, Some, Result, Ok, Err, is_some, if◌then◌else◌}
 use Rattle.fw_outside.specs.Counts.{counted}
 use Rattle.fw_outside.specs.Keyed.{replaced, under}
 use Rattle.fw_outside.specs.Plan.{Plan, comes_at}

@@ -1,5 +1,5 @@
 -- IPv4 addresses as text: four numbers from 0 to 255 in decimal without leading zeros, with periods between.
-use Rattle.std.specs.Prelude.{ℕ, Bool, ◌&&◌, ◌==◌, nat_lt, List, [], ◌∷◌, map, Option, Some, None, if◌then◌else◌}
+use Rattle.std.specs.Prelude.{ℕ, ◌&&◌, ◌==◌, nat_lt, List, [], ◌∷◌, map, Option, Some, None, if◌then◌else◌}
 use Rattle.std.specs.List.{join_with_byte, slice_split}
 use Rattle.std.specs.Fmt.{decimal}
 use Rattle.std.specs.Str.{bytes_eq}

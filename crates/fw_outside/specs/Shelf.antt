@@ -4,7 +4,7 @@ use Rattle.fw_outside.specs.Cabinet.{Cabinet, held}
 use Rattle.fw_outside.specs.Plan.{Plan}
 use Rattle.fw_outside.specs.Supply.{Supply, new_supply}
 
--- names with their bytes, how their sources give, fail and idle, and the counts
+-- names with their bytes, how their sources give, fail and idle, the counts, and how many sources are out
 pub record Shelf : Type 0 where
   pub files : List (List ℕ × List ℕ)
   pub piece : ℕ
@@ -12,10 +12,11 @@ pub record Shelf : Type 0 where
   pub idle : Plan
   pub missing : ℕ
   pub read_faults : ℕ
+  pub out : ℕ
 
 -- they tell all
 abbrev pub cabinet_of : Shelf → Cabinet
-cabinet_of s = record { holds = Some s.files; missing = s.missing; read_faults = s.read_faults }
+cabinet_of s = record { holds = Some s.files; missing = s.missing; read_faults = s.read_faults; out = s.out }
 
 -- the source is a new one of the bytes, which gives as the files were told
 abbrev pub IsSourceOf : Shelf → Option (List ℕ) → Supply → Type 0

@@ -1,5 +1,5 @@
 -- A sink in memory.
-use Rattle.std.specs.Prelude.{◌≡◌, ℕ, ◌-◌, ◌+◌, nat_le, Bool, not, ◌&&◌, List, [], ◌++◌, take, length, Option, Some, if◌then◌else◌}
+use Rattle.std.specs.Prelude.{◌≡◌, ℕ, ◌-◌, ◌+◌, nat_le, Bool, not, ◌&&◌, List, ◌++◌, take, length, Some, if◌then◌else◌}
 use Rattle.fw_outside.specs.Counts.{counted}
 use Rattle.fw_outside.specs.Drain.{Drain}
 use Rattle.fw_outside.specs.Plan.{Plan, comes_at}

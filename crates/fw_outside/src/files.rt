@@ -10,12 +10,12 @@ pub trait Files: Drop {
     /// The names with their bytes, and the counts.
     ghost cabinet: { Self → Cabinet };
 
-    /// A new source of the bytes under a name, or nothing where there is none to be had.
+    /// A new source of the bytes under a name, so that one more is out, or nothing where there is none to be had.
     fn source(&mut self, name: &[u8]) -> Option<Self::Src>
         ensures found { IfSome result (λ source. Opens name.now (Self.Src.spring source) (cabinet self.old) (cabinet self.new)) }
         ensures missing { IfNone result (Misses (cabinet self.old) (cabinet self.new)) };
 
-    /// Takes a source back, and counts it where it had failed or been idle.
+    /// Takes a source back, so that one fewer is out, and counts it where it had failed or been idle.
     fn back(&mut self, source: Self::Src)
         ensures { TakesBack (Self.Src.spring source) (cabinet self.old) (cabinet self.new) };
 }

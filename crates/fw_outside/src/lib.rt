@@ -7,8 +7,9 @@
 //! contents where it tells. Only a device itself can raise its counts, so a fault that a program reports has its cause in
 //! one of them.
 //!
-//! The versions in memory ([`MemSource`], [`MemSink`], [`MemFiles`], [`MemKeeper`]) tell all, and fail exactly at the calls that they
-//! are told. The plain types are read exactly: [`Host::read`], [`HostName::read`], [`Name::read`] and [`read_quad`] give a
+//! The versions in memory tell all. [`MemSource`], [`MemSink`] and [`MemKeeper`] fail exactly at the calls that they are told,
+//! and so do the sources that [`MemFiles`] gives. It gives none for a name that it lacks; that it gives one for each other
+//! name, where there is memory, is said by no clause. The plain types are read exactly: [`Host::read`], [`HostName::read`], [`Name::read`] and [`read_quad`] give a
 //! value exactly for the texts that they say, and what is written is that text again.
 #![tactic(auto)]
 

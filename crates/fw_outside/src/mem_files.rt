@@ -1,4 +1,4 @@
-ghost use Rattle.std.specs.Prelude.{◌≡◌, ◌<◌, IfOk, IfSome, IfNone};
+ghost use Rattle.std.specs.Prelude.{◌≡◌, ◌+◌, ◌<◌, IfOk, IfSome, IfNone};
 ghost use Rattle.std.specs.Option.{option_copied};
 ghost use Rattle.std.specs.Str.{bytes_eq};
 ghost use Rattle.fw_outside.specs.Cabinet.{Counts, Misses, Opens, TakesBack, held};
@@ -19,6 +19,7 @@ pub struct MemFiles {
     idle: Calls,
     missing: u64,
     read_faults: u64,
+    out: u64,
 }
 
 impl Model for MemFiles {
@@ -34,6 +35,7 @@ impl Model for MemFiles {
       idle = s.idle;
       missing = s.missing;
       read_faults = s.read_faults;
+      out = s.out;
     } };
 
     ghost invariant = { λ s. 0 < s.piece };
@@ -66,7 +68,7 @@ impl MemFiles {
         idle: Calls,
     ) -> MemFiles
         requires { 0 < piece }
-        ensures { result ≡ record { files = files.items; piece = piece; fails = fails; idle = idle; missing = 0; read_faults = 0 } }
+        ensures { result ≡ record { files = files.items; piece = piece; fails = fails; idle = idle; missing = 0; read_faults = 0; out = 0 } }
     {
         MemFiles {
             alloc,
@@ -76,6 +78,7 @@ impl MemFiles {
             idle,
             missing: 0,
             read_faults: 0,
+            out: 0,
         }
     }
 
@@ -99,6 +102,25 @@ impl MemFiles {
         self.missing = self.missing.saturating_add(1);
     }
 
+    // Gives a source out, where the count of those that are out has room.
+    fn send(&mut self, source: MemSource) -> Option<MemSource>
+        ensures same { IfSome result (λ sent. sent ≡ source) }
+        ensures sent { IfSome result (λ _. self.new ≡ record self.old { out = self.old.out + 1 }) }
+        ensures missing { IfNone result (Misses (cabinet_of self.old) (cabinet_of self.new)) }
+        ensures kept { KeepsFiles self.old self.new }
+    {
+        match self.out.checked_add(1) {
+            Some(out) => {
+                self.out = out;
+                Some(source)
+            }
+            None => {
+                self.miss();
+                None
+            }
+        }
+    }
+
     fn count_fault(&mut self)
         ensures counts { Counts (cabinet_of self.old) (cabinet_of self.new) }
         ensures kept { KeepsFiles self.old self.new }
@@ -119,7 +141,7 @@ impl Files for MemFiles {
         ensures kept { KeepsFiles self.old self.new }
     {
         match self.open(name) {
-            Ok(Some(source)) => Some(source),
+            Ok(Some(source)) => self.send(source),
             _ => {
                 self.miss();
                 None
@@ -131,6 +153,7 @@ impl Files for MemFiles {
         ensures back { TakesBack (spring_of source) (cabinet_of self.old) (cabinet_of self.new) }
         ensures kept { KeepsFiles self.old self.new }
     {
+        self.out = self.out.saturating_sub(1);
         if source.has_failed() {
             self.count_fault();
         }

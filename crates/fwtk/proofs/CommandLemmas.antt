@@ -1,5 +1,5 @@
 -- What the commands that need the rules have in common.
-use Rattle.std.proofs.Common.{◌≡◌, ℕ, List, refl, ap}
+use Rattle.std.proofs.Common.{◌≡◌, ℕ, List, ap}
 use Rattle.std.specs.Prelude.{Result, Ok, Err}
 use Rattle.fw_outside.specs.Counts.{Rose}
 use Rattle.fw_outside.specs.Drain.{Cut, Drain}
@@ -22,6 +22,7 @@ pub record IsCommand (query : Query) (does : Result ℕ Fault → Desk → Desk 
   pub output : (old new : Desk) (rules : RuleBook) → does (Err (Outside device.Output)) old new rules → Rose old.output.faults new.output.faults
   pub log : (old new : Desk) (rules : RuleBook) → does (Err (Outside device.Log)) old new rules → Rose old.logs.faults new.logs.faults
   pub memory : (old new : Desk) (rules : RuleBook) → does (Err Memory) old new rules → new ≡ old
+  pub kept : (outcome : Result ℕ Fault) (old new : Desk) (rules : RuleBook) → does outcome old new rules → new.files ≡ old.files
 
 rose_at : (a b c : ℕ) → Rose a b → c ≡ b → Rose a c
 rose_at a b c rose is = rw is rose
@@ -29,6 +30,26 @@ rose_at a b c rose is = rw is rose
 -- a sink that failed within a text has counted it
 pub cut_rose : (text : List ℕ) (old new : Drain) → Cut text old new → Rose old.faults new.faults
 cut_rose text old new cut = rose_at old.faults cut.count new.faults cut.rose (ap (λ (d : Drain). d.faults) cut.is)
+
+decides_kept : (query : Query) (outcome : Result ℕ Fault) (old new : Desk) (rules : RuleBook) → DecidesBy query outcome old new rules → new.files ≡ old.files
+decides_kept query (Ok n) old new rules told = told.files
+decides_kept query (Err Usage) old new rules told = absurd told
+decides_kept query (Err (Table fault)) old new rules told = absurd told
+decides_kept query (Err (Rule fault)) old new rules told = absurd told
+decides_kept query (Err (Outside device.Table)) old new rules told = absurd told
+decides_kept query (Err (Outside device.Output)) old new rules told = told.files
+decides_kept query (Err (Outside device.Log)) old new rules told = told.files
+decides_kept query (Err Memory) old new rules told = ap (λ (d : Desk). d.files) told
+
+shows_kept : (query : Query) (outcome : Result ℕ Fault) (old new : Desk) (rules : RuleBook) → ShowsBy query outcome old new rules → new.files ≡ old.files
+shows_kept query (Ok n) old new rules told = told.files
+shows_kept query (Err Usage) old new rules told = absurd told
+shows_kept query (Err (Table fault)) old new rules told = absurd told
+shows_kept query (Err (Rule fault)) old new rules told = absurd told
+shows_kept query (Err (Outside device.Table)) old new rules told = absurd told
+shows_kept query (Err (Outside device.Output)) old new rules told = told.files
+shows_kept query (Err (Outside device.Log)) old new rules told = absurd told
+shows_kept query (Err Memory) old new rules told = ap (λ (d : Desk). d.files) told
 
 pub decides_command : (query : Query) → IsCommand query (DecidesBy query)
 decides_command query = record {
@@ -40,6 +61,7 @@ decides_command query = record {
   output = λ old new rules told. cut_rose _ old.output new.output told.printed;
   log = λ old new rules told. cut_rose _ old.logs new.logs told.logged;
   memory = λ old new rules told. told;
+  kept = decides_kept query;
 }
 
 pub shows_command : (query : Query) → IsCommand query (ShowsBy query)
@@ -52,4 +74,5 @@ shows_command query = record {
   output = λ old new rules told. cut_rose _ old.output new.output told.printed;
   log = λ old new rules told. absurd told;
   memory = λ old new rules told. told;
+  kept = shows_kept query;
 }

@@ -1,6 +1,6 @@
 -- A verdict that was logged, and then printed or not.
 use Rattle.std.proofs.Common.{◌≡◌, ℕ, List, refl, ◌∙◌, rules}
-use Rattle.std.specs.Prelude.{Result, Ok, Err, IsOk}
+use Rattle.std.specs.Prelude.{Result, Ok, Err}
 use Rattle.fw_outside.specs.Drain.{Cut, Drain, Gives}
 use Rattle.fw_outside.specs.declared.failed.Failed.{Failed}
 use Rattle.gate_rules.specs.declared.verdict.Verdict.{Verdict}

@@ -11,7 +11,7 @@ use Rattle.fwtk.specs.Desk.{Desk}
 use Rattle.fwtk.specs.Finding.{Finds}
 use Rattle.fwtk.specs.Ruling.{}
 use Rattle.gate_rules.specs.Reading.{RuleBook}
-use Rattle.fwtk.specs.Run.{ByRules, ByTable}
+use Rattle.fwtk.specs.Run.{ByTable}
 use Rattle.fwtk.proofs.CommandLemmas.{IsCommand}
 
 abbrev desk : Cabinet → Drain → Drain → Desk

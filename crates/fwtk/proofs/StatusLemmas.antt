@@ -1,9 +1,9 @@
 -- What the status of a run says, from what the run does.
 use Rattle.std.proofs.Common.{◌≡◌, ℕ, ◌≤◌, List, refl, sym, ◌∙◌, ap, subst, inl, inr, arith, ◌⊎◌}
 use Rattle.std.specs.Prelude.{Option, Some, None, IfSome, Result, Ok, Err}
-use Rattle.fw_outside.specs.Cabinet.{Cabinet, Counts, Misses, held}
+use Rattle.fw_outside.specs.Cabinet.{Cabinet, held}
 use Rattle.fw_outside.specs.Counts.{Rose}
-use Rattle.fw_outside.specs.Drain.{Cut, Drain, Gives}
+use Rattle.fw_outside.specs.Drain.{Drain, Gives}
 use Rattle.fw_outside.specs.declared.failed.Failed.{Failed}
 use Rattle.fw_outside.specs.declared.peer.Peer.{Peer}
 use Rattle.gate_rules.specs.declared.verdict.Verdict.{Verdict}
@@ -16,10 +16,10 @@ use Rattle.fwtk.specs.declared.words.Command.{Command}
 use Rattle.fwtk.specs.declared.words.Command.TheVariants as commands
 use Rattle.fwtk.specs.declared.words.Query.{Query}
 use Rattle.fwtk.specs.Desk.{Desk}
-use Rattle.fwtk.specs.Fault.{fault_text, status_of}
+use Rattle.fwtk.specs.Fault.{fault_text}
 use Rattle.fwtk.specs.Ruling.{OfText, ruling}
 use Rattle.gate_rules.specs.Reading.{RuleBook}
-use Rattle.fwtk.specs.Run.{ByTable, DecidesBy, Does, Ends, FilesFailed, NotRead, Ran, ShowsBy, Tells, verdict_status}
+use Rattle.fwtk.specs.Run.{ByTable, DecidesBy, Does, Ends, FilesFailed, Ran, ShowsBy, Tells, verdict_status}
 use Rattle.fwtk.specs.Status.{Fails, IsRuled, IsRuledBy, SomeRose, WantsMemory}
 use Rattle.fwtk.specs.Words.{command_of, table_named}
 use Rattle.fwtk.proofs.CommandLemmas.{IsCommand, cut_rose, decides_command, shows_command}
@@ -157,3 +157,37 @@ unless_four_by name (Some (commands.Netacl query)) old status never h = of_text 
 
 pub complete : (words : List (List ℕ)) (status : ℕ) (old new : Desk) → Ran words status old new → (SomeRose old new → ⊥) → IsRuledBy WantsMemory (table_named words) (command_of words) old status
 complete words status old new ran none = unless_four_by (table_named words) (command_of words) old status (λ four. none (outside words status old new ran four)) (ruled words status old new ran)
+
+-- as many sources are out, whether the files gave none or took one back that had failed
+failed_out : (old mid : Cabinet) → FilesFailed old mid → mid.out ≡ old.out
+failed_out old mid (inl missed) = ap (λ (c : Cabinet). c.out) missed.is
+failed_out old mid (inr failed) = ap (λ (c : Cabinet). c.out) failed.is
+
+out_of : (old new : Desk) → new.files ≡ old.files → new.files.out ≡ old.files.out
+out_of old new is = ap (λ (c : Cabinet). c.out) is
+
+out_in_all : (old new : Desk) → new ≡ old → new.files.out ≡ old.files.out
+out_in_all old new is = ap (λ (d : Desk). d.files.out) is
+
+decided_out : (does : Result ℕ Fault → Desk → Desk → RuleBook → Type 0) (name : List ℕ) (query : Query) (outcome : Result ℕ Fault) (old mid : Desk) → IsCommand query does → ByTable does name query outcome old mid → mid.files.out ≡ old.files.out
+decided_out doing name query (Ok n) old mid command does = out_of old mid (command.kept (Ok n) old mid does.rules does.told)
+decided_out doing name query (Err Usage) old mid command does = absurd does
+decided_out doing name query (Err (Table fault)) old mid command does = out_in_all old mid does.is
+decided_out doing name query (Err (Rule fault)) old mid command does = out_in_all old mid does.is
+decided_out doing name query (Err (Outside device.Table)) old mid command does = failed_out old.files mid.files does.failed
+decided_out doing name query (Err (Outside device.Output)) old mid command does = out_of old mid (command.kept (Err (Outside device.Output)) old mid does.rules does.told)
+decided_out doing name query (Err (Outside device.Log)) old mid command does = out_of old mid (command.kept (Err (Outside device.Log)) old mid does.rules does.told)
+decided_out doing name query (Err Memory) old mid command does = out_in_all old mid does
+
+command_out : (name : List ℕ) (command : Option Command) (outcome : Result ℕ Fault) (old mid : Desk) → Does name command outcome old mid → mid.files.out ≡ old.files.out
+command_out name None outcome old mid does = out_in_all old mid does.is
+command_out name (Some (commands.Netacl query)) outcome old mid does = decided_out (DecidesBy query) name query outcome old mid (decides_command query) does
+command_out name (Some (commands.Table query)) outcome old mid does = decided_out (ShowsBy query) name query outcome old mid (shows_command query) does
+
+ended_out : (outcome : Result ℕ Fault) (status : ℕ) (mid new : Desk) → Ends outcome status mid new → new.files.out ≡ mid.files.out
+ended_out (Ok n) status mid new ends = out_in_all mid new ends.1
+ended_out (Err fault) status mid new ends = out_of mid new ends.1.files
+
+-- the run gave back each source that it got
+pub given_back : (words : List (List ℕ)) (status : ℕ) (old new : Desk) → Ran words status old new → new.files.out ≡ old.files.out
+given_back words status old new ran = ended_out ran.outcome status ran.middle new ran.ends ∙ command_out (table_named words) (command_of words) ran.outcome old ran.middle ran.does

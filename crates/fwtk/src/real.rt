@@ -73,6 +73,7 @@ pub struct Paths<R: FileSystem> {
     system: R,
     missing: u64,
     read_faults: u64,
+    out: u64,
 }
 
 impl<R: FileSystem> Paths<R> {
@@ -81,6 +82,7 @@ impl<R: FileSystem> Paths<R> {
             system,
             missing: 0,
             read_faults: 0,
+            out: 0,
         }
     }
 
@@ -93,16 +95,20 @@ impl<R: FileSystem> Paths<R> {
 impl<R: FileSystem + Drop> Files for Paths<R> {
     type Src = Reading<R::File>;
 
-    ghost cabinet = { λ s. record { holds = None; missing = s.missing; read_faults = s.read_faults } };
+    ghost cabinet = { λ s. record { holds = None; missing = s.missing; read_faults = s.read_faults; out = s.out } };
 
     fn source(&mut self, name: &[u8]) -> Option<Reading<R::File>> {
-        match self.open(name) {
-            Some(from) => Some(Reading {
-                from,
-                faults: 0,
-                waits: 3600,
-            }),
-            None => {
+        let file = self.open(name);
+        match (file, self.out.checked_add(1)) {
+            (Some(from), Some(out)) => {
+                self.out = out;
+                Some(Reading {
+                    from,
+                    faults: 0,
+                    waits: 3600,
+                })
+            }
+            _ => {
                 self.missing = self.missing.saturating_add(1);
                 None
             }
@@ -110,6 +116,7 @@ impl<R: FileSystem + Drop> Files for Paths<R> {
     }
 
     fn back(&mut self, source: Reading<R::File>) {
+        self.out = self.out.saturating_sub(1);
         if source.faults > 0 {
             self.read_faults = self.read_faults.saturating_add(1);
         }

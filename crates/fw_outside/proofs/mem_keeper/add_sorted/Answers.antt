@@ -1,5 +1,5 @@
 use Rattle.std.proofs.Common.{◌≡◌, sym, ◌∙◌, false, true, is_some, rules}
-use Rattle.fw_outside.specs.Keyed.{placed, under}
+use Rattle.fw_outside.specs.Keyed.{under}
 use Rattle.fw_outside.specs.KeyedLemmas.{place_is_some, placed_ascends, under_added, under_placed, under_shadowed}
 use Rattle.fw_outside.specs.Vault.{name_of}
 use Rattle.fw_outside.proofs.mem_keeper.add_sorted.Goals as goal

@@ -1,4 +1,4 @@
-use Rattle.std.proofs.Common.{◌≡◌, ◌+◌, ◌<◌, length, take, ◌++◌, ◌∷◌, [], ◌∙◌, sym, ap, rules, arith, get_or}
+use Rattle.std.proofs.Common.{◌≡◌, ◌+◌, ◌<◌, length, take, ◌++◌, ◌∷◌, [], ◌∙◌, sym, ap, arith}
 use Rattle.std.proofs.lemmas.List.{take_more}
 use Rattle.fw_outside.specs.Keyed.{under}
 use Rattle.fw_outside.specs.KeyedLemmas.{same_added}

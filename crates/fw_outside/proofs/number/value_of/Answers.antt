@@ -1,4 +1,4 @@
-use Rattle.std.proofs.Common.{◌≡◌, ◌<◌, ◌≤◌, length, arith, sym, ◌∙◌}
+use Rattle.std.proofs.Common.{arith}
 use Rattle.fw_outside.proofs.NumberLemmas.{digits_of, one_more, small_up_to}
 use Rattle.fw_outside.proofs.number.value_of.Goals as goal
 

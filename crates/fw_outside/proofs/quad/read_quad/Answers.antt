@@ -1,5 +1,4 @@
-use Rattle.std.proofs.Common.{◌≡◌, List, ℕ, sym, ◌∙◌, ap}
-use Rattle.std.specs.Prelude.{Some}
+use Rattle.std.proofs.Common.{sym}
 use Rattle.fw_outside.proofs.QuadLemmas.{quad_of-IsDotted, quad_of-none}
 use Rattle.fw_outside.proofs.quad.read_quad.Goals as goal
 

@@ -1,5 +1,5 @@
 use Rattle.fwtk.specs.Run.{Ran}
-use Rattle.fwtk.proofs.StatusLemmas.{complete, for_usage, only_for_usage, outside, ruled}
+use Rattle.fwtk.proofs.StatusLemmas.{complete, for_usage, given_back, only_for_usage, outside, ruled}
 use Rattle.fwtk.proofs.run.run.Goals as goal
 
 pub returns : goal.returns
@@ -10,5 +10,6 @@ returns g c =
       usage = (only_for_usage c.args.words.now c.end.result c.args.world.now c.end.new.world ran, for_usage c.args.words.now c.end.result c.args.world.now c.end.new.world ran);
       ruled = ruled c.args.words.now c.end.result c.args.world.now c.end.new.world ran;
       complete = complete c.args.words.now c.end.result c.args.world.now c.end.new.world ran;
+      returned = given_back c.args.words.now c.end.result c.args.world.now c.end.new.world ran;
       outside = outside c.args.words.now c.end.result c.args.world.now c.end.new.world ran;
     }

@@ -1,4 +1,4 @@
-use Rattle.std.proofs.Common.{◌≡◌, IsTrue, rules}
+use Rattle.std.proofs.Common.{IsTrue, rules}
 use Rattle.fw_outside.specs.HostName.{is_host_name}
 use Rattle.fw_outside.proofs.HostNameLemmas.{lower_is_host_name, lower_twice}
 use Rattle.fw_outside.proofs.host_name.HostName.read.Goals as goal

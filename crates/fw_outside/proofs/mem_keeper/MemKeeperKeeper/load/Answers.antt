@@ -1,4 +1,4 @@
-use Rattle.std.proofs.Common.{◌≡◌, List, ℕ, option_map, refl, ap, ◌∙◌}
+use Rattle.std.proofs.Common.{option_map, refl, ap, ◌∙◌}
 use Rattle.fw_outside.specs.Chest.{Chest}
 use Rattle.fw_outside.specs.Keyed.{under}
 use Rattle.fw_outside.specs.Vault.{name_of}

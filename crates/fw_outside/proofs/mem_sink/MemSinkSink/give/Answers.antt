@@ -1,4 +1,4 @@
-use Rattle.std.proofs.Common.{◌≡◌, ◌+◌, ◌-◌, ◌<◌, length, arith, rules}
+use Rattle.std.proofs.Common.{◌-◌, length, rules}
 use Rattle.fw_outside.proofs.TankLemmas.{cut_at_once, cut_short}
 use Rattle.fw_outside.proofs.mem_sink.MemSinkSink.give.Goals as goal
 

@@ -1,4 +1,4 @@
-use Rattle.std.proofs.Common.{◌≡◌, IsTrue, rules}
+use Rattle.std.proofs.Common.{IsTrue, rules}
 use Rattle.fw_outside.specs.Verb.{is_verb}
 use Rattle.fw_outside.proofs.VerbLemmas.{upper_is_verb, upper_twice}
 use Rattle.fw_outside.proofs.verb.Verb.read.Goals as goal

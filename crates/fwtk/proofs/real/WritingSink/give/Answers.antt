@@ -1,5 +1,4 @@
 use Rattle.std.proofs.Common.{[], refl, rules}
-use Rattle.fw_outside.specs.Drain.{Cut}
 use Rattle.fwtk.proofs.real.WritingSink.give.Goals as goal
 
 pub returns-in-Err : goal.returns-in-Err
