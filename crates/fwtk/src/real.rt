@@ -1,6 +1,6 @@
 //! The devices of a process: files, standard output and standard error. They tell nothing of what they hold, and count
 //! their failures.
-ghost use Rattle.std.specs.Prelude.{None};
+ghost use Rattle.std.specs.Prelude.{◌≡◌, None};
 
 use crate::Kit;
 use fw_outside::{Failed, Files, Got, Sink, Source};
@@ -44,7 +44,9 @@ pub struct Writing<W: Write> {
 }
 
 impl<W: Write> Writing<W> {
-    pub fn new(to: W) -> Writing<W> {
+    pub fn new(to: W) -> Writing<W>
+        ensures { result.faults ≡ 0 }
+    {
         Writing { to, faults: 0 }
     }
 }
@@ -77,7 +79,11 @@ pub struct Paths<R: FileSystem> {
 }
 
 impl<R: FileSystem> Paths<R> {
-    pub fn new(system: R) -> Paths<R> {
+    pub fn new(system: R) -> Paths<R>
+        ensures missing { result.missing ≡ 0 }
+        ensures read_faults { result.read_faults ≡ 0 }
+        ensures out { result.out ≡ 0 }
+    {
         Paths {
             system,
             missing: 0,
