@@ -1,5 +1,5 @@
 -- What a device may tell or not: `Some` of a list where it tells, `None` where it doesn't.
-use Rattle.std.specs.Prelude.{◌≡◌, List, [], ◌++◌, Option, Some, None}
+use Rattle.std.specs.Prelude.{◌≡◌, List, [], ◌∷◌, ◌++◌, Option, Some, None}
 
 -- a list with more at its end; one that isn't told stays so
 abbrev pub grown : {A : Type 0} → Option (List A) → List A → Option (List A)
@@ -15,3 +15,8 @@ preceded first (Some left) = Some (first ++ left)
 abbrev pub IsOver : {A : Type 0} → Option (List A) → Type 0
 IsOver None = Unit {0}
 IsOver (Some left) = left ≡ []
+
+-- one more was told; what stopped telling, or never did, says nothing of it
+abbrev pub AddsOne : {A : Type 0} → A → Option (List A) → Option (List A) → Type 0
+AddsOne one old None = Unit {0}
+AddsOne one old (Some told) = grown old (one ∷ []) ≡ Some told

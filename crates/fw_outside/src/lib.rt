@@ -7,21 +7,34 @@
 //! contents where it tells. Only a device itself can raise its counts, so a fault that a program reports has its cause in
 //! one of them.
 //!
-//! The versions in memory tell all. [`MemSource`], [`MemSink`] and [`MemKeeper`] fail exactly at the calls that they are told,
-//! and so do the sources that [`MemFiles`] gives. It gives none for a name that it lacks; that it gives one for each other
-//! name, where there is memory, is said by no clause. The plain types are read exactly: [`Host::read`], [`HostName::read`], [`Name::read`] and [`read_quad`] give a
+//! The versions in memory tell all; [`MemClock`] and [`MemDice`] do so as long as their calls can be counted in 64 bits.
+//! [`MemSource`], [`MemSink`] and [`MemKeeper`] fail exactly at the calls that they are told, and so do the sources that
+//! [`MemFiles`] gives. It gives none for a name that it lacks; that it gives one for each other name, where there is memory,
+//! is said by no clause. [`MemClock`] and [`MemDice`] give exactly the moments and the numbers that they were made with.
+//!
+//! [`LineReader`] hears the lines of a source, in whatever pieces it gives: each answer is what the bytes behind those heard
+//! before are heard as, by what a line is in a whole text.
+//!
+//! The plain types are read exactly: [`Host::read`], [`HostName::read`], [`Name::read`] and [`read_quad`] give a
 //! value exactly for the texts that they say, and what is written is that text again.
 #![tactic(auto)]
 
 mod bytes;
 mod calls;
+mod clock;
 mod dest;
+mod dice;
 mod failed;
 mod files;
+mod heard;
 mod host;
 mod host_name;
 mod keep_fault;
 mod keeper;
+mod line_reader;
+mod line_text;
+mod mem_clock;
+mod mem_dice;
 mod mem_files;
 mod mem_keeper;
 mod mem_sink;
@@ -36,18 +49,25 @@ mod port;
 mod quad;
 mod sink;
 mod source;
+mod tally;
 mod verb;
 mod verb_list;
 
 pub use bytes::{append, append_byte, append_decimal, append_u32, copy_of, lower_copy_of};
 pub use calls::Calls;
+pub use clock::Clock;
 pub use dest::Dest;
+pub use dice::Dice;
 pub use failed::Failed;
 pub use files::Files;
+pub use heard::{Heard, Stop};
 pub use host::Host;
 pub use host_name::HostName;
 pub use keep_fault::KeepFault;
 pub use keeper::Keeper;
+pub use line_reader::LineReader;
+pub use mem_clock::MemClock;
+pub use mem_dice::MemDice;
 pub use mem_files::MemFiles;
 pub use mem_keeper::MemKeeper;
 pub use mem_sink::MemSink;
@@ -67,6 +87,8 @@ pub use verb_list::VerbList;
 
 #[cfg(test)]
 mod keeper_tests;
+#[cfg(test)]
+mod line_tests;
 #[cfg(test)]
 mod tests;
 #[cfg(test)]

@@ -1,0 +1,151 @@
+-- How a reader of lines goes on from one piece to the next.
+use Rattle.std.proofs.Common.{◌≡◌, ℕ, ◌+◌, List, [], ◌∷◌, ◌++◌, length, take, false, refl, sym, ap, ◌∙◌, subst, append_assoc, arith}
+use Rattle.std.specs.Prelude.{Option, Some, None}
+use Rattle.std.specs.List.{list_any}
+use Rattle.std.proofs.lemmas.List.{append-nil}
+use Rattle.std.proofs.Common.{length-append}
+use Rattle.std.proofs.lemmas.List.Folds.{list_any-append}
+use Rattle.fw_outside.specs.declared.heard.Heard.{Heard}
+use Rattle.fw_outside.specs.declared.heard.Heard.TheVariants.{Line, TooLong, Stopped}
+use Rattle.fw_outside.specs.declared.heard.Stop.{Stop}
+use Rattle.fw_outside.specs.declared.heard.Stop.TheVariants.{End, Idle, Failed, Spent}
+use Rattle.fw_outside.specs.Gathering.{Cuts, Drains, Fills, IsText, most}
+use Rattle.fw_outside.specs.Lines.{is_lf}
+use Rattle.fw_outside.specs.Spring.{Spring}
+use Rattle.fw_outside.specs.Telling.{grown, preceded}
+use Rattle.fw_outside.specs.Window.{Closes, Halts, Listens, Pulled, Reads, Window, rest_of}
+use Rattle.fw_outside.proofs.LineLemmas.{heard_kept, heard_line, no_first_line, take_twice}
+
+grown-append : (told : Option (List ℕ)) (a b : List ℕ) → grown (grown told a) b ≡ grown told (a ++ b)
+grown-append None a b = refl
+grown-append (Some bytes) a b = ap Some (append_assoc bytes a b)
+
+grown-nil : (told : Option (List ℕ)) → grown told [] ≡ told
+grown-nil None = refl
+grown-nil (Some bytes) = ap Some (append-nil bytes)
+
+preceded-append : (a b : List ℕ) (rest : Option (List ℕ)) → preceded a (preceded b rest) ≡ preceded (a ++ b) rest
+preceded-append a b None = refl
+preceded-append a b (Some rest) = ap Some (sym (append_assoc a b rest))
+
+preceded-nil : (rest : Option (List ℕ)) → rest ≡ preceded [] rest
+preceded-nil None = refl
+preceded-nil (Some bytes) = refl
+
+-- bytes that were taken one after another were taken together
+pulled_on : (a b : List ℕ) (first now new : Spring) → Pulled a first now → Pulled b now new → Pulled (a ++ b) first new
+pulled_on a b first now new one two =
+    let left : now.left ≡ one.left = rw one.is refl in
+    record {
+      left = two.left;
+      next = one.next ∙ ap (preceded a) (sym left ∙ two.next) ∙ preceded-append a b two.left;
+      is = rw (two.is, one.is, grown-append first.taken a b) refl;
+    }
+
+pulled_none : (first : Spring) → Pulled [] first first
+pulled_none first = record { left = first.left; next = preceded-nil first.left; is = rw (grown-nil first.taken) refl }
+
+-- what was read of a line so far
+pub record Going (kept : List ℕ) (old now : Window) (first at : Spring) : Type 0 where
+  pub bytes : List ℕ
+  pub keeps : kept ≡ take most bytes
+  pub unended : list_any is_lf bytes ≡ false
+  pub reads : Reads bytes old now first at
+
+pub going_from : (old : Window) (first : Spring) → Going [] old old first first
+going_from old first = record {
+  bytes = [];
+  keeps = refl;
+  unended = refl;
+  reads = record { pulled = []; pulls = pulled_none first; window = append-nil old.pending; room = omega arith };
+}
+
+-- the window's bytes were read
+reads_window : (bytes read rest : List ℕ) (old now new : Window) (first at : Spring) → Reads bytes old now first at → now.pending ≡ read ++ rest → new.pending ≡ rest → new.room ≡ now.room → Reads (bytes ++ read) old new first at
+reads_window bytes read rest old now new first at reads cut left room = record {
+  pulled = reads.pulled;
+  pulls = reads.pulls;
+  window = reads.window ∙ ap (λ p. bytes ++ p) cut ∙ sym (append_assoc bytes read rest) ∙ ap (λ p. bytes ++ read ++ p) (sym left);
+  room = reads.room ∙ ap (λ n. length reads.pulled + n) (sym room);
+}
+
+-- and the empty window was filled
+reads_filled : (bytes : List ℕ) (old now new : Window) (first at next : Spring) → Reads bytes old now first at → now.pending ≡ [] → Fills now new at next → Reads bytes old new first next
+reads_filled bytes old now new first at next reads empty fills = record {
+  pulled = reads.pulled ++ new.pending;
+  pulls = pulled_on reads.pulled new.pending first at next reads.pulls fills.pulls;
+  window = sym (append_assoc old.pending reads.pulled new.pending) ∙ ap (λ p. p ++ new.pending) (reads.window ∙ ap (λ p. bytes ++ p) empty ∙ append-nil bytes);
+  room = let long = length-append reads.pulled new.pending in omega (arith, reads.room, fills.room, long);
+}
+
+no_end_in : (a b : List ℕ) → list_any is_lf a ≡ false → list_any is_lf b ≡ false → list_any is_lf (a ++ b) ≡ false
+no_end_in a b one two = list_any-append is_lf a b ∙ rw (one, two) refl
+
+pub going_drained : (kept now_kept : List ℕ) (old now new : Window) (first at : Spring) → Going kept old now first at → Drains kept now_kept now new → Going now_kept old new first at
+going_drained kept now_kept old now new first at going drains = record {
+  bytes = going.bytes ++ now.pending;
+  keeps = drains.gathers ∙ ap (λ k. take most (k ++ now.pending)) going.keeps ∙ take_twice going.bytes now.pending;
+  unended = no_end_in going.bytes now.pending going.unended drains.unended;
+  reads = reads_window going.bytes now.pending [] old now new first at going.reads (sym (append-nil now.pending)) drains.empty drains.room;
+}
+
+pub going_filled : (kept : List ℕ) (old now new : Window) (first at next : Spring) → Going kept old now first at → now.pending ≡ [] → Fills now new at next → Going kept old new first next
+going_filled kept old now new first at next going empty fills = record {
+  bytes = going.bytes;
+  keeps = going.keeps;
+  unended = going.unended;
+  reads = reads_filled going.bytes old now new first at next going.reads empty fills;
+}
+
+-- what is left behind the window is what is left of it without the bytes that were read
+rest_is : (bytes : List ℕ) (old new : Window) (first at : Spring) → Reads bytes old new first at → rest_of old first ≡ preceded bytes (rest_of new at)
+rest_is bytes old new first at reads =
+    let left : at.left ≡ reads.pulls.left = rw reads.pulls.is refl in
+    ap (preceded old.pending) (reads.pulls.next ∙ ap (preceded reads.pulled) (sym left)) ∙ preceded-append old.pending reads.pulled at.left
+    ∙ ap (λ p. preceded p at.left) reads.window ∙ sym (preceded-append bytes new.pending at.left)
+
+halts_left : (stop : Stop) (new : Window) (at next : Spring) → Halts stop new at next → next.left ≡ at.left
+halts_left End new at next halts = ap (λ (s : Spring). s.left) halts.is
+halts_left Idle new at next halts = ap (λ (s : Spring). s.left) halts.is
+halts_left Failed new at next halts = ap (λ (s : Spring). s.left) halts.is
+halts_left Spent new at next halts = ap (λ (s : Spring). s.left) halts.1
+
+-- the source stopped before the line's end
+listens_at : (stop : Stop) (kept : List ℕ) (old new : Window) (first at next : Spring) → Going kept old new first at → new.pending ≡ [] → Halts stop new at next → Listens (Stopped stop) old new first next
+listens_at stop kept old new first at next going empty halts = record {
+  bytes = going.bytes;
+  middle = at;
+  is_heard = no_first_line going.bytes going.unended;
+  rest = rest_is going.bytes old new first at going.reads ∙ ap (λ l. preceded going.bytes (preceded new.pending l)) (sym (halts_left stop new at next halts));
+  reads = going.reads;
+  closes = (empty, halts);
+}
+
+pub listens_stopped : (stop : Stop) (kept : List ℕ) (old now new : Window) (first at next : Spring) → Going kept old now first at → now.pending ≡ [] → new ≡ now → Halts stop new at next → Listens (Stopped stop) old new first next
+listens_stopped stop kept old now new first at next going empty same halts =
+    let here : Going kept old new first at = rw same going in
+    listens_at stop kept old new first at next here (rw same empty) halts
+
+closes_line : (heard : Heard) (text : List ℕ) (new : Window) (at : Spring) → IsText heard text → Closes heard new at at
+closes_line (Line line) text new at is = refl
+closes_line TooLong text new at is = refl
+closes_line (Stopped stop) text new at is = absurd is
+
+-- the line's end was read
+pub listens_line : (heard : Heard) (kept now_kept : List ℕ) (old now new : Window) (first at : Spring) → Going kept old now first at → Cuts kept now_kept now new → IsText heard now_kept → Listens heard old new first at
+listens_line heard kept now_kept old now new first at going cuts is =
+    let text : List ℕ = going.bytes ++ cuts.text in
+    let keeps : now_kept ≡ take most text = cuts.gathers ∙ ap (λ k. take most (k ++ cuts.text)) going.keeps ∙ take_twice going.bytes cuts.text in
+    let unended : list_any is_lf text ≡ false = no_end_in going.bytes cuts.text going.unended cuts.unended in
+    let told : IsText heard text = heard_kept heard text (subst (IsText heard) keeps is) in
+    let cut : now.pending ≡ (cuts.text ++ 10 ∷ []) ++ new.pending = cuts.cut ∙ sym (append_assoc cuts.text (10 ∷ []) new.pending) in
+    let reads : Reads (going.bytes ++ (cuts.text ++ 10 ∷ [])) old new first at = reads_window going.bytes (cuts.text ++ 10 ∷ []) new.pending old now new first at going.reads cut refl cuts.room in
+    let whole : Reads (text ++ 10 ∷ []) old new first at = subst (λ b. Reads b old new first at) (sym (append_assoc going.bytes cuts.text (10 ∷ []))) reads in
+    record {
+      bytes = text ++ 10 ∷ [];
+      middle = at;
+      is_heard = heard_line heard text unended told;
+      rest = rest_is (text ++ 10 ∷ []) old new first at whole;
+      reads = whole;
+      closes = closes_line heard text new at told;
+    }

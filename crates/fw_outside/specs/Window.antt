@@ -1,0 +1,53 @@
+-- A reader of lines, which takes ahead of what it gives.
+use Rattle.std.specs.Prelude.{◌≡◌, ℕ, ◌+◌, List, [], ◌++◌, length, Option}
+use Rattle.fw_outside.specs.declared.heard.Heard.{Heard}
+use Rattle.fw_outside.specs.declared.heard.Heard.TheVariants.{Line, TooLong, Stopped}
+use Rattle.fw_outside.specs.declared.heard.Stop.{Stop}
+use Rattle.fw_outside.specs.declared.heard.Stop.TheVariants.{End, Idle, Failed, Spent}
+use Rattle.fw_outside.specs.Lines.{IsHeard}
+use Rattle.fw_outside.specs.Spring.{Spring, Broke, Ended, Idled}
+use Rattle.fw_outside.specs.Telling.{grown, preceded}
+
+-- the bytes that were taken and not heard yet, and how many more may be taken
+pub record Window : Type 0 where
+  pub pending : List ℕ
+  pub room : ℕ
+
+-- what is left behind the window, where the source tells
+abbrev pub rest_of : Window → Spring → Option (List ℕ)
+rest_of window source = preceded window.pending source.left
+
+-- these bytes were taken from the source
+pub record Pulled (bytes : List ℕ) (before after : Spring) : Type 0 where
+  pub left : Option (List ℕ)
+  pub next : before.left ≡ preceded bytes left
+  pub is : after ≡ record before { taken = grown before.taken bytes; left = left }
+
+-- bytes were taken from the source into the window, and the first ones of the window were heard
+pub record Reads (heard : List ℕ) (old new : Window) (before after : Spring) : Type 0 where
+  pub pulled : List ℕ
+  pub pulls : Pulled pulled before after
+  pub window : old.pending ++ pulled ≡ heard ++ new.pending
+  pub room : old.room ≡ length pulled + new.room
+
+-- why no line was heard, and what that leaves of the source
+abbrev pub Halts : Stop → Window → Spring → Spring → Type 0
+Halts End new before after = Ended before after
+Halts Idle new before after = Idled before after
+Halts Failed new before after = Broke before after
+Halts Spent new before after = (new.room ≡ 0) × (after ≡ before)
+
+-- a line leaves the source as it stands; where none was heard the window is empty
+abbrev pub Closes : Heard → Window → Spring → Spring → Type 0
+Closes (Line _) new before after = after ≡ before
+Closes TooLong new before after = after ≡ before
+Closes (Stopped stop) new before after = (new.pending ≡ []) × Halts stop new before after
+
+-- what is heard next: these bytes, of what was left, are heard as that
+pub record Listens (heard : Heard) (old new : Window) (before after : Spring) : Type 0 where
+  pub bytes : List ℕ
+  pub middle : Spring
+  pub is_heard : IsHeard heard bytes
+  pub rest : rest_of old before ≡ preceded bytes (rest_of new after)
+  pub reads : Reads bytes old new before middle
+  pub closes : Closes heard new middle after

@@ -1,0 +1,108 @@
+ghost use Rattle.std.specs.Prelude.{◌≡◌, ◌==◌, ◌+◌, ◌-◌, ◌<◌, ◌≤◌, [], ◌++◌, length, take, IfErr, OnOk, OnErr};
+ghost use Rattle.std.specs.Bool.{OnTrue, OnFalse};
+ghost use Rattle.fw_outside.specs.Gathering.{Cuts, Drains, Fills};
+ghost use Rattle.fw_outside.specs.Window.{Halts, Listens};
+
+use crate::bytes::copy_of;
+use crate::line_text::LineText;
+use crate::{Got, Heard, Source, Stop};
+use arrayvec::ArrayVec;
+use std::marker::Model;
+
+/// A reader of lines, each of at most 512 bytes, which takes at most 4,096 bytes ahead of what it gives.
+#[derive(Drop)]
+pub struct LineReader {
+    taken: ArrayVec<u8, 4096>,
+    at: usize,
+    room: u64,
+}
+
+impl Model for LineReader {
+    ghost use Rattle.std.specs.Prelude.{◌≤◌, length, drop};
+    ghost use Rattle.fw_outside.specs.Window.{Window};
+
+    ghost Value = { Window };
+
+    ghost view = { λ r. record { pending = drop r.at r.taken.items; room = r.room } };
+
+    ghost invariant = { λ r. r.at ≤ length r.taken.items };
+}
+
+impl LineReader {
+    /// A reader that takes at most so many bytes from its source.
+    pub fn new(room: u64) -> LineReader
+        ensures { result ≡ record { pending = []; room = room } }
+    {
+        LineReader {
+            taken: ArrayVec::new(),
+            at: 0,
+            room,
+        }
+    }
+
+    // Puts bytes that were taken into the empty window.
+    fn keep(&mut self, bytes: &[u8])
+        requires fits { length bytes.now ≤ 4096 }
+        requires room { length bytes.now ≤ self.old.room }
+        ensures { self.new ≡ record { pending = bytes.now; room = self.old.room - length bytes.now } }
+    {
+        self.taken = copy_of(bytes);
+        self.at = 0;
+        self.room -= bytes.len() as u64;
+    }
+
+    // Takes the next bytes into the empty window.
+    fn fill<S: Source>(&mut self, from: &mut S) -> Result<(), Stop>
+        requires { self.old.pending ≡ [] }
+        ensures fills { OnOk result (Fills self.old self.new (S.spring from.old) (S.spring from.new)) }
+        ensures halts { IfErr result (λ stop. Halts stop self.new (S.spring from.old) (S.spring from.new)) }
+        ensures kept { OnErr result (self.new ≡ self.old) }
+    {
+        let most = self.room.min(4096) as usize;
+        if most == 0 {
+            return Err(Stop::Spent);
+        }
+        let mut buffer = [0; 4096];
+        match from.take(&mut buffer[..most]) {
+            Ok(Got::Bytes(count)) => {
+                self.keep(&buffer[..count]);
+                Ok(())
+            }
+            Ok(Got::End) => Err(Stop::End),
+            Ok(Got::Idle) => Err(Stop::Idle),
+            Err(_) => Err(Stop::Failed),
+        }
+    }
+
+    // Moves the window's bytes to a text, up to the end of the line if that is there.
+    fn move_on(&mut self, text: &mut LineText) -> bool
+        ensures cuts { OnTrue result (Cuts text.old text.new self.old self.new) }
+        ensures drains { OnFalse result (Drains text.old text.new self.old self.new) }
+        ensures near { length self.new.pending ≤ 4096 }
+    {
+        match text.gather(&self.taken[self.at..]) {
+            Some(end) => {
+                self.at += end + 1;
+                true
+            }
+            None => {
+                self.at = self.taken.len();
+                false
+            }
+        }
+    }
+
+    /// The next line, without its end, if one is heard before the source stops.
+    pub fn next<S: Source>(&mut self, from: &mut S) -> Heard
+        ensures listens { Listens result self.old self.new (S.spring from.old) (S.spring from.new) }
+        ensures near { length self.new.pending ≤ 4096 }
+    {
+        let mut text = LineText::new();
+        while !self.move_on(&mut text) {
+            if let Err(stop) = self.fill(from) {
+                return Heard::Stopped(stop);
+            }
+        }
+        text.heard()
+    }
+}
