@@ -7,3 +7,4 @@ pub mod NumberLemmas
 pub mod QuadLemmas
 pub mod TankLemmas
 pub mod VerbLemmas
+mod Rows
