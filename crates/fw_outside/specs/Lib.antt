@@ -10,6 +10,8 @@ pub mod Keyed
 pub mod KeyedLemmas
 pub mod Name
 pub mod Number
+pub mod Octets
+pub mod OctetsList
 pub mod Peer
 pub mod Plan
 pub mod Port

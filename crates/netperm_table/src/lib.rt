@@ -12,6 +12,7 @@
 //! Want of memory may be answered at any time. Where a source doesn't tell what is left in it, nothing is said of the lines.
 #![tactic(auto)]
 
+mod copying;
 mod cut;
 mod line;
 mod part;
@@ -21,9 +22,10 @@ mod table;
 mod table_fault;
 mod words;
 
-pub use line::{Line, Words};
+pub use line::Line;
 pub use table::Table;
 pub use table_fault::TableFault;
+pub use words::Words;
 
 #[cfg(test)]
 mod tests;
