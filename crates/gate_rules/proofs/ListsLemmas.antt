@@ -1,6 +1,6 @@
 -- Lists that are read word by word.
-use Rattle.std.proofs.Common.{◌≡◌, ℕ, ◌+◌, ◌≤◌, ◌×◌, Bool, true, false, List, [], ◌∷◌, ◌++◌, length, refl, drop, take, sym, ◌∙◌, ap, arith}
-use Rattle.std.specs.Prelude.{cond, filter_map, nat_lt, ◌==◌, Option, Result, Ok, Err}
+use Rattle.std.proofs.Common.{◌≡◌, ℕ, ◌+◌, ◌≤◌, Bool, true, false, List, [], ◌∷◌, ◌++◌, length, refl, drop, take, sym, ◌∙◌, ap, arith}
+use Rattle.std.specs.Prelude.{cond, if◌then◌else◌, filter_map, nat_lt, ◌==◌, Option, Result, Ok, Err}
 use Rattle.std.specs.List.{list_all, enumerate_from}
 use Rattle.std.proofs.lemmas.Bool.Decides.{nat_tests}
 use Rattle.std.proofs.lemmas.List.{append-nil, drop_all, length-take, take_all}
@@ -25,20 +25,20 @@ is_good w p e = rw e refl
 -- where no word is bad, each is a pattern
 none_bad : (n : ℕ) (words : List Word) → filter_map bad (enumerate_from n words) ≡ [] → list_all is_pattern words ≡ true
 none_bad n [] h = refl
-none_bad n (w ∷ words) h = by (parsed w.text) refl
+none_bad n (w ∷ words) h = by (parsed w.text) refl (λ more. none_bad (n + 1) words more)
   where
-    by : (r : Result Written PatternFault) → parsed w.text ≡ r → list_all is_pattern (w ∷ words) ≡ true
-    by (Ok p) e = rw e (none_bad (n + 1) words (rw e at h))
-    by (Err why) e = absurd (let h = rw e at h in (cc))
+    by : (r : Result Written PatternFault) → parsed w.text ≡ r → (filter_map bad (enumerate_from (n + 1) words) ≡ [] → list_all is_pattern words ≡ true) → list_all is_pattern (w ∷ words) ≡ true
+    by (Ok p) e more = rw e (more (rw e at h))
+    by (Err why) e more = absurd (let h = rw e at h in (cc))
 
 -- where one is bad, not all are patterns
 one_bad : (n : ℕ) (words : List Word) (first : ℕ × PatternFault) (others : List (ℕ × PatternFault)) → filter_map bad (enumerate_from n words) ≡ first ∷ others → list_all is_pattern words ≡ false
 one_bad n [] first others h = absurd (cc)
-one_bad n (w ∷ words) first others h = by (parsed w.text) refl
+one_bad n (w ∷ words) first others h = by (parsed w.text) refl (λ more. one_bad (n + 1) words first others more)
   where
-    by : (r : Result Written PatternFault) → parsed w.text ≡ r → list_all is_pattern (w ∷ words) ≡ false
-    by (Ok p) e = rw e (one_bad (n + 1) words first others (rw e at h))
-    by (Err why) e = rw e refl
+    by : (r : Result Written PatternFault) → parsed w.text ≡ r → (filter_map bad (enumerate_from (n + 1) words) ≡ first ∷ others → list_all is_pattern words ≡ false) → list_all is_pattern (w ∷ words) ≡ false
+    by (Ok p) e more = rw e (more (rw e at h))
+    by (Err why) e more = rw e refl
 
 -- how a list of 1 to 64 words is read
 read_by : (few : List Word) → (length few == 0) ≡ false → nat_lt 64 (length few) ≡ false → list_parsed few ≡ unless_bad (filter_map bad (enumerate_from 0 few)) (filter_map good few)

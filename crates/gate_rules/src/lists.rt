@@ -1,5 +1,5 @@
 //! Lists of patterns and of verbs.
-ghost use Rattle.std.specs.Prelude.{◌≡◌, nat_lt, length, Ok, Err, IfOk, IfErr, MatchResult};
+ghost use Rattle.std.specs.Prelude.{◌≡◌, ◌≢◌, if◌then◌else◌, nat_lt, length, Ok, Err, IfOk, IfErr, OnOk, MatchResult};
 ghost use Rattle.gate_rules.specs.Lists.{alone, between, hosts_alone, members_of, patterns_in, patterns_of, verbs_in, verbs_of};
 
 use crate::Why;
@@ -14,6 +14,17 @@ const MOST_VERBS: usize = 32;
 
 /// What is read, or why it can't be; or there was no memory.
 pub type Reading<T> = Result<Result<T, Why>, NoMemory>;
+
+// Why at most 64 words are no list of patterns, where it isn't for want of memory.
+fn cause_of(fault: ListFault) -> Result<Why, NoMemory>
+    ensures ok { IfOk result (λ why. why ≡ Why.BadPattern) }
+    ensures own { OnOk result (fault ≢ ListFault.NoMemory) }
+{
+    match fault {
+        ListFault::None | ListFault::TooMany | ListFault::Bad { .. } => Ok(Why::BadPattern),
+        ListFault::NoMemory => Err(NoMemory),
+    }
+}
 
 // The patterns, unless there are more words than a list may have.
 fn unless_more(words: &[Word], patterns: PatternList) -> Result<PatternList, Why>
@@ -34,8 +45,7 @@ pub(crate) fn patterns_of(alloc: Global, words: &[Word]) -> Reading<PatternList>
         return Ok(Err(Why::NoHosts));
     }
     match PatternList::parse(alloc, at_most(words, MOST_PATTERNS)) {
-        Err(ListFault::NoMemory) => Err(NoMemory),
-        Err(_) => Ok(Err(Why::BadPattern)),
+        Err(fault) => Ok(Err(cause_of(fault)?)),
         Ok(patterns) => Ok(unless_more(words, patterns)),
     }
 }
