@@ -22,7 +22,7 @@ const LONGEST: usize = 2048;
 fn has_nul(bytes: &[u8]) -> bool
     ensures { result ≡ list_any is_nul bytes.now }
 {
-    bytes.iter().any(|byte| *byte == 0)
+    cut_at(0, bytes).is_some()
 }
 
 // The first byte that isn't a blank.
