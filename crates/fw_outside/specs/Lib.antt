@@ -14,6 +14,8 @@ pub mod KeyedLemmas
 pub mod Lines
 pub mod Name
 pub mod Number
+pub mod Octets
+pub mod OctetsList
 pub mod Peer
 pub mod Plan
 pub mod Port

@@ -47,6 +47,7 @@ mod octets_list;
 mod peer;
 mod port;
 mod quad;
+mod short;
 mod sink;
 mod source;
 mod tally;

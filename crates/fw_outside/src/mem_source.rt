@@ -11,7 +11,7 @@ use std::marker::Model;
 /// A source of bytes in memory, which fails and is idle at the calls that it is told.
 #[derive(Drop)]
 pub struct MemSource {
-    bytes: Vec<u8>,
+    bytes: Octets,
     at: usize,
     piece: usize,
     fails: Calls,
@@ -29,8 +29,8 @@ impl Model for MemSource {
     ghost Value = { Supply };
 
     ghost view = { λ s. record {
-      taken = take s.at s.bytes.items;
-      left = drop s.at s.bytes.items;
+      taken = take s.at s.bytes;
+      left = drop s.at s.bytes;
       piece = s.piece;
       fails = s.fails;
       idle = s.idle;
@@ -40,7 +40,7 @@ impl Model for MemSource {
       waits = s.waits;
     } };
 
-    ghost invariant = { λ s. (s.at ≤ length s.bytes.items) × (0 < s.piece) };
+    ghost invariant = { λ s. (s.at ≤ length s.bytes) × (0 < s.piece) };
 }
 
 impl MemSource {
@@ -50,7 +50,7 @@ impl MemSource {
         ensures { result ≡ new_supply bytes piece fails idle }
     {
         MemSource {
-            bytes: bytes.into_vec(),
+            bytes,
             at: 0,
             piece,
             fails,
@@ -115,13 +115,13 @@ impl MemSource {
         ensures some { 0 < length self.now.left → 0 < result }
         ensures room { result ≤ room }
     {
-        self.piece.min(room).min(self.bytes.len() - self.at)
+        self.piece.min(room).min(self.bytes.bytes().len() - self.at)
     }
 
     fn is_over(&self) -> bool
         ensures { result ≡ (length self.now.left == 0) }
     {
-        self.at == self.bytes.len()
+        self.at == self.bytes.bytes().len()
     }
 
     // Copies the next bytes, so many of them.
@@ -131,8 +131,9 @@ impl MemSource {
         ensures copied { take count buf.new ≡ take count self.old.left }
         ensures is { self.new ≡ record self.old { taken = self.old.taken ++ take count self.old.left; left = drop count self.old.left } }
     {
+        let bytes = self.bytes.bytes();
         let end = self.at + count;
-        buf[..count].copy_from_slice(&self.bytes[self.at..end]);
+        buf[..count].copy_from_slice(&bytes[self.at..end]);
         self.at = end;
     }
 

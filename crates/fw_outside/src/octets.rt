@@ -1,21 +1,30 @@
 ghost use Rattle.std.specs.Prelude.{◌≡◌, IfOk};
 
 use crate::NoMemory;
+use crate::short::{ROOM, Short};
 use std::alloc::Global;
 use std::marker::Model;
 
-/// A list of bytes.
+/// Where the bytes of an `Octets` are kept.
+#[derive(Drop)]
+pub enum Kept {
+    Short(Short),
+    Long(Vec<u8>),
+}
+
+/// A list of bytes. Up to 30 are kept in the value itself, and more in memory of their own.
 #[derive(Drop)]
 pub struct Octets {
-    bytes: Vec<u8>,
+    kept: Kept,
 }
 
 impl Model for Octets {
     ghost use Rattle.std.specs.Prelude.{ℕ, List};
+    ghost use Rattle.fw_outside.specs.Octets.{kept_bytes};
 
     ghost Value = { List ℕ };
 
-    ghost view = { λ octets. octets.bytes.items };
+    ghost view = { λ octets. kept_bytes octets.kept };
 }
 
 impl Octets {
@@ -23,30 +32,30 @@ impl Octets {
     pub fn of(bytes: Vec<u8>) -> Octets
         ensures { result ≡ bytes.items }
     {
-        Octets { bytes }
+        Octets {
+            kept: Kept::Long(bytes),
+        }
     }
 
     /// A copy of the bytes.
     pub fn copy(alloc: Global, bytes: &[u8]) -> Result<Octets, NoMemory>
         ensures { IfOk result (λ octets. octets ≡ bytes.now) }
     {
-        Ok(Octets {
-            bytes: Vec::from_slice(alloc, bytes)?,
-        })
+        let kept = if bytes.len() <= ROOM {
+            Kept::Short(Short::copy(bytes))
+        } else {
+            Kept::Long(Vec::from_slice(alloc, bytes)?)
+        };
+        Ok(Octets { kept })
     }
 
     /// The bytes.
     pub fn bytes(&self) -> &[u8]
         ensures { result.now ≡ self.now }
     {
-        &self.bytes
-    }
-
-    /// The vector of the bytes.
-    pub fn into_vec(self) -> Vec<u8>
-        ensures { result.items ≡ self }
-    {
-        let Octets { bytes } = self;
-        bytes
+        match &self.kept {
+            Kept::Short(short) => short.bytes(),
+            Kept::Long(bytes) => bytes.as_slice(),
+        }
     }
 }

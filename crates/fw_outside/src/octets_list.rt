@@ -1,21 +1,56 @@
-ghost use Rattle.std.specs.Prelude.{◌≡◌, ◌<◌, ◌==◌, [], ◌∷◌, ◌++◌, length, slice_get, OnOk, OnErr, IfErr};
+ghost use Rattle.std.specs.Prelude.{◌≡◌, ◌<◌, ◌==◌, [], ◌∷◌, ◌++◌, length, slice_get, OnOk, OnErr, IfOk, IfErr};
 
 use crate::{NoMemory, Octets};
 use std::alloc::Global;
 use std::marker::Model;
+use std::{mem, slice};
 
-/// A list of lists of bytes.
+/// Where the members of an `OctetsList` are kept.
+#[derive(Drop)]
+pub enum Items {
+    None,
+    One(Octets),
+    More(Vec<Octets>),
+}
+
+/// A list of lists of bytes. A single one is kept in the value itself.
 #[derive(Drop)]
 pub struct OctetsList {
-    items: Vec<Octets>,
+    alloc: Global,
+    items: Items,
 }
 
 impl Model for OctetsList {
     ghost use Rattle.std.specs.Prelude.{ℕ, List};
+    ghost use Rattle.fw_outside.specs.OctetsList.{kept_items};
 
     ghost Value = { List (List ℕ) };
 
-    ghost view = { λ list. list.items.items };
+    ghost view = { λ list. kept_items list.items };
+}
+
+// The two, or the second given back.
+fn two(alloc: Global, first: Octets, second: Octets) -> Result<Vec<Octets>, (Octets, Octets)>
+    ensures ok { IfOk result (λ items. items.items ≡ first ∷ second ∷ []) }
+    ensures back { IfErr result (λ e. e ≡ (first, second)) }
+{
+    let Ok(mut items) = Vec::with_capacity(alloc, 2) else {
+        return Err((first, second));
+    };
+    items.push_reserved(first);
+    items.push_reserved(second);
+    Ok(items)
+}
+
+// One more behind a vector's members, or it is given back.
+fn more(mut items: Vec<Octets>, one: Octets) -> Result<Vec<Octets>, (Vec<Octets>, Octets)>
+    ensures ok { IfOk result (λ longer. longer.items ≡ items.items ++ one ∷ []) }
+    ensures back { IfErr result (λ e. (e.0.items ≡ items.items) × (e.1 ≡ one)) }
+{
+    match items.push(one) {
+        Ok(()) => Ok(items),
+        Err(failed) => Err((items, failed.value)),
+    }
 }
 
 impl OctetsList {
@@ -24,7 +59,8 @@ impl OctetsList {
         ensures { result ≡ [] }
     {
         OctetsList {
-            items: Vec::new(alloc),
+            alloc,
+            items: Items::None,
         }
     }
 
@@ -34,9 +70,49 @@ impl OctetsList {
         ensures err { OnErr result (self.new ≡ self.old) }
         ensures back { IfErr result (λ e. e.0 ≡ one) }
     {
-        match self.items.push(one) {
-            Ok(()) => Ok(()),
-            Err(failed) => Err((failed.value, NoMemory)),
+        match mem::replace(&mut self.items, Items::None) {
+            Items::None => {
+                self.items = Items::One(one);
+                Ok(())
+            }
+            Items::One(first) => self.push_second(first, one),
+            Items::More(items) => self.push_more(items, one),
+        }
+    }
+
+    // Sets the list to these two, or to the first.
+    fn push_second(&mut self, first: Octets, one: Octets) -> Result<(), (Octets, NoMemory)>
+        ensures ok { OnOk result (self.new ≡ first ∷ one ∷ []) }
+        ensures err { OnErr result (self.new ≡ first ∷ []) }
+        ensures back { IfErr result (λ e. e.0 ≡ one) }
+    {
+        match two(self.alloc, first, one) {
+            Ok(items) => {
+                self.items = Items::More(items);
+                Ok(())
+            }
+            Err((first, one)) => {
+                self.items = Items::One(first);
+                Err((one, NoMemory))
+            }
+        }
+    }
+
+    // Sets the list to these and one more, or to these.
+    fn push_more(&mut self, items: Vec<Octets>, one: Octets) -> Result<(), (Octets, NoMemory)>
+        ensures ok { OnOk result (self.new ≡ items.items ++ one ∷ []) }
+        ensures err { OnErr result (self.new ≡ items.items) }
+        ensures back { IfErr result (λ e. e.0 ≡ one) }
+    {
+        match more(items, one) {
+            Ok(items) => {
+                self.items = Items::More(items);
+                Ok(())
+            }
+            Err((items, one)) => {
+                self.items = Items::More(items);
+                Err((one, NoMemory))
+            }
         }
     }
 
@@ -44,14 +120,14 @@ impl OctetsList {
     pub fn len(&self) -> usize
         ensures { result ≡ length self.now }
     {
-        self.items.len()
+        self.as_slice().len()
     }
 
     /// Whether there is none.
     pub fn is_empty(&self) -> bool
         ensures { result ≡ (length self.now == 0) }
     {
-        self.items.is_empty()
+        self.as_slice().is_empty()
     }
 
     /// The one at a place, counted from 0.
@@ -59,13 +135,17 @@ impl OctetsList {
         requires { at < length self.now }
         ensures { slice_get self.now at ≡ Some result.now }
     {
-        &self.items[at]
+        &self.as_slice()[at]
     }
 
     /// All of them, in order.
     pub fn as_slice(&self) -> &[Octets]
         ensures { result.now ≡ self.now }
     {
-        self.items.as_slice()
+        match &self.items {
+            Items::None => &[],
+            Items::One(one) => slice::from_ref(one),
+            Items::More(items) => items.as_slice(),
+        }
     }
 }

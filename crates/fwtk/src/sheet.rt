@@ -1,36 +1,16 @@
 //! What `table` prints of a service.
-ghost use Rattle.std.specs.Prelude.{◌≡◌, ◌++◌, ◌∷◌, flat_map, map, codes, IfOk, OnOk};
+ghost use Rattle.std.specs.Prelude.{◌≡◌, ◌++◌, ◌∷◌, flat_map, codes, IfOk, OnOk};
 ghost use Rattle.std.specs.Fmt.{decimal};
-ghost use Rattle.host_pattern.specs.Pattern.{written};
 ghost use Rattle.gate_rules.specs.Verdict.{options_at};
 ghost use Rattle.fwtk.specs.Sheet.{auth_text, dest_text, flag_text, options_shown, options_text, permit_text, plug_text, set_text, setting_name, setting_text, settings_text, sheet_text};
 ghost use Rattle.fwtk.specs.Texts.{some_line, words_line};
 
-use crate::texts::{push_exec, verdict_text};
+use crate::texts::{push_exec, push_words, verdict_text};
 use arrayvec::ArrayVec;
 use fw_outside::{Dest, NoMemory, Octets, Verb, VerbList};
 use gate_rules::{Options, Rules, Setting, Verdict};
-use host_pattern::{Pattern, PatternList};
+use host_pattern::PatternList;
 use std::alloc::Global;
-
-fn push_pattern(out: &mut Vec<u8>, pattern: &Pattern) -> Result<(), NoMemory>
-    ensures { OnOk result (out.new.items ≡ out.old.items ++ written pattern.now) }
-{
-    let mut text = ArrayVec::new();
-    pattern.write(&mut text);
-    out.extend_from_slice(text.as_slice())?;
-    Ok(())
-}
-
-fn push_patterns(out: &mut Vec<u8>, patterns: &[Pattern]) -> Result<(), NoMemory>
-    ensures { OnOk result (out.new.items ≡ out.old.items ++ flat_map (λ w. 32 ∷ w) (map written patterns.now)) }
-{
-    for pattern in patterns {
-        out.push(b' ')?;
-        push_pattern(out, pattern)?;
-    }
-    Ok(())
-}
 
 fn push_verbs(out: &mut Vec<u8>, verbs: &[Verb]) -> Result<(), NoMemory>
     ensures { OnOk result (out.new.items ≡ out.old.items ++ flat_map (λ w. 32 ∷ w) verbs.now) }
@@ -57,7 +37,7 @@ fn push_dest(out: &mut Vec<u8>, dest: &Option<PatternList>) -> Result<(), NoMemo
         return Ok(());
     };
     out.extend_from_slice(b"dest")?;
-    push_patterns(out, patterns.patterns())?;
+    push_words(out, patterns.texts())?;
     out.extend_from_slice(b"\n")?;
     Ok(())
 }

@@ -1,11 +1,11 @@
 //! Lists of patterns and of verbs.
-ghost use Rattle.std.specs.Prelude.{◌≡◌, Ok, Err, IfOk, IfErr, MatchResult};
+ghost use Rattle.std.specs.Prelude.{◌≡◌, ◌≢◌, if◌then◌else◌, nat_lt, length, Ok, Err, IfOk, IfErr, OnOk, MatchResult};
 ghost use Rattle.gate_rules.specs.Lists.{alone, between, hosts_alone, members_of, patterns_in, patterns_of, verbs_in, verbs_of};
 
 use crate::Why;
 use crate::words::{at_most, before_close, closes, hosts_in, is_close, is_open, options_in};
 use fw_outside::{NoMemory, Verb, VerbList};
-use host_pattern::{Pattern, PatternList, Word};
+use host_pattern::{ListFault, PatternList, Word};
 use std::alloc::Global;
 
 const MOST_PATTERNS: usize = 64;
@@ -15,6 +15,27 @@ const MOST_VERBS: usize = 32;
 /// What is read, or why it can't be; or there was no memory.
 pub type Reading<T> = Result<Result<T, Why>, NoMemory>;
 
+// Why at most 64 words are no list of patterns, where it isn't for want of memory.
+fn cause_of(fault: ListFault) -> Result<Why, NoMemory>
+    ensures ok { IfOk result (λ why. why ≡ Why.BadPattern) }
+    ensures own { OnOk result (fault ≢ ListFault.NoMemory) }
+{
+    match fault {
+        ListFault::None | ListFault::TooMany | ListFault::Bad { .. } => Ok(Why::BadPattern),
+        ListFault::NoMemory => Err(NoMemory),
+    }
+}
+
+// The patterns, unless there are more words than a list may have.
+fn unless_more(words: &[Word], patterns: PatternList) -> Result<PatternList, Why>
+    ensures { result ≡ (if nat_lt 64 (length words.now) then Err Why.TooMany else Ok patterns) }
+{
+    if words.len() > MOST_PATTERNS {
+        return Err(Why::TooMany);
+    }
+    Ok(patterns)
+}
+
 // The patterns that the words are.
 #[tactic(auto, unfolding(crate::specs::Lists::patterns_of))]
 pub(crate) fn patterns_of(alloc: Global, words: &[Word]) -> Reading<PatternList>
@@ -23,18 +44,10 @@ pub(crate) fn patterns_of(alloc: Global, words: &[Word]) -> Reading<PatternList>
     if words.is_empty() {
         return Ok(Err(Why::NoHosts));
     }
-    let few = at_most(words, MOST_PATTERNS);
-    let mut patterns = Vec::with_capacity(alloc, few.len())?;
-    for word in few {
-        match Pattern::parse(word.text.bytes()) {
-            Ok(pattern) => patterns.push(pattern)?,
-            Err(_) => return Ok(Err(Why::BadPattern)),
-        }
+    match PatternList::parse(alloc, at_most(words, MOST_PATTERNS)) {
+        Err(fault) => Ok(Err(cause_of(fault)?)),
+        Ok(patterns) => Ok(unless_more(words, patterns)),
     }
-    if words.len() > MOST_PATTERNS {
-        return Ok(Err(Why::TooMany));
-    }
-    Ok(Ok(PatternList::of(patterns)))
 }
 
 // The verbs that the words are.

@@ -67,12 +67,10 @@ fn everyone(alloc: Global) -> Result<Rule, RulesFault>
     let Ok(star) = Pattern::parse(b"*") else {
         unreachable!();
     };
-    let mut patterns = Vec::with_capacity(alloc, 1)?;
-    patterns.push(star)?;
     Ok(Rule {
         line: 0,
         permits: true,
-        hosts: PatternList::of(patterns),
+        hosts: PatternList::of(alloc, &star)?,
         options: Terms::none(),
     })
 }

@@ -106,10 +106,8 @@ fn say_patterns(out: &mut Vec<u8>, patterns: &Option<PatternList>) -> Result<(),
         return Ok(());
     };
     say(out, b"dest")?;
-    for pattern in patterns.patterns() {
-        let mut text = ArrayVec::new();
-        pattern.write(&mut text);
-        say(out, text.as_slice())?;
+    for text in patterns.texts() {
+        say(out, text.bytes())?;
     }
     Ok(())
 }

@@ -1,8 +1,9 @@
 -- Lists of patterns, one pattern or word further.
-use Rattle.std.proofs.Common.{◌≡◌, ℕ, ◌+◌, ◌≤◌, ◌<◌, List, ◌∷◌, length, drop, Bool, true, false, not, refl, sym, ◌∙◌, ap, arith, get_or}
-use Rattle.std.proofs.lemmas.List.{drop_more, drop_all}
+use Rattle.std.proofs.Common.{◌≡◌, ℕ, ◌+◌, ◌≤◌, ◌<◌, List, [], ◌∷◌, length, map, drop, Bool, true, false, not, ◌==◌, refl, sym, ◌∙◌, ap, arith, get_or, inl, inr}
+use Rattle.std.proofs.lemmas.Bool.{cases_eq, ne_eqb}
+use Rattle.std.proofs.lemmas.List.{drop_more, drop_all, drop-map, length-map}
 use Rattle.fw_outside.specs.declared.peer.Peer.{Peer}
-use Rattle.host_pattern.specs.Pattern.{Written}
+use Rattle.host_pattern.specs.Pattern.{Written, read_as, begins_negated, body_of, written}
 use Rattle.host_pattern.specs.PatternList.{matches, list_matches, patterns_tested}
 
 pub first_decides : (p : Written) (ps : List Written) (party : Peer) → matches party p ≡ true → list_matches (p ∷ ps) party ≡ not p.negated
@@ -25,44 +26,61 @@ pub tested_few : (ps : List Written) (party : Peer) → patterns_tested ps party
 unfolding patterns_tested
 tested_few ps party = omega arith
 
--- The loop over a list ps, which is the list self, at the place i, where the steps were start at first.
+-- The loop over the texts of a list self, at the place i, where the steps were start at first.
 
-here : (ps : List Written) (i : ℕ) (p : Written) → i < length ps → p ≡ get_or ps i p → drop i ps ≡ p ∷ drop (i + 1) ps
-here ps i p lt e = drop_more ps i p lt ∙ ap (λ x. x ∷ drop (i + 1) ps) (sym e)
+here : (texts : List (List ℕ)) (i : ℕ) (t : List ℕ) → i < length texts → t ≡ get_or texts i t → drop i (map read_as texts) ≡ read_as t ∷ drop (i + 1) (map read_as texts)
+here texts i t lt e =
+    let first : drop i texts ≡ t ∷ drop (i + 1) texts = drop_more texts i t lt ∙ ap (λ x. x ∷ drop (i + 1) texts) (sym e) in
+    drop-map read_as i texts ∙ ap (λ xs. map read_as xs) first ∙ ap (λ xs. read_as t ∷ xs) (sym (drop-map read_as (i + 1) texts))
 
-pub record IsThrough (self ps : List Written) (party : Peer) (i start steps : ℕ) : Type 0 where
-  pub items : ps ≡ self
-  pub same : list_matches (drop i ps) party ≡ list_matches ps party
-  pub count : steps + patterns_tested (drop i ps) party ≡ start + patterns_tested ps party
+pub record IsThrough (self : List Written) (texts : List (List ℕ)) (party : Peer) (i start steps : ℕ) : Type 0 where
+  pub items : map read_as texts ≡ self
+  pub same : list_matches (drop i (map read_as texts)) party ≡ list_matches (map read_as texts) party
+  pub count : steps + patterns_tested (drop i (map read_as texts)) party ≡ start + patterns_tested (map read_as texts) party
 
-pub answer_at : (self ps : List Written) (party : Peer) (i start steps : ℕ) (p : Written) (negated : Bool) → IsThrough self ps party i start steps → i < length ps → p ≡ get_or ps i p → matches party p ≡ true → negated ≡ p.negated → not negated ≡ list_matches self party
-answer_at self ps party i start steps p negated done lt at e n =
-    ap not n ∙ sym (first_decides p (drop (i + 1) ps) party e) ∙ ap (λ xs. list_matches xs party) (sym (here ps i p lt at)) ∙ done.same ∙ ap (λ xs. list_matches xs party) done.items
+pub answer_at : (self : List Written) (texts : List (List ℕ)) (party : Peer) (i start steps : ℕ) (t : List ℕ) (negated : Bool) → IsThrough self texts party i start steps → i < length texts → t ≡ get_or texts i t → matches party (read_as t) ≡ true → negated ≡ begins_negated t → not negated ≡ list_matches self party
+answer_at self texts party i start steps t negated done lt at e n =
+    ap not n ∙ sym (first_decides (read_as t) (drop (i + 1) (map read_as texts)) party e) ∙ ap (λ xs. list_matches xs party) (sym (here texts i t lt at)) ∙ done.same ∙ ap (λ xs. list_matches xs party) done.items
 
-pub steps_at : (self ps : List Written) (party : Peer) (i start steps : ℕ) (p : Written) → IsThrough self ps party i start steps → i < length ps → p ≡ get_or ps i p → matches party p ≡ true → steps + 1 ≡ start + patterns_tested self party
-steps_at self ps party i start steps p done lt at e =
-    let one : patterns_tested (drop i ps) party ≡ 1 = rw (here ps i p lt at) (first_ends p (drop (i + 1) ps) party e) in
-    let all : patterns_tested ps party ≡ patterns_tested self party = ap (λ xs. patterns_tested xs party) done.items in
+pub steps_at : (self : List Written) (texts : List (List ℕ)) (party : Peer) (i start steps : ℕ) (t : List ℕ) → IsThrough self texts party i start steps → i < length texts → t ≡ get_or texts i t → matches party (read_as t) ≡ true → steps + 1 ≡ start + patterns_tested self party
+steps_at self texts party i start steps t done lt at e =
+    let one : patterns_tested (drop i (map read_as texts)) party ≡ 1 = rw (here texts i t lt at) (first_ends (read_as t) (drop (i + 1) (map read_as texts)) party e) in
+    let all : patterns_tested (map read_as texts) party ≡ patterns_tested self party = ap (λ xs. patterns_tested xs party) done.items in
     omega (arith, done.count)
 
-pub further_at : (self ps : List Written) (party : Peer) (i start steps : ℕ) (p : Written) → IsThrough self ps party i start steps → i < length ps → p ≡ get_or ps i p → matches party p ≡ false → IsThrough self ps party (i + 1) start (steps + 1)
-further_at self ps party i start steps p done lt at e = record {
+pub further_at : (self : List Written) (texts : List (List ℕ)) (party : Peer) (i start steps : ℕ) (t : List ℕ) → IsThrough self texts party i start steps → i < length texts → t ≡ get_or texts i t → matches party (read_as t) ≡ false → IsThrough self texts party (i + 1) start (steps + 1)
+further_at self texts party i start steps t done lt at e = record {
   items = done.items;
-  same = sym (next_decides p (drop (i + 1) ps) party e) ∙ ap (λ xs. list_matches xs party) (sym (here ps i p lt at)) ∙ done.same;
+  same = sym (next_decides (read_as t) (drop (i + 1) (map read_as texts)) party e) ∙ ap (λ xs. list_matches xs party) (sym (here texts i t lt at)) ∙ done.same;
   count =
-      let one : patterns_tested (drop i ps) party ≡ 1 + patterns_tested (drop (i + 1) ps) party = rw (here ps i p lt at) (next_counts p (drop (i + 1) ps) party e) in
+      let one : patterns_tested (drop i (map read_as texts)) party ≡ 1 + patterns_tested (drop (i + 1) (map read_as texts)) party = rw (here texts i t lt at) (next_counts (read_as t) (drop (i + 1) (map read_as texts)) party e) in
       omega (arith, done.count);
 }
 
-pub no_answer : (self ps : List Written) (party : Peer) (i start steps : ℕ) → IsThrough self ps party i start steps → length ps ≤ i → false ≡ list_matches self party
-unfolding list_matches
-no_answer self ps party i start steps done le = (rw (drop_all i ps le) at done.same) ∙ ap (λ xs. list_matches xs party) done.items
+at_end : (texts : List (List ℕ)) (i : ℕ) → length texts ≤ i → drop i (map read_as texts) ≡ []
+at_end texts i le = drop_all i (map read_as texts) (omega (arith, length-map texts read_as))
 
-pub all_steps : (self ps : List Written) (party : Peer) (i start steps : ℕ) → IsThrough self ps party i start steps → length ps ≤ i → steps ≡ start + patterns_tested self party
+pub no_answer : (self : List Written) (texts : List (List ℕ)) (party : Peer) (i start steps : ℕ) → IsThrough self texts party i start steps → length texts ≤ i → false ≡ list_matches self party
+unfolding list_matches
+no_answer self texts party i start steps done le = (rw (at_end texts i le) at done.same) ∙ ap (λ xs. list_matches xs party) done.items
+
+pub all_steps : (self : List Written) (texts : List (List ℕ)) (party : Peer) (i start steps : ℕ) → IsThrough self texts party i start steps → length texts ≤ i → steps ≡ start + patterns_tested self party
 unfolding patterns_tested
-all_steps self ps party i start steps done le =
-    let count = rw (drop_all i ps le, done.items) at done.count in
+all_steps self texts party i start steps done le =
+    let count = rw (at_end texts i le, done.items) at done.count in
     omega arith
 
-pub starts_through : (self ps : List Written) (party : Peer) (start : ℕ) → ps ≡ self → IsThrough self ps party 0 start start
-starts_through self ps party start e = record { items = e; same = refl; count = refl }
+pub starts_through : (self : List Written) (texts : List (List ℕ)) (party : Peer) (start : ℕ) → map read_as texts ≡ self → IsThrough self texts party 0 start start
+starts_through self texts party start e = record { items = e; same = refl; count = refl }
+
+-- a text is written as it was read
+pub read_written : (t : List ℕ) → written (read_as t) ≡ t
+read_written [] = refl
+read_written (b ∷ t) = elim (cases_eq b 33) [
+  | inl e ↦ rw e refl
+  | inr ne ↦ rw (ne_eqb b 33 ne) refl
+]
+
+pub texts_written : (texts : List (List ℕ)) → texts ≡ map written (map read_as texts)
+texts_written [] = refl
+texts_written (t ∷ texts) = ap (λ x. x ∷ texts) (sym (read_written t)) ∙ ap (λ xs. written (read_as t) ∷ xs) (texts_written texts)

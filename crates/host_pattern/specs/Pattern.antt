@@ -40,6 +40,10 @@ with_body negated body =
 unfoldable pub parsed : List ℕ → Result Written PatternFault
 parsed text = with_body (begins_negated text) (body_of text)
 
+-- the pattern that a text is, where it is one
+abbrev pub read_as : List ℕ → Written
+read_as text = record { negated = begins_negated text; body = body_of text }
+
 -- the text of a pattern
 abbrev pub written : Written → List ℕ
 written pattern = if pattern.negated then 33 ∷ pattern.body else pattern.body

@@ -2,7 +2,6 @@
 ghost use Rattle.std.specs.Prelude.{◌≡◌};
 ghost use Rattle.host_pattern.specs.declared.fault.ListFault.TheVariants.{NoMemory};
 
-use std::alloc::{AllocError, AllocFailed};
 use thiserror::Error;
 
 /// Why a text is no pattern: the first of these that applies. The body is the text without a leading `!`.
@@ -36,18 +35,10 @@ pub enum ListFault {
     NoMemory,
 }
 
-impl From<AllocError> for ListFault {
+impl From<fw_outside::NoMemory> for ListFault {
     ghost from_gives = { λ _ e. e ≡ NoMemory };
 
-    fn from(_: AllocError) -> ListFault {
-        ListFault::NoMemory
-    }
-}
-
-impl<T: Drop> From<AllocFailed<T>> for ListFault {
-    ghost from_gives = { λ _ e. e ≡ NoMemory };
-
-    fn from(_: AllocFailed<T>) -> ListFault {
+    fn from(_: fw_outside::NoMemory) -> ListFault {
         ListFault::NoMemory
     }
 }

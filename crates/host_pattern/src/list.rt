@@ -1,32 +1,67 @@
-ghost use Rattle.std.specs.Prelude.{◌≡◌, ◌≢◌, ◌+◌, ◌<◌, ◌≤◌, length, vec_len, Ok, Err, IfOk, IfErr};
-ghost use Rattle.host_pattern.specs.PatternList.{list_parsed, list_matches, patterns_tested};
+ghost use Rattle.std.specs.Prelude.{◌≡◌, ◌≢◌, ◌+◌, ◌<◌, ◌≤◌, [], ◌∷◌, ◌++◌, length, map, Ok, Err, OnOk, IfOk, IfErr};
+ghost use Rattle.host_pattern.specs.Pattern.{begins_negated, parsed, read_as, written};
+ghost use Rattle.host_pattern.specs.PatternList.{list_parsed, list_matches, matches, patterns_tested};
 
-use crate::fault::ListFault;
-use crate::pattern::Pattern;
+use crate::fault::{ListFault, PatternFault};
+use crate::pattern::{Pattern, check_body, test_body, unmarked};
 use crate::steps::Steps;
 use crate::word::Word;
-use fw_outside::Peer;
+use arrayvec::ArrayVec;
+use fw_outside::{NoMemory, Octets, OctetsList, Peer};
 use std::alloc::Global;
 use std::marker::Model;
 use std::sync::ledger::Ledger;
 
 const MOST: usize = 64;
 
-/// A list of 1 to 64 patterns.
+/// A list of 1 to 64 patterns. It keeps their texts, which are short, and reads each again where it is tested.
 #[derive(Drop)]
 pub struct PatternList {
-    patterns: Vec<Pattern>,
+    texts: OctetsList,
 }
 
 impl Model for PatternList {
-    ghost use Rattle.std.specs.Prelude.{List, length, ◌<◌, ◌≤◌};
-    ghost use Rattle.host_pattern.specs.Pattern.{Written};
+    ghost use Rattle.std.specs.Prelude.{List, length, map, ◌<◌, ◌≤◌};
+    ghost use Rattle.host_pattern.specs.Pattern.{Written, read_as};
 
     ghost Value = { List Written };
 
-    ghost view = { λ list. list.patterns.items };
+    ghost view = { λ list. map read_as list.texts };
 
-    ghost invariant = { λ list. (0 < length list.patterns.items) × (length list.patterns.items ≤ 64) };
+    ghost invariant = { λ list. (0 < length list.texts) × (length list.texts ≤ 64) };
+}
+
+// Whether a text is a pattern, or the first thing that is wrong with it.
+#[tactic(auto, using(crate::proofs::PatternLemmas::body_is_read), unfolding(crate::specs::Pattern::parsed))]
+fn check(text: &[u8]) -> Result<(), PatternFault>
+    ensures ok { OnOk result (parsed text.now ≡ Ok (read_as text.now)) }
+    ensures err { IfErr result (λ why. parsed text.now ≡ Err why) }
+{
+    check_body(unmarked(text).1)
+}
+
+// Whether the body of the pattern that a text is matches the party. It is one step.
+fn test<L: Ledger>(text: &Octets, party: &Peer, steps: &mut Steps<L>) -> bool
+    ensures answer { result ≡ matches party.now (read_as text.now) }
+    ensures one_step { steps.new ≡ steps.old + 1 }
+{
+    test_body(unmarked(text.bytes()).1, party, steps)
+}
+
+fn is_negated(text: &Octets) -> bool
+    ensures { result ≡ begins_negated text.now }
+{
+    unmarked(text.bytes()).0
+}
+
+// Adds a copy of a text.
+fn add(alloc: Global, texts: &mut OctetsList, text: &[u8]) -> Result<(), NoMemory>
+    ensures { OnOk result (texts.new ≡ texts.old ++ text.now ∷ []) }
+{
+    match texts.push(Octets::copy(alloc, text)?) {
+        Ok(()) => Ok(()),
+        Err((_, e)) => Err(e),
+    }
 }
 
 impl PatternList {
@@ -47,32 +82,36 @@ impl PatternList {
         if words.len() > MOST {
             return Err(ListFault::TooMany);
         }
-        let mut patterns = Vec::with_capacity(alloc, words.len())?;
+        let mut texts = OctetsList::new(alloc);
         for (at, word) in words.iter().enumerate() {
-            match Pattern::parse(word.text.bytes()) {
-                Ok(pattern) => patterns.push(pattern)?,
+            let text = word.text.bytes();
+            match check(text) {
+                Ok(()) => add(alloc, &mut texts, text)?,
                 Err(why) => return Err(ListFault::Bad { at, why }),
             }
         }
-        Ok(PatternList { patterns })
+        Ok(PatternList { texts })
     }
 
-    /// The list of these patterns, which takes no memory.
-    pub fn of(patterns: Vec<Pattern>) -> PatternList
-        requires some { 0 < vec_len patterns }
-        requires few { vec_len patterns ≤ 64 }
-        ensures { result ≡ patterns.items }
+    /// The list of this pattern alone.
+    pub fn of(alloc: Global, pattern: &Pattern) -> Result<PatternList, NoMemory>
+        ensures { IfOk result (λ list. list ≡ pattern.now ∷ []) }
     {
-        PatternList { patterns }
+        let mut text = ArrayVec::new();
+        pattern.write(&mut text);
+        let mut texts = OctetsList::new(alloc);
+        add(alloc, &mut texts, text.as_slice())?;
+        Ok(PatternList { texts })
     }
 
-    /// Its patterns, in order.
-    pub fn patterns(&self) -> &[Pattern]
-        ensures patterns { result.now ≡ self.now }
+    /// The texts of its patterns, in order.
+    #[tactic(auto, using(crate::proofs::ListLemmas::texts_written))]
+    pub fn texts(&self) -> &[Octets]
+        ensures texts { result.now ≡ map written self.now }
         ensures some { 0 < length self.now }
         ensures few { length self.now ≤ 64 }
     {
-        self.patterns.as_slice()
+        self.texts.as_slice()
     }
 
     /// Whether the list matches the party: the first pattern whose body matches decides, by having no `!`.
@@ -82,9 +121,9 @@ impl PatternList {
         ensures steps { steps.new ≡ steps.old + patterns_tested self.now party.now }
         ensures bound { steps.new ≤ steps.old + length self.now }
     {
-        for pattern in self.patterns.iter() {
-            if pattern.matches(party, steps) {
-                return !pattern.negated();
+        for text in self.texts.as_slice() {
+            if test(text, party, steps) {
+                return !is_negated(text);
             }
         }
         false

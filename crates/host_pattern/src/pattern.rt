@@ -1,5 +1,5 @@
-ghost use Rattle.std.specs.Prelude.{◌≡◌, ◌+◌, not, position, IsTrue};
-ghost use Rattle.host_pattern.specs.Pattern.{is_body_byte, is_body, with_body, parsed, written};
+ghost use Rattle.std.specs.Prelude.{◌≡◌, ◌+◌, Bool, not, position, IsTrue, OnOk, IfErr};
+ghost use Rattle.host_pattern.specs.Pattern.{is_body_byte, is_body, with_body, parsed, read_as, written, begins_negated, body_of};
 ghost use Rattle.host_pattern.specs.Party.{body_matches};
 
 use crate::fault::PatternFault;
@@ -43,6 +43,43 @@ fn bad_place(body: &[u8]) -> Option<usize>
     body.iter().position(|byte| !is_body_byte(*byte))
 }
 
+/// Whether a text begins with `!`, and what follows it.
+pub(crate) fn unmarked(text: &[u8]) -> (bool, &[u8])
+    ensures negated { result.0 ≡ begins_negated text.now }
+    ensures body { result.1.now ≡ body_of text.now }
+{
+    match text {
+        [b'!', body @ ..] => (true, body),
+        _ => (false, text),
+    }
+}
+
+/// Whether a text is a body, or the first thing that is wrong with it.
+pub(crate) fn check_body(body: &[u8]) -> Result<(), PatternFault>
+    ensures ok { OnOk result (IsTrue (is_body body.now)) }
+    ensures err { IfErr result (λ why. (negated : Bool) → with_body negated body.now ≡ Err why) }
+{
+    if body.is_empty() {
+        return Err(PatternFault::Empty);
+    }
+    if body.len() > LONGEST {
+        return Err(PatternFault::TooLong);
+    }
+    match bad_place(body) {
+        Some(at) => Err(PatternFault::BadByte { at }),
+        None => Ok(()),
+    }
+}
+
+/// Whether a body matches the party. It is one step.
+pub(crate) fn test_body<L: Ledger>(body: &[u8], party: &Peer, steps: &mut Steps<L>) -> bool
+    ensures answer { result ≡ body_matches body.now party.now }
+    ensures one_step { steps.new ≡ steps.old + 1 }
+{
+    steps.tick();
+    body_matches(body, party)
+}
+
 impl Pattern {
     /// The pattern that a text is.
     ///
@@ -54,24 +91,16 @@ impl Pattern {
     pub fn parse(text: &[u8]) -> Result<Pattern, PatternFault>
         ensures { result ≡ parsed text.now }
     {
-        match text {
-            [b'!', body @ ..] => Pattern::with_body(true, body),
-            _ => Pattern::with_body(false, text),
-        }
+        let (negated, body) = unmarked(text);
+        Pattern::with_body(negated, body)
     }
 
     fn with_body(negated: bool, body: &[u8]) -> Result<Pattern, PatternFault>
         ensures { result ≡ with_body negated body.now }
     {
-        if body.is_empty() {
-            return Err(PatternFault::Empty);
-        }
-        if body.len() > LONGEST {
-            return Err(PatternFault::TooLong);
-        }
-        match bad_place(body) {
-            Some(at) => Err(PatternFault::BadByte { at }),
-            None => Ok(Pattern {
+        match check_body(body) {
+            Err(why) => Err(why),
+            Ok(()) => Ok(Pattern {
                 negated,
                 body: copy_of(body),
             }),
@@ -95,7 +124,8 @@ impl Pattern {
 
     /// Sets `out` to its text, as it was written.
     pub fn write(&self, out: &mut ArrayVec<u8, 256>)
-        ensures { out.new.items ≡ written self.now }
+        ensures text { out.new.items ≡ written self.now }
+        ensures back { read_as out.new.items ≡ self.now }
     {
         out.clear();
         if self.negated {
@@ -119,7 +149,6 @@ impl Pattern {
         ensures answer { result ≡ body_matches self.now.body party.now }
         ensures one_step { steps.new ≡ steps.old + 1 }
     {
-        steps.tick();
-        body_matches(self.body.as_slice(), party)
+        test_body(self.body.as_slice(), party, steps)
     }
 }

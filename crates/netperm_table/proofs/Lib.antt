@@ -1,5 +1,7 @@
+pub mod FindLemmas
 pub mod LineLemmas
 pub mod ProgressLemmas
 mod Rows
+pub mod StopLemmas
 pub mod TakingLemmas
 pub mod WordLemmas

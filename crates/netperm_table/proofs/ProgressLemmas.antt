@@ -75,7 +75,7 @@ first_fault made number long text fault first read =
     ap (λ ls. with_lines made (table_from number ls)) first.is ∙ fault_then made fault _ (table_from (number + 1) first.more) read
 
 -- no line has a number over 65,535
-many : (number : ℕ) (bytes : List ℕ) → 65535 < number → reading number bytes ≡ Err ManyLines
+pub many : (number : ℕ) (bytes : List ℕ) → 65535 < number → reading number bytes ≡ Err ManyLines
 many number bytes over = rw (lt-ltb 65535 number over) refl
 
 pub many_lines : (p : Progress) (bytes : List ℕ) → IsOneLine p.line → 65535 < p.number → 0 < length bytes → Shows p bytes ManyLines

@@ -1,8 +1,9 @@
 -- How reading a table takes from its source.
-use Rattle.std.proofs.Common.{◌≡◌, ◌≢◌, ℕ, ◌<◌, List, [], ◌++◌, take, refl, sym, ap, ◌∙◌, append_assoc, inl, inr, true, false, arith}
+use Rattle.std.proofs.Common.{◌≡◌, ◌≢◌, ℕ, ◌+◌, ◌<◌, List, [], ◌++◌, take, refl, sym, ap, ◌∙◌, append_assoc, length, length-append, inl, inr, true, false, arith}
 use Rattle.std.proofs.lemmas.Bool.Decides.{nat_tests}
-use Rattle.std.specs.Prelude.{◌⊎◌, ◌||◌, nat_lt, Option, Some, None, Result, Ok, Err}
+use Rattle.std.specs.Prelude.{◌⊎◌, ◌||◌, filter, nat_lt, Option, Some, None, Result, Ok, Err}
 use Rattle.std.proofs.lemmas.List.{append-nil}
+use Rattle.std.proofs.lemmas.List.Elements.{filter-append}
 use Rattle.fw_outside.specs.Cabinet.{has_failed}
 use Rattle.fw_outside.specs.Counts.{Rose}
 use Rattle.fw_outside.specs.Spring.{Spring, Came, Ended, Broke, Idled}
@@ -10,9 +11,10 @@ use Rattle.fw_outside.specs.Telling.{grown, preceded, IsOver}
 use Rattle.netperm_table.specs.declared.line.Line.{Line}
 use Rattle.netperm_table.specs.declared.table_fault.TableFault.{TableFault}
 use Rattle.netperm_table.specs.declared.table_fault.TableFault.TheVariants.{LongLine, NulByte, NoColon, NoKeyword, OpenQuote, NoAttribute, ManyLines, ReadFault, NoMemory}
+use Rattle.netperm_table.specs.Bytes.{is_lf}
 use Rattle.netperm_table.specs.Progress.{Progress, Leads, Shows, start, table_with}
 use Rattle.netperm_table.specs.Table.{table_of}
-use Rattle.netperm_table.specs.Taking.{AreLinesOf, IsFaultOf, Leaves, is_read_fault, Stopped, Took, TookAll}
+use Rattle.netperm_table.specs.Taking.{AreLinesOf, IsFaultOf, Leaves, is_read_fault, line_ends, Stopped, Took, TookAll}
 use Rattle.netperm_table.proofs.ProgressLemmas.{leads_start, starts}
 
 grown-append : (told : Option (List ℕ)) (a b : List ℕ) → grown (grown told a) b ≡ grown told (a ++ b)
@@ -23,6 +25,10 @@ preceded-append : (a b : List ℕ) (rest : Option (List ℕ)) → preceded a (pr
 preceded-append a b None = refl
 preceded-append a b (Some rest) = ap Some (sym (append_assoc a b rest))
 
+-- how many lines end in bytes, and then in others
+pub ends-append : (a b : List ℕ) → line_ends (a ++ b) ≡ line_ends a + line_ends b
+ends-append a b = ap length (filter-append is_lf a b) ∙ length-append (filter is_lf a) (filter is_lf b)
+
 -- what was taken since the first was read
 pub record ReadsOn (first now : Spring) (reader : Progress) : Type 0 where
   pub part : List ℕ
@@ -30,6 +36,7 @@ pub record ReadsOn (first now : Spring) (reader : Progress) : Type 0 where
   pub next : first.left ≡ preceded part rest
   pub is : now ≡ record first { taken = grown first.taken part; left = rest }
   pub leads : Leads start part reader []
+  pub number : reader.number ≡ line_ends part + 1
 
 grown-nil : (told : Option (List ℕ)) → grown told [] ≡ told
 grown-nil None = refl
@@ -46,18 +53,19 @@ reads_nothing first = record {
   next = preceded-nil first.left;
   is = rw (grown-nil first.taken) refl;
   leads = leads_start start [];
+  number = refl;
 }
 
 pub took : (first now : Spring) (reader : Progress) → ReadsOn first now reader → Took first now
 took first now reader r = record { part = r.part; rest = r.rest; next = r.next; is = r.is }
 
 -- one more piece was taken
-next_more : (first now new : Spring) (reader : Progress) (n : ℕ) (piece : List ℕ) (r : ReadsOn first now reader) (came : Came n piece now new) → first.left ≡ preceded (r.part ++ take n piece) came.rest
+pub next_more : (first now new : Spring) (reader : Progress) (n : ℕ) (piece : List ℕ) (r : ReadsOn first now reader) (came : Came n piece now new) → first.left ≡ preceded (r.part ++ take n piece) came.rest
 next_more first now new reader n piece r came =
     let left : now.left ≡ r.rest = rw r.is refl in
     r.next ∙ ap (preceded r.part) (sym left ∙ came.next) ∙ preceded-append r.part (take n piece) came.rest
 
-is_more : (first now new : Spring) (reader : Progress) (n : ℕ) (piece : List ℕ) (r : ReadsOn first now reader) (came : Came n piece now new) → new ≡ record first { taken = grown first.taken (r.part ++ take n piece); left = came.rest }
+pub is_more : (first now new : Spring) (reader : Progress) (n : ℕ) (piece : List ℕ) (r : ReadsOn first now reader) (came : Came n piece now new) → new ≡ record first { taken = grown first.taken (r.part ++ take n piece); left = came.rest }
 is_more first now new reader n piece r came =
     let taken : now.taken ≡ grown first.taken r.part = rw r.is refl in
     let faults : now.faults ≡ first.faults = rw r.is refl in
@@ -84,13 +92,14 @@ shows_more reader part piece fault first second = record {
 }
 
 -- and was read
-pub reads_more : (first now new : Spring) (reader after : Progress) (n : ℕ) (piece : List ℕ) → ReadsOn first now reader → Came n piece now new → Leads reader (take n piece) after [] → ReadsOn first new after
-reads_more first now new reader after n piece r came leads = record {
+pub reads_more : (first now new : Spring) (reader after : Progress) (n : ℕ) (piece : List ℕ) → ReadsOn first now reader → Came n piece now new → Leads reader (take n piece) after [] → after.number ≡ reader.number + line_ends (take n piece) → ReadsOn first new after
+reads_more first now new reader after n piece r came leads number = record {
   part = r.part ++ take n piece;
   rest = came.rest;
   next = next_more first now new reader n piece r came;
   is = is_more first now new reader n piece r came;
   leads = leads_more reader r.part (take n piece) after r.leads leads;
+  number = omega (arith, number, r.number, ends-append r.part (take n piece));
 }
 
 fault_of_left : (left : Option (List ℕ)) (e : TableFault) → ((text : List ℕ) → left ≡ Some text → e ≢ NoMemory → table_of text ≡ Err e) → IsFaultOf left e

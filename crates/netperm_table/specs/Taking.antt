@@ -1,11 +1,13 @@
 -- What reading a table does to its source.
-use Rattle.std.specs.Prelude.{◌≡◌, ℕ, ◌⊎◌, Bool, true, false, List, Option, Some, None, Result, Ok, Err}
+use Rattle.std.specs.Prelude.{◌≡◌, ℕ, ◌≤◌, ◌⊎◌, Bool, true, false, List, [], ◌++◌, length, filter, Option, Some, None, Result, Ok, Err, IfErr}
 use Rattle.fw_outside.specs.Counts.{Rose}
 use Rattle.fw_outside.specs.Spring.{Spring}
 use Rattle.fw_outside.specs.Telling.{grown, preceded, IsOver}
 use Rattle.netperm_table.specs.declared.line.Line.{Line}
 use Rattle.netperm_table.specs.declared.table_fault.TableFault.{TableFault}
 use Rattle.netperm_table.specs.declared.table_fault.TableFault.TheVariants.{ReadFault, NoMemory}
+use Rattle.netperm_table.specs.Bytes.{is_lf}
+use Rattle.netperm_table.specs.Fault.{ComesAfter}
 use Rattle.netperm_table.specs.Table.{table_of}
 
 -- the first of the bytes that were left were taken, and nothing else changed
@@ -35,6 +37,24 @@ abbrev pub Leaves : Result (List Line) TableFault → Spring → Spring → Type
 Leaves (Ok _) old new = TookAll old new
 Leaves (Err ReadFault) old new = Stopped old new
 Leaves (Err _) old new = Took old new
+
+-- how many lines ended in these bytes
+abbrev pub line_ends : List ℕ → ℕ
+line_ends bytes = length (filter is_lf bytes)
+
+-- no line that ended in these bytes is at fault, whatever follows
+abbrev pub ShowsNoFault : List ℕ → Type 0
+ShowsNoFault bytes = (rest : List ℕ) → IfErr (table_of (bytes ++ rest)) (ComesAfter (line_ends bytes))
+
+-- what was taken shows no fault, but for the last take, which has at most 4,096 bytes, and nothing where the source failed
+pub record StopsAt (fault : TableFault) (old new : Spring) : Type 0 where
+  pub front : List ℕ
+  pub last : List ℕ
+  pub next : old.left ≡ preceded (front ++ last) new.left
+  pub is : new.taken ≡ grown old.taken (front ++ last)
+  pub clean : ShowsNoFault front
+  pub few : length last ≤ 4096
+  pub none : fault ≡ ReadFault → last ≡ []
 
 -- whether the answer is that the source failed
 abbrev pub is_read_fault : Result (List Line) TableFault → Bool

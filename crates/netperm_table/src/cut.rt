@@ -5,10 +5,11 @@ ghost use Rattle.std.specs.Str.Lines.{strip_carriage_return};
 
 use memchr::memchr;
 
+#[tactic(auto, using(crate::proofs::FindLemmas::first_byte))]
 fn find(byte: u8, bytes: &[u8]) -> Option<usize>
     ensures { result ≡ position (λ b. b == byte) bytes.now }
 {
-    bytes.iter().position(|other| *other == byte)
+    memchr(byte, bytes)
 }
 
 /// What stands before the first such byte, and what stands after it.

@@ -7,11 +7,13 @@
 //! - `Ok` has the lines of that text, and says that the source was read to its end;
 //! - a fault of a line is that of the first line that can't be read, and the first of the tests that this line fails;
 //! - `ReadFault` comes exactly where a take failed or nothing came in time, and what was read by then isn't answered;
+//! - at a fault, no line that had ended before the last take is at fault, and where the source failed, none that had ended;
 //! - in any case only a front of the text was taken, and nothing else of the source changed but the count of that failure.
 //!
 //! Want of memory may be answered at any time. Where a source doesn't tell what is left in it, nothing is said of the lines.
 #![tactic(auto)]
 
+mod copying;
 mod cut;
 mod line;
 mod part;
@@ -21,9 +23,10 @@ mod table;
 mod table_fault;
 mod words;
 
-pub use line::{Line, Words};
+pub use line::Line;
 pub use table::Table;
 pub use table_fault::TableFault;
+pub use words::Words;
 
 #[cfg(test)]
 mod tests;

@@ -5,11 +5,11 @@ ghost use Rattle.netperm_table.specs.Bytes.{is_blank, is_nul};
 ghost use Rattle.netperm_table.specs.Reading.{is_skipped, line_for, line_with, reading};
 ghost use Rattle.netperm_table.specs.Words.{keywords_of, with_word, word_of, words_of};
 
+use crate::copying::{read_keywords, read_words};
 use crate::cut::cut_at;
-use crate::line::{Line, Words};
+use crate::line::Line;
 use crate::part::{OpenQuote, Part, is_blank, next_part};
 use crate::table_fault::TableFault;
-use crate::words::{read_keywords, read_words};
 use fw_outside::{Octets, OctetsList};
 use std::alloc::Global;
 
@@ -22,7 +22,7 @@ const LONGEST: usize = 2048;
 fn has_nul(bytes: &[u8]) -> bool
     ensures { result ≡ list_any is_nul bytes.now }
 {
-    bytes.iter().any(|byte| *byte == 0)
+    cut_at(0, bytes).is_some()
 }
 
 // The first byte that isn't a blank.
@@ -59,7 +59,7 @@ fn with_attribute(
             number,
             keywords,
             attribute,
-            words: Words::of(words),
+            words,
         })),
     }
 }

@@ -2,6 +2,7 @@
 ghost use Rattle.std.specs.Prelude.{◌≡◌, ◌≢◌, ◌<◌, ◌≤◌, ◌+◌, ◌==◌, false, [], ◌∷◌, ◌++◌, length, All, IfOk, IfErr, OnOk, Ok, Err, option_to_list};
 ghost use Rattle.netperm_table.specs.Progress.{Keeps, Leads, Shows, farthest, reached, start, table_with};
 ghost use Rattle.netperm_table.specs.Reading.{reading};
+ghost use Rattle.netperm_table.specs.Taking.{line_ends};
 
 use crate::cut::{cut_at_line_end, without_return};
 use crate::line::Line;
@@ -91,6 +92,7 @@ impl Reader {
     fn end_line(&mut self, alloc: Global) -> Result<(), TableFault>
         requires { self.old.number ≤ 65535 }
         ensures ok { OnOk result (Leads self.old (10 ∷ []) self.new []) }
+        ensures number { OnOk result (self.new.number ≡ self.old.number + 1) }
         ensures far { OnOk result (reached self.old < reached self.new) }
         ensures within { OnOk result (reached self.new ≤ farthest) }
         ensures fault { IfErr result (λ e. e ≢ TableFault.NoMemory → Shows self.old (10 ∷ []) e) }
@@ -104,9 +106,11 @@ impl Reader {
     }
 
     // Reads on to the end of the line or of the bytes, and tells what is left of them.
+    #[tactic(auto, using(crate::proofs::StopLemmas::no_ends, crate::proofs::StopLemmas::ends_line))]
     fn read_on<'a>(&mut self, alloc: Global, bytes: &'a [u8]) -> Result<&'a [u8], TableFault>
         requires { 0 < length bytes.now }
         ensures ok { IfOk result (λ left. Leads self.old bytes.now self.new left.now) }
+        ensures number { IfOk result (λ left. self.new.number + line_ends left.now ≡ self.old.number + line_ends bytes.now) }
         ensures far { OnOk result (reached self.old < reached self.new) }
         ensures within { OnOk result (reached self.new ≤ farthest) }
         ensures shorter { IfOk result (λ left. length left.now < length bytes.now) }
@@ -130,6 +134,7 @@ impl Reader {
     /// Reads the next bytes of the text.
     pub(crate) fn feed(&mut self, alloc: Global, bytes: &[u8]) -> Result<(), TableFault>
         ensures ok { OnOk result (Leads self.old bytes.now self.new []) }
+        ensures number { OnOk result (self.new.number ≡ self.old.number + line_ends bytes.now) }
         ensures far { OnOk result (0 < length bytes.now → reached self.old < reached self.new) }
         ensures within { OnOk result (0 < length bytes.now → reached self.new ≤ farthest) }
         ensures fault { IfErr result (λ e. e ≢ TableFault.NoMemory → Shows self.old bytes.now e) }

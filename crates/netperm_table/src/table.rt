@@ -1,7 +1,7 @@
 ghost use Rattle.std.specs.Prelude.{◌≡◌, ◌<◌, ◌⊎◌, false, length, IfOk, IfErr, OnOk, OnErr, MatchOption, Err};
 ghost use Rattle.fw_outside.specs.Cabinet.{has_failed};
 ghost use Rattle.fw_outside.specs.Spring.{Broke, Came, Ended, Idled};
-ghost use Rattle.netperm_table.specs.Taking.{AreLinesOf, IsFaultOf, Leaves, TookAll, is_read_fault};
+ghost use Rattle.netperm_table.specs.Taking.{AreLinesOf, IsFaultOf, Leaves, StopsAt, TookAll, is_read_fault};
 
 use crate::line::Line;
 use crate::reader::Reader;
@@ -45,6 +45,7 @@ fn read_lines<S: Source>(alloc: Global, from: &mut S) -> Result<Vec<Line>, Table
     ensures fault { IfErr result (λ e. IsFaultOf (S.spring from.old).left e) }
     ensures end { OnOk result (TookAll (S.spring from.old) (S.spring from.new)) }
     ensures source { IfErr result (λ e. Leaves (Err e) (S.spring from.old) (S.spring from.new)) }
+    ensures stops { IfErr result (λ e. StopsAt e (S.spring from.old) (S.spring from.new)) }
 {
     let mut reader = Reader::new(alloc);
     let mut buffer = [0; 4096];
@@ -63,6 +64,7 @@ impl Table {
         ensures lines { IfOk result (λ table. AreLinesOf (S.spring from.old).left table) }
         ensures fault { IfErr result (λ e. IsFaultOf (S.spring from.old).left e) }
         ensures source { Leaves result (S.spring from.old) (S.spring from.new) }
+        ensures stops { IfErr result (λ e. StopsAt e (S.spring from.old) (S.spring from.new)) }
         ensures failed { has_failed (S.spring from.old) ≡ false → has_failed (S.spring from.new) ≡ is_read_fault result }
     {
         match read_lines(alloc, from) {

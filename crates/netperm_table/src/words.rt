@@ -1,68 +1,83 @@
-//! The keywords and the words of a line, copied.
-ghost use Rattle.std.specs.Prelude.{◌≡◌, ◌++◌, [], ◌∷◌, filter, option_map, IfOk};
-ghost use Rattle.netperm_table.specs.Bytes.{is_separator};
-ghost use Rattle.netperm_table.specs.Words.{is_some_bytes, keywords_of, word_of, words_of};
+ghost use Rattle.std.specs.Prelude.{◌≡◌, [], ◌∷◌, ◌++◌, IfOk, OnOk};
 
-use crate::part::{OpenQuote, Part, is_blank, next_part};
-use fw_outside::{NoMemory, Octets, OctetsList};
+use fw_outside::NoMemory;
 use host_pattern::Word;
 use std::alloc::Global;
+use std::marker::Model;
+use std::{mem, slice};
 
-fn is_separator(byte: u8) -> bool
-    ensures { result ≡ is_separator byte }
-{
-    byte == b',' || is_blank(byte)
+/// Where words are kept.
+#[derive(Drop)]
+pub enum Kept {
+    None,
+    One(Word),
+    More(Vec<Word>),
 }
 
-// Keeps a copy of a part that isn't empty.
-fn keep_part(alloc: Global, list: &mut OctetsList, part: &[u8]) -> Result<(), NoMemory>
-    ensures { IfOk result (λ _. list.new ≡ list.old ++ filter is_some_bytes (part.now ∷ [])) }
+/// The words of a line after its attribute. A single one is kept in the value itself.
+#[derive(Drop)]
+pub struct Words {
+    alloc: Global,
+    kept: Kept,
+}
+
+impl Model for Words {
+    ghost use Rattle.std.specs.Prelude.{List};
+    ghost use Rattle.host_pattern.specs.declared.word.Word.{Word};
+    ghost use Rattle.netperm_table.specs.Kept.{kept_words};
+
+    ghost Value = { List Word };
+
+    ghost view = { λ words. kept_words words.kept };
+}
+
+fn two(alloc: Global, first: Word, second: Word) -> Result<Vec<Word>, NoMemory>
+    ensures { IfOk result (λ words. words.items ≡ first ∷ second ∷ []) }
 {
-    if part.is_empty() {
-        return Ok(());
+    let mut words = Vec::with_capacity(alloc, 2)?;
+    words.push_reserved(first);
+    words.push_reserved(second);
+    Ok(words)
+}
+
+fn more(mut words: Vec<Word>, word: Word) -> Result<Vec<Word>, NoMemory>
+    ensures { IfOk result (λ longer. longer.items ≡ words.items ++ word ∷ []) }
+{
+    words.push(word)?;
+    Ok(words)
+}
+
+impl Words {
+    /// No word yet. What is pushed later is kept in memory of `alloc`.
+    pub(crate) fn new(alloc: Global) -> Words
+        ensures { result ≡ [] }
+    {
+        Words {
+            alloc,
+            kept: Kept::None,
+        }
     }
-    match list.push(Octets::copy(alloc, part)?) {
-        Ok(()) => Ok(()),
-        Err((_, e)) => Err(e),
+
+    /// Adds a word at the end; where there is no memory for it, none is left.
+    pub(crate) fn push(&mut self, word: Word) -> Result<(), NoMemory>
+        ensures { OnOk result (self.new ≡ self.old ++ word ∷ []) }
+    {
+        self.kept = match mem::replace(&mut self.kept, Kept::None) {
+            Kept::None => Kept::One(word),
+            Kept::One(first) => Kept::More(two(self.alloc, first, word)?),
+            Kept::More(words) => Kept::More(more(words, word)?),
+        };
+        Ok(())
     }
-}
 
-/// The keywords in the bytes before a colon.
-pub(crate) fn read_keywords(alloc: Global, bytes: &[u8]) -> Result<OctetsList, NoMemory>
-    ensures { IfOk result (λ list. list ≡ keywords_of bytes.now) }
-{
-    let mut keywords = OctetsList::new(alloc);
-    for part in bytes.split(|byte| is_separator(*byte)) {
-        keep_part(alloc, &mut keywords, part)?;
-    }
-    Ok(keywords)
-}
-
-// Keeps a copy of a word.
-fn keep_word(alloc: Global, words: &mut Vec<Word>, part: &Part) -> Result<(), NoMemory>
-    ensures { IfOk result (λ _. words.new.items ≡ words.old.items ++ word_of part.now.text.now part.now.quoted ∷ []) }
-{
-    words.push(Word {
-        text: Octets::copy(alloc, part.text)?,
-        quoted: part.quoted,
-    })?;
-    Ok(())
-}
-
-/// The words in the bytes, or nothing where a quote isn't closed.
-pub(crate) fn read_words(alloc: Global, bytes: &[u8]) -> Result<Option<Vec<Word>>, NoMemory>
-    ensures { IfOk result (λ words. option_map (λ v. v.items) words ≡ words_of bytes.now) }
-{
-    let mut words = Vec::new(alloc);
-    let mut rest = bytes;
-    loop {
-        match next_part(rest) {
-            Err(OpenQuote) => return Ok(None),
-            Ok(None) => return Ok(Some(words)),
-            Ok(Some(part)) => {
-                keep_word(alloc, &mut words, &part)?;
-                rest = part.rest;
-            }
+    /// The words, in order.
+    pub fn as_slice(&self) -> &[Word]
+        ensures { result.now ≡ self.now }
+    {
+        match &self.kept {
+            Kept::None => &[],
+            Kept::One(word) => slice::from_ref(word),
+            Kept::More(words) => words.as_slice(),
         }
     }
 }

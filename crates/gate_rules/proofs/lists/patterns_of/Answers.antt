@@ -1,18 +1,9 @@
-use Rattle.std.proofs.Common.{◌≡◌, false, length, sym, ◌∙◌, arith}
-use Rattle.std.specs.Prelude.{◌==◌}
-use Rattle.host_pattern.specs.PatternList.{good}
-use Rattle.gate_rules.specs.Lists.{is_pattern}
-use Rattle.gate_rules.proofs.ListsLemmas.{all_at_end, items_at_end, patterns_are}
+use Rattle.std.proofs.Common.{sym, ◌∙◌}
+use Rattle.gate_rules.proofs.ListsLemmas.{members_bad, members_read}
 use Rattle.gate_rules.proofs.lists.patterns_of.Goals as goal
 
-pub of-requires-clause-few : goal.of-requires-clause-few
-of-requires-clause-few c = omega (arith, c.at_most-few.ensures.few, c.loop-word.invariant.count)
+pub returns-in_ok-cause_of-in-Err : goal.returns-in_ok-cause_of-in-Err
+returns-in_ok-cause_of-in-Err c = rw c.in_ok-cause_of-in-Err.ensures.ok (members_bad c.args.words.now c.at_most.result.now c.in-Err.fault c.at_most.ensures.words (sym c.is_empty.ensures ∙ c.if-is_empty.false) (c.in-Err.ensures.err c.in_ok-cause_of-in-Err.ensures.own))
 
-pub returns : goal.returns
-returns c =
-    let few = c.at_most-few.result.now in
-    let i = c.loop-word.word-index in
-    let some : (length c.args.words.now == 0) ≡ false = sym c.is_empty.ensures ∙ c.if-is_empty.false in
-    let all = all_at_end is_pattern few i c.loop-word-test.false c.loop-word.invariant.all in
-    let items = items_at_end good c.loop-word.patterns.items few i c.loop-word-test.false c.loop-word.invariant.items in
-    rw c.of.ensures (patterns_are c.args.words.now few c.loop-word.patterns.items c.at_most-few.ensures.words some c.if-words-gt-MOST_PATTERNS.false all items)
+pub returns-in-Ok : goal.returns-in-Ok
+returns-in-Ok c = c.unless_more.ensures ∙ members_read c.args.words.now c.at_most.result.now c.in-Ok.patterns c.at_most.ensures.words (sym c.is_empty.ensures ∙ c.if-is_empty.false) c.in-Ok.ensures.ok

@@ -1,7 +1,6 @@
-use Rattle.std.proofs.Common.{arith, sym, ◌∙◌}
-use Rattle.std.proofs.lemmas.Bool.Decides.{nat_tests}
-use Rattle.host_pattern.proofs.PatternLemmas.{good_body}
+use Rattle.std.proofs.Common.{sym}
+use Rattle.host_pattern.proofs.PatternLemmas.{body_is_read}
 use Rattle.host_pattern.proofs.pattern.Pattern.with_body.Goals as goal
 
-pub invariant_of-result : goal.invariant_of-result
-invariant_of-result c = good_body c.args.body.now c.copy_of.result.items c.copy_of.ensures (grind (arith, nat_tests, c.if-is_empty.ensures)) (omega arith) (sym c.in-None.is ∙ c.bad_place.ensures)
+pub returns-in-Ok : goal.returns-in-Ok
+returns-in-Ok c = rw c.copy_of.ensures (sym (body_is_read c.args.negated c.args.body.now (rw c.in-Ok.is at c.check_body.ensures.ok)))

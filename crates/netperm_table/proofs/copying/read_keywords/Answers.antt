@@ -3,7 +3,7 @@ use Rattle.std.specs.Prelude.{filter}
 use Rattle.std.proofs.lemmas.Iterator.Consumers.{YieldsList-at, YieldsList-end}
 use Rattle.std.proofs.lemmas.Iterator.Splits.{YieldsList-from_slice_split}
 use Rattle.netperm_table.specs.Words.{is_some_bytes}
-use Rattle.netperm_table.proofs.words.read_keywords.Goals as goal
+use Rattle.netperm_table.proofs.copying.read_keywords.Goals as goal
 
 pub returns : goal.returns
 returns c =
