@@ -1,0 +1,6 @@
+//! The authentication machine.
+#![tactic(auto)]
+
+mod session;
+
+pub use session::{Challenge, Phase, Session};
