@@ -13,9 +13,9 @@ use Rattle.auth_machine.specs.Answer.{Answer}
 use Rattle.auth_machine.specs.Answer.Answer.{Opened, Password, Challenged, Ok, Shown, Denied}
 use Rattle.auth_machine.specs.Policy.{PolicyView}
 use Rattle.auth_machine.specs.State.{State, Change, challenge_at, record_at}
-use Rattle.auth_machine.specs.State.Edit.{Leave, Put}
-use Rattle.auth_machine.specs.State.Hold.{Keep, Drop, Take}
-use Rattle.auth_machine.specs.State.Turn.{Become, Stay}
+use Rattle.auth_machine.specs.declared.edit.Edit.TheVariants.{Leave, Put}
+use Rattle.auth_machine.specs.declared.edit.Hold.TheVariants.{Keep, Drop, Take}
+use Rattle.auth_machine.specs.declared.edit.Turn.TheVariants.{Become, Stay}
 use Rattle.auth_machine.specs.declared.session.Challenge.{Challenge}
 use Rattle.auth_machine.specs.declared.session.Phase.{Phase}
 use Rattle.auth_machine.specs.declared.session.Phase.TheVariants.{Idle, Waiting, Bogus, In}

@@ -1,5 +1,6 @@
 -- What those who are logged in may do: operations, and requests about records.
-use Rattle.std.specs.Prelude.{ℕ, Bool, true, false, not, ◌&&◌, List, ◌++◌, find, Option, Some, None, if◌then◌else◌}
+use Rattle.std.specs.Prelude.{ℕ, Bool, true, false, not, ◌&&◌, List, ◌++◌, find, Option, Some, None, Result, Err, if◌then◌else◌}
+use Rattle.std.specs.Prelude as prelude
 use Rattle.std.specs.Option.{option_map}
 use Rattle.std.specs.Str.{bytes_eq}
 use Rattle.md5.specs.Md5.{md5}
@@ -20,9 +21,9 @@ use Rattle.auth_machine.specs.Operations.{Verdict, operation_verdict}
 use Rattle.auth_machine.specs.Operations.Verdict.{Permit, Deny}
 use Rattle.auth_machine.specs.Policy.{PolicyView}
 use Rattle.auth_machine.specs.State.{State, Change, record_at}
-use Rattle.auth_machine.specs.State.Edit.{Leave, Put, Delete}
-use Rattle.auth_machine.specs.State.Hold.{Keep, Free}
-use Rattle.auth_machine.specs.State.Turn.{Stay}
+use Rattle.auth_machine.specs.declared.edit.Edit.TheVariants.{Leave, Put, Delete}
+use Rattle.auth_machine.specs.declared.edit.Hold.TheVariants.{Keep, Free}
+use Rattle.auth_machine.specs.declared.edit.Turn.TheVariants.{Stay}
 use Rattle.auth_machine.specs.declared.session.Phase.{Phase}
 use Rattle.auth_machine.specs.declared.session.Phase.TheVariants.{Idle, Waiting, Bogus, In}
 use Rattle.auth_machine.specs.declared.session.Session.{Session}
@@ -106,14 +107,18 @@ over_all Nobody = Nobody
 
 -- ---- requests about one record
 
--- the refusals in their order, or what is done with the record
-abbrev pub about : Option Power → Option Fields → (Fields → Change) → Change
-about None target act = answers_only (Denied NotIn)
-about (Some Nobody) target act = answers_only (Denied NotWizard)
-about (Some (Members group)) None act = answers_only (Denied NoSuch)
-about (Some Everybody) None act = answers_only (Denied NoSuch)
-about (Some (Members group)) (Some f) act = if covers (Members group) f then act f else answers_only (Denied NotWizard)
-about (Some Everybody) (Some f) act = act f
+-- the record that may be changed, or why it may not, by the refusals in their order
+abbrev pub reached : Option Power → Option Fields → Result Fields Denial
+reached None target = Err NotIn
+reached (Some Nobody) target = Err NotWizard
+reached (Some (Members group)) None = Err NoSuch
+reached (Some Everybody) None = Err NoSuch
+reached (Some (Members group)) (Some f) = if covers (Members group) f then prelude.Ok f else Err NotWizard
+reached (Some Everybody) (Some f) = prelude.Ok f
+
+abbrev pub done_with : Result Fields Denial → (Fields → Change) → Change
+done_with (Err denial) act = answers_only (Denied denial)
+done_with (prelude.Ok f) act = act f
 
 -- the name is that of the user who is logged in
 abbrev pub is_name_in : Phase → List ℕ → Bool
@@ -129,13 +134,13 @@ own_power s session name =
 
 -- what a wizard, a user or a wizard over all does with the record of this name
 abbrev pub by_wizard : State → Session → List ℕ → (Fields → Change) → Change
-by_wizard s session name act = about (power_of s session) (record_at name s.records) act
+by_wizard s session name act = done_with (reached (power_of s session) (record_at name s.records)) act
 
 abbrev pub by_user : State → Session → List ℕ → (Fields → Change) → Change
-by_user s session name act = about (own_power s session name) (record_at name s.records) act
+by_user s session name act = done_with (reached (own_power s session name) (record_at name s.records)) act
 
 abbrev pub by_super : State → Session → List ℕ → (Fields → Change) → Change
-by_super s session name act = about (option_map over_all (power_of s session)) (record_at name s.records) act
+by_super s session name act = done_with (reached (option_map over_all (power_of s session)) (record_at name s.records)) act
 
 -- the record becomes this one
 abbrev pub stores : Fields → Change

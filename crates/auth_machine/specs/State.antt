@@ -4,6 +4,12 @@ use Rattle.std.specs.Str.{bytes_eq}
 use Rattle.fw_outside.specs.Keyed.{placed, under, without}
 use Rattle.auth_records.specs.Spelling.{Fields}
 use Rattle.auth_machine.specs.Answer.{Answer}
+use Rattle.auth_machine.specs.declared.edit.Edit.{Edit}
+use Rattle.auth_machine.specs.declared.edit.Edit.TheVariants.{Leave, Put, Delete}
+use Rattle.auth_machine.specs.declared.edit.Hold.{Hold}
+use Rattle.auth_machine.specs.declared.edit.Hold.TheVariants.{Keep, Drop, Take, Free}
+use Rattle.auth_machine.specs.declared.edit.Turn.{Turn}
+use Rattle.auth_machine.specs.declared.edit.Turn.TheVariants.{Stay, Become, End}
 use Rattle.auth_machine.specs.declared.session.Challenge.{Challenge}
 use Rattle.auth_machine.specs.declared.session.Session.{Session}
 
@@ -38,26 +44,6 @@ abbrev pub challenge_at : List ℕ → List Challenge → Option Challenge
 challenge_at name challenges = find (λ challenge. bytes_eq challenge.name name) challenges
 
 -- ---- changes
-
--- what becomes of the records: nothing, one stands under its name, or none stands under a name
-pub data Edit : Type 0 where
-  Leave : Edit
-  Put : (fields : Fields) → Edit
-  Delete : (name : List ℕ) → Edit
-
--- what becomes of the session: nothing, this, or it is gone
-pub data Turn : Type 0 where
-  Stay : Turn
-  Become : (session : Session) → Turn
-  End : Turn
-
--- what becomes of the challenges: nothing, the session's own is gone, it is gone and the name's is the session's from
--- now on, or the name's is gone
-pub data Hold : Type 0 where
-  Keep : Hold
-  Drop : Hold
-  Take : (name : List ℕ) → Hold
-  Free : (name : List ℕ) → Hold
 
 -- what a request is answered, and what it changes
 pub record Change : Type 0 where

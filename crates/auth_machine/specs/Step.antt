@@ -12,11 +12,12 @@ use Rattle.auth_machine.specs.Answer.Answer.{Opened, Password, Challenged, Ok, S
 use Rattle.auth_machine.specs.Login.{answers_only, authenticate, respond}
 use Rattle.auth_machine.specs.Policy.{PolicyView}
 use Rattle.auth_machine.specs.Powers.{add_user, by_super, by_user, by_wizard, deletes, disabled, enabled, list, operation, shows, stores, with_group, with_otp, with_password, with_proto, with_wiz}
-use Rattle.auth_machine.specs.State.{Change, Edit, State, at_moment, changed, record_at}
+use Rattle.auth_machine.specs.declared.edit.Edit.{Edit}
+use Rattle.auth_machine.specs.State.{Change, State, at_moment, changed, record_at}
 use Rattle.auth_machine.specs.State as states
-use Rattle.auth_machine.specs.State.Edit.{Leave, Put, Delete}
-use Rattle.auth_machine.specs.State.Hold.{Keep, Drop}
-use Rattle.auth_machine.specs.State.Turn.{Become, End}
+use Rattle.auth_machine.specs.declared.edit.Edit.TheVariants.{Leave, Put, Delete}
+use Rattle.auth_machine.specs.declared.edit.Hold.TheVariants.{Keep, Drop}
+use Rattle.auth_machine.specs.declared.edit.Turn.TheVariants.{Become, End}
 use Rattle.auth_machine.specs.declared.session.Phase.TheVariants.{Idle}
 use Rattle.auth_machine.specs.declared.session.Session.{Session}
 
