@@ -24,6 +24,8 @@ use Rattle.auth_machine.specs.State.{State, Change, record_at}
 use Rattle.auth_machine.specs.declared.edit.Edit.TheVariants.{Leave, Put, Delete}
 use Rattle.auth_machine.specs.declared.edit.Hold.TheVariants.{Keep, Free}
 use Rattle.auth_machine.specs.declared.edit.Turn.TheVariants.{Stay}
+use Rattle.auth_machine.specs.declared.power.Power.{Power}
+use Rattle.auth_machine.specs.declared.power.Power.TheVariants.{Nobody, Members, Everybody}
 use Rattle.auth_machine.specs.declared.session.Phase.{Phase}
 use Rattle.auth_machine.specs.declared.session.Phase.TheVariants.{Idle, Waiting, Bogus, In}
 use Rattle.auth_machine.specs.declared.session.Session.{Session}
@@ -59,12 +61,6 @@ unfoldable pub operation : PolicyView → State → Session → OpService → Ho
 operation policy s session service host = operation_by policy service host (user_of s session)
 
 -- ---- power
-
--- over no record, over those of a group, if any, or over all
-pub data Power : Type 0 where
-  Nobody : Power
-  Members : (group : Option (List ℕ)) → Power
-  Everybody : Power
 
 abbrev pub wizard_power : Wiz → Option (List ℕ) → Power
 wizard_power wizards.None group = Nobody

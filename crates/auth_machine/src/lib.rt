@@ -4,8 +4,16 @@
 mod change;
 mod edit;
 mod kept;
+mod login;
+mod machine;
+mod policy;
+mod power;
+mod powers;
+mod response;
 mod session;
 
 pub use edit::{Edit, Hold, Turn};
 pub use kept::Kept;
+pub use policy::Policy;
+pub use power::Power;
 pub use session::{Challenge, Phase, Session};
