@@ -1,6 +1,7 @@
 //! The authentication machine.
 #![tactic(auto)]
 
+mod asking;
 mod change;
 mod edit;
 mod kept;
@@ -9,11 +10,12 @@ mod machine;
 mod policy;
 mod power;
 mod powers;
+mod requests;
 mod response;
 mod session;
 
 pub use edit::{Edit, Hold, Turn};
 pub use kept::Kept;
-pub use policy::Policy;
+pub use policy::{Policy, Verdict};
 pub use power::Power;
 pub use session::{Challenge, Phase, Session};

@@ -31,7 +31,7 @@ pub(crate) fn user_of<'a>(machine: &'a Machine, session: &Session) -> Option<&'a
     }
 }
 
-fn group_twin(group: &Option<Name>) -> Option<Name>
+pub(crate) fn group_twin(group: &Option<Name>) -> Option<Name>
     ensures { result ≡ group.now }
 {
     match group {
