@@ -210,7 +210,7 @@ fn asked(policy: &Policy, machine: &Machine, place: u64, session: &Session, requ
 pub(crate) fn change_of(policy: &Policy, machine: &Machine, place: u64, sid: u64, request: &Request) -> Change
     ensures { result ≡ change_of policy.now machine.now place sid request.now }
 {
-    match session_at(&machine.sessions, sid) {
+    match session_at(machine.sessions, sid) {
         None => without_session(place, request),
         Some(session) => asked(policy, machine, place, session, request),
     }

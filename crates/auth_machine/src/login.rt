@@ -93,7 +93,7 @@ fn asks_word(machine: &Machine, session: &Session, name: &Name, otp: &Otp) -> Ch
     if otp.number == 0 {
         return Change::drops(session, Reply::Denied(Denial::Exhausted), Phase::Idle);
     }
-    let standing = challenge_at(&machine.challenges, name);
+    let standing = challenge_at(machine.challenges, name);
     match guarded(standing, session.sid, machine.moment) {
         Some(denial) => Change::drops(session, Reply::Denied(denial), Phase::Idle),
         None => challenges(session, name, otp),
@@ -133,7 +133,7 @@ fn authenticate_as(policy: &Policy, machine: &Machine, session: &Session, name: 
 pub(crate) fn authenticate(policy: &Policy, machine: &Machine, session: &Session, name: &Name) -> Change
     ensures { result ≡ authenticate policy.now machine.now session.now name.now }
 {
-    match record_at(&machine.records, name) {
+    match record_at(machine.records, name) {
         None => authenticate_unknown(policy, machine, session, name),
         Some(kept) => authenticate_as(policy, machine, session, name, kept),
     }

@@ -9,21 +9,20 @@ use crate::{Challenge, Session};
 use fw_outside::Name;
 use std::marker::Model;
 
-/// The records, the sessions and the challenges, and the moment.
-#[derive(Drop)]
-pub(crate) struct Machine {
-    pub(crate) records: Vec<Kept>,
-    pub(crate) sessions: Vec<Session>,
-    pub(crate) challenges: Vec<Challenge>,
+/// What stands at a moment: the records, the sessions and the challenges.
+pub(crate) struct Machine<'a> {
+    pub(crate) records: &'a [Kept],
+    pub(crate) sessions: &'a [Session],
+    pub(crate) challenges: &'a [Challenge],
     pub(crate) moment: u64,
 }
 
-impl Model for Machine {
+impl<'a> Model for Machine<'a> {
     ghost use Rattle.auth_machine.specs.State.{State};
 
     ghost Value = { State };
 
-    ghost view = { λ m. record { records = m.records.items; sessions = m.sessions.items; challenges = m.challenges.items; moment = m.moment } };
+    ghost view = { λ m. record { records = m.records.now; sessions = m.sessions.now; challenges = m.challenges.now; moment = m.moment } };
 }
 
 fn is_named(kept: &Kept, name: &Name) -> bool

@@ -22,12 +22,12 @@ fn name_in(phase: &Phase) -> Option<&Name>
 }
 
 // The record of the user who is logged in.
-pub(crate) fn user_of<'a>(machine: &'a Machine, session: &Session) -> Option<&'a Kept>
-    ensures { option_copied result ≡ user_of machine.entry.now session.now }
+pub(crate) fn user_of<'a>(machine: &Machine<'a>, session: &Session) -> Option<&'a Kept>
+    ensures { option_copied result ≡ user_of machine.now session.now }
 {
     match name_in(&session.phase) {
         None => None,
-        Some(name) => record_at(&machine.records, name),
+        Some(name) => record_at(machine.records, name),
     }
 }
 
@@ -163,22 +163,22 @@ fn own_power(machine: &Machine, session: &Session, name: &Name) -> Option<Power>
 }
 
 // The record of this name, where a wizard may change it.
-pub(crate) fn by_wizard<'a>(machine: &'a Machine, session: &Session, name: &Name) -> Result<&'a Kept, Denial>
-    ensures { MatchResult result (λ kept. reached (power_of machine.entry.now session.now) (record_at name.now machine.entry.now.records) ≡ Ok kept.now) (λ denial. reached (power_of machine.entry.now session.now) (record_at name.now machine.entry.now.records) ≡ Err denial) }
+pub(crate) fn by_wizard<'a>(machine: &Machine<'a>, session: &Session, name: &Name) -> Result<&'a Kept, Denial>
+    ensures { MatchResult result (λ kept. reached (power_of machine.now session.now) (record_at name.now machine.now.records) ≡ Ok kept.now) (λ denial. reached (power_of machine.now session.now) (record_at name.now machine.now.records) ≡ Err denial) }
 {
-    reached(&power_of(machine, session), record_at(&machine.records, name))
+    reached(&power_of(machine, session), record_at(machine.records, name))
 }
 
 // The record of this name, where its own user or a wizard may change it.
-pub(crate) fn by_user<'a>(machine: &'a Machine, session: &Session, name: &Name) -> Result<&'a Kept, Denial>
-    ensures { MatchResult result (λ kept. reached (own_power machine.entry.now session.now name.now) (record_at name.now machine.entry.now.records) ≡ Ok kept.now) (λ denial. reached (own_power machine.entry.now session.now name.now) (record_at name.now machine.entry.now.records) ≡ Err denial) }
+pub(crate) fn by_user<'a>(machine: &Machine<'a>, session: &Session, name: &Name) -> Result<&'a Kept, Denial>
+    ensures { MatchResult result (λ kept. reached (own_power machine.now session.now name.now) (record_at name.now machine.now.records) ≡ Ok kept.now) (λ denial. reached (own_power machine.now session.now name.now) (record_at name.now machine.now.records) ≡ Err denial) }
 {
-    reached(&own_power(machine, session, name), record_at(&machine.records, name))
+    reached(&own_power(machine, session, name), record_at(machine.records, name))
 }
 
 // The record of this name, where a wizard over all may change it.
-pub(crate) fn by_super<'a>(machine: &'a Machine, session: &Session, name: &Name) -> Result<&'a Kept, Denial>
-    ensures { MatchResult result (λ kept. reached (option_map over_all (power_of machine.entry.now session.now)) (record_at name.now machine.entry.now.records) ≡ Ok kept.now) (λ denial. reached (option_map over_all (power_of machine.entry.now session.now)) (record_at name.now machine.entry.now.records) ≡ Err denial) }
+pub(crate) fn by_super<'a>(machine: &Machine<'a>, session: &Session, name: &Name) -> Result<&'a Kept, Denial>
+    ensures { MatchResult result (λ kept. reached (option_map over_all (power_of machine.now session.now)) (record_at name.now machine.now.records) ≡ Ok kept.now) (λ denial. reached (option_map over_all (power_of machine.now session.now)) (record_at name.now machine.now.records) ≡ Err denial) }
 {
-    reached(&over_all(power_of(machine, session)), record_at(&machine.records, name))
+    reached(&over_all(power_of(machine, session)), record_at(machine.records, name))
 }

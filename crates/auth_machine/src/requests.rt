@@ -182,7 +182,7 @@ fn adds(power: Option<Power>, name: &Name, long: &LongName, target: Option<&Kept
 pub(crate) fn add_user(machine: &Machine, session: &Session, name: &Name, long: &LongName) -> Change
     ensures { result ≡ add_user machine.now session.now name.now long.now }
 {
-    let target = record_at(&machine.records, name);
+    let target = record_at(machine.records, name);
     adds(power_of(machine, session), name, long, target)
 }
 
@@ -231,5 +231,5 @@ fn lists(power: &Option<Power>, after: &Option<Name>, records: &[Kept]) -> Chang
 pub(crate) fn list(machine: &Machine, session: &Session, after: &Option<Name>) -> Change
     ensures { result ≡ list machine.now session.now after.now }
 {
-    lists(&power_of(machine, session), after, &machine.records)
+    lists(&power_of(machine, session), after, machine.records)
 }

@@ -131,7 +131,7 @@ fn checks_otp(machine: &Machine, session: &Session, name: &Name, kept: &Kept, wo
     match &kept.record.otp {
         None => Change::drops(session, Reply::Denied(Denial::Disabled), Phase::Idle),
         Some(otp) => {
-            if !is_own(challenge_at(&machine.challenges, name), session.sid) {
+            if !is_own(challenge_at(machine.challenges, name), session.sid) {
                 return Change::turns(session, Reply::Denied(Denial::NoChallenge), Phase::Idle);
             }
             if otp.number == 0 {
@@ -164,7 +164,7 @@ fn respond_known(policy: &Policy, machine: &Machine, session: &Session, name: &N
 fn respond_as(policy: &Policy, machine: &Machine, session: &Session, name: &Name, hash: &[u8; 16], word: Option<u64>) -> Change
     ensures { result ≡ respond_as policy.now machine.now session.now name.now hash.now word (record_at name.now machine.now.records) }
 {
-    match record_at(&machine.records, name) {
+    match record_at(machine.records, name) {
         None => Change::turns(session, Reply::Denied(Denial::Wrong), Phase::Idle),
         Some(kept) => respond_known(policy, machine, session, name, hash, word, kept),
     }
