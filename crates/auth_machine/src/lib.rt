@@ -1,6 +1,7 @@
 //! The authentication machine.
 #![tactic(auto)]
 
+mod apply;
 mod asking;
 mod change;
 mod edit;

@@ -25,13 +25,13 @@ impl<'a> Model for Machine<'a> {
     ghost view = { λ m. record { records = m.records.now; sessions = m.sessions.now; challenges = m.challenges.now; moment = m.moment } };
 }
 
-fn is_named(kept: &Kept, name: &Name) -> bool
+pub(crate) fn is_named(kept: &Kept, name: &Name) -> bool
     ensures { result ≡ is_named name_of name.now kept.now }
 {
     kept.record.name.text() == name.text()
 }
 
-fn is_challenge_of(challenge: &Challenge, name: &Name) -> bool
+pub(crate) fn is_challenge_of(challenge: &Challenge, name: &Name) -> bool
     ensures { result ≡ bytes_eq challenge.now.name name.now }
 {
     challenge.name.text() == name.text()
