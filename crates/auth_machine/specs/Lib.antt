@@ -6,3 +6,5 @@ pub mod Login
 pub mod Powers
 pub mod Step
 pub mod History
+pub mod Standing
+pub mod Keeping

@@ -5,6 +5,7 @@ mod apply;
 mod asking;
 mod change;
 mod edit;
+mod keeping;
 mod kept;
 mod login;
 mod machine;
@@ -14,6 +15,7 @@ mod powers;
 mod requests;
 mod response;
 mod session;
+mod standing;
 
 pub use edit::{Edit, Hold, Turn};
 pub use kept::Kept;
