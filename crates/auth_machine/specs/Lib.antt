@@ -8,3 +8,4 @@ pub mod Step
 pub mod History
 pub mod Standing
 pub mod Keeping
+pub mod Stepping

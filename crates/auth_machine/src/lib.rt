@@ -16,6 +16,7 @@ mod requests;
 mod response;
 mod session;
 mod standing;
+mod step;
 
 pub use edit::{Edit, Hold, Turn};
 pub use kept::Kept;

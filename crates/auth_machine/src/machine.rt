@@ -10,6 +10,7 @@ use fw_outside::Name;
 use std::marker::Model;
 
 /// What stands at a moment: the records, the sessions and the challenges.
+#[derive(Drop)]
 pub(crate) struct Machine<'a> {
     pub(crate) records: &'a [Kept],
     pub(crate) sessions: &'a [Session],
