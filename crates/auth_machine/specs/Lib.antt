@@ -9,3 +9,4 @@ pub mod History
 pub mod Standing
 pub mod Keeping
 pub mod Stepping
+pub mod Book

@@ -3,12 +3,14 @@
 
 mod apply;
 mod asking;
+mod book;
 mod change;
 mod edit;
 mod keeping;
 mod kept;
 mod login;
 mod machine;
+mod origin;
 mod policy;
 mod power;
 mod powers;
@@ -18,8 +20,10 @@ mod session;
 mod standing;
 mod step;
 
+pub use book::Book;
 pub use edit::{Edit, Hold, Turn};
 pub use kept::Kept;
+pub use origin::Loaded;
 pub use policy::{Policy, Verdict};
 pub use power::Power;
 pub use session::{Challenge, Phase, Session};

@@ -1,0 +1,96 @@
+ghost use Rattle.std.specs.Prelude.{◌≡◌, ◌≤◌, [], length};
+ghost use Rattle.auth_machine.specs.Book.{AnswersKept, Asked, RoseIfNotKept, Stands};
+ghost use Rattle.auth_machine.specs.History.{FewerThanFaults, HasRecords, IsLegal};
+ghost use Rattle.auth_machine.specs.Standing.{state_of};
+
+use crate::Policy;
+use crate::origin::Loaded;
+use crate::standing::Standing;
+use crate::step::{session_of, step};
+use auth_events::{Denial, Entry, Reply, Request};
+use fw_outside::{Keeper, NoMemory};
+use std::alloc::Global;
+use std::marker::Model;
+use std::snapshot::Snapshot;
+
+/// The records of users, the sessions, and the history of all requests with their replies.
+#[derive(Drop)]
+pub struct Book<K: Keeper> {
+    alloc: Global,
+    keeper: K,
+    policy: Policy,
+    standing: Standing,
+    history: Vec<Entry>,
+    limit: u64,
+    origin: Snapshot<Loaded>,
+}
+
+impl<K: Keeper> Model for Book<K> {
+    ghost use Rattle.auth_machine.specs.Book.{BookView, Stands};
+    ghost use Rattle.auth_machine.specs.Standing.{state_of};
+
+    ghost Value = { BookView };
+
+    ghost view = { λ b. record { history = b.history.items; limit = b.limit; origin = b.origin.value; vault = K.vault b.keeper } };
+
+    ghost invariant = { λ b. Stands (record { history = b.history.items; limit = b.limit; origin = b.origin.value; vault = K.vault b.keeper }) b.policy (state_of b.standing) };
+}
+
+impl<K: Keeper> Book<K> {
+    /// Asks this request for the session of this number, at this moment in seconds.
+    pub fn ask(&mut self, sid: u64, at: u64, request: Request) -> Result<Reply, NoMemory>
+        ensures asked { Asked sid at request self.old.limit self.old.origin self.old.history result self.new.history }
+        ensures kept { AnswersKept sid at request result self.old.origin self.old.history self.new.history self.old.vault self.new.vault }
+        ensures not_kept { RoseIfNotKept result self.old.vault self.new.vault }
+        ensures limit { self.new.limit ≡ self.old.limit }
+        ensures origin { self.new.origin ≡ self.old.origin }
+    {
+        if self.history.len() as u64 == self.limit {
+            return Ok(Reply::Denied(Denial::Full { limit: self.limit }));
+        }
+        self.history.reserve(1)?;
+        let place = self.history.len() as u64;
+        let stepped = step(
+            self.alloc,
+            &self.policy,
+            &mut self.standing,
+            &mut self.keeper,
+            place,
+            sid,
+            at,
+            &request,
+        )?;
+        let reply = stepped.reply.twin();
+        self.history.push_reserved(Entry {
+            sid: session_of(&request, place, sid),
+            at,
+            request,
+            kept: stepped.kept,
+            reply: stepped.reply,
+        });
+        Ok(reply)
+    }
+
+    /// All entries so far.
+    pub fn history(&self) -> &[Entry]
+        ensures is { result.now ≡ self.now.history }
+        ensures legal { IsLegal self.now.origin result.now }
+        ensures within { length result.now ≤ self.now.limit }
+        ensures records { HasRecords self.now.origin self.now.history self.now.vault }
+        ensures faults { FewerThanFaults self.now.history self.now.vault }
+    {
+        &self.history
+    }
+
+    /// Ends it: the keeper comes back, with the records that it has, and all entries.
+    pub fn close(self) -> (K, Vec<Entry>)
+        ensures vault { K.vault result.0 ≡ self.vault }
+        ensures history { result.1.items ≡ self.history }
+        ensures legal { IsLegal self.origin self.history }
+        ensures records { HasRecords self.origin self.history self.vault }
+        ensures faults { FewerThanFaults self.history self.vault }
+    {
+        let Book { keeper, history, .. } = self;
+        (keeper, history)
+    }
+}
