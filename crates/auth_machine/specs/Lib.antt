@@ -10,3 +10,4 @@ pub mod Standing
 pub mod Keeping
 pub mod Stepping
 pub mod Book
+pub mod Answers
