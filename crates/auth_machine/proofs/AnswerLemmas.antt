@@ -22,8 +22,8 @@ use Rattle.auth_machine.specs.declared.session.Phase.TheVariants.{Idle, Waiting,
 use Rattle.auth_machine.specs.declared.session.Session.{Session}
 use Rattle.auth_machine.specs.declared.power.Power.{Power}
 use Rattle.auth_machine.specs.declared.power.Power.TheVariants.{Nobody, Members, Everybody}
-use Rattle.auth_machine.specs.declared.policy.Verdict.{Verdict}
-use Rattle.auth_machine.specs.declared.policy.Verdict.TheVariants.{Permit, Deny}
+use Rattle.gate_rules.specs.declared.verdict.Verdict.{Verdict}
+use Rattle.gate_rules.specs.declared.verdict.Verdict.TheVariants.{Permit, Deny}
 
 -- ---- denials
 

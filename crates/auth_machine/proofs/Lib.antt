@@ -1,2 +1,4 @@
-mod ApplyLemmas
 pub mod AnswerLemmas
+mod ApplyLemmas
+pub mod OperationsLemmas
+pub mod PolicyLemmas

@@ -18,8 +18,8 @@ use Rattle.auth_machine.specs.Answer.{Answer, profile_of}
 use Rattle.auth_machine.specs.Answer.Answer.{Opened, Password, Challenged, Ok, Shown, Denied}
 use Rattle.auth_machine.specs.Login.{answers_only}
 use Rattle.auth_machine.specs.Operations.{operation_verdict}
-use Rattle.auth_machine.specs.declared.policy.Verdict.{Verdict}
-use Rattle.auth_machine.specs.declared.policy.Verdict.TheVariants.{Permit, Deny}
+use Rattle.gate_rules.specs.declared.verdict.Verdict.{Verdict}
+use Rattle.gate_rules.specs.declared.verdict.Verdict.TheVariants.{Permit, Deny}
 use Rattle.auth_machine.specs.Policy.{PolicyView}
 use Rattle.auth_machine.specs.State.{State, Change, record_at}
 use Rattle.auth_machine.specs.declared.edit.Edit.TheVariants.{Leave, Put, Delete}

@@ -18,10 +18,11 @@ use crate::requests::{
     sets_wiz, shows,
 };
 use crate::response::respond;
-use crate::{Phase, Policy, Session, Verdict};
+use crate::{Phase, Policy, Session};
 use auth_events::{Denial, OpService, OtpNumber, Reply, Request};
 use auth_records::{Proto, Seed, Wiz};
 use fw_outside::{Host, Name};
+use gate_rules::Verdict;
 
 fn opens(place: u64, console: bool) -> Change
     ensures { result ≡ opens place console }

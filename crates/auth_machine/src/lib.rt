@@ -10,6 +10,8 @@ mod keeping;
 mod kept;
 mod login;
 mod machine;
+mod operation;
+mod operations;
 mod origin;
 mod policy;
 mod power;
@@ -23,7 +25,11 @@ mod step;
 pub use book::Book;
 pub use edit::{Edit, Hold, Turn};
 pub use kept::Kept;
+pub use operation::{Holder, OperationLine};
 pub use origin::Loaded;
-pub use policy::{Policy, Verdict};
+pub use policy::Policy;
 pub use power::Power;
 pub use session::{Challenge, Phase, Session};
+
+#[cfg(test)]
+mod policy_tests;
