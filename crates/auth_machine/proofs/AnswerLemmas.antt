@@ -11,9 +11,9 @@ use Rattle.fw_outside.specs.declared.host.Host.{Host}
 use Rattle.auth_machine.specs.Answer.{Answer, profile_of}
 use Rattle.auth_machine.specs.Answer.Answer.{Opened, Password, Challenged, Shown, Denied, Ok as Done}
 use Rattle.auth_machine.specs.Answers.{IsOwnDenial}
-use Rattle.auth_machine.specs.Login.{asks, asks_word, authenticate, authenticate_as, challenges, checks, checks_otp, checks_plain, checks_word, guarded, is_own, is_password, later, locked, logged_in, refusal, respond, respond_as, respond_in, unless_refused, used, has_password}
+use Rattle.auth_machine.specs.Login.{asks, asks_word, authenticate, authenticate_as, challenges, checks, checks_otp, checks_plain, checks_word, guarded, is_own, is_password, later, lockout, logged_in, refusal, respond, respond_as, respond_in, unless_refused, used, has_password}
 use Rattle.auth_machine.specs.Policy.{PolicyView}
-use Rattle.auth_machine.specs.Powers.{add_user, adds, adds_to, allowed, covers, done_with, is_next_seen, list, lists, operation, operation_by, reached, shows_some}
+use Rattle.auth_machine.specs.Powers.{add_user, adds, adds_to, operation_answer, covers, done_with, is_next_seen, list, lists, operation, operation_by, reached, shows_some}
 use Rattle.auth_machine.specs.State.{State, Change, challenge_at, record_at}
 use Rattle.auth_machine.specs.Step.{in_session}
 use Rattle.auth_machine.specs.declared.session.Challenge.{Challenge}
@@ -31,14 +31,14 @@ own_if : (b : Bool) (x y : Option Denial) → IfSome x IsOwnDenial → IfSome y 
 own_if true x y hx hy = hx
 own_if false x y hx hy = hy
 
-own_locked : (bad_sleep : Option ℕ) (since moment : ℕ) → IfSome (locked bad_sleep since moment) IsOwnDenial
+own_locked : (bad_sleep : Option ℕ) (since moment : ℕ) → IfSome (lockout bad_sleep since moment) IsOwnDenial
 own_locked None since moment = tt
 own_locked (Some seconds) since moment = own_if _ (Some (denials.Sleeping (later since seconds))) None tt tt
 
 pub own_refusal : (policy : PolicyView) (moment : ℕ) (f : Fields) → IfSome (refusal policy moment f) IsOwnDenial
 own_refusal policy moment f =
-    own_if _ (Some denials.Disabled) (cond _ (locked policy.bad_sleep f.since moment) None) tt
-    (own_if _ (locked policy.bad_sleep f.since moment) None (own_locked policy.bad_sleep f.since moment) tt)
+    own_if _ (Some denials.Disabled) (cond _ (lockout policy.bad_sleep f.since moment) None) tt
+    (own_if _ (lockout policy.bad_sleep f.since moment) None (own_locked policy.bad_sleep f.since moment) tt)
 
 own_guarded : (standing : Option Challenge) (sid moment : ℕ) → IfSome (guarded standing sid moment) IsOwnDenial
 own_guarded None sid moment = tt
@@ -74,7 +74,8 @@ module _ (P : Answer → Type 0) (denied : (d : Denial) → IsOwnDenial d → P 
       refused_or session _ _ (own_refusal policy s.moment f) (of_asks password challenged s session name f.proto f.otp)
 
   pub of_authenticate : P Password → ((n : ℕ) (word_seed : List ℕ) → P (Challenged n word_seed)) → (policy : PolicyView) (s : State) (session : Session) (name : List ℕ) → P (authenticate policy s session name).answer
-  of_authenticate password challenged policy s session name unfolding authenticate = of_authenticate_as password challenged policy s session name (record_at name s.records)
+  unfolding authenticate
+  of_authenticate password challenged policy s session name = of_authenticate_as password challenged policy s session name (record_at name s.records)
 
   -- ---- Response
 
@@ -108,11 +109,12 @@ module _ (P : Answer → Type 0) (denied : (d : Denial) → IsOwnDenial d → P 
   of_respond_in done policy s session hash word (Waiting name) = of_respond_as done policy s session name hash word (record_at name s.records)
 
   pub of_respond : P Done → (policy : PolicyView) (s : State) (session : Session) (hash : List ℕ) (word : Option ℕ) → P (respond policy s session hash word).answer
-  of_respond done policy s session hash word unfolding respond = of_respond_in done policy s session hash word session.phase
+  unfolding respond
+  of_respond done policy s session hash word = of_respond_in done policy s session hash word session.phase
 
   -- ---- the other requests
 
-  of_allowed : P Done → (v : Verdict) → P (allowed v)
+  of_allowed : P Done → (v : Verdict) → P (operation_answer v)
   of_allowed done (Permit line) = done
   of_allowed done (Deny line) = denied (denials.NoRule line) tt
 
@@ -121,7 +123,8 @@ module _ (P : Answer → Type 0) (denied : (d : Denial) → IsOwnDenial d → P 
   of_operation_by done policy service host (Some user) = of_allowed done _
 
   pub of_operation : P Done → (policy : PolicyView) (s : State) (session : Session) (service : OpService) (host : Host) → P (operation policy s session service host).answer
-  of_operation done policy s session service host unfolding operation = of_operation_by done policy service host _
+  unfolding operation
+  of_operation done policy s session service host = of_operation_by done policy service host _
 
   of_members : (act : Fields → Change) → ((f : Fields) → P (act f).answer) → (b : Bool) (f : Fields) → P (done_with (cond b (Ok f) (Err denials.NotWizard)) act).answer
   of_members act h true f = h f
@@ -146,7 +149,8 @@ module _ (P : Answer → Type 0) (denied : (d : Denial) → IsOwnDenial d → P 
   of_adds done (Some Everybody) name long target = of_adds_to done None name long target
 
   pub of_add_user : P Done → (s : State) (session : Session) (name long : List ℕ) → P (add_user s session name long).answer
-  of_add_user done s session name long unfolding add_user = of_adds done _ name long _
+  unfolding add_user
+  of_add_user done s session name long = of_adds done _ name long _
 
   pub of_session : (session : Option Session) (act : Session → Change) → ((session : Session) → P (act session).answer) → P (in_session session act).answer
   of_session None act h = denied denials.Closed tt

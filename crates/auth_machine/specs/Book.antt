@@ -9,7 +9,7 @@ use Rattle.auth_events.specs.declared.entry.Entry.{Entry}
 use Rattle.auth_events.specs.declared.reply.Reply.{Reply}
 use Rattle.auth_events.specs.declared.reply.Reply.TheVariants.{Denied}
 use Rattle.auth_events.specs.declared.request.Request.{Request}
-use Rattle.auth_machine.specs.History.{FewerThanFaults, HasRecords, IsLegal, Origin, after}
+use Rattle.auth_machine.specs.History.{NoMoreThanFaults, HasRecords, IsLegal, Origin, after}
 use Rattle.auth_machine.specs.Keeping.{Keeps}
 use Rattle.auth_machine.specs.Policy.{PolicyView}
 use Rattle.auth_machine.specs.State.{State, Change}
@@ -30,7 +30,7 @@ pub record Stands (book : BookView) (policy : PolicyView) (s : State) : Type 0 w
   pub legal : IsLegal book.origin book.history
   pub within : length book.history ≤ book.limit
   pub records : HasRecords book.origin book.history book.vault
-  pub faults : FewerThanFaults book.history book.vault
+  pub faults : NoMoreThanFaults book.history book.vault
 
 -- ---- what asking does
 

@@ -60,5 +60,5 @@ unkept [] = 0
 unkept (entry ∷ entries) = (if entry.kept then 0 else 1) + unkept entries
 
 -- no more than the keeper's failures, unless that count is at its last value
-abbrev pub FewerThanFaults : List Entry → Vault → Type 0
-FewerThanFaults history vault = min (unkept history) (2 ^ 64 - 1) ≤ vault.faults
+abbrev pub NoMoreThanFaults : List Entry → Vault → Type 0
+NoMoreThanFaults history vault = min (unkept history) (2 ^ 64 - 1) ≤ vault.faults

@@ -14,7 +14,7 @@ use Rattle.auth_machine.specs.Answer.Answer.{Opened, Password, Challenged, Ok, S
 use Rattle.auth_machine.specs.Policy.{PolicyView}
 use Rattle.auth_machine.specs.State.{State, Change, challenge_at, record_at}
 use Rattle.auth_machine.specs.declared.edit.Edit.TheVariants.{Leave, Put}
-use Rattle.auth_machine.specs.declared.edit.Hold.TheVariants.{Keep, Drop, Take}
+use Rattle.auth_machine.specs.declared.edit.Hold.TheVariants.{Same, Drop, Take}
 use Rattle.auth_machine.specs.declared.edit.Turn.TheVariants.{Become, Stay}
 use Rattle.auth_machine.specs.declared.session.Challenge.{Challenge}
 use Rattle.auth_machine.specs.declared.session.Phase.{Phase}
@@ -35,16 +35,16 @@ has_password protos.Otp f = is_some f.otp
 
 -- what five wrong responses in a row do: without a line `badsleep` the record is disabled, and with one it sleeps so long
 -- from the fifth on, and with 0 it doesn't
-abbrev pub locked : Option ℕ → ℕ → ℕ → Option Denial
-locked None since moment = Some Disabled
-locked (Some seconds) since moment =
+abbrev pub lockout : Option ℕ → ℕ → ℕ → Option Denial
+lockout None since moment = Some Disabled
+lockout (Some seconds) since moment =
     if nat_lt 0 seconds && nat_lt moment (later since seconds) then Some (Sleeping (later since seconds)) else None
 
 -- why the record can't be used now, if so
 abbrev pub refusal : PolicyView → ℕ → Fields → Option Denial
 refusal policy moment f =
     if not f.enabled || not (has_password f.proto f) then Some Disabled
-    else if f.fails == 5 then locked policy.bad_sleep f.since moment
+    else if f.fails == 5 then lockout policy.bad_sleep f.since moment
     else None
 
 -- ---- answers of a session, and the phase that it is in then
@@ -54,11 +54,11 @@ in_phase phase session = record { sid = session.sid; console = session.console; 
 
 -- this answer alone
 abbrev pub answers_only : Answer → Change
-answers_only answer = record { answer = answer; records = Leave; session = Stay; challenge = Keep }
+answers_only answer = record { answer = answer; records = Leave; session = Stay; challenge = Same }
 
 -- this answer and phase
 abbrev pub turns : Session → Answer → Phase → Change
-turns session answer phase = record { answer = answer; records = Leave; session = Become (in_phase phase session); challenge = Keep }
+turns session answer phase = record { answer = answer; records = Leave; session = Become (in_phase phase session); challenge = Same }
 
 -- this answer and phase, and the session's challenge is dropped
 abbrev pub drops : Session → Answer → Phase → Change
@@ -75,7 +75,8 @@ unless_refused session None change = change
 
 -- ---- Authenticate
 
--- why another session's challenge stands in the way, if so: for 60 seconds it does (RFC 2289, 9.0)
+-- why another session's challenge stands in the way, if so: for 60 seconds it does. RFC 2289, 9.0, asks for such a guard,
+-- and the time is this project's own.
 abbrev pub guarded : Option Challenge → ℕ → ℕ → Option Denial
 guarded None sid moment = None
 guarded (Some challenge) sid moment =
@@ -125,7 +126,7 @@ failed moment f = record f { fails = one_more f.fails; since = if one_more f.fai
 abbrev pub logged_in : Fields → Fields
 logged_in f = record f { fails = 0 }
 
--- the record after the right one-time password: the count falls by one, and this password is kept
+-- the record after the right one-time password: the count falls by one, and this password is kept (RFC 2289, 7.0)
 abbrev pub lowered : OtpFields → ℕ → OtpFields
 lowered otp word = record otp { number = otp.number - 1; kept = word }
 
@@ -147,7 +148,7 @@ checks_plain s session name f hash None = drops session (Denied Disabled) Idle
 checks_plain s session name f hash (Some plain) =
     if is_password hash plain then right session name (logged_in f) else wrong s session f
 
--- the response is a password, whose next one is the kept one (RFC 2289, 6.0)
+-- the response is a password, whose next one is the kept one (RFC 2289, 7.0)
 abbrev pub checks_word : State → Session → List ℕ → Fields → OtpFields → Option ℕ → Change
 checks_word s session name f otp None = wrong s session f
 checks_word s session name f otp (Some word) =

@@ -23,7 +23,7 @@ use Rattle.gate_rules.specs.declared.verdict.Verdict.TheVariants.{Permit, Deny}
 use Rattle.auth_machine.specs.Policy.{PolicyView}
 use Rattle.auth_machine.specs.State.{State, Change, record_at}
 use Rattle.auth_machine.specs.declared.edit.Edit.TheVariants.{Leave, Put, Delete}
-use Rattle.auth_machine.specs.declared.edit.Hold.TheVariants.{Keep, Free}
+use Rattle.auth_machine.specs.declared.edit.Hold.TheVariants.{Same, Free}
 use Rattle.auth_machine.specs.declared.edit.Turn.TheVariants.{Stay}
 use Rattle.auth_machine.specs.declared.power.Power.{Power}
 use Rattle.auth_machine.specs.declared.power.Power.TheVariants.{Nobody, Members, Everybody}
@@ -50,13 +50,13 @@ user_of s session = record_of (name_in session.phase) s.records
 
 -- ---- Operation
 
-abbrev pub allowed : Verdict → Answer
-allowed (Permit line) = Ok
-allowed (Deny line) = Denied (NoRule line)
+abbrev pub operation_answer : Verdict → Answer
+operation_answer (Permit line) = Ok
+operation_answer (Deny line) = Denied (NoRule line)
 
 abbrev pub operation_by : PolicyView → OpService → Host → Option Fields → Change
 operation_by policy service host None = answers_only (Denied NotIn)
-operation_by policy service host (Some user) = answers_only (allowed (operation_verdict policy.operations user.name user.group service host))
+operation_by policy service host (Some user) = answers_only (operation_answer (operation_verdict policy.operations user.name user.group service host))
 
 unfoldable pub operation : PolicyView → State → Session → OpService → Host → Change
 operation policy s session service host = operation_by policy service host (user_of s session)
@@ -141,7 +141,7 @@ by_super s session name act = done_with (reached (option_map over_all (power_of 
 
 -- the record becomes this one
 abbrev pub stores : Fields → Change
-stores f = record { answer = Ok; records = Put f; session = Stay; challenge = Keep }
+stores f = record { answer = Ok; records = Put f; session = Stay; challenge = Same }
 
 -- the record is gone, and so is the challenge of its name
 abbrev pub deletes : Fields → Change

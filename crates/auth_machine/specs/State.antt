@@ -7,7 +7,7 @@ use Rattle.auth_machine.specs.Answer.{Answer}
 use Rattle.auth_machine.specs.declared.edit.Edit.{Edit}
 use Rattle.auth_machine.specs.declared.edit.Edit.TheVariants.{Leave, Put, Delete}
 use Rattle.auth_machine.specs.declared.edit.Hold.{Hold}
-use Rattle.auth_machine.specs.declared.edit.Hold.TheVariants.{Keep, Drop, Take, Free}
+use Rattle.auth_machine.specs.declared.edit.Hold.TheVariants.{Same, Drop, Take, Free}
 use Rattle.auth_machine.specs.declared.edit.Turn.{Turn}
 use Rattle.auth_machine.specs.declared.edit.Turn.TheVariants.{Stay, Become, End}
 use Rattle.auth_machine.specs.declared.session.Challenge.{Challenge}
@@ -37,8 +37,8 @@ name_of f = f.name
 abbrev pub record_at : List ℕ → List Fields → Option Fields
 record_at name records = under name_of name records
 
-abbrev pub session_at : ℕ → List Session → Option Session
-session_at sid sessions = find (λ session. session.sid == sid) sessions
+abbrev pub session_of : ℕ → List Session → Option Session
+session_of sid sessions = find (λ session. session.sid == sid) sessions
 
 abbrev pub challenge_at : List ℕ → List Challenge → Option Challenge
 challenge_at name challenges = find (λ challenge. bytes_eq challenge.name name) challenges
@@ -62,7 +62,7 @@ without_session sid sessions = filter (λ session. not (session.sid == sid)) ses
 
 abbrev pub turned : Turn → ℕ → List Session → List Session
 turned Stay sid sessions = sessions
-turned (Become session) sid sessions = without_session sid sessions ++ session ∷ []
+turned (Become session) sid sessions = without_session session.sid sessions ++ session ∷ []
 turned End sid sessions = without_session sid sessions
 
 abbrev pub without_own : ℕ → List Challenge → List Challenge
@@ -72,7 +72,7 @@ abbrev pub without_name : List ℕ → List Challenge → List Challenge
 without_name name challenges = filter (λ challenge. not (bytes_eq challenge.name name)) challenges
 
 abbrev pub held : Hold → ℕ → ℕ → List Challenge → List Challenge
-held Keep sid moment challenges = challenges
+held Same sid moment challenges = challenges
 held Drop sid moment challenges = without_own sid challenges
 held (Take name) sid moment challenges = without_name name (without_own sid challenges) ++ record { name = name; sid = sid; at = moment } ∷ []
 held (Free name) sid moment challenges = without_name name challenges

@@ -13,10 +13,9 @@ use Rattle.auth_machine.specs.Login.{answers_only, authenticate, respond}
 use Rattle.auth_machine.specs.Policy.{PolicyView}
 use Rattle.auth_machine.specs.Powers.{add_user, by_super, by_user, by_wizard, deletes, disabled, enabled, list, operation, shows, stores, with_group, with_otp, with_password, with_proto, with_wiz}
 use Rattle.auth_machine.specs.declared.edit.Edit.{Edit}
-use Rattle.auth_machine.specs.State.{Change, State, at_moment, changed, record_at}
-use Rattle.auth_machine.specs.State as states
+use Rattle.auth_machine.specs.State.{Change, State, at_moment, changed, record_at, session_of}
 use Rattle.auth_machine.specs.declared.edit.Edit.TheVariants.{Leave, Put, Delete}
-use Rattle.auth_machine.specs.declared.edit.Hold.TheVariants.{Keep, Drop}
+use Rattle.auth_machine.specs.declared.edit.Hold.TheVariants.{Same, Drop}
 use Rattle.auth_machine.specs.declared.edit.Turn.TheVariants.{Become, End}
 use Rattle.auth_machine.specs.declared.session.Phase.TheVariants.{Idle}
 use Rattle.auth_machine.specs.declared.session.Session.{Session}
@@ -27,7 +26,7 @@ opens place console = record {
   answer = Opened place;
   records = Leave;
   session = Become (record { sid = place; console = console; phase = Idle });
-  challenge = Keep;
+  challenge = Same;
 }
 
 -- the session and its challenge are gone
@@ -42,23 +41,23 @@ in_session (Some session) act = act session
 -- what a request for the session of this number is answered, and what it changes
 abbrev pub change_of : PolicyView → State → ℕ → ℕ → Request → Change
 change_of policy s place sid (requests.Open console) = opens place console
-change_of policy s place sid (requests.Authenticate name) = in_session (states.session_at sid s.sessions) (λ session. authenticate policy s session name)
-change_of policy s place sid (requests.Response hash word) = in_session (states.session_at sid s.sessions) (λ session. respond policy s session hash word)
-change_of policy s place sid (requests.Operation service host) = in_session (states.session_at sid s.sessions) (λ session. operation policy s session service host)
-change_of policy s place sid (requests.Adduser name long) = in_session (states.session_at sid s.sessions) (λ session. add_user s session name long)
-change_of policy s place sid (requests.Deluser name) = in_session (states.session_at sid s.sessions) (λ session. by_wizard s session name deletes)
-change_of policy s place sid (requests.Enable name) = in_session (states.session_at sid s.sessions) (λ session. by_wizard s session name (λ f. stores (enabled f)))
-change_of policy s place sid (requests.Disable name) = in_session (states.session_at sid s.sessions) (λ session. by_wizard s session name (λ f. stores (disabled f)))
-change_of policy s place sid (requests.Group name group) = in_session (states.session_at sid s.sessions) (λ session. by_super s session name (λ f. stores (with_group group f)))
-change_of policy s place sid (requests.Proto name proto) = in_session (states.session_at sid s.sessions) (λ session. by_wizard s session name (λ f. stores (with_proto proto f)))
-change_of policy s place sid (requests.Password name salt hash) = in_session (states.session_at sid s.sessions) (λ session. by_user s session name (λ f. stores (with_password salt hash f)))
-change_of policy s place sid (requests.Otp name number word_seed kept) = in_session (states.session_at sid s.sessions) (λ session. by_user s session name (λ f. stores (with_otp (record { number = number; word_seed = word_seed; kept = kept }) f)))
-change_of policy s place sid (requests.Wiz name) = in_session (states.session_at sid s.sessions) (λ session. by_super s session name (λ f. stores (with_wiz wizards.Group f)))
-change_of policy s place sid (requests.Unwiz name) = in_session (states.session_at sid s.sessions) (λ session. by_super s session name (λ f. stores (with_wiz wizards.None f)))
-change_of policy s place sid (requests.Superwiz name) = in_session (states.session_at sid s.sessions) (λ session. by_super s session name (λ f. stores (with_wiz wizards.Super f)))
-change_of policy s place sid (requests.Display name) = in_session (states.session_at sid s.sessions) (λ session. by_user s session name shows)
-change_of policy s place sid (requests.List after) = in_session (states.session_at sid s.sessions) (λ session. list s session after)
-change_of policy s place sid requests.Close = in_session (states.session_at sid s.sessions) (λ session. closes)
+change_of policy s place sid (requests.Authenticate name) = in_session (session_of sid s.sessions) (λ session. authenticate policy s session name)
+change_of policy s place sid (requests.Response hash word) = in_session (session_of sid s.sessions) (λ session. respond policy s session hash word)
+change_of policy s place sid (requests.Operation service host) = in_session (session_of sid s.sessions) (λ session. operation policy s session service host)
+change_of policy s place sid (requests.Adduser name long) = in_session (session_of sid s.sessions) (λ session. add_user s session name long)
+change_of policy s place sid (requests.Deluser name) = in_session (session_of sid s.sessions) (λ session. by_wizard s session name deletes)
+change_of policy s place sid (requests.Enable name) = in_session (session_of sid s.sessions) (λ session. by_wizard s session name (λ f. stores (enabled f)))
+change_of policy s place sid (requests.Disable name) = in_session (session_of sid s.sessions) (λ session. by_wizard s session name (λ f. stores (disabled f)))
+change_of policy s place sid (requests.Group name group) = in_session (session_of sid s.sessions) (λ session. by_super s session name (λ f. stores (with_group group f)))
+change_of policy s place sid (requests.Proto name proto) = in_session (session_of sid s.sessions) (λ session. by_wizard s session name (λ f. stores (with_proto proto f)))
+change_of policy s place sid (requests.Password name salt hash) = in_session (session_of sid s.sessions) (λ session. by_user s session name (λ f. stores (with_password salt hash f)))
+change_of policy s place sid (requests.Otp name number word_seed kept) = in_session (session_of sid s.sessions) (λ session. by_user s session name (λ f. stores (with_otp (record { number = number; word_seed = word_seed; kept = kept }) f)))
+change_of policy s place sid (requests.Wiz name) = in_session (session_of sid s.sessions) (λ session. by_super s session name (λ f. stores (with_wiz wizards.Group f)))
+change_of policy s place sid (requests.Unwiz name) = in_session (session_of sid s.sessions) (λ session. by_super s session name (λ f. stores (with_wiz wizards.None f)))
+change_of policy s place sid (requests.Superwiz name) = in_session (session_of sid s.sessions) (λ session. by_super s session name (λ f. stores (with_wiz wizards.Super f)))
+change_of policy s place sid (requests.Display name) = in_session (session_of sid s.sessions) (λ session. by_user s session name shows)
+change_of policy s place sid (requests.List after) = in_session (session_of sid s.sessions) (λ session. list s session after)
+change_of policy s place sid requests.Close = in_session (session_of sid s.sessions) (λ session. closes)
 
 -- the same record, byte for byte
 abbrev pub is_record : Fields → Option Fields → Bool

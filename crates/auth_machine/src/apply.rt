@@ -81,7 +81,7 @@ pub(crate) fn turn(sessions: &mut Vec<Session>, turn: Turn, sid: u64)
     match turn {
         Turn::Stay => (),
         Turn::Become(session) => {
-            without_session(sessions, sid);
+            without_session(sessions, session.sid);
             sessions.push_reserved(session);
         }
         Turn::End => without_session(sessions, sid),
@@ -110,7 +110,7 @@ pub(crate) fn hold(challenges: &mut Vec<Challenge>, hold: Hold, sid: u64, moment
     ensures { challenges.new.items ≡ held hold sid moment challenges.old.items }
 {
     match hold {
-        Hold::Keep => (),
+        Hold::Same => (),
         Hold::Drop => without_own(challenges, sid),
         Hold::Take(name) => {
             without_own(challenges, sid);

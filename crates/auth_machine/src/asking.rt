@@ -3,15 +3,15 @@ ghost use Rattle.std.specs.Prelude.{◌≡◌, ℕ, Some, None};
 ghost use Rattle.auth_machine.specs.Policy.{PolicyView};
 ghost use Rattle.std.specs.Option.{option_copied};
 ghost use Rattle.auth_machine.specs.Login.{answers_only};
-ghost use Rattle.auth_machine.specs.State.{State, session_at};
-ghost use Rattle.auth_machine.specs.Powers.{by_super, by_user, by_wizard, deletes, disabled, enabled, operation, operation_by, allowed, shows, stores, with_group, with_otp, with_password, with_proto, with_wiz};
+ghost use Rattle.auth_machine.specs.State.{State, session_of};
+ghost use Rattle.auth_machine.specs.Powers.{by_super, by_user, by_wizard, deletes, disabled, enabled, operation, operation_by, operation_answer, shows, stores, with_group, with_otp, with_password, with_proto, with_wiz};
 ghost use Rattle.auth_machine.specs.Step.{change_of, closes, opens};
 
 use crate::change::Change;
 use crate::edit::{Edit, Hold, Turn};
 use crate::kept::Kept;
 use crate::login::authenticate;
-use crate::machine::{Machine, session_at};
+use crate::machine::{Machine, session_of};
 use crate::powers::{by_super, by_user, by_wizard, group_twin, user_of};
 use crate::requests::{
     add_user, deletes, disables, enables, list, sets_group, sets_otp, sets_password, sets_proto,
@@ -35,7 +35,7 @@ fn opens(place: u64, console: bool) -> Change
             console,
             phase: Phase::Idle,
         }),
-        challenge: Hold::Keep,
+        challenge: Hold::Same,
     }
 }
 
@@ -71,7 +71,7 @@ fn operation(policy: &Policy, machine: &Machine, session: &Session, service: OpS
 }
 
 fn without_session(place: u64, request: &Request) -> Change
-    ensures { (policy : PolicyView) (s : State) (sid : ℕ) → session_at sid s.sessions ≡ None → result ≡ change_of policy s place sid request.now }
+    ensures { (policy : PolicyView) (s : State) (sid : ℕ) → session_of sid s.sessions ≡ None → result ≡ change_of policy s place sid request.now }
 {
     match request {
         Request::Open { console } => opens(place, *console),
@@ -178,7 +178,7 @@ fn display(machine: &Machine, session: &Session, name: &Name) -> Change
 
 // What a request for this session is answered, and what it changes.
 fn asked(policy: &Policy, machine: &Machine, place: u64, session: &Session, request: &Request) -> Change
-    ensures { (sid : ℕ) → session_at sid machine.now.sessions ≡ Some session.now → result ≡ change_of policy.now machine.now place sid request.now }
+    ensures { (sid : ℕ) → session_of sid machine.now.sessions ≡ Some session.now → result ≡ change_of policy.now machine.now place sid request.now }
 {
     match request {
         Request::Open { console } => opens(place, *console),
@@ -211,7 +211,7 @@ fn asked(policy: &Policy, machine: &Machine, place: u64, session: &Session, requ
 pub(crate) fn change_of(policy: &Policy, machine: &Machine, place: u64, sid: u64, request: &Request) -> Change
     ensures { result ≡ change_of policy.now machine.now place sid request.now }
 {
-    match session_at(machine.sessions, sid) {
+    match session_of(machine.sessions, sid) {
         None => without_session(place, request),
         Some(session) => asked(policy, machine, place, session, request),
     }

@@ -1,6 +1,6 @@
 ghost use Rattle.std.specs.Prelude.{◌≡◌, ◌≤◌, [], length};
 ghost use Rattle.auth_machine.specs.Book.{AnswersKept, Asked, RoseIfNotKept, Stands};
-ghost use Rattle.auth_machine.specs.History.{FewerThanFaults, HasRecords, IsLegal};
+ghost use Rattle.auth_machine.specs.History.{NoMoreThanFaults, HasRecords, IsLegal};
 ghost use Rattle.auth_machine.specs.Standing.{state_of};
 
 use crate::Policy;
@@ -77,7 +77,7 @@ impl<K: Keeper> Book<K> {
         ensures legal { IsLegal self.now.origin result.now }
         ensures within { length result.now ≤ self.now.limit }
         ensures records { HasRecords self.now.origin self.now.history self.now.vault }
-        ensures faults { FewerThanFaults self.now.history self.now.vault }
+        ensures faults { NoMoreThanFaults self.now.history self.now.vault }
     {
         &self.history
     }
@@ -88,7 +88,7 @@ impl<K: Keeper> Book<K> {
         ensures history { result.1.items ≡ self.history }
         ensures legal { IsLegal self.origin self.history }
         ensures records { HasRecords self.origin self.history self.vault }
-        ensures faults { FewerThanFaults self.history self.vault }
+        ensures faults { NoMoreThanFaults self.history self.vault }
     {
         let Book { keeper, history, .. } = self;
         (keeper, history)

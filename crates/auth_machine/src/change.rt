@@ -46,7 +46,7 @@ impl Change {
             reply,
             records: Edit::Leave,
             session: Turn::Stay,
-            challenge: Hold::Keep,
+            challenge: Hold::Same,
         }
     }
 
@@ -65,7 +65,7 @@ impl Change {
             reply,
             records: Edit::Leave,
             session: Turn::Become(in_phase(session, phase)),
-            challenge: Hold::Keep,
+            challenge: Hold::Same,
         }
     }
 

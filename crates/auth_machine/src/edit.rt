@@ -29,7 +29,7 @@ pub enum Turn {
 #[derive(Drop)]
 pub enum Hold {
     /// Nothing.
-    Keep,
+    Same,
     /// The session's own is gone.
     Drop,
     /// The session's own is gone, and the one of this name is the session's from now on.

@@ -3,7 +3,7 @@ ghost use Rattle.std.specs.Prelude.{◌≡◌, Some, None};
 ghost use Rattle.std.specs.Option.{option_copied};
 ghost use Rattle.auth_records.specs.Spelling.{fields, otp_fields};
 ghost use Rattle.auth_machine.specs.Answer.{answer_of};
-ghost use Rattle.auth_machine.specs.Login.{asks, asks_word, authenticate, authenticate_as, challenges, checks, checks_otp, checks_plain, checks_word, failed, guarded, has_password, is_own, is_password, later, locked, logged_in, one_more, refusal, respond, respond_as, respond_in, right, unless_refused, used, wrong};
+ghost use Rattle.auth_machine.specs.Login.{asks, asks_word, authenticate, authenticate_as, challenges, checks, checks_otp, checks_plain, checks_word, failed, guarded, has_password, is_own, is_password, later, lockout, logged_in, one_more, refusal, respond, respond_as, respond_in, right, unless_refused, used, wrong};
 ghost use Rattle.auth_machine.specs.State.{record_at};
 
 use crate::change::{Change, in_phase};
@@ -31,8 +31,8 @@ fn has_password(kept: &Kept) -> bool
     }
 }
 
-fn locked(bad_sleep: Option<u64>, since: u64, moment: u64) -> Option<Denial>
-    ensures { result ≡ locked bad_sleep since moment }
+fn lockout(bad_sleep: Option<u64>, since: u64, moment: u64) -> Option<Denial>
+    ensures { result ≡ lockout bad_sleep since moment }
 {
     match bad_sleep {
         None => Some(Denial::Disabled),
@@ -53,7 +53,7 @@ pub(crate) fn refusal(policy: &Policy, moment: u64, kept: &Kept) -> Option<Denia
         return Some(Denial::Disabled);
     }
     if kept.record.fails == 5 {
-        return locked(policy.bad_sleep(), kept.record.since, moment);
+        return lockout(policy.bad_sleep(), kept.record.since, moment);
     }
     None
 }

@@ -2,7 +2,7 @@ ghost use Rattle.std.specs.Prelude.{◌≡◌};
 ghost use Rattle.std.specs.Option.{option_copied};
 ghost use Rattle.std.specs.Str.{bytes_eq};
 ghost use Rattle.fw_outside.specs.Keyed.{is_named};
-ghost use Rattle.auth_machine.specs.State.{challenge_at, name_of, record_at, session_at};
+ghost use Rattle.auth_machine.specs.State.{challenge_at, name_of, record_at, session_of};
 
 use crate::kept::Kept;
 use crate::{Challenge, Session};
@@ -46,8 +46,8 @@ pub(crate) fn record_at<'a>(records: &'a [Kept], name: &Name) -> Option<&'a Kept
 }
 
 // The session of this number.
-pub(crate) fn session_at(sessions: &[Session], sid: u64) -> Option<&Session>
-    ensures { option_copied result ≡ session_at sid sessions.entry.now }
+pub(crate) fn session_of(sessions: &[Session], sid: u64) -> Option<&Session>
+    ensures { option_copied result ≡ session_of sid sessions.entry.now }
 {
     sessions.iter().find(|session| session.sid == sid)
 }

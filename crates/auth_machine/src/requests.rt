@@ -27,7 +27,7 @@ fn stores(user: Record) -> Change
         reply: Reply::Ok,
         records: Edit::Put(Kept { record: user }),
         session: Turn::Stay,
-        challenge: Hold::Keep,
+        challenge: Hold::Same,
     }
 }
 
