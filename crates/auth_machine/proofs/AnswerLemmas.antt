@@ -32,17 +32,17 @@ own_if true x y hx hy = hx
 own_if false x y hx hy = hy
 
 own_locked : (bad_sleep : Option ℕ) (since moment : ℕ) → IfSome (lockout bad_sleep since moment) IsOwnDenial
-own_locked None since moment = tt
-own_locked (Some seconds) since moment = own_if _ (Some (denials.Sleeping (later since seconds))) None tt tt
+own_locked None since moment = (refl, refl)
+own_locked (Some seconds) since moment = own_if _ (Some (denials.Sleeping (later since seconds))) None (refl, refl) tt
 
 pub own_refusal : (policy : PolicyView) (moment : ℕ) (f : Fields) → IfSome (refusal policy moment f) IsOwnDenial
 own_refusal policy moment f =
-    own_if _ (Some denials.Disabled) (cond _ (lockout policy.bad_sleep f.since moment) None) tt
+    own_if _ (Some denials.Disabled) (cond _ (lockout policy.bad_sleep f.since moment) None) (refl, refl)
     (own_if _ (lockout policy.bad_sleep f.since moment) None (own_locked policy.bad_sleep f.since moment) tt)
 
 own_guarded : (standing : Option Challenge) (sid moment : ℕ) → IfSome (guarded standing sid moment) IsOwnDenial
 own_guarded None sid moment = tt
-own_guarded (Some challenge) sid moment = own_if _ (Some (denials.Busy challenge.sid (later challenge.at 60))) None tt tt
+own_guarded (Some challenge) sid moment = own_if _ (Some (denials.Busy challenge.sid (later challenge.at 60))) None (refl, refl) tt
 
 -- ---- answers of which something holds that holds of each such denial
 
@@ -59,17 +59,17 @@ module _ (P : Answer → Type 0) (denied : (d : Denial) → IsOwnDenial d → P 
 
   of_asks_word : P Password → ((n : ℕ) (word_seed : List ℕ) → P (Challenged n word_seed)) → (s : State) (session : Session) (name : List ℕ) (otp : OtpFields) → P (asks_word s session name otp).answer
   of_asks_word password challenged s session name otp =
-      either _ _ _ (denied denials.Exhausted tt)
+      either _ _ _ (denied denials.Exhausted (refl, refl))
       (refused_or session _ _ (own_guarded (challenge_at name s.challenges) session.sid s.moment) (challenged _ _))
 
   of_asks : P Password → ((n : ℕ) (word_seed : List ℕ) → P (Challenged n word_seed)) → (s : State) (session : Session) (name : List ℕ) (proto : Proto) (otp : Option OtpFields) → P (asks s session name proto otp).answer
   of_asks password challenged s session name protos.Plain otp = password
   of_asks password challenged s session name protos.Otp (Some otp) = of_asks_word password challenged s session name otp
-  of_asks password challenged s session name protos.Otp None = denied denials.Disabled tt
-  of_asks password challenged s session name protos.None otp = denied denials.Disabled tt
+  of_asks password challenged s session name protos.Otp None = denied denials.Disabled (refl, refl)
+  of_asks password challenged s session name protos.None otp = denied denials.Disabled (refl, refl)
 
   of_authenticate_as : P Password → ((n : ℕ) (word_seed : List ℕ) → P (Challenged n word_seed)) → (policy : PolicyView) (s : State) (session : Session) (name : List ℕ) (r : Option Fields) → P (authenticate_as policy s session name r).answer
-  of_authenticate_as password challenged policy s session name None = either _ _ _ (denied denials.Unknown tt) password
+  of_authenticate_as password challenged policy s session name None = either _ _ _ (denied denials.Unknown (refl, refl)) password
   of_authenticate_as password challenged policy s session name (Some f) =
       refused_or session _ _ (own_refusal policy s.moment f) (of_asks password challenged s session name f.proto f.otp)
 
@@ -80,32 +80,32 @@ module _ (P : Answer → Type 0) (denied : (d : Denial) → IsOwnDenial d → P 
   -- ---- Response
 
   of_checks_plain : P Done → (s : State) (session : Session) (name : List ℕ) (f : Fields) (hash : List ℕ) (plain : Option Plain) → P (checks_plain s session name f hash plain).answer
-  of_checks_plain done s session name f hash None = denied denials.Disabled tt
-  of_checks_plain done s session name f hash (Some plain) = either _ _ _ done (denied denials.Wrong tt)
+  of_checks_plain done s session name f hash None = denied denials.Disabled (refl, refl)
+  of_checks_plain done s session name f hash (Some plain) = either _ _ _ done (denied denials.Wrong (refl, refl))
 
   of_checks_word : P Done → (s : State) (session : Session) (name : List ℕ) (f : Fields) (otp : OtpFields) (word : Option ℕ) → P (checks_word s session name f otp word).answer
-  of_checks_word done s session name f otp None = denied denials.Wrong tt
-  of_checks_word done s session name f otp (Some word) = either _ _ _ done (denied denials.Wrong tt)
+  of_checks_word done s session name f otp None = denied denials.Wrong (refl, refl)
+  of_checks_word done s session name f otp (Some word) = either _ _ _ done (denied denials.Wrong (refl, refl))
 
   of_checks_otp : P Done → (s : State) (session : Session) (name : List ℕ) (f : Fields) (word : Option ℕ) (otp : Option OtpFields) → P (checks_otp s session name f word otp).answer
-  of_checks_otp done s session name f word None = denied denials.Disabled tt
+  of_checks_otp done s session name f word None = denied denials.Disabled (refl, refl)
   of_checks_otp done s session name f word (Some otp) =
-      either _ _ _ (denied denials.NoChallenge tt) (either _ _ _ (denied denials.Exhausted tt) (of_checks_word done s session name f otp word))
+      either _ _ _ (denied denials.NoChallenge (refl, refl)) (either _ _ _ (denied denials.Exhausted (refl, refl)) (of_checks_word done s session name f otp word))
 
   of_checks : P Done → (s : State) (session : Session) (name : List ℕ) (f : Fields) (hash : List ℕ) (word : Option ℕ) (proto : Proto) → P (checks s session name f hash word proto).answer
   of_checks done s session name f hash word protos.Plain = of_checks_plain done s session name f hash f.plain
   of_checks done s session name f hash word protos.Otp = of_checks_otp done s session name f word f.otp
-  of_checks done s session name f hash word protos.None = denied denials.Disabled tt
+  of_checks done s session name f hash word protos.None = denied denials.Disabled (refl, refl)
 
   of_respond_as : P Done → (policy : PolicyView) (s : State) (session : Session) (name hash : List ℕ) (word : Option ℕ) (r : Option Fields) → P (respond_as policy s session name hash word r).answer
-  of_respond_as done policy s session name hash word None = denied denials.Wrong tt
+  of_respond_as done policy s session name hash word None = denied denials.Wrong (refl, refl)
   of_respond_as done policy s session name hash word (Some f) =
       refused_or session _ _ (own_refusal policy s.moment f) (of_checks done s session name f hash word f.proto)
 
   of_respond_in : P Done → (policy : PolicyView) (s : State) (session : Session) (hash : List ℕ) (word : Option ℕ) (phase : Phase) → P (respond_in policy s session hash word phase).answer
-  of_respond_in done policy s session hash word Idle = denied denials.NoChallenge tt
-  of_respond_in done policy s session hash word (In name) = denied denials.NoChallenge tt
-  of_respond_in done policy s session hash word Bogus = denied denials.Wrong tt
+  of_respond_in done policy s session hash word Idle = denied denials.NoChallenge (refl, refl)
+  of_respond_in done policy s session hash word (In name) = denied denials.NoChallenge (refl, refl)
+  of_respond_in done policy s session hash word Bogus = denied denials.Wrong (refl, refl)
   of_respond_in done policy s session hash word (Waiting name) = of_respond_as done policy s session name hash word (record_at name s.records)
 
   pub of_respond : P Done → (policy : PolicyView) (s : State) (session : Session) (hash : List ℕ) (word : Option ℕ) → P (respond policy s session hash word).answer
@@ -116,10 +116,10 @@ module _ (P : Answer → Type 0) (denied : (d : Denial) → IsOwnDenial d → P 
 
   of_allowed : P Done → (v : Verdict) → P (operation_answer v)
   of_allowed done (Permit line) = done
-  of_allowed done (Deny line) = denied (denials.NoRule line) tt
+  of_allowed done (Deny line) = denied (denials.NoRule line) (refl, refl)
 
   of_operation_by : P Done → (policy : PolicyView) (service : OpService) (host : Host) (user : Option Fields) → P (operation_by policy service host user).answer
-  of_operation_by done policy service host None = denied denials.NotIn tt
+  of_operation_by done policy service host None = denied denials.NotIn (refl, refl)
   of_operation_by done policy service host (Some user) = of_allowed done _
 
   pub of_operation : P Done → (policy : PolicyView) (s : State) (session : Session) (service : OpService) (host : Host) → P (operation policy s session service host).answer
@@ -128,23 +128,23 @@ module _ (P : Answer → Type 0) (denied : (d : Denial) → IsOwnDenial d → P 
 
   of_members : (act : Fields → Change) → ((f : Fields) → P (act f).answer) → (b : Bool) (f : Fields) → P (done_with (cond b (Ok f) (Err denials.NotWizard)) act).answer
   of_members act h true f = h f
-  of_members act h false f = denied denials.NotWizard tt
+  of_members act h false f = denied denials.NotWizard (refl, refl)
 
   pub of_reached : (act : Fields → Change) → ((f : Fields) → P (act f).answer) → (power : Option Power) (target : Option Fields) → P (done_with (reached power target) act).answer
-  of_reached act h None target = denied denials.NotIn tt
-  of_reached act h (Some Nobody) target = denied denials.NotWizard tt
-  of_reached act h (Some (Members group)) None = denied denials.NoSuch tt
-  of_reached act h (Some Everybody) None = denied denials.NoSuch tt
+  of_reached act h None target = denied denials.NotIn (refl, refl)
+  of_reached act h (Some Nobody) target = denied denials.NotWizard (refl, refl)
+  of_reached act h (Some (Members group)) None = denied denials.NoSuch (refl, refl)
+  of_reached act h (Some Everybody) None = denied denials.NoSuch (refl, refl)
   of_reached act h (Some (Members group)) (Some f) = of_members act h (covers (Members group) f) f
   of_reached act h (Some Everybody) (Some f) = h f
 
   of_adds_to : P Done → (group : Option (List ℕ)) (name long : List ℕ) (target : Option Fields) → P (adds_to group name long target).answer
-  of_adds_to done group name long (Some f) = denied denials.Exists tt
+  of_adds_to done group name long (Some f) = denied denials.Exists (refl, refl)
   of_adds_to done group name long None = done
 
   of_adds : P Done → (power : Option Power) (name long : List ℕ) (target : Option Fields) → P (adds power name long target).answer
-  of_adds done None name long target = denied denials.NotIn tt
-  of_adds done (Some Nobody) name long target = denied denials.NotWizard tt
+  of_adds done None name long target = denied denials.NotIn (refl, refl)
+  of_adds done (Some Nobody) name long target = denied denials.NotWizard (refl, refl)
   of_adds done (Some (Members group)) name long target = of_adds_to done group name long target
   of_adds done (Some Everybody) name long target = of_adds_to done None name long target
 
@@ -153,5 +153,6 @@ module _ (P : Answer → Type 0) (denied : (d : Denial) → IsOwnDenial d → P 
   of_add_user done s session name long = of_adds done _ name long _
 
   pub of_session : (session : Option Session) (act : Session → Change) → ((session : Session) → P (act session).answer) → P (in_session session act).answer
-  of_session None act h = denied denials.Closed tt
+  of_session None act h = denied denials.Closed (refl, refl)
   of_session (Some session) act h = h session
+

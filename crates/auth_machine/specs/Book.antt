@@ -1,14 +1,13 @@
 -- The book: a history, what it stands on, and the keeper of its records.
-use Rattle.std.specs.Prelude.{◌≡◌, ℕ, ◌<◌, ◌≤◌, Bool, List, [], ◌∷◌, ◌++◌, length, Result, Ok, Err}
+use Rattle.std.specs.Prelude.{◌≡◌, ℕ, ◌<◌, ◌≤◌, Bool, true, Option, Some, None, List, [], ◌∷◌, ◌++◌, length, Result, Ok, Err}
 use Rattle.fw_outside.specs.Counts.{Rose}
 use Rattle.fw_outside.specs.Vault.{Vault}
 use Rattle.fw_outside.specs.declared.no_memory.NoMemory.{NoMemory}
 use Rattle.auth_events.specs.Port.{session_at}
-use Rattle.auth_events.specs.declared.denial.Denial.TheVariants.{Full, NotKept}
 use Rattle.auth_events.specs.declared.entry.Entry.{Entry}
 use Rattle.auth_events.specs.declared.reply.Reply.{Reply}
-use Rattle.auth_events.specs.declared.reply.Reply.TheVariants.{Denied}
 use Rattle.auth_events.specs.declared.request.Request.{Request}
+use Rattle.auth_machine.specs.Answers.{full_of, is_unkept}
 use Rattle.auth_machine.specs.History.{NoMoreThanFaults, HasRecords, IsLegal, Origin, after}
 use Rattle.auth_machine.specs.Keeping.{Keeps}
 use Rattle.auth_machine.specs.Policy.{PolicyView}
@@ -46,12 +45,13 @@ pub record IsFull (told limit : ℕ) (before now : List Entry) : Type 0 where
   pub full : length before ≡ limit
   pub is : now ≡ before
 
-abbrev pub Replies : ℕ → ℕ → Request → Reply → ℕ → List Entry → List Entry → Type 0
-Replies sid at request (Denied (Full told)) limit before now = IsFull told limit before now
-Replies sid at request reply limit before now = Enters sid at request reply limit before now
+-- a reply is entered, unless it says that the history is full
+abbrev pub Replies : Option ℕ → ℕ → ℕ → Request → Reply → ℕ → List Entry → List Entry → Type 0
+Replies None sid at request reply limit before now = Enters sid at request reply limit before now
+Replies (Some told) sid at request reply limit before now = IsFull told limit before now
 
 abbrev pub Answers : ℕ → ℕ → Request → Result Reply NoMemory → ℕ → List Entry → List Entry → Type 0
-Answers sid at request (Ok reply) limit before now = Replies sid at request reply limit before now
+Answers sid at request (Ok reply) limit before now = Replies (full_of reply) sid at request reply limit before now
 Answers sid at request (Err _) limit before now = now ≡ before
 
 -- what asking answers and leaves of a history: it is legal and fits, whatever the answer
@@ -70,15 +70,15 @@ pub record Kept (sid at : ℕ) (request : Request) (origin : Origin) (before now
   pub keeping : Keeps (keeps origin.policy (after origin before) (length before) sid at request)
       (proposed origin.policy (after origin before) (length before) sid at request).records entry.kept old new
 
-abbrev pub RepliesKept : ℕ → ℕ → Request → Reply → Origin → List Entry → List Entry → Vault → Vault → Type 0
-RepliesKept sid at request (Denied (Full told)) origin before now old new = new ≡ old
-RepliesKept sid at request reply origin before now old new = Kept sid at request origin before now old new
+abbrev pub RepliesKept : Option ℕ → ℕ → ℕ → Request → Origin → List Entry → List Entry → Vault → Vault → Type 0
+RepliesKept None sid at request origin before now old new = Kept sid at request origin before now old new
+RepliesKept (Some told) sid at request origin before now old new = new ≡ old
 
 abbrev pub AnswersKept : ℕ → ℕ → Request → Result Reply NoMemory → Origin → List Entry → List Entry → Vault → Vault → Type 0
-AnswersKept sid at request (Ok reply) origin before now old new = RepliesKept sid at request reply origin before now old new
+AnswersKept sid at request (Ok reply) origin before now old new = RepliesKept (full_of reply) sid at request origin before now old new
 AnswersKept sid at request (Err _) origin before now old new = new ≡ old
 
 -- what is not kept the keeper has counted
 abbrev pub RoseIfNotKept : Result Reply NoMemory → Vault → Vault → Type 0
-RoseIfNotKept (Ok (Denied NotKept)) old new = Rose old.faults new.faults
-RoseIfNotKept _ old new = Unit {0}
+RoseIfNotKept (Ok reply) old new = is_unkept reply ≡ true → Rose old.faults new.faults
+RoseIfNotKept (Err _) old new = Unit {0}
