@@ -1,5 +1,6 @@
 pub mod AnswerLemmas
 mod ApplyLemmas
+pub mod BookLemmas
 mod Corners
 pub mod FitLemmas
 pub mod HistoryLemmas
@@ -7,4 +8,5 @@ pub mod OperationsLemmas
 pub mod PolicyLemmas
 mod Rows
 mod Runs
+pub mod TableLemmas
 mod WizardCorners

@@ -64,19 +64,19 @@ pub record Asked (sid at : ℕ) (request : Request) (limit : ℕ) (origin : Orig
 
 -- the keeper was called exactly where the machine has it keep a record anew or drop one, and the entry says whether it was
 -- kept
-pub record Kept (sid at : ℕ) (request : Request) (origin : Origin) (before now : List Entry) (old new : Vault) : Type 0 where
+pub record Kept (origin : Origin) (before now : List Entry) (old new : Vault) : Type 0 where
   pub entry : Entry
   pub is : now ≡ before ++ entry ∷ []
-  pub keeping : Keeps (keeps origin.policy (after origin before) (length before) sid at request)
-      (proposed origin.policy (after origin before) (length before) sid at request).records entry.kept old new
+  pub keeping : Keeps (keeps origin.policy (after origin before) (length before) entry.sid entry.at entry.request)
+      (proposed origin.policy (after origin before) (length before) entry.sid entry.at entry.request).records entry.kept old new
 
-abbrev pub RepliesKept : Option ℕ → ℕ → ℕ → Request → Origin → List Entry → List Entry → Vault → Vault → Type 0
-RepliesKept None sid at request origin before now old new = Kept sid at request origin before now old new
-RepliesKept (Some told) sid at request origin before now old new = new ≡ old
+abbrev pub RepliesKept : Option ℕ → Origin → List Entry → List Entry → Vault → Vault → Type 0
+RepliesKept None origin before now old new = Kept origin before now old new
+RepliesKept (Some told) origin before now old new = new ≡ old
 
-abbrev pub AnswersKept : ℕ → ℕ → Request → Result Reply NoMemory → Origin → List Entry → List Entry → Vault → Vault → Type 0
-AnswersKept sid at request (Ok reply) origin before now old new = RepliesKept (full_of reply) sid at request origin before now old new
-AnswersKept sid at request (Err _) origin before now old new = new ≡ old
+abbrev pub AnswersKept : Result Reply NoMemory → Origin → List Entry → List Entry → Vault → Vault → Type 0
+AnswersKept (Ok reply) origin before now old new = RepliesKept (full_of reply) origin before now old new
+AnswersKept (Err _) origin before now old new = new ≡ old
 
 -- what is not kept the keeper has counted
 abbrev pub RoseIfNotKept : Result Reply NoMemory → Vault → Vault → Type 0

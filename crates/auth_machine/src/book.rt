@@ -40,7 +40,7 @@ impl<K: Keeper> Book<K> {
     /// Asks this request for the session of this number, at this moment in seconds.
     pub fn ask(&mut self, sid: u64, at: u64, request: Request) -> Result<Reply, NoMemory>
         ensures asked { Asked sid at request self.old.limit self.old.origin self.old.history result self.new.history }
-        ensures kept { AnswersKept sid at request result self.old.origin self.old.history self.new.history self.old.vault self.new.vault }
+        ensures kept { AnswersKept result self.old.origin self.old.history self.new.history self.old.vault self.new.vault }
         ensures not_kept { RoseIfNotKept result self.old.vault self.new.vault }
         ensures limit { self.new.limit ≡ self.old.limit }
         ensures origin { self.new.origin ≡ self.old.origin }
@@ -50,6 +50,7 @@ impl<K: Keeper> Book<K> {
         }
         self.history.reserve(1)?;
         let place = self.history.len() as u64;
+        let sid = session_of(&request, place, sid);
         let stepped = step(
             self.alloc,
             &self.policy,
@@ -62,7 +63,7 @@ impl<K: Keeper> Book<K> {
         )?;
         let reply = stepped.reply.twin();
         self.history.push_reserved(Entry {
-            sid: session_of(&request, place, sid),
+            sid,
             at,
             request,
             kept: stepped.kept,
