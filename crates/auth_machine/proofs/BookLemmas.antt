@@ -67,7 +67,7 @@ unkept_as_answer (replies.Shown summary) = refl
 unkept_as_answer (replies.Denied denial) = refl
 
 -- what is proposed may be answered by the rules themselves
-own_proposal : (policy : PolicyView) (s : State) (place sid at : ℕ) (request : Request) → IsOwn request place (proposed policy s place sid at request).answer
+pub own_proposal : (policy : PolicyView) (s : State) (place sid at : ℕ) (request : Request) → IsOwn request place (proposed policy s place sid at request).answer
 unfolding proposed
 own_proposal policy s place sid at request = own_answer policy (at_moment at s) place sid request
 
@@ -108,7 +108,7 @@ step_rose policy s new place sid at request kept reply before now step unkept =
     unkept_rose (keeps policy s place sid at request) (proposed policy s place sid at request).records kept before now step.keeping
     (unkept_step policy s place sid at request kept reply step.reply_is unkept)
 
-either_fits : (request : Request) (place : ℕ) (b : Bool) (a not_kept : Answer) (reply : Reply) → ((r : Reply) → answer_of r ≡ a → Fits request place r)
+pub either_fits : (request : Request) (place : ℕ) (b : Bool) (a not_kept : Answer) (reply : Reply) → ((r : Reply) → answer_of r ≡ a → Fits request place r)
     → ((r : Reply) → answer_of r ≡ not_kept → Fits request place r) → answer_of reply ≡ cond b not_kept a → Fits request place reply
 either_fits request place true a not_kept reply own denied is = denied reply is
 either_fits request place false a not_kept reply own denied is = own reply is

@@ -90,7 +90,7 @@ fits_opened console place replies.Ok same = apart same refl
 fits_opened console place (replies.Shown summary) same = apart same refl
 fits_opened console place (replies.Denied denial) same = apart same refl
 
-fits_denied : (request : Request) (place : ℕ) (denial : Denial) (reply : Reply) → answer_of reply ≡ Denied denial → Fits request place reply
+pub fits_denied : (request : Request) (place : ℕ) (denial : Denial) (reply : Reply) → answer_of reply ≡ Denied denial → Fits request place reply
 fits_denied request place denial (replies.Opened sid) same = apart same refl
 fits_denied request place denial replies.Password same = apart same refl
 fits_denied request place denial (replies.Challenge n word_seed) same = apart same refl

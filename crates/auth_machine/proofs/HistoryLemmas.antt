@@ -36,3 +36,15 @@ unkept_one_more [] entry = omega (arith)
 unkept_one_more (e ∷ h) entry =
     let more : unkept (h ++ entry ∷ []) ≡ unkept h + (cond entry.kept 0 1) = unkept_one_more h entry in
     omega (arith, more)
+
+last_of : (policy : PolicyView) (s : State) (place : ℕ) (h : List Entry) (entry : Entry)
+    → AreSteps policy s place (h ++ entry ∷ []) → IsStep policy (after_entries policy s place h) (place + length h) entry
+last_of policy s place [] entry steps = subst (λ (n : ℕ). IsStep policy s n entry) (omega (arith)) steps.0
+last_of policy s place (e ∷ h) entry steps =
+    subst (λ (n : ℕ). IsStep policy (after_entries policy (after_entry policy s place e) (suc place) h) n entry) (omega (arith))
+    (last_of policy (after_entry policy s place e) (suc place) h entry steps.1)
+
+-- the last entry of a legal history is a step
+pub last_step : (origin : Origin) (h : List Entry) (entry : Entry) → IsLegal origin (h ++ entry ∷ []) → IsStep origin.policy (after origin h) (length h) entry
+last_step origin h entry legal =
+    subst (λ (n : ℕ). IsStep origin.policy (after origin h) n entry) (omega (arith)) (last_of origin.policy (start origin.records) 0 h entry legal)

@@ -6,6 +6,7 @@ pub mod FitLemmas
 pub mod HistoryLemmas
 pub mod OperationsLemmas
 pub mod PolicyLemmas
+pub mod PortLemmas
 mod Rows
 mod Runs
 pub mod TableLemmas

@@ -14,6 +14,7 @@ mod operation;
 mod operations;
 mod origin;
 mod policy;
+mod port;
 mod power;
 mod powers;
 mod requests;
