@@ -155,4 +155,3 @@ module _ (P : Answer → Type 0) (denied : (d : Denial) → IsOwnDenial d → P 
   pub of_session : (session : Option Session) (act : Session → Change) → ((session : Session) → P (act session).answer) → P (in_session session act).answer
   of_session None act h = denied denials.Closed (refl, refl)
   of_session (Some session) act h = h session
-

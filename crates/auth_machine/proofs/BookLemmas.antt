@@ -99,8 +99,8 @@ unkept_step : (policy : PolicyView) (s : State) (place sid at : ℕ) (request : 
     → answer_of reply ≡ answer policy s place sid at request kept → is_unkept reply ≡ true → kept ≡ false
 unkept_step policy s place sid at request kept reply is unkept =
     negated kept (both (keeps policy s place sid at request) (not kept)
-      (unkept_by (is_refused policy s place sid at request kept) (proposed policy s place sid at request).answer _ (own_proposal policy s place sid at request).kept
-        (sym (ap is_unkept_answer is) ∙ sym (unkept_as_answer reply) ∙ unkept)))
+    (unkept_by (is_refused policy s place sid at request kept) (proposed policy s place sid at request).answer _ (own_proposal policy s place sid at request).kept
+    (sym (ap is_unkept_answer is) ∙ sym (unkept_as_answer reply) ∙ unkept)))
 
 pub step_rose : (policy : PolicyView) (s new : State) (place sid at : ℕ) (request : Request) (kept : Bool) (reply : Reply) (before now : Vault)
     → Steps policy place sid at request reply kept s new before now → is_unkept reply ≡ true → Rose before.faults now.faults
@@ -148,17 +148,17 @@ next_records : (origin : Origin) (h : List Entry) (sid at : ℕ) (request : Requ
 next_records origin h sid at request reply kept new before now step has =
     let change : Change = proposed origin.policy (after origin h) (length h) sid at request in
     let is : (after origin (h ++ entry_of sid at request kept reply ∷ [])).records
-            ≡ cond (is_refused origin.policy (after origin h) (length h) sid at request kept) (after origin h).records (edited change.records (after origin h).records) =
-          ap (λ (s : State). s.records) (after_one_more origin h (entry_of sid at request kept reply))
-          ∙ records_of (is_refused origin.policy (after origin h) (length h) sid at request kept) (after origin h) (session_at request (length h) sid) at change in
+    ≡ cond (is_refused origin.policy (after origin h) (length h) sid at request kept) (after origin h).records (edited change.records (after origin h).records) =
+    ap (λ (s : State). s.records) (after_one_more origin h (entry_of sid at request kept reply))
+    ∙ records_of (is_refused origin.policy (after origin h) (length h) sid at request kept) (after origin h) (session_at request (length h) sid) at change in
     subst (λ (records : List Fields). IfSome now.table (λ table. AreSame table (table_of records))) (sym is)
-      (table_after change.records kept before now (after origin h).records step.keeping has)
+    (table_after change.records kept before now (after origin h).records step.keeping has)
 
 next_faults : (origin : Origin) (h : List Entry) (sid at : ℕ) (request : Request) (reply : Reply) (kept : Bool) (new : State) (before now : Vault)
     → Next origin h sid at request reply kept new before now → NoMoreThanFaults h before → NoMoreThanFaults (h ++ entry_of sid at request kept reply ∷ []) now
 next_faults origin h sid at request reply kept new before now step most =
     count_after (keeps origin.policy (after origin h) (length h) sid at request) (proposed origin.policy (after origin h) (length h) sid at request).records kept before now
-      (unkept h) _ (unkept_one_more h (entry_of sid at request kept reply)) step.keeping most
+    (unkept h) _ (unkept_one_more h (entry_of sid at request kept reply)) step.keeping most
 
 one_longer : (h : List Entry) (entry : Entry) (limit : ℕ) → length h < limit → length (h ++ entry ∷ []) ≤ limit
 one_longer h entry limit fits = omega (arith, length_push h entry, fits)
@@ -170,7 +170,7 @@ rebased : (origin : Origin) (h : List Entry) (limit : ℕ) (policy : PolicyView)
 rebased origin h limit policy s new place sid at request reply kept before now book is step =
     subst (λ (n : ℕ). Steps origin.policy n sid at request reply kept (after origin h) new before now) is
     (subst (λ (p : PolicyView). Steps p place sid at request reply kept (after origin h) new before now) book.policy_is
-      (subst (λ (z : State). Steps policy place sid at request reply kept z new before now) book.state_is step))
+    (subst (λ (z : State). Steps policy place sid at request reply kept z new before now) book.state_is step))
 
 -- the book stands with the entry
 pub stands_with : (origin : Origin) (h : List Entry) (limit : ℕ) (policy : PolicyView) (s new : State) (place sid at : ℕ) (request : Request) (reply : Reply) (kept : Bool) (before now : Vault)
@@ -183,7 +183,7 @@ stands_with origin h limit policy s new place sid at request reply kept before n
       policy_is = book.policy_is;
       state_is = next_state origin h sid at request reply kept new before now next;
       legal = legal_one_more origin h (entry_of sid at request kept reply) book.legal
-        (next_is_step origin h sid at request reply kept new before now (subst (λ (n : ℕ). session_at request n sid ≡ sid) is own) next);
+          (next_is_step origin h sid at request reply kept new before now (subst (λ (n : ℕ). session_at request n sid ≡ sid) is own) next);
       within = one_longer h (entry_of sid at request kept reply) limit fits;
       records = next_records origin h sid at request reply kept new before now next book.records;
       faults = next_faults origin h sid at request reply kept new before now next book.faults;
@@ -197,15 +197,15 @@ pub asked_with : (origin : Origin) (h : List Entry) (limit : ℕ) (policy : Poli
 asked_with origin h limit policy s new place told sid at request reply kept before now book is fits sid_is step =
     let own : session_at request place sid ≡ sid = ap (session_at request place) sid_is ∙ same_session request place told ∙ sym sid_is in
     let stands : Stands (record { history = h ++ entry_of sid at request kept reply ∷ []; limit = limit; origin = origin; vault = now }) policy new =
-          stands_with origin h limit policy s new place sid at request reply kept before now book is fits own step in
+    stands_with origin h limit policy s new place sid at request reply kept before now book is fits own step in
     let entered : Enters told at request reply limit h (h ++ entry_of sid at request kept reply ∷ []) = record {
-          kept = kept;
-          fits = fits;
-          is = ap (λ (n : ℕ). h ++ entry_of n at request kept reply ∷ []) (sid_is ∙ ap (λ (n : ℕ). session_at request n told) is);
-        } in
+      kept = kept;
+      fits = fits;
+      is = ap (λ (n : ℕ). h ++ entry_of n at request kept reply ∷ []) (sid_is ∙ ap (λ (n : ℕ). session_at request n told) is);
+    } in
     record {
       answers = subst (λ (full : Option ℕ). Replies full told at request reply limit h (h ++ entry_of sid at request kept reply ∷ []))
-        (sym (step_not_full policy s place sid at request kept reply step.reply_is)) entered;
+          (sym (step_not_full policy s place sid at request kept reply step.reply_is)) entered;
       legal = stands.legal;
       within = stands.within;
     }
@@ -217,9 +217,9 @@ pub kept_with : (origin : Origin) (h : List Entry) (limit : ℕ) (policy : Polic
     → RepliesKept (full_of reply) origin h (h ++ entry_of sid at request kept reply ∷ []) before now
 kept_with origin h limit policy s new place sid at request reply kept before now book is step =
     subst (λ (full : Option ℕ). RepliesKept full origin h (h ++ entry_of sid at request kept reply ∷ []) before now)
-      (sym (step_not_full policy s place sid at request kept reply step.reply_is))
-      (record {
-        entry = entry_of sid at request kept reply;
-        is = refl;
-        keeping = (rebased origin h limit policy s new place sid at request reply kept before now book is step).keeping;
-      })
+    (sym (step_not_full policy s place sid at request kept reply step.reply_is))
+    (record {
+      entry = entry_of sid at request kept reply;
+      is = refl;
+      keeping = (rebased origin h limit policy s new place sid at request reply kept before now book is step).keeping;
+    })

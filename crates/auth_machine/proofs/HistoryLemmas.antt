@@ -21,9 +21,11 @@ after_one_more origin h entry =
 steps_more : (policy : PolicyView) (s : State) (place : ℕ) (h : List Entry) (entry : Entry)
     → AreSteps policy s place h → IsStep policy (after_entries policy s place h) (place + length h) entry → AreSteps policy s place (h ++ entry ∷ [])
 steps_more policy s place [] entry steps step = (subst (λ (n : ℕ). IsStep policy s n entry) (omega (arith)) step, tt)
-steps_more policy s place (e ∷ h) entry steps step =
-    (steps.0, steps_more policy (after_entry policy s place e) (suc place) h entry steps.1
-      (subst (λ (n : ℕ). IsStep policy (after_entries policy (after_entry policy s place e) (suc place) h) n entry) (omega (arith)) step))
+steps_more policy s place (e ∷ h) entry steps step = (
+  steps.0,
+  steps_more policy (after_entry policy s place e) (suc place) h entry steps.1
+      (subst (λ (n : ℕ). IsStep policy (after_entries policy (after_entry policy s place e) (suc place) h) n entry) (omega (arith)) step),
+)
 
 -- a legal history with one step more is legal
 pub legal_one_more : (origin : Origin) (h : List Entry) (entry : Entry) → IsLegal origin h → IsStep origin.policy (after origin h) (length h) entry → IsLegal origin (h ++ entry ∷ [])

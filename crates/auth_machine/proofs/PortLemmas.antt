@@ -85,7 +85,7 @@ refused sid at request (replies.Denied denials.NotKept) full h = some_clash (sym
 fits_answer : (policy : PolicyView) (s : State) (place sid at : ℕ) (request : Request) (kept : Bool) (reply : Reply) → answer_of reply ≡ answer policy s place sid at request kept → Fits request place reply
 fits_answer policy s place sid at request kept reply is =
     either_fits request place (is_refused policy s place sid at request kept) (proposed policy s place sid at request).answer _ reply
-      (own_proposal policy s place sid at request).fits (fits_denied request place denials.NotKept) is
+    (own_proposal policy s place sid at request).fits (fits_denied request place denials.NotKept) is
 
 fits_last : (origin : Origin) (h : List Entry) (entry : Entry) → IsLegal origin (h ++ entry ∷ []) → Fits entry.request (length h) entry.reply
 fits_last origin h entry legal =
@@ -143,9 +143,9 @@ port_entered sid at request reply old new limit origin enters legal =
       is_place = ap length (sym same);
       fits = fits_last old.origin old.history entry (subst (IsLegal old.origin) enters.is legal);
       is = same_port _ _ _ _ _ _ _ _
-        (enters.is ∙ ap (λ (h : List Entry). h ++ entry ∷ []) (sym same))
-        (ap (λ (h : List Entry). places (length h)) enters.is ∙ next_place old.history entry)
-        refl origin;
+          (enters.is ∙ ap (λ (h : List Entry). h ++ entry ∷ []) (sym same))
+          (ap (λ (h : List Entry). places (length h)) enters.is ∙ next_place old.history entry)
+          refl origin;
     }
 
 port_full : (told : ℕ) (old new : BookView) → new.limit ≡ old.limit → new.origin ≡ old.origin → IsFull told old.limit old.history new.history → ports.IsFull told (port_of old) (port_of new)
@@ -155,9 +155,9 @@ port_full told old new limit origin full =
       others = [];
       stays = stays_at told (full_at old.limit old.history) at_limit;
       is = same_port _ _ _ _ _ _ _ _
-        (full.is ∙ sym (nothing_more old.history))
-        (ap (λ (h : List Entry). places (length h)) full.is)
-        (ap (λ (n : ℕ). full_at n new.history) limit ∙ ap (full_at old.limit) full.is ∙ at_limit) origin;
+          (full.is ∙ sym (nothing_more old.history))
+          (ap (λ (h : List Entry). places (length h)) full.is)
+          (ap (λ (n : ℕ). full_at n new.history) limit ∙ ap (full_at old.limit) full.is ∙ at_limit) origin;
     }
 
 pub port_lacks : (old new : BookView) → new.limit ≡ old.limit → new.origin ≡ old.origin → new.history ≡ old.history → ports.Lacks (port_of old) (port_of new)
@@ -166,9 +166,9 @@ port_lacks old new limit origin same = record {
   full = full_at old.limit old.history;
   stays = stays (full_at old.limit old.history);
   is = same_port _ _ _ _ _ _ _ _
-    (same ∙ sym (nothing_more old.history))
-    (ap (λ (h : List Entry). places (length h)) same)
-    (ap (λ (n : ℕ). full_at n new.history) limit ∙ ap (full_at old.limit) same) origin;
+      (same ∙ sym (nothing_more old.history))
+      (ap (λ (h : List Entry). places (length h)) same)
+      (ap (λ (n : ℕ). full_at n new.history) limit ∙ ap (full_at old.limit) same) origin;
 }
 
 replied : (sid at : ℕ) (request : Request) (reply : Reply) (full : Option ℕ) (old new : BookView) → full_of reply ≡ full → new.limit ≡ old.limit → new.origin ≡ old.origin

@@ -61,7 +61,13 @@ fn operation_of(policy: &Policy, kept: &Kept, service: OpService, host: &Host) -
 }
 
 #[tactic(auto, unfolding(crate::specs::Powers::operation))]
-fn operation(policy: &Policy, machine: &Machine, session: &Session, service: OpService, host: &Host) -> Change
+fn operation(
+    policy: &Policy,
+    machine: &Machine,
+    session: &Session,
+    service: OpService,
+    host: &Host,
+) -> Change
     ensures { result ≡ operation policy.now machine.now session.now service host.now }
 {
     match user_of(machine, session) {
@@ -140,7 +146,13 @@ fn proto(machine: &Machine, session: &Session, name: &Name, proto: Proto) -> Cha
     }
 }
 
-fn password(machine: &Machine, session: &Session, name: &Name, salt: &[u8; 8], hash: &[u8; 16]) -> Change
+fn password(
+    machine: &Machine,
+    session: &Session,
+    name: &Name,
+    salt: &[u8; 8],
+    hash: &[u8; 16],
+) -> Change
     ensures { result ≡ by_user machine.now session.now name.now (λ f. stores (with_password salt.now hash.now f)) }
 {
     match by_user(machine, session, name) {
@@ -149,7 +161,14 @@ fn password(machine: &Machine, session: &Session, name: &Name, salt: &[u8; 8], h
     }
 }
 
-fn otp(machine: &Machine, session: &Session, name: &Name, number: &OtpNumber, word_seed: &Seed, word: u64) -> Change
+fn otp(
+    machine: &Machine,
+    session: &Session,
+    name: &Name,
+    number: &OtpNumber,
+    word_seed: &Seed,
+    word: u64,
+) -> Change
     ensures { result ≡ by_user machine.now session.now name.now (λ f. stores (with_otp (record { number = number.now; word_seed = word_seed.now; kept = word }) f)) }
 {
     match by_user(machine, session, name) {
@@ -177,7 +196,13 @@ fn display(machine: &Machine, session: &Session, name: &Name) -> Change
 }
 
 // What a request for this session is answered, and what it changes.
-fn asked(policy: &Policy, machine: &Machine, place: u64, session: &Session, request: &Request) -> Change
+fn asked(
+    policy: &Policy,
+    machine: &Machine,
+    place: u64,
+    session: &Session,
+    request: &Request,
+) -> Change
     ensures { (sid : ℕ) → session_of sid machine.now.sessions ≡ Some session.now → result ≡ change_of policy.now machine.now place sid request.now }
 {
     match request {
@@ -208,7 +233,13 @@ fn asked(policy: &Policy, machine: &Machine, place: u64, session: &Session, requ
 }
 
 // What a request for the session of this number is answered, and what it changes.
-pub(crate) fn change_of(policy: &Policy, machine: &Machine, place: u64, sid: u64, request: &Request) -> Change
+pub(crate) fn change_of(
+    policy: &Policy,
+    machine: &Machine,
+    place: u64,
+    sid: u64,
+    request: &Request,
+) -> Change
     ensures { result ≡ change_of policy.now machine.now place sid request.now }
 {
     match session_of(machine.sessions, sid) {

@@ -91,7 +91,11 @@ impl<K: Keeper> Book<K> {
         ensures records { HasRecords self.origin self.history self.vault }
         ensures faults { NoMoreThanFaults self.history self.vault }
     {
-        let Book { keeper, history, .. } = self;
+        let Book {
+            keeper,
+            history,
+            ..
+        } = self;
         (keeper, history)
     }
 }

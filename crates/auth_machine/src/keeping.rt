@@ -37,7 +37,12 @@ fn is_kept(answer: Result<(), KeepFault>) -> Result<bool, NoMemory>
     }
 }
 
-fn put<K: Keeper>(alloc: Global, keeper: &mut K, records: &[Kept], kept: &Kept) -> Result<bool, NoMemory>
+fn put<K: Keeper>(
+    alloc: Global,
+    keeper: &mut K,
+    records: &[Kept],
+    kept: &Kept,
+) -> Result<bool, NoMemory>
     ensures keeps { IfOk result (λ done. Keeps (is_edit (Edit.Put kept.now) records.now) (Edit.Put kept.now) done (K.vault keeper.old) (K.vault keeper.new)) }
     ensures same { OnErr result (K.vault keeper.new ≡ K.vault keeper.old) }
 {
@@ -50,7 +55,12 @@ fn put<K: Keeper>(alloc: Global, keeper: &mut K, records: &[Kept], kept: &Kept) 
 }
 
 // Keeps what becomes of the records, where anything does; answers whether it was kept.
-pub(crate) fn keep<K: Keeper>(alloc: Global, keeper: &mut K, records: &[Kept], edit: &Edit) -> Result<bool, NoMemory>
+pub(crate) fn keep<K: Keeper>(
+    alloc: Global,
+    keeper: &mut K,
+    records: &[Kept],
+    edit: &Edit,
+) -> Result<bool, NoMemory>
     ensures keeps { IfOk result (λ kept. Keeps (is_edit edit.now records.now) edit.now kept (K.vault keeper.old) (K.vault keeper.new)) }
     ensures same { OnErr result (K.vault keeper.new ≡ K.vault keeper.old) }
 {

@@ -66,7 +66,10 @@ fn guarded(challenge: Option<&Challenge>, sid: u64, moment: u64) -> Option<Denia
         Some(challenge) => {
             let until = later(challenge.at, 60);
             if challenge.sid != sid && moment < until {
-                return Some(Denial::Busy { sid: challenge.sid, until });
+                return Some(Denial::Busy {
+                    sid: challenge.sid,
+                    until,
+                });
             }
             None
         }
@@ -104,13 +107,26 @@ fn asks(machine: &Machine, session: &Session, name: &Name, kept: &Kept) -> Chang
     ensures { result ≡ asks machine.now session.now name.now kept.now.proto kept.now.otp }
 {
     match (kept.record.proto, &kept.record.otp) {
-        (Proto::Plain, _) => Change::drops(session, Reply::Password, Phase::Waiting { name: name.twin() }),
+        (Proto::Plain, _) => Change::drops(
+            session,
+            Reply::Password,
+            Phase::Waiting { name: name.twin() },
+        ),
         (Proto::Otp, Some(otp)) => asks_word(machine, session, name, otp),
-        (Proto::Otp, None) | (Proto::None, _) => Change::drops(session, Reply::Denied(Denial::Disabled), Phase::Idle),
+        (Proto::Otp, None) | (Proto::None, _) => Change::drops(
+            session,
+            Reply::Denied(Denial::Disabled),
+            Phase::Idle,
+        ),
     }
 }
 
-fn authenticate_unknown(policy: &Policy, machine: &Machine, session: &Session, name: &Name) -> Change
+fn authenticate_unknown(
+    policy: &Policy,
+    machine: &Machine,
+    session: &Session,
+    name: &Name,
+) -> Change
     ensures { result ≡ authenticate_as policy.now machine.now session.now name.now None }
 {
     if policy.no_bogus() {
@@ -119,7 +135,13 @@ fn authenticate_unknown(policy: &Policy, machine: &Machine, session: &Session, n
     Change::drops(session, Reply::Password, Phase::Bogus)
 }
 
-fn authenticate_as(policy: &Policy, machine: &Machine, session: &Session, name: &Name, kept: &Kept) -> Change
+fn authenticate_as(
+    policy: &Policy,
+    machine: &Machine,
+    session: &Session,
+    name: &Name,
+    kept: &Kept,
+) -> Change
     ensures { result ≡ authenticate_as policy.now machine.now session.now name.now (Some kept.now) }
 {
     match refusal(policy, machine.moment, kept) {
@@ -130,7 +152,12 @@ fn authenticate_as(policy: &Policy, machine: &Machine, session: &Session, name: 
 
 // Asks for the password of this user.
 #[tactic(auto, unfolding(crate::specs::Login::authenticate))]
-pub(crate) fn authenticate(policy: &Policy, machine: &Machine, session: &Session, name: &Name) -> Change
+pub(crate) fn authenticate(
+    policy: &Policy,
+    machine: &Machine,
+    session: &Session,
+    name: &Name,
+) -> Change
     ensures { result ≡ authenticate policy.now machine.now session.now name.now }
 {
     match record_at(machine.records, name) {

@@ -56,5 +56,7 @@ pub(crate) fn session_of(sessions: &[Session], sid: u64) -> Option<&Session>
 pub(crate) fn challenge_at<'a>(challenges: &'a [Challenge], name: &Name) -> Option<&'a Challenge>
     ensures { option_copied result ≡ challenge_at name.now challenges.entry.now }
 {
-    challenges.iter().find(|challenge| is_challenge_of(challenge, name))
+    challenges
+        .iter()
+        .find(|challenge| is_challenge_of(challenge, name))
 }

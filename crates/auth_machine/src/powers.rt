@@ -163,22 +163,43 @@ fn own_power(machine: &Machine, session: &Session, name: &Name) -> Option<Power>
 }
 
 // The record of this name, where a wizard may change it.
-pub(crate) fn by_wizard<'a>(machine: &Machine<'a>, session: &Session, name: &Name) -> Result<&'a Kept, Denial>
+pub(crate) fn by_wizard<'a>(
+    machine: &Machine<'a>,
+    session: &Session,
+    name: &Name,
+) -> Result<&'a Kept, Denial>
     ensures { MatchResult result (λ kept. reached (power_of machine.now session.now) (record_at name.now machine.now.records) ≡ Ok kept.now) (λ denial. reached (power_of machine.now session.now) (record_at name.now machine.now.records) ≡ Err denial) }
 {
-    reached(&power_of(machine, session), record_at(machine.records, name))
+    reached(
+        &power_of(machine, session),
+        record_at(machine.records, name),
+    )
 }
 
 // The record of this name, where its own user or a wizard may change it.
-pub(crate) fn by_user<'a>(machine: &Machine<'a>, session: &Session, name: &Name) -> Result<&'a Kept, Denial>
+pub(crate) fn by_user<'a>(
+    machine: &Machine<'a>,
+    session: &Session,
+    name: &Name,
+) -> Result<&'a Kept, Denial>
     ensures { MatchResult result (λ kept. reached (own_power machine.now session.now name.now) (record_at name.now machine.now.records) ≡ Ok kept.now) (λ denial. reached (own_power machine.now session.now name.now) (record_at name.now machine.now.records) ≡ Err denial) }
 {
-    reached(&own_power(machine, session, name), record_at(machine.records, name))
+    reached(
+        &own_power(machine, session, name),
+        record_at(machine.records, name),
+    )
 }
 
 // The record of this name, where a wizard over all may change it.
-pub(crate) fn by_super<'a>(machine: &Machine<'a>, session: &Session, name: &Name) -> Result<&'a Kept, Denial>
+pub(crate) fn by_super<'a>(
+    machine: &Machine<'a>,
+    session: &Session,
+    name: &Name,
+) -> Result<&'a Kept, Denial>
     ensures { MatchResult result (λ kept. reached (option_map over_all (power_of machine.now session.now)) (record_at name.now machine.now.records) ≡ Ok kept.now) (λ denial. reached (option_map over_all (power_of machine.now session.now)) (record_at name.now machine.now.records) ≡ Err denial) }
 {
-    reached(&over_all(power_of(machine, session)), record_at(machine.records, name))
+    reached(
+        &over_all(power_of(machine, session)),
+        record_at(machine.records, name),
+    )
 }

@@ -88,7 +88,13 @@ fn is_password(hash: &[u8; 16], plain: &Plain) -> bool
     salted(&plain.salt, hash).as_slice() == plain.hash.as_slice()
 }
 
-fn checks_plain(machine: &Machine, session: &Session, name: &Name, kept: &Kept, hash: &[u8; 16]) -> Change
+fn checks_plain(
+    machine: &Machine,
+    session: &Session,
+    name: &Name,
+    kept: &Kept,
+    hash: &[u8; 16],
+) -> Change
     ensures { result ≡ checks_plain machine.now session.now name.now kept.now hash.now kept.now.plain }
 {
     match &kept.record.plain {
@@ -102,7 +108,14 @@ fn checks_plain(machine: &Machine, session: &Session, name: &Name, kept: &Kept, 
     }
 }
 
-fn checks_word(machine: &Machine, session: &Session, name: &Name, kept: &Kept, otp: &Otp, word: Option<u64>) -> Change
+fn checks_word(
+    machine: &Machine,
+    session: &Session,
+    name: &Name,
+    kept: &Kept,
+    otp: &Otp,
+    word: Option<u64>,
+) -> Change
     ensures { result ≡ checks_word machine.now session.now name.now kept.now (otp_fields otp.now) word }
 {
     match word {
@@ -125,7 +138,13 @@ fn is_own(challenge: Option<&Challenge>, sid: u64) -> bool
     }
 }
 
-fn checks_otp(machine: &Machine, session: &Session, name: &Name, kept: &Kept, word: Option<u64>) -> Change
+fn checks_otp(
+    machine: &Machine,
+    session: &Session,
+    name: &Name,
+    kept: &Kept,
+    word: Option<u64>,
+) -> Change
     ensures { result ≡ checks_otp machine.now session.now name.now kept.now word kept.now.otp }
 {
     match &kept.record.otp {
@@ -142,7 +161,14 @@ fn checks_otp(machine: &Machine, session: &Session, name: &Name, kept: &Kept, wo
     }
 }
 
-fn checks(machine: &Machine, session: &Session, name: &Name, kept: &Kept, hash: &[u8; 16], word: Option<u64>) -> Change
+fn checks(
+    machine: &Machine,
+    session: &Session,
+    name: &Name,
+    kept: &Kept,
+    hash: &[u8; 16],
+    word: Option<u64>,
+) -> Change
     ensures { result ≡ checks machine.now session.now name.now kept.now hash.now word kept.now.proto }
 {
     match kept.record.proto {
@@ -152,7 +178,15 @@ fn checks(machine: &Machine, session: &Session, name: &Name, kept: &Kept, hash: 
     }
 }
 
-fn respond_known(policy: &Policy, machine: &Machine, session: &Session, name: &Name, hash: &[u8; 16], word: Option<u64>, kept: &Kept) -> Change
+fn respond_known(
+    policy: &Policy,
+    machine: &Machine,
+    session: &Session,
+    name: &Name,
+    hash: &[u8; 16],
+    word: Option<u64>,
+    kept: &Kept,
+) -> Change
     ensures { result ≡ respond_as policy.now machine.now session.now name.now hash.now word (Some kept.now) }
 {
     match refusal(policy, machine.moment, kept) {
@@ -161,7 +195,14 @@ fn respond_known(policy: &Policy, machine: &Machine, session: &Session, name: &N
     }
 }
 
-fn respond_as(policy: &Policy, machine: &Machine, session: &Session, name: &Name, hash: &[u8; 16], word: Option<u64>) -> Change
+fn respond_as(
+    policy: &Policy,
+    machine: &Machine,
+    session: &Session,
+    name: &Name,
+    hash: &[u8; 16],
+    word: Option<u64>,
+) -> Change
     ensures { result ≡ respond_as policy.now machine.now session.now name.now hash.now word (record_at name.now machine.now.records) }
 {
     match record_at(machine.records, name) {
@@ -172,7 +213,13 @@ fn respond_as(policy: &Policy, machine: &Machine, session: &Session, name: &Name
 
 // Compares a response with the password that was asked for.
 #[tactic(auto, unfolding(crate::specs::Login::respond))]
-pub(crate) fn respond(policy: &Policy, machine: &Machine, session: &Session, hash: &[u8; 16], word: Option<u64>) -> Change
+pub(crate) fn respond(
+    policy: &Policy,
+    machine: &Machine,
+    session: &Session,
+    hash: &[u8; 16],
+    word: Option<u64>,
+) -> Change
     ensures { result ≡ respond policy.now machine.now session.now hash.now word }
 {
     match &session.phase {
