@@ -1,6 +1,7 @@
 pub mod AnswerLemmas
 mod ApplyLemmas
 mod Corners
+mod OpeningLemmas
 pub mod OperationsLemmas
 pub mod PolicyLemmas
 mod Rows
