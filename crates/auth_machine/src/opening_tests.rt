@@ -9,8 +9,9 @@ type Row = (&'static str, &'static str, u8);
 
 fn entry(alloc: Global, row: Row) -> Result<(Name, Octets), Fail> {
     let (name, own, wiz) = row;
+    let len = u8::try_from(own.len()).ok().ok_or("too long")?;
     let mut bytes = Vec::new(alloc);
-    bytes.extend_from_slice(&[1, 1, 0, wiz, 0, 0, 0, 0, 0, 0, 0, 0, 0, own.len() as u8])?;
+    bytes.extend_from_slice(&[1, 1, 0, wiz, 0, 0, 0, 0, 0, 0, 0, 0, 0, len])?;
     bytes.extend_from_slice(own.as_bytes())?;
     bytes.extend_from_slice(&[0, 0])?;
     let name = Name::read(name.as_bytes()).ok_or("no name")?;
@@ -46,10 +47,12 @@ fn all_good_records_open(rt: HostRuntime) -> Result<(), Fail> {
 
 // The name and the place of the bad record that is told.
 fn bad_record(alloc: Global, rows: &[Row]) -> Result<(Name, usize), Fail> {
-    match open(alloc, rows, Calls::none())? {
-        Err((_, OpenFault::BadRecord { name, at })) => Ok((name, at)),
-        Err(_) => Err(Fail::from("another fault")),
-        Ok(_) => Err(Fail::from("it is opened")),
+    let Err((_keeper, fault)) = open(alloc, rows, Calls::none())? else {
+        return Err(Fail::from("it is opened"));
+    };
+    match fault {
+        OpenFault::BadRecord { name, at } => Ok((name, at)),
+        OpenFault::LoadFault | OpenFault::NoMemory => Err(Fail::from("another fault")),
     }
 }
 
