@@ -4,6 +4,7 @@ pub mod BookLemmas
 mod Corners
 pub mod FitLemmas
 pub mod HistoryLemmas
+mod OpeningLemmas
 pub mod OperationsLemmas
 pub mod PolicyLemmas
 pub mod PortLemmas

@@ -12,3 +12,4 @@ pub mod Stepping
 pub mod Book
 pub mod Answers
 pub mod Port
+pub mod Opening

@@ -1,12 +1,18 @@
-ghost use Rattle.std.specs.Prelude.{◌≡◌, ◌≤◌, [], length};
+ghost use Rattle.std.specs.Prelude.{◌≡◌, ◌≤◌, [], IfErr, IfOk, IfSome, Ok, length};
+ghost use Rattle.fw_outside.specs.Keyed.{Ascends};
+ghost use Rattle.fw_outside.specs.Vault.{AreSame};
 ghost use Rattle.auth_machine.specs.Book.{AnswersKept, Asked, RoseIfNotKept, Stands};
-ghost use Rattle.auth_machine.specs.History.{NoMoreThanFaults, HasRecords, IsLegal};
+ghost use Rattle.auth_machine.specs.History.{NoMoreThanFaults, HasRecords, IsLegal, table_of};
+ghost use Rattle.auth_machine.specs.Opening.{ReadsAs, Refuses};
 ghost use Rattle.auth_machine.specs.Standing.{state_of};
+ghost use Rattle.auth_machine.specs.State.{name_of};
 
-use crate::Policy;
+use crate::kept::Kept;
+use crate::opening::load;
 use crate::origin::Loaded;
 use crate::standing::Standing;
 use crate::step::{session_of, step};
+use crate::{OpenFault, Policy};
 use auth_events::{Denial, Entry, Reply, Request};
 use fw_outside::{Keeper, NoMemory};
 use std::alloc::Global;
@@ -37,6 +43,53 @@ impl<K: Keeper> Model for Book<K> {
 }
 
 impl<K: Keeper> Book<K> {
+    // The book of these records, with an empty history.
+    fn over(alloc: Global, keeper: K, policy: Policy, records: Vec<Kept>, limit: u64) -> Book<K>
+        requires { IfSome (K.vault keeper).table (λ table. AreSame table (table_of records.items)) }
+        ensures { result ≡ record { history = []; limit = limit; origin = record { policy = policy; records = records.items }; vault = K.vault keeper } }
+    {
+        let loaded = Loaded { policy, records };
+        let origin = Snapshot::of(&loaded);
+        let Loaded { policy, records } = loaded;
+        Book {
+            alloc,
+            keeper,
+            policy,
+            standing: Standing::at_first(alloc, records),
+            history: Vec::new(alloc),
+            limit,
+            origin,
+        }
+    }
+
+    /// Opens the book of all records that the keeper has, for so many requests. A keeper that has none opens too.
+    ///
+    /// # Errors
+    ///
+    /// `LoadFault` where the keeper failed, `BadRecord` with the least name under which no record with that name stands,
+    /// or `NoMemory`. The keeper comes back, and has what it had.
+    pub fn open(
+        alloc: Global,
+        keeper: K,
+        policy: Policy,
+        limit: u64,
+    ) -> Result<Book<K>, (K, OpenFault)>
+        ensures reads { IfOk result (λ book. ReadsAs (Ok book.origin.records) (K.vault keeper) book.vault) }
+        ensures ordered { IfOk result (λ book. Ascends name_of book.origin.records) }
+        ensures encoded { IfOk result (λ book. HasRecords book.origin book.history book.vault) }
+        ensures vault { IfOk result (λ book. book.vault ≡ K.vault keeper) }
+        ensures policy { IfOk result (λ book. book.origin.policy ≡ policy) }
+        ensures history { IfOk result (λ book. book.history ≡ []) }
+        ensures limit { IfOk result (λ book. book.limit ≡ limit) }
+        ensures fault { IfErr result (λ e. Refuses e.1 (K.vault keeper) (K.vault e.0)) }
+    {
+        let mut keeper = keeper;
+        match load(alloc, &mut keeper) {
+            Ok(records) => Ok(Book::over(alloc, keeper, policy, records, limit)),
+            Err(fault) => Err((keeper, fault)),
+        }
+    }
+
     /// Asks this request for the session of this number, at this moment in seconds.
     pub fn ask(&mut self, sid: u64, at: u64, request: Request) -> Result<Reply, NoMemory>
         ensures asked { Asked sid at request self.old.limit self.old.origin self.old.history result self.new.history }

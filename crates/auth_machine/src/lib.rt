@@ -10,6 +10,8 @@ mod keeping;
 mod kept;
 mod login;
 mod machine;
+mod open_fault;
+mod opening;
 mod operation;
 mod operations;
 mod origin;
@@ -26,11 +28,14 @@ mod step;
 pub use book::Book;
 pub use edit::{Edit, Hold, Turn};
 pub use kept::Kept;
+pub use open_fault::OpenFault;
 pub use operation::{Holder, OperationLine};
 pub use origin::Loaded;
 pub use policy::Policy;
 pub use power::Power;
 pub use session::{Challenge, Phase, Session};
 
+#[cfg(test)]
+mod opening_tests;
 #[cfg(test)]
 mod policy_tests;

@@ -23,7 +23,7 @@ fn table_of(alloc: Global, row: &str) -> Result<Table, Fail> {
     }
 }
 
-fn policy_of(alloc: Global, row: &str) -> Result<Policy, Fail> {
+pub(crate) fn policy_of(alloc: Global, row: &str) -> Result<Policy, Fail> {
     let table = table_of(alloc, row)?;
     match Policy::of(alloc, &table) {
         Ok(policy) => Ok(policy),

@@ -1,7 +1,7 @@
 ghost use Rattle.std.specs.Prelude.{◌≡◌, OnOk, OnErr};
 ghost use Rattle.auth_machine.specs.Answer.{answer_of};
 ghost use Rattle.auth_machine.specs.Standing.{HasRoom, state_of};
-ghost use Rattle.auth_machine.specs.State.{at_moment, changed};
+ghost use Rattle.auth_machine.specs.State.{at_moment, changed, start};
 
 use crate::apply::{edit, hold, turn};
 use crate::change::Change;
@@ -10,6 +10,7 @@ use crate::machine::Machine;
 use crate::{Challenge, Session};
 use auth_events::Reply;
 use fw_outside::NoMemory;
+use std::alloc::Global;
 
 /// The records, the sessions and the challenges that stand, and the moment.
 #[derive(Drop)]
@@ -21,6 +22,18 @@ pub(crate) struct Standing {
 }
 
 impl Standing {
+    // These records and nothing else.
+    pub(crate) fn at_first(alloc: Global, records: Vec<Kept>) -> Standing
+        ensures { state_of result ≡ start records.items }
+    {
+        Standing {
+            records,
+            sessions: Vec::new(alloc),
+            challenges: Vec::new(alloc),
+            moment: 0,
+        }
+    }
+
     // Makes room for one more of each.
     pub(crate) fn reserve(&mut self) -> Result<(), NoMemory>
         ensures same { state_of self.new ≡ state_of self.old }
