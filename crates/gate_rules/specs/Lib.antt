@@ -2,6 +2,7 @@ pub mod Attribute
 pub mod Label
 pub mod Lists
 pub mod Operation
+pub mod OperationHosts
 pub mod Options
 pub mod Reading
 pub mod Service

@@ -15,7 +15,7 @@ pub enum Attribute {
     Other,
 }
 
-fn is_operation(text: &[u8]) -> bool
+pub(crate) fn is_operation(text: &[u8]) -> bool
     ensures { result ≡ is_operation text.now }
 {
     text == b"permit-operation".as_slice() || text == b"deny-operation".as_slice()

@@ -15,6 +15,7 @@ mod label;
 pub mod laws;
 mod lists;
 mod operation;
+mod operation_hosts;
 mod options;
 mod reading;
 mod rule;
@@ -28,6 +29,7 @@ mod words;
 
 pub use fault::{RuleFault, RulesFault, Why};
 pub use label::Label;
+pub use operation_hosts::hosts_of_operation;
 pub use options::{Options, destination};
 pub use rule::Rule;
 pub use rules::Rules;

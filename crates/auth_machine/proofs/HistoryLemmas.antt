@@ -1,0 +1,52 @@
+-- One entry more.
+use Rattle.std.proofs.Common.{arith, ◌≡◌, refl, sym, ap, ◌∙◌, subst, ℕ, suc, ◌+◌, ◌-◌, ◌^◌, ◌≤◌, min, Bool, true, false, List, [], ◌∷◌, ◌++◌, length, cond}
+use Rattle.auth_events.specs.declared.entry.Entry.{Entry}
+use Rattle.auth_machine.specs.History.{AreSteps, IsLegal, IsStep, Origin, after, after_entries, after_entry, unkept}
+use Rattle.auth_machine.specs.Policy.{PolicyView}
+use Rattle.auth_machine.specs.State.{State, start}
+
+after_more : (policy : PolicyView) (s : State) (place : ℕ) (h : List Entry) (entry : Entry)
+    → after_entries policy s place (h ++ entry ∷ []) ≡ after_entry policy (after_entries policy s place h) (place + length h) entry
+after_more policy s place [] entry = ap (λ (n : ℕ). after_entry policy s n entry) (omega (arith))
+after_more policy s place (e ∷ h) entry =
+    after_more policy (after_entry policy s place e) (suc place) h entry
+    ∙ ap (λ (n : ℕ). after_entry policy (after_entries policy (after_entry policy s place e) (suc place) h) n entry) (omega (arith))
+
+-- the state after one entry more
+pub after_one_more : (origin : Origin) (h : List Entry) (entry : Entry) → after origin (h ++ entry ∷ []) ≡ after_entry origin.policy (after origin h) (length h) entry
+after_one_more origin h entry =
+    after_more origin.policy (start origin.records) 0 h entry
+    ∙ ap (λ (n : ℕ). after_entry origin.policy (after origin h) n entry) (omega (arith))
+
+steps_more : (policy : PolicyView) (s : State) (place : ℕ) (h : List Entry) (entry : Entry)
+    → AreSteps policy s place h → IsStep policy (after_entries policy s place h) (place + length h) entry → AreSteps policy s place (h ++ entry ∷ [])
+steps_more policy s place [] entry steps step = (subst (λ (n : ℕ). IsStep policy s n entry) (omega (arith)) step, tt)
+steps_more policy s place (e ∷ h) entry steps step = (
+  steps.0,
+  steps_more policy (after_entry policy s place e) (suc place) h entry steps.1
+      (subst (λ (n : ℕ). IsStep policy (after_entries policy (after_entry policy s place e) (suc place) h) n entry) (omega (arith)) step),
+)
+
+-- a legal history with one step more is legal
+pub legal_one_more : (origin : Origin) (h : List Entry) (entry : Entry) → IsLegal origin h → IsStep origin.policy (after origin h) (length h) entry → IsLegal origin (h ++ entry ∷ [])
+legal_one_more origin h entry legal step =
+    steps_more origin.policy (start origin.records) 0 h entry legal
+    (subst (λ (n : ℕ). IsStep origin.policy (after origin h) n entry) (omega (arith)) step)
+
+pub unkept_one_more : (h : List Entry) (entry : Entry) → unkept (h ++ entry ∷ []) ≡ unkept h + (cond entry.kept 0 1)
+unkept_one_more [] entry = omega (arith)
+unkept_one_more (e ∷ h) entry =
+    let more : unkept (h ++ entry ∷ []) ≡ unkept h + (cond entry.kept 0 1) = unkept_one_more h entry in
+    omega (arith, more)
+
+last_of : (policy : PolicyView) (s : State) (place : ℕ) (h : List Entry) (entry : Entry)
+    → AreSteps policy s place (h ++ entry ∷ []) → IsStep policy (after_entries policy s place h) (place + length h) entry
+last_of policy s place [] entry steps = subst (λ (n : ℕ). IsStep policy s n entry) (omega (arith)) steps.0
+last_of policy s place (e ∷ h) entry steps =
+    subst (λ (n : ℕ). IsStep policy (after_entries policy (after_entry policy s place e) (suc place) h) n entry) (omega (arith))
+    (last_of policy (after_entry policy s place e) (suc place) h entry steps.1)
+
+-- the last entry of a legal history is a step
+pub last_step : (origin : Origin) (h : List Entry) (entry : Entry) → IsLegal origin (h ++ entry ∷ []) → IsStep origin.policy (after origin h) (length h) entry
+last_step origin h entry legal =
+    subst (λ (n : ℕ). IsStep origin.policy (after origin h) n entry) (omega (arith)) (last_of origin.policy (start origin.records) 0 h entry legal)

@@ -1,0 +1,15 @@
+use Rattle.std.proofs.Common.{rules, ◌≡◌, ℕ, suc, ◌+◌, ◌<◌, List, [], ◌∷◌, ◌++◌, length, drop, add-one, drop-cons, sym, ◌∙◌, ap, subst, arith}
+use Rattle.auth_machine.proofs.OpeningLemmas.{HasRead, one_more}
+use Rattle.auth_machine.proofs.opening.read_entries.Goals as goal
+
+pub loop-entry-preserved : goal.loop-entry-preserved
+loop-entry-preserved c =
+    let at = c.loop-entry.entry-index in
+    let all = c.args.entries.now in
+    let within : at < length all = omega arith in
+    let next : drop at all ≡ c.entry-item.result ∷ drop (at + 1) all =
+    rw add-one (drop-cons all at c.entry-item.result within ∙ ap (λ (entry : List ℕ × List ℕ). entry ∷ drop (suc at) all) (sym c.entry-item.is)) in
+    let has : HasRead c.loop-entry.records.items (c.entry-item.result ∷ drop (at + 1) all) all = subst (λ (left : List (List ℕ × List ℕ)). HasRead c.loop-entry.records.items left all) next c.loop-entry.invariant in
+    let more = one_more c.loop-entry.records.items c.in-Ok.kept c.entry-item.result (drop (at + 1) all) all has (search rules) (search rules) in
+    let items : c.push.new.self.items ≡ c.loop-entry.records.items ++ c.in-Ok.kept ∷ [] = search rules in
+    rw items more

@@ -1,0 +1,6 @@
+use Rattle.std.proofs.Common.{drop}
+use Rattle.auth_machine.proofs.OpeningLemmas.{HasRead}
+use Rattle.auth_machine.proofs.opening.read_entries.Given as goal
+
+abbrev pub invariant-loop-entry : goal.invariant-loop-entry
+invariant-loop-entry l = HasRead l.records.items (drop l.entry-index l.entries) l.entries

@@ -1,0 +1,84 @@
+-- The book: a history, what it stands on, and the keeper of its records.
+use Rattle.std.specs.Prelude.{◌≡◌, ℕ, ◌<◌, ◌≤◌, Bool, true, Option, Some, None, List, [], ◌∷◌, ◌++◌, length, Result, Ok, Err}
+use Rattle.fw_outside.specs.Counts.{Rose}
+use Rattle.fw_outside.specs.Vault.{Vault}
+use Rattle.fw_outside.specs.declared.no_memory.NoMemory.{NoMemory}
+use Rattle.auth_events.specs.Port.{session_at}
+use Rattle.auth_events.specs.declared.entry.Entry.{Entry}
+use Rattle.auth_events.specs.declared.reply.Reply.{Reply}
+use Rattle.auth_events.specs.declared.request.Request.{Request}
+use Rattle.auth_machine.specs.Answers.{full_of, is_unkept}
+use Rattle.auth_machine.specs.History.{NoMoreThanFaults, HasRecords, IsLegal, Origin, after}
+use Rattle.auth_machine.specs.Keeping.{Keeps}
+use Rattle.auth_machine.specs.Policy.{PolicyView}
+use Rattle.auth_machine.specs.State.{State, Change}
+use Rattle.auth_machine.specs.Step.{keeps, proposed}
+
+-- the entries so far, how many fit, the policy and the loaded records, and the keeper
+pub record BookView : Type 0 where
+  pub history : List Entry
+  pub limit : ℕ
+  pub origin : Origin
+  pub vault : Vault
+
+-- the history is legal and fits; the state is that after it; the keeper has the records, where it tells; and it failed at
+-- least as often as entries were not kept
+pub record Stands (book : BookView) (policy : PolicyView) (s : State) : Type 0 where
+  pub policy_is : policy ≡ book.origin.policy
+  pub state_is : s ≡ after book.origin book.history
+  pub legal : IsLegal book.origin book.history
+  pub within : length book.history ≤ book.limit
+  pub records : HasRecords book.origin book.history book.vault
+  pub faults : NoMoreThanFaults book.history book.vault
+
+-- ---- what asking does
+
+-- one entry more, with this session, moment, request and reply
+pub record Enters (sid at : ℕ) (request : Request) (reply : Reply) (limit : ℕ) (before now : List Entry) : Type 0 where
+  pub kept : Bool
+  pub fits : length before < limit
+  pub is : now ≡ before ++ record { sid = session_at request (length before) sid; at = at; request = request; kept = kept; reply = reply } ∷ []
+
+-- nothing was entered, since so many entries are there as fit
+pub record IsFull (told limit : ℕ) (before now : List Entry) : Type 0 where
+  pub limit_is : told ≡ limit
+  pub full : length before ≡ limit
+  pub is : now ≡ before
+
+-- a reply is entered, unless it says that the history is full
+abbrev pub Replies : Option ℕ → ℕ → ℕ → Request → Reply → ℕ → List Entry → List Entry → Type 0
+Replies None sid at request reply limit before now = Enters sid at request reply limit before now
+Replies (Some told) sid at request reply limit before now = IsFull told limit before now
+
+abbrev pub Answers : ℕ → ℕ → Request → Result Reply NoMemory → ℕ → List Entry → List Entry → Type 0
+Answers sid at request (Ok reply) limit before now = Replies (full_of reply) sid at request reply limit before now
+Answers sid at request (Err _) limit before now = now ≡ before
+
+-- what asking answers and leaves of a history: it is legal and fits, whatever the answer
+pub record Asked (sid at : ℕ) (request : Request) (limit : ℕ) (origin : Origin) (before : List Entry) (result : Result Reply NoMemory) (now : List Entry) : Type 0 where
+  pub answers : Answers sid at request result limit before now
+  pub legal : IsLegal origin now
+  pub within : length now ≤ limit
+
+-- ---- what it does to the keeper
+
+-- the keeper was called exactly where the machine has it keep a record anew or drop one, and the entry says whether it was
+-- kept
+pub record Kept (origin : Origin) (before now : List Entry) (old new : Vault) : Type 0 where
+  pub entry : Entry
+  pub is : now ≡ before ++ entry ∷ []
+  pub keeping : Keeps (keeps origin.policy (after origin before) (length before) entry.sid entry.at entry.request)
+      (proposed origin.policy (after origin before) (length before) entry.sid entry.at entry.request).records entry.kept old new
+
+abbrev pub RepliesKept : Option ℕ → Origin → List Entry → List Entry → Vault → Vault → Type 0
+RepliesKept None origin before now old new = Kept origin before now old new
+RepliesKept (Some told) origin before now old new = new ≡ old
+
+abbrev pub AnswersKept : Result Reply NoMemory → Origin → List Entry → List Entry → Vault → Vault → Type 0
+AnswersKept (Ok reply) origin before now old new = RepliesKept (full_of reply) origin before now old new
+AnswersKept (Err _) origin before now old new = new ≡ old
+
+-- what is not kept the keeper has counted
+abbrev pub RoseIfNotKept : Result Reply NoMemory → Vault → Vault → Type 0
+RoseIfNotKept (Ok reply) old new = is_unkept reply ≡ true → Rose old.faults new.faults
+RoseIfNotKept (Err _) old new = Unit {0}

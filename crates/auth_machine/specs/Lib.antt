@@ -1,0 +1,15 @@
+pub mod Answer
+pub mod State
+pub mod Policy
+pub mod Operations
+pub mod Login
+pub mod Powers
+pub mod Step
+pub mod History
+pub mod Standing
+pub mod Keeping
+pub mod Stepping
+pub mod Book
+pub mod Answers
+pub mod Port
+pub mod Opening

@@ -1,0 +1,46 @@
+-- Opening a book: what the records are that a keeper has, or which is the first bad one.
+use Rattle.std.specs.Prelude.{◌≡◌, ℕ, List, [], ◌∷◌, Result, Ok, Err, if◌then◌else◌}
+use Rattle.std.specs.Str.{bytes_eq}
+use Rattle.fw_outside.specs.Vault.{AreLoaded, Missed, Table, Vault}
+use Rattle.auth_records.specs.Reading.{decoded}
+use Rattle.auth_records.specs.Spelling.{Fields}
+use Rattle.auth_machine.specs.declared.open_fault.OpenFault.{OpenFault}
+use Rattle.auth_machine.specs.declared.open_fault.OpenFault.TheVariants.{LoadFault, BadRecord, NoMemory}
+
+-- a record has the name under which it stands: another name is a fault at the first byte of the name, which is byte 14
+abbrev pub with_name : List ℕ → Result Fields ℕ → Result Fields ℕ
+with_name name (Err at) = Err at
+with_name name (Ok f) = if bytes_eq f.name name then Ok f else Err 14
+
+-- the record that an entry is, or the place of its first bad byte
+abbrev pub record_in : (List ℕ × List ℕ) → Result Fields ℕ
+record_in entry = with_name entry.0 (decoded entry.1)
+
+abbrev pub in_front : List ℕ → Result Fields ℕ → Result (List Fields) (List ℕ × ℕ) → Result (List Fields) (List ℕ × ℕ)
+in_front name (Err at) others = Err (name, at)
+in_front name (Ok f) (Err bad) = Err bad
+in_front name (Ok f) (Ok others) = Ok (f ∷ others)
+
+-- the records that all entries are, or the name of the first bad one with the place of its first bad byte; in a table in the
+-- order of names the first has the least name
+abbrev pub records_in : Table → Result (List Fields) (List ℕ × ℕ)
+records_in [] = Ok []
+records_in (entry ∷ entries) = in_front entry.0 (record_in entry) (records_in entries)
+
+-- the fault that reading these entries ends with
+abbrev pub IsBadIn : Table → OpenFault → Type 0
+IsBadIn entries LoadFault = ⊥
+IsBadIn entries (BadRecord name at) = records_in entries ≡ Err (name, at)
+IsBadIn entries NoMemory = Unit {0}
+
+-- all that the keeper has was loaded, and is read so
+pub record ReadsAs (read : Result (List Fields) (List ℕ × ℕ)) (old new : Vault) : Type 0 where
+  pub loaded : Table
+  pub are : AreLoaded loaded old new
+  pub is : records_in loaded ≡ read
+
+-- why a book isn't opened, and how it leaves the keeper
+abbrev pub Refuses : OpenFault → Vault → Vault → Type 0
+Refuses LoadFault old new = Missed old new
+Refuses (BadRecord name at) old new = ReadsAs (Err (name, at)) old new
+Refuses NoMemory old new = new ≡ old

@@ -1,0 +1,167 @@
+//! Logging in.
+ghost use Rattle.std.specs.Prelude.{◌≡◌, Some, None};
+ghost use Rattle.std.specs.Option.{option_copied};
+ghost use Rattle.auth_records.specs.Spelling.{fields, otp_fields};
+ghost use Rattle.auth_machine.specs.Answer.{answer_of};
+ghost use Rattle.auth_machine.specs.Login.{asks, asks_word, authenticate, authenticate_as, challenges, checks, checks_otp, checks_plain, checks_word, failed, guarded, has_password, is_own, is_password, later, lockout, logged_in, one_more, refusal, respond, respond_as, respond_in, right, unless_refused, used, wrong};
+ghost use Rattle.auth_machine.specs.State.{record_at};
+
+use crate::change::{Change, in_phase};
+use crate::edit::{Edit, Hold, Turn};
+use crate::kept::Kept;
+use crate::machine::{Machine, challenge_at, record_at};
+use crate::{Challenge, Phase, Policy, Session};
+use auth_events::{Denial, Reply};
+use auth_records::{Otp, Plain, Proto, Record};
+use fw_outside::Name;
+
+fn later(at: u64, seconds: u64) -> u64
+    ensures { result ≡ later at seconds }
+{
+    at.saturating_add(seconds)
+}
+
+fn has_password(kept: &Kept) -> bool
+    ensures { result ≡ has_password kept.now.proto kept.now }
+{
+    match kept.record.proto {
+        Proto::None => false,
+        Proto::Plain => kept.record.plain.is_some(),
+        Proto::Otp => kept.record.otp.is_some(),
+    }
+}
+
+fn lockout(bad_sleep: Option<u64>, since: u64, moment: u64) -> Option<Denial>
+    ensures { result ≡ lockout bad_sleep since moment }
+{
+    match bad_sleep {
+        None => Some(Denial::Disabled),
+        Some(seconds) => {
+            let until = later(since, seconds);
+            if seconds > 0 && moment < until {
+                return Some(Denial::Sleeping { until });
+            }
+            None
+        }
+    }
+}
+
+pub(crate) fn refusal(policy: &Policy, moment: u64, kept: &Kept) -> Option<Denial>
+    ensures { result ≡ refusal policy.now moment kept.now }
+{
+    if !kept.record.enabled || !has_password(kept) {
+        return Some(Denial::Disabled);
+    }
+    if kept.record.fails == 5 {
+        return lockout(policy.bad_sleep(), kept.record.since, moment);
+    }
+    None
+}
+
+fn guarded(challenge: Option<&Challenge>, sid: u64, moment: u64) -> Option<Denial>
+    ensures { result ≡ guarded (option_copied challenge.entry) sid moment }
+{
+    match challenge {
+        None => None,
+        Some(challenge) => {
+            let until = later(challenge.at, 60);
+            if challenge.sid != sid && moment < until {
+                return Some(Denial::Busy {
+                    sid: challenge.sid,
+                    until,
+                });
+            }
+            None
+        }
+    }
+}
+
+fn challenges(session: &Session, name: &Name, otp: &Otp) -> Change
+    ensures { result ≡ challenges session.now name.now (otp_fields otp.now) }
+{
+    Change {
+        reply: Reply::Challenge {
+            number: otp.number.saturating_sub(1),
+            word_seed: otp.word_seed.twin(),
+        },
+        records: Edit::Leave,
+        session: Turn::Become(in_phase(session, Phase::Waiting { name: name.twin() })),
+        challenge: Hold::Take(name.twin()),
+    }
+}
+
+fn asks_word(machine: &Machine, session: &Session, name: &Name, otp: &Otp) -> Change
+    ensures { result ≡ asks_word machine.now session.now name.now (otp_fields otp.now) }
+{
+    if otp.number == 0 {
+        return Change::drops(session, Reply::Denied(Denial::Exhausted), Phase::Idle);
+    }
+    let standing = challenge_at(machine.challenges, name);
+    match guarded(standing, session.sid, machine.moment) {
+        Some(denial) => Change::drops(session, Reply::Denied(denial), Phase::Idle),
+        None => challenges(session, name, otp),
+    }
+}
+
+fn asks(machine: &Machine, session: &Session, name: &Name, kept: &Kept) -> Change
+    ensures { result ≡ asks machine.now session.now name.now kept.now.proto kept.now.otp }
+{
+    match (kept.record.proto, &kept.record.otp) {
+        (Proto::Plain, _) => Change::drops(
+            session,
+            Reply::Password,
+            Phase::Waiting { name: name.twin() },
+        ),
+        (Proto::Otp, Some(otp)) => asks_word(machine, session, name, otp),
+        (Proto::Otp, None) | (Proto::None, _) => Change::drops(
+            session,
+            Reply::Denied(Denial::Disabled),
+            Phase::Idle,
+        ),
+    }
+}
+
+fn authenticate_unknown(
+    policy: &Policy,
+    machine: &Machine,
+    session: &Session,
+    name: &Name,
+) -> Change
+    ensures { result ≡ authenticate_as policy.now machine.now session.now name.now None }
+{
+    if policy.no_bogus() {
+        return Change::drops(session, Reply::Denied(Denial::Unknown), Phase::Idle);
+    }
+    Change::drops(session, Reply::Password, Phase::Bogus)
+}
+
+fn authenticate_as(
+    policy: &Policy,
+    machine: &Machine,
+    session: &Session,
+    name: &Name,
+    kept: &Kept,
+) -> Change
+    ensures { result ≡ authenticate_as policy.now machine.now session.now name.now (Some kept.now) }
+{
+    match refusal(policy, machine.moment, kept) {
+        Some(denial) => Change::drops(session, Reply::Denied(denial), Phase::Idle),
+        None => asks(machine, session, name, kept),
+    }
+}
+
+// Asks for the password of this user.
+#[tactic(auto, unfolding(crate::specs::Login::authenticate))]
+pub(crate) fn authenticate(
+    policy: &Policy,
+    machine: &Machine,
+    session: &Session,
+    name: &Name,
+) -> Change
+    ensures { result ≡ authenticate policy.now machine.now session.now name.now }
+{
+    match record_at(machine.records, name) {
+        None => authenticate_unknown(policy, machine, session, name),
+        Some(kept) => authenticate_as(policy, machine, session, name, kept),
+    }
+}

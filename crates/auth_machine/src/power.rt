@@ -1,0 +1,12 @@
+use fw_outside::Name;
+
+/// Over which records a session has power.
+#[derive(Drop)]
+pub enum Power {
+    /// None.
+    Nobody,
+    /// Those of a group, if any.
+    Members(Option<Name>),
+    /// All.
+    Everybody,
+}
