@@ -1,0 +1,24 @@
+/// How a session ended.
+#[derive(Clone, Copy, Debug, PartialEq, Eq)]
+pub enum Ending {
+    /// The client or the server had no more to say, or the dialogue was over.
+    Done,
+    /// The table denies the client, by the line of this number, from 1; 0 where no line fits.
+    Denied { line: u32 },
+    /// The client's source or sink failed.
+    ClientFault,
+    /// The link to the server failed.
+    ServerFault,
+    /// The log failed.
+    LogFault,
+    /// The service that knows the users failed, or answered what it never answers.
+    AuthFault,
+    /// Nothing came in time.
+    Idle,
+    /// The server couldn't be reached.
+    NoRoute,
+    /// As many bytes were taken as may be.
+    Spent,
+    /// There was no memory.
+    NoMemory,
+}
