@@ -1,3 +1,4 @@
+pub mod Acts
 pub mod NumberLemmas
 pub mod ReplyLemmas
 pub mod SpaceLemmas

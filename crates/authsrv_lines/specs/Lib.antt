@@ -5,3 +5,5 @@ pub mod Reply
 pub mod ReplyReading
 pub mod Request
 pub mod Words
+pub mod Acts
+pub mod Dialogue

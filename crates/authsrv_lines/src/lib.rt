@@ -7,19 +7,26 @@
 //! are without their ends. Nothing here takes memory.
 #![tactic(auto)]
 
+mod cause;
 mod command;
 mod denial;
+mod desk;
 pub mod laws;
 mod number;
 mod parts;
+mod place;
 mod reply_reading;
 mod reply_writing;
 mod request;
+mod rows;
+mod stage;
 mod summary;
 mod wire;
 mod words;
 
+pub use cause::Cause;
 pub use denial::denial_text;
+pub use place::Place;
 pub use reply_reading::read_reply;
 pub use reply_writing::reply_text;
 pub use request::read_request;

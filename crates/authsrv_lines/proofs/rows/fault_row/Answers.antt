@@ -1,0 +1,7 @@
+use Rattle.std.proofs.Common.{rules, refl, sym, ap, subst, ◌≡◌, ◌∙◌}
+use Rattle.fw_acts.specs.RanLemmas.{ran_here}
+use Rattle.authsrv_lines.proofs.Acts.{asked, halted, said, thrown}
+use Rattle.authsrv_lines.proofs.rows.fault_row.Goals as goal
+
+pub returns : goal.returns
+returns g c = rw (sym c.text.ensures) c.tell.ensures

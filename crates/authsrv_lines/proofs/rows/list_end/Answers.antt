@@ -1,0 +1,10 @@
+use Rattle.std.proofs.Common.{rules, refl, sym, ap, subst, ◌≡◌, ◌∙◌}
+use Rattle.fw_acts.specs.RanLemmas.{ran_here}
+use Rattle.authsrv_lines.proofs.Acts.{asked, halted, said, thrown}
+use Rattle.authsrv_lines.proofs.rows.list_end.Goals as goal
+
+pub returns-then-is_no_such : goal.returns-then-is_no_such
+returns-then-is_no_such g c = rw (sym c.is_no_such.ensures ∙ c.if-is_no_such.true) c.tell.ensures
+
+pub returns : goal.returns
+returns g c = rw (sym c.is_no_such.ensures ∙ c.if-is_no_such.false) c.tell_reply.ensures

@@ -1,0 +1,10 @@
+use Rattle.std.proofs.Common.{rules, refl, sym, ap, subst, ◌≡◌, ◌∙◌}
+use Rattle.fw_acts.specs.RanLemmas.{ran_here}
+use Rattle.authsrv_lines.proofs.Acts.{asked, halted, said, thrown}
+use Rattle.authsrv_lines.proofs.rows.tell.Goals as goal
+
+pub returns-in_err-say_line : goal.returns-in_err-say_line
+returns-in_err-say_line g c = halted _ c.in_err-say_line.ensures.stopped c.from_residual.ensures.1
+
+pub returns : goal.returns
+returns g c = said c.in_ok-say_line.ensures.said (ran_here (refl, refl))

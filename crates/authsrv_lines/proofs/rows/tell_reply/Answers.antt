@@ -1,0 +1,7 @@
+use Rattle.std.proofs.Common.{rules, refl, sym, ap, subst, ◌≡◌, ◌∙◌}
+use Rattle.fw_acts.specs.RanLemmas.{ran_here}
+use Rattle.authsrv_lines.proofs.Acts.{asked, halted, said, thrown}
+use Rattle.authsrv_lines.proofs.rows.tell_reply.Goals as goal
+
+pub returns : goal.returns
+returns g c = rw (sym (c.as_slice.ensures.value ∙ c.reply_text.ensures.text)) c.tell.ensures

@@ -1,0 +1,177 @@
+//! The rows of the dialogue.
+ghost use Rattle.std.specs.Prelude.{◌≡◌, ◌≤◌, ◌++◌, ◌∷◌, [], length, Some, None, codes, IfErr, OnOk};
+ghost use Rattle.fw_acts.specs.Acts.Row.{At, Do, Over};
+ghost use Rattle.fw_acts.specs.Ran.{Ran};
+ghost use Rattle.authsrv_lines.specs.Acts.{Saying, Stops};
+ghost use Rattle.authsrv_lines.specs.Acts.Act.{Ask, Say};
+ghost use Rattle.authsrv_lines.specs.declared.place.Place.TheVariants.{Waiting};
+ghost use Rattle.authsrv_lines.specs.Dialogue.{ask_row, heard_row, is_no_such, leads, line_row, listed_by, listed_row, opened_place, opened_row, password_row, quit_row, rows, say, session_row, shown_name};
+ghost use Rattle.authsrv_lines.specs.Fault.{fault_text};
+ghost use Rattle.authsrv_lines.specs.Reply.{reply_line};
+ghost use Rattle.authsrv_lines.specs.Request.{request_of};
+
+use crate::stage::Stage;
+use crate::{Cause, Place, Wire, WireFault, read_request, reply_text};
+use arrayvec::ArrayVec;
+use auth_events::{Denial, Reply, Request};
+use fw_outside::{Heard, Name, append, append_byte, copy_of};
+
+// Gives the client a line and its end.
+fn say_line<D: Stage>(stage: &mut D, line: &[u8]) -> Result<(), Cause>
+    requires { length line.now ≤ 512 }
+    ensures said { OnOk result (Saying (line.now ++ 10 ∷ []) (D.world stage.old) (D.world stage.new)) }
+    ensures stopped { IfErr result (λ cause. Stops (Say (line.now ++ 10 ∷ [])) cause (D.world stage.old) (D.world stage.new)) }
+{
+    let mut text: ArrayVec<u8, 513> = copy_of(line);
+    append_byte(&mut text, 10);
+    stage.say(text.as_slice())
+}
+
+// Gives the client a line, and comes to a place, or to the end.
+#[tactic(auto, using(crate::proofs::Acts::acting))]
+fn tell<D: Stage>(stage: &mut D, line: &[u8], place: Option<Place>) -> Result<Option<Place>, Cause>
+    requires { length line.now ≤ 512 }
+    ensures { Ran rows (say line.now (leads place)) leads (D.world stage.old) (D.world stage.new) result }
+{
+    say_line(stage, line)?;
+    Ok(place)
+}
+
+// Gives the client a reply, and comes to a place, or to the end.
+#[tactic(auto, using(crate::proofs::Acts::acting))]
+fn tell_reply<D: Stage>(stage: &mut D, reply: &Reply, place: Option<Place>) -> Result<Option<Place>, Cause>
+    ensures { Ran rows (say (reply_line reply.now) (leads place)) leads (D.world stage.old) (D.world stage.new) result }
+{
+    let mut text = ArrayVec::new();
+    reply_text(reply, &mut text);
+    tell(stage, text.as_slice(), place)
+}
+
+// Asks, and tells the client the reply.
+#[tactic(auto, using(crate::proofs::Acts::acting))]
+fn ask_row<D: Stage>(stage: &mut D, request: Request) -> Result<Option<Place>, Cause>
+    ensures { Ran rows (ask_row request) leads (D.world stage.old) (D.world stage.new) result }
+{
+    let reply = stage.ask(request)?;
+    tell_reply(stage, &reply, Some(Place::Waiting))
+}
+
+// Asks for a new password, with a salt of the dice.
+#[tactic(auto, using(crate::proofs::Acts::acting))]
+fn password_row<D: Stage>(stage: &mut D, name: Name, hash: [u8; 16]) -> Result<Option<Place>, Cause>
+    ensures { Ran rows (password_row name hash) leads (D.world stage.old) (D.world stage.new) result }
+{
+    let salt = stage.salt();
+    ask_row(stage, Request::Password { name, salt, hash })
+}
+
+// Asks for the session's end, and tells the client the reply.
+#[tactic(auto, using(crate::proofs::Acts::acting))]
+fn quit_row<D: Stage>(stage: &mut D) -> Result<Option<Place>, Cause>
+    ensures { Ran rows quit_row leads (D.world stage.old) (D.world stage.new) result }
+{
+    let reply = stage.ask(Request::Close)?;
+    tell_reply(stage, &reply, None)
+}
+
+// Tells the client why a line asks for nothing.
+#[tactic(auto, using(crate::proofs::Acts::acting))]
+fn fault_row<D: Stage>(stage: &mut D, fault: WireFault) -> Result<Option<Place>, Cause>
+    ensures { Ran rows (say (fault_text fault) (At Waiting)) leads (D.world stage.old) (D.world stage.new) result }
+{
+    tell(stage, fault.text(), Some(Place::Waiting))
+}
+
+// Does what a line asks for.
+#[tactic(auto, using(crate::proofs::Acts::acting))]
+fn line_row<D: Stage>(stage: &mut D, line: &[u8]) -> Result<Option<Place>, Cause>
+    ensures { Ran rows (line_row (request_of line.now)) leads (D.world stage.old) (D.world stage.new) result }
+{
+    match read_request(line) {
+        Err(fault) => fault_row(stage, fault),
+        Ok(Wire::Ask(request)) => ask_row(stage, request),
+        Ok(Wire::Password { name, hash }) => password_row(stage, name, hash),
+        Ok(Wire::List) => Ok(Some(Place::Listing(None))),
+        Ok(Wire::Quit) => quit_row(stage),
+    }
+}
+
+// Asks for the session's end at the end of what the client says, who is told nothing.
+#[tactic(auto, using(crate::proofs::Acts::acting))]
+fn end_row<D: Stage>(stage: &mut D) -> Result<Option<Place>, Cause>
+    ensures { Ran rows (Do (Ask Request.Close) (λ reply. Over)) leads (D.world stage.old) (D.world stage.new) result }
+{
+    stage.ask(Request::Close)?;
+    Ok(None)
+}
+
+// Does what was heard asks for.
+#[tactic(auto, using(crate::proofs::Acts::acting))]
+pub(crate) fn heard_row<D: Stage>(stage: &mut D, heard: Heard) -> Result<Option<Place>, Cause>
+    ensures { Ran rows (heard_row heard) leads (D.world stage.old) (D.world stage.new) result }
+{
+    match heard {
+        Heard::Line(line) => line_row(stage, line.as_slice()),
+        Heard::TooLong => fault_row(stage, WireFault::LongLine),
+        Heard::Stopped(_) => end_row(stage),
+    }
+}
+
+fn is_no_such(reply: &Reply) -> bool
+    ensures { result ≡ is_no_such reply.now }
+{
+    match reply {
+        Reply::Denied(denial) => matches!(denial, Denial::NoSuch),
+        Reply::Opened { .. } | Reply::Password | Reply::Challenge { .. } | Reply::Ok | Reply::Shown(_) => false,
+    }
+}
+
+fn shown_name(reply: &Reply) -> Option<Name>
+    ensures { result ≡ shown_name reply.now }
+{
+    match reply {
+        Reply::Shown(summary) => Some(summary.name.twin()),
+        Reply::Opened { .. } | Reply::Password | Reply::Challenge { .. } | Reply::Ok | Reply::Denied(_) => None,
+    }
+}
+
+// Ends a list, with `ok` or with another denial.
+#[tactic(auto, using(crate::proofs::Acts::acting))]
+fn list_end<D: Stage>(stage: &mut D, reply: &Reply) -> Result<Option<Place>, Cause>
+    ensures { Ran rows (listed_by None reply.now) leads (D.world stage.old) (D.world stage.new) result }
+{
+    if is_no_such(reply) {
+        return tell(stage, b"ok", Some(Place::Waiting));
+    }
+    tell_reply(stage, reply, Some(Place::Waiting))
+}
+
+// Tells the client of a record, or ends the list.
+#[tactic(auto, using(crate::proofs::Acts::acting))]
+pub(crate) fn listed_row<D: Stage>(stage: &mut D, reply: &Reply) -> Result<Option<Place>, Cause>
+    ensures { Ran rows (listed_row reply.now) leads (D.world stage.old) (D.world stage.new) result }
+{
+    match shown_name(reply) {
+        Some(name) => tell_reply(stage, reply, Some(Place::Listing(Some(name)))),
+        None => list_end(stage, reply),
+    }
+}
+
+fn opened_place(reply: &Reply) -> Option<Place>
+    ensures { result ≡ opened_place reply.now }
+{
+    match reply {
+        Reply::Opened { .. } => Some(Place::Waiting),
+        Reply::Password | Reply::Challenge { .. } | Reply::Ok | Reply::Shown(_) | Reply::Denied(_) => None,
+    }
+}
+
+// Opens the session.
+#[tactic(auto, using(crate::proofs::Acts::acting))]
+pub(crate) fn session_row<D: Stage>(stage: &mut D, console: bool) -> Result<Option<Place>, Cause>
+    ensures { Ran rows (session_row console) leads (D.world stage.old) (D.world stage.new) result }
+{
+    let reply = stage.ask(Request::Open { console })?;
+    let place = opened_place(&reply);
+    tell_reply(stage, &reply, place)
+}
