@@ -314,7 +314,7 @@ fn lists_have_1_to_64_patterns(rt: HostRuntime) -> Result<(), Fail> {
     }
     assert_eq!(rt;
         PatternList::parse(alloc, words.as_slice())?
-            .patterns()
+            .texts()
             .len(),
         64
     );
