@@ -11,3 +11,4 @@ pub mod Keeping
 pub mod Stepping
 pub mod Book
 pub mod Answers
+pub mod Laws

@@ -8,6 +8,7 @@ mod change;
 mod edit;
 mod keeping;
 mod kept;
+pub mod laws;
 mod login;
 mod machine;
 mod operation;
