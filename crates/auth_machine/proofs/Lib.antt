@@ -2,9 +2,11 @@ pub mod AnswerLemmas
 mod ApplyLemmas
 mod Corners
 pub mod HistoryLemmas
+pub mod ListLemmas
 pub mod OperationsLemmas
 pub mod OrderLemmas
 pub mod PolicyLemmas
 mod Rows
 mod Runs
+pub mod StepLemmas
 mod WizardCorners
