@@ -1,12 +1,15 @@
+pub mod ActLemmas
 pub mod AnswerLemmas
 mod ApplyLemmas
 mod Corners
 pub mod HistoryLemmas
 pub mod ListLemmas
+pub mod LoginLemmas
 pub mod OperationsLemmas
 pub mod OrderLemmas
 pub mod PolicyLemmas
 mod Rows
 mod Runs
+pub mod PhaseLemmas
 pub mod StepLemmas
 mod WizardCorners
