@@ -8,6 +8,7 @@ pub mod LoginLemmas
 pub mod OperationsLemmas
 pub mod OrderLemmas
 pub mod PolicyLemmas
+pub mod RecordLemmas
 mod Rows
 mod Runs
 pub mod PhaseLemmas

@@ -121,7 +121,7 @@ other_no_end (requests.Response hash word) h = refl
 other_no_end requests.Close h = absurd (cc)
 other_no_end _ h = refl
 
-other_no_response : (request : Request) → is_other request ≡ true → is_response request ≡ false
+pub other_no_response : (request : Request) → is_other request ≡ true → is_response request ≡ false
 other_no_response (requests.Open console) h = refl
 other_no_response (requests.Authenticate name) h = refl
 other_no_response (requests.Response hash word) h = absurd (cc)
@@ -134,7 +134,7 @@ administers_stay s session request change (makes name long group none to) = refl
 administers_stay s session request change (removes name f there power) = refl
 administers_stay s session request change (alters _ name f to there power) = refl
 
-no_edit : {A : Type 0} → (true ≡ true → false ≡ true) → A
+pub no_edit : {A : Type 0} → (true ≡ true → false ≡ true) → A
 no_edit h = let e = h refl in absurd (cc)
 
 module _ (policy : PolicyView) (s : State) (place : ℕ) (entry : Entry) where
@@ -277,11 +277,11 @@ was_edit true kept e = refl
 was_edit false kept e = e
 
 module _ (policy : PolicyView) (s : State) (place : ℕ) (entry : Entry) (step : IsStep policy s place entry) where
-  proposed_happens : Happens policy (at_moment entry.at s) place entry.sid entry.request (proposed_at policy s place entry)
+  pub proposed_happens : Happens policy (at_moment entry.at s) place entry.sid entry.request (proposed_at policy s place entry)
   unfolding proposed
   proposed_happens = happens policy (at_moment entry.at s) place entry.sid entry.request
 
-  edits : refused_at policy s place entry ≡ true → is_edit (proposed_at policy s place entry).records s.records ≡ true
+  pub edits : refused_at policy s place entry ≡ true → is_edit (proposed_at policy s place entry).records s.records ≡ true
   edits e = was_edit (keeps policy s place entry.sid entry.at entry.request) entry.kept e
 
   pub step_moves : (sid : ℕ) → Moves sid place entry (phase_of sid s) (phase_of sid (after_entry policy s place entry))

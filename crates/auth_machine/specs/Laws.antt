@@ -1,17 +1,25 @@
 -- Words for what holds of every history.
-use Rattle.std.specs.Prelude.{◌≡◌, ℕ, Bool, true, false, ◌&&◌, ◌==◌, List, ◌∷◌, ◌++◌, Option, Some, option_map, IsTrue}
+use Rattle.std.specs.Prelude.{◌≡◌, ℕ, zero, suc, ◌≤◌, Bool, true, false, ◌&&◌, ◌==◌, List, [], ◌∷◌, ◌++◌, length, Option, Some, None, option_map, IsTrue, if◌then◌else◌}
 use Rattle.std.specs.List.{AllByRecursion}
+use Rattle.std.specs.Str.{bytes_eq}
 use Rattle.fw_outside.specs.Name.{is_before}
-use Rattle.auth_records.specs.Spelling.{Fields}
+use Rattle.auth_records.specs.Spelling.{Fields, OtpFields}
+use Rattle.auth_records.specs.declared.record.Proto.{Proto}
+use Rattle.auth_records.specs.declared.record.Proto.TheVariants as protos
 use Rattle.auth_events.specs.declared.entry.Entry.{Entry}
+use Rattle.auth_events.specs.declared.reply.Reply.{Reply}
 use Rattle.auth_events.specs.declared.reply.Reply.TheVariants as replies
 use Rattle.auth_events.specs.declared.request.Request.{Request}
 use Rattle.auth_events.specs.declared.request.Request.TheVariants as requests
+use Rattle.otp_md5.specs.Passwords.{next_of}
 use Rattle.auth_machine.specs.Answer.{Profile, profile_of}
+use Rattle.auth_machine.specs.History.{after_entry}
+use Rattle.auth_machine.specs.Policy.{PolicyView}
 use Rattle.auth_machine.specs.Powers.{is_next_seen, power_of}
 use Rattle.auth_machine.specs.State.{State, record_at, session_of}
 use Rattle.auth_machine.specs.declared.power.Power.{Power}
 use Rattle.auth_machine.specs.declared.session.Phase.{Phase}
+use Rattle.auth_machine.specs.declared.session.Phase.TheVariants.{Bogus, Idle, In, Waiting}
 use Rattle.auth_machine.specs.declared.session.Session.{Session}
 
 -- ---- lists
@@ -94,3 +102,74 @@ pub record LoginStands (sid : ℕ) (name : List ℕ) (history : List Entry) : Ty
   pub named_last : HasNone sid is_naming between
   pub answered : IsLogin sid response
   pub stands : HasNone sid is_end since
+
+-- ---- one-time passwords
+
+-- the one-time password of a response, if it was one
+abbrev pub word_of : Request → Option ℕ
+word_of (requests.Response hash word) = word
+word_of _ = None
+
+abbrev pub is_ok : Reply → Bool
+is_ok replies.Ok = true
+is_ok _ = false
+
+abbrev pub waits_for : List ℕ → Option Phase → Bool
+waits_for name (Some (Waiting one)) = bytes_eq one name
+waits_for name _ = false
+
+abbrev pub is_by_words : Proto → Bool
+is_by_words protos.Otp = true
+is_by_words protos.None = false
+is_by_words protos.Plain = false
+
+-- the record asks for one-time passwords
+abbrev pub asks_words : Option Fields → Bool
+asks_words None = false
+asks_words (Some f) = is_by_words f.proto
+
+-- the one-time password of this user that an entry accepts, if it does
+abbrev pub accepted_in : List ℕ → State → Entry → Option ℕ
+accepted_in name s entry =
+    if is_ok entry.reply && (waits_for name (phase_of entry.sid s) && asks_words (record_at name s.records)) then word_of entry.request else None
+
+abbrev pub with_first : Option ℕ → List ℕ → List ℕ
+with_first None words = words
+with_first (Some word) words = word ∷ words
+
+-- the one-time passwords of this user that these entries accept, in their order
+abbrev pub accepted : PolicyView → List ℕ → State → ℕ → List Entry → List ℕ
+accepted policy name s place [] = []
+accepted policy name s place (entry ∷ entries) = with_first (accepted_in name s entry) (accepted policy name (after_entry policy s place entry) (suc place) entries)
+
+-- the entry sets new one-time passwords of this user
+abbrev pub is_about : List ℕ → Request → Bool
+is_about name (requests.Otp one number word_seed kept) = bytes_eq one name
+is_about name _ = false
+
+abbrev pub is_setting : List ℕ → Entry → Bool
+is_setting name entry = is_ok entry.reply && is_about name entry.request
+
+abbrev pub SetsNone : List ℕ → List Entry → Type 0
+SetsNone name entries = AllByRecursion (λ entry. is_setting name entry ≡ false) entries
+
+-- the one-time passwords that are kept for a user
+abbrev pub words_of : Option Fields → Option OtpFields
+words_of None = None
+words_of (Some f) = f.otp
+
+-- each is the one before the last: the next of the first is the kept one, and the next of each other is the one accepted
+-- before it
+abbrev pub GoesDown : ℕ → List ℕ → Type 0
+GoesDown kept [] = Unit {0}
+GoesDown kept (word ∷ words) = (next_of word ≡ kept) × GoesDown word words
+
+-- they go down from the kept one, and there are no more than are left
+abbrev pub AreLeft : Option OtpFields → List ℕ → Type 0
+AreLeft None words = words ≡ []
+AreLeft (Some otp) words = GoesDown otp.kept words × (length words ≤ otp.number)
+
+-- so many times the next one
+abbrev pub later_word : ℕ → ℕ → ℕ
+later_word zero word = word
+later_word (suc n) word = later_word n (next_of word)
