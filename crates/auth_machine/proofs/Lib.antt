@@ -4,6 +4,7 @@ mod ApplyLemmas
 mod Corners
 pub mod HistoryLemmas
 pub mod ListLemmas
+pub mod LockLemmas
 pub mod LoginLemmas
 pub mod OperationsLemmas
 pub mod OrderLemmas
@@ -14,3 +15,4 @@ mod Runs
 pub mod PhaseLemmas
 pub mod StepLemmas
 mod WizardCorners
+pub mod WordLemmas

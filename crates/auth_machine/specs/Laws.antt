@@ -1,11 +1,13 @@
 -- Words for what holds of every history.
-use Rattle.std.specs.Prelude.{◌≡◌, ℕ, zero, suc, ◌≤◌, Bool, true, false, ◌&&◌, ◌==◌, List, [], ◌∷◌, ◌++◌, length, Option, Some, None, option_map, IsTrue, if◌then◌else◌}
+use Rattle.std.specs.Prelude.{◌≡◌, ℕ, zero, suc, ◌<◌, ◌≤◌, Bool, true, false, ◌&&◌, ◌==◌, List, [], ◌∷◌, ◌++◌, length, Option, Some, None, option_map, IsTrue, if◌then◌else◌}
 use Rattle.std.specs.List.{AllByRecursion}
 use Rattle.std.specs.Str.{bytes_eq}
 use Rattle.fw_outside.specs.Name.{is_before}
 use Rattle.auth_records.specs.Spelling.{Fields, OtpFields}
 use Rattle.auth_records.specs.declared.record.Proto.{Proto}
 use Rattle.auth_records.specs.declared.record.Proto.TheVariants as protos
+use Rattle.auth_events.specs.declared.denial.Denial.{Denial}
+use Rattle.auth_events.specs.declared.denial.Denial.TheVariants.{Disabled, Sleeping}
 use Rattle.auth_events.specs.declared.entry.Entry.{Entry}
 use Rattle.auth_events.specs.declared.reply.Reply.{Reply}
 use Rattle.auth_events.specs.declared.reply.Reply.TheVariants as replies
@@ -14,6 +16,7 @@ use Rattle.auth_events.specs.declared.request.Request.TheVariants as requests
 use Rattle.otp_md5.specs.Passwords.{next_of}
 use Rattle.auth_machine.specs.Answer.{Profile, profile_of}
 use Rattle.auth_machine.specs.History.{after_entry}
+use Rattle.auth_machine.specs.Login.{later}
 use Rattle.auth_machine.specs.Policy.{PolicyView}
 use Rattle.auth_machine.specs.Powers.{is_next_seen, power_of}
 use Rattle.auth_machine.specs.State.{State, record_at, session_of}
@@ -172,4 +175,48 @@ AreLeft (Some otp) words = GoesDown otp.kept words × (length words ≤ otp.numb
 -- so many times the next one
 abbrev pub later_word : ℕ → ℕ → ℕ
 later_word zero word = word
-later_word (suc n) word = later_word n (next_of word)
+later_word (suc n) word = next_of (later_word n word)
+
+-- ---- locks
+
+-- five wrong responses in a row, the last at that moment, lock a record: without a line `badsleep` for ever, and with one
+-- for so many seconds
+abbrev pub LocksAt : Option ℕ → ℕ → ℕ → Type 0
+LocksAt None since moment = Unit {0}
+LocksAt (Some seconds) since moment = (0 < seconds) × (moment < later since seconds)
+
+pub record IsLocked (policy : PolicyView) (moment : ℕ) (f : Fields) : Type 0 where
+  pub five : f.fails ≡ 5
+  pub locks : LocksAt policy.bad_sleep f.since moment
+
+-- the session tries to log in as this user
+abbrev pub tries : List ℕ → Option Phase → Request → Bool
+tries name (Some phase) (requests.Authenticate one) = bytes_eq one name
+tries name (Some (Waiting one)) (requests.Response hash word) = bytes_eq one name
+tries name phase request = false
+
+-- a wizard ends this user's lock
+abbrev pub is_freeing : List ℕ → Request → Bool
+is_freeing name (requests.Enable one) = bytes_eq one name
+is_freeing name (requests.Deluser one) = bytes_eq one name
+is_freeing name _ = false
+
+abbrev pub FreesNone : List ℕ → List Entry → Type 0
+FreesNone name entries = AllByRecursion (λ entry. is_ok entry.reply && is_freeing name entry.request ≡ false) entries
+
+-- what a try is denied by then: without a line `badsleep` as by a wizard, and with one also by the end of the lock
+abbrev pub IsLockDenial : Option ℕ → ℕ → Denial → Type 0
+IsLockDenial bad_sleep since Disabled = Unit {0}
+IsLockDenial (Some seconds) since (Sleeping until) = until ≡ later since seconds
+IsLockDenial bad_sleep since _ = ⊥
+
+abbrev pub IsDenied : (Denial → Type 0) → Reply → Type 0
+IsDenied P (replies.Denied denial) = P denial
+IsDenied P _ = ⊥
+
+-- the record under the name has the lock of this one
+pub record HasLockOf (f : Fields) (name : List ℕ) (records : List Fields) : Type 0 where
+  pub g : Fields
+  pub there : record_at name records ≡ Some g
+  pub fails : g.fails ≡ f.fails
+  pub since : g.since ≡ f.since

@@ -1,6 +1,7 @@
 //! What holds of every history. Each function states laws and does nothing.
-ghost use Rattle.std.specs.Prelude.{◌≡◌, ℕ, ◌∷◌, ◌++◌, [], List, Option, Some};
+ghost use Rattle.std.specs.Prelude.{◌≡◌, ℕ, suc, max, ◌∷◌, ◌++◌, [], List, length, Option, Some, true};
 ghost use Rattle.fw_outside.specs.Keyed.{Ascends};
+ghost use Rattle.auth_records.specs.Spelling.{Fields};
 ghost use Rattle.auth_events.specs.declared.denial.Denial.TheVariants as denials;
 ghost use Rattle.auth_events.specs.declared.entry.Entry.{Entry};
 ghost use Rattle.auth_events.specs.declared.reply.Reply.TheVariants as replies;
@@ -8,8 +9,8 @@ ghost use Rattle.auth_events.specs.declared.reply.Summary.{Summary};
 ghost use Rattle.auth_events.specs.declared.request.Request.TheVariants as requests;
 ghost use Rattle.auth_machine.specs.Answer.{summary_profile};
 ghost use Rattle.auth_machine.specs.History.{IsLegal, Origin, after};
-ghost use Rattle.auth_machine.specs.Laws.{LoginStands, ShowsLeast, ShowsNone, phase_of};
-ghost use Rattle.auth_machine.specs.State.{name_of};
+ghost use Rattle.auth_machine.specs.Laws.{AreLeft, FreesNone, HasLockOf, IsDenied, IsLockDenial, IsLocked, LoginStands, SetsNone, ShowsLeast, ShowsNone, accepted, later_word, phase_of, tries, words_of};
+ghost use Rattle.auth_machine.specs.State.{name_of, record_at};
 ghost use Rattle.auth_machine.specs.declared.session.Phase.TheVariants.{In};
 
 /// The records stand in the order of their names, each name once, where those that were loaded do.
@@ -35,4 +36,30 @@ pub fn login_stands()
         → phase_of sid (after origin history) ≡ Some (In name) → LoginStands sid name history }
     ensures is_so { (origin : Origin) (history : List Entry) (sid : ℕ) (name : List ℕ) → IsLegal origin history
         → LoginStands sid name history → phase_of sid (after origin history) ≡ Some (In name) }
+{}
+
+/// While no new ones are set for a user, the one-time passwords that are accepted go down the chain from the one that was
+/// kept, and there are no more than were left then: each acceptance has its own number (`go_down`). As numbers of 64 bits
+/// two of them are the same only where the chain runs into a cycle there (`once`).
+pub fn words_are_used_once()
+    ensures go_down { (origin : Origin) (before during : List Entry) (name : List ℕ) → IsLegal origin (before ++ during) → SetsNone name during
+        → AreLeft (words_of (record_at name (after origin before).records)) (accepted origin.policy name (after origin before) (length before) during) }
+    ensures once { (origin : Origin) (before during : List Entry) (name : List ℕ) → IsLegal origin (before ++ during) → SetsNone name during
+        → (first between rest : List ℕ) (word : ℕ)
+        → accepted origin.policy name (after origin before) (length before) during ≡ first ++ (word ∷ (between ++ (word ∷ rest)))
+        → later_word (suc (length between)) word ≡ word }
+{}
+
+/// While a record is locked, and no wizard enables or deletes the user, each try to log in as the user is denied, the right
+/// password too, and the lock stays as it is: whatever else is changed of the record, it is neither longer nor shorter.
+pub fn a_lock_holds()
+    ensures denied { (origin : Origin) (before during : List Entry) (entry : Entry) (name : List ℕ) (f : Fields)
+        → IsLegal origin (before ++ (during ++ entry ∷ [])) → record_at name (after origin before).records ≡ Some f
+        → IsLocked origin.policy (max (after origin (before ++ during)).moment entry.at) f → FreesNone name during
+        → tries name (phase_of entry.sid (after origin (before ++ during))) entry.request ≡ true
+        → IsDenied (IsLockDenial origin.policy.bad_sleep f.since) entry.reply }
+    ensures stays { (origin : Origin) (before during : List Entry) (name : List ℕ) (f : Fields)
+        → IsLegal origin (before ++ during) → record_at name (after origin before).records ≡ Some f
+        → IsLocked origin.policy (after origin (before ++ during)).moment f → FreesNone name during
+        → HasLockOf f name (after origin (before ++ during)).records }
 {}
