@@ -2,6 +2,7 @@ pub mod ActLemmas
 pub mod AnswerLemmas
 mod ApplyLemmas
 mod Corners
+pub mod GroupLemmas
 pub mod HistoryLemmas
 pub mod ListLemmas
 pub mod LockLemmas

@@ -168,9 +168,9 @@ record Kept (f : Fields) (found : Option Fields) : Type 0 where
 
 module _ (policy : PolicyView) (f : Fields) (name : List ℕ) (m : ℕ) (locked : IsLocked policy m f) where
   unusable : (g : Fields) (s : State) → g.fails ≡ f.fails → g.since ≡ f.since → s.moment ≤ m → refusal policy s.moment g ≡ None → ⊥
-  unusable g s fails since most usable =
+  unusable g s five_too since most usable =
       let there : IsLocked policy s.moment g = record {
-        five = fails ∙ locked.five;
+        five = five_too ∙ locked.five;
         locks = subst (λ (n : ℕ). LocksAt policy.bad_sleep n s.moment) (sym since) (earlier_lock policy.bad_sleep f.since s.moment m most locked.locks);
       } in
       let out = refused_locked policy s.moment g there in

@@ -1,11 +1,12 @@
 -- Words for what holds of every history.
-use Rattle.std.specs.Prelude.{◌≡◌, ℕ, zero, suc, ◌<◌, ◌≤◌, Bool, true, false, ◌&&◌, ◌==◌, List, [], ◌∷◌, ◌++◌, length, Option, Some, None, option_map, IsTrue, if◌then◌else◌}
+use Rattle.std.specs.Prelude.{◌≡◌, ℕ, zero, suc, ◌<◌, ◌≤◌, Bool, true, false, ◌&&◌, ◌==◌, List, [], ◌∷◌, ◌++◌, length, Option, Some, None, option_map, IfSome, ◌⊎◌, IsTrue, if◌then◌else◌}
 use Rattle.std.specs.List.{AllByRecursion}
 use Rattle.std.specs.Str.{bytes_eq}
 use Rattle.fw_outside.specs.Name.{is_before}
 use Rattle.auth_records.specs.Spelling.{Fields, OtpFields}
 use Rattle.auth_records.specs.declared.record.Proto.{Proto}
 use Rattle.auth_records.specs.declared.record.Proto.TheVariants as protos
+use Rattle.auth_records.specs.declared.record.Wiz.TheVariants as wizards
 use Rattle.auth_events.specs.declared.denial.Denial.{Denial}
 use Rattle.auth_events.specs.declared.denial.Denial.TheVariants.{Disabled, Sleeping}
 use Rattle.auth_events.specs.declared.entry.Entry.{Entry}
@@ -18,7 +19,7 @@ use Rattle.auth_machine.specs.Answer.{Profile, profile_of}
 use Rattle.auth_machine.specs.History.{after_entry}
 use Rattle.auth_machine.specs.Login.{later}
 use Rattle.auth_machine.specs.Policy.{PolicyView}
-use Rattle.auth_machine.specs.Powers.{is_next_seen, power_of}
+use Rattle.auth_machine.specs.Powers.{is_next_seen, is_super, power_of, same_group}
 use Rattle.auth_machine.specs.State.{State, record_at, session_of}
 use Rattle.auth_machine.specs.declared.power.Power.{Power}
 use Rattle.auth_machine.specs.declared.session.Phase.{Phase}
@@ -220,3 +221,31 @@ pub record HasLockOf (f : Fields) (name : List ℕ) (records : List Fields) : Ty
   pub there : record_at name records ≡ Some g
   pub fails : g.fails ≡ f.fails
   pub since : g.since ≡ f.since
+
+-- ---- groups
+
+-- the session is not at the console, and this user is logged in, who is a wizard of this group
+pub record IsGroupWizard (s : State) (sid : ℕ) (user : List ℕ) (group : Option (List ℕ)) : Type 0 where
+  pub session : Session
+  pub there : session_of sid s.sessions ≡ Some session
+  pub console : session.console ≡ false
+  pub phase : session.phase ≡ In user
+  pub own : Fields
+  pub own_there : record_at user s.records ≡ Some own
+  pub wiz : own.wiz ≡ wizards.Group
+  pub group_is : own.group ≡ group
+
+-- the record of another group or of none, or that of a wizard over all
+abbrev pub IsOutOfReach : Option (List ℕ) → Fields → Type 0
+IsOutOfReach group f = (same_group group f.group ≡ false) ⊎ (is_super f.wiz ≡ true)
+
+-- a new user of this group, who is no wizard and can't log in
+pub record IsNewcomer (group : Option (List ℕ)) (f : Fields) : Type 0 where
+  pub group_is : f.group ≡ group
+  pub wiz : f.wiz ≡ wizards.None
+  pub enabled : f.enabled ≡ false
+
+-- the rank of both is the same
+pub record HasRankOf (f g : Fields) : Type 0 where
+  pub wiz : g.wiz ≡ f.wiz
+  pub group_is : g.group ≡ f.group

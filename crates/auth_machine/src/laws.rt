@@ -1,5 +1,6 @@
 //! What holds of every history. Each function states laws and does nothing.
-ghost use Rattle.std.specs.Prelude.{◌≡◌, ℕ, suc, max, ◌∷◌, ◌++◌, [], List, length, Option, Some, true};
+ghost use Rattle.std.specs.Prelude.{◌≡◌, ◌≢◌, ℕ, suc, max, ◌∷◌, ◌++◌, [], List, length, Option, Some, None, true, false, IfSome};
+ghost use Rattle.std.specs.Str.{bytes_eq};
 ghost use Rattle.fw_outside.specs.Keyed.{Ascends};
 ghost use Rattle.auth_records.specs.Spelling.{Fields};
 ghost use Rattle.auth_events.specs.declared.denial.Denial.TheVariants as denials;
@@ -9,7 +10,7 @@ ghost use Rattle.auth_events.specs.declared.reply.Summary.{Summary};
 ghost use Rattle.auth_events.specs.declared.request.Request.TheVariants as requests;
 ghost use Rattle.auth_machine.specs.Answer.{summary_profile};
 ghost use Rattle.auth_machine.specs.History.{IsLegal, Origin, after};
-ghost use Rattle.auth_machine.specs.Laws.{AreLeft, FreesNone, HasLockOf, IsDenied, IsLockDenial, IsLocked, LoginStands, SetsNone, ShowsLeast, ShowsNone, accepted, later_word, phase_of, tries, words_of};
+ghost use Rattle.auth_machine.specs.Laws.{AreLeft, FreesNone, HasLockOf, HasRankOf, IsDenied, IsGroupWizard, IsLockDenial, IsNewcomer, IsOutOfReach, IsLocked, LoginStands, SetsNone, ShowsLeast, ShowsNone, accepted, later_word, phase_of, tries, words_of};
 ghost use Rattle.auth_machine.specs.State.{name_of, record_at};
 ghost use Rattle.auth_machine.specs.declared.session.Phase.TheVariants.{In};
 
@@ -62,4 +63,22 @@ pub fn a_lock_holds()
         → IsLegal origin (before ++ during) → record_at name (after origin before).records ≡ Some f
         → IsLocked origin.policy (after origin (before ++ during)).moment f → FreesNone name during
         → HasLockOf f name (after origin (before ++ during)).records }
+{}
+
+/// What the wizard of a group asks for, whatever it is, leaves every record as it is but the wizard's own and those of the
+/// group's users who are no wizards over all (`others`); who is new is in the group, is no wizard and can't log in yet
+/// (`new_ones`); and nobody's rank or group changes, the wizard's own neither (`ranks`).
+pub fn group_wizards_stay_in_their_group()
+    ensures others { (origin : Origin) (before : List Entry) (entry : Entry) (user name : List ℕ) (group : Option (List ℕ)) (f : Fields)
+        → IsLegal origin (before ++ entry ∷ []) → IsGroupWizard (after origin before) entry.sid user group
+        → record_at name (after origin before).records ≡ Some f → bytes_eq name user ≡ false → IsOutOfReach group f
+        → record_at name (after origin (before ++ entry ∷ [])).records ≡ Some f }
+    ensures new_ones { (origin : Origin) (before : List Entry) (entry : Entry) (user name : List ℕ) (group : Option (List ℕ))
+        → IsLegal origin (before ++ entry ∷ []) → IsGroupWizard (after origin before) entry.sid user group
+        → record_at name (after origin before).records ≡ None
+        → IfSome (record_at name (after origin (before ++ entry ∷ [])).records) (IsNewcomer group) }
+    ensures ranks { (origin : Origin) (before : List Entry) (entry : Entry) (user name : List ℕ) (group : Option (List ℕ)) (f : Fields)
+        → IsLegal origin (before ++ entry ∷ []) → IsGroupWizard (after origin before) entry.sid user group
+        → record_at name (after origin before).records ≡ Some f
+        → IfSome (record_at name (after origin (before ++ entry ∷ [])).records) (HasRankOf f) }
 {}
