@@ -13,6 +13,7 @@ pub mod PolicyLemmas
 pub mod RecordLemmas
 mod Rows
 mod Runs
+pub mod OwnLemmas
 pub mod PhaseLemmas
 pub mod StepLemmas
 mod WizardCorners

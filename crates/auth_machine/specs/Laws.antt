@@ -1,5 +1,5 @@
 -- Words for what holds of every history.
-use Rattle.std.specs.Prelude.{◌≡◌, ℕ, zero, suc, ◌<◌, ◌≤◌, Bool, true, false, ◌&&◌, ◌==◌, List, [], ◌∷◌, ◌++◌, length, Option, Some, None, option_map, IfSome, ◌⊎◌, IsTrue, if◌then◌else◌}
+use Rattle.std.specs.Prelude.{◌≡◌, ◌≢◌, ℕ, zero, suc, ◌<◌, ◌≤◌, Bool, true, false, ◌&&◌, ◌==◌, List, [], ◌∷◌, ◌++◌, length, Option, Some, None, option_map, IfSome, ◌⊎◌, IsTrue, if◌then◌else◌}
 use Rattle.std.specs.List.{AllByRecursion}
 use Rattle.std.specs.Str.{bytes_eq}
 use Rattle.fw_outside.specs.Name.{is_before}
@@ -8,7 +8,7 @@ use Rattle.auth_records.specs.declared.record.Proto.{Proto}
 use Rattle.auth_records.specs.declared.record.Proto.TheVariants as protos
 use Rattle.auth_records.specs.declared.record.Wiz.TheVariants as wizards
 use Rattle.auth_events.specs.declared.denial.Denial.{Denial}
-use Rattle.auth_events.specs.declared.denial.Denial.TheVariants.{Disabled, Sleeping}
+use Rattle.auth_events.specs.declared.denial.Denial.TheVariants.{Disabled, Full, NotKept, Sleeping}
 use Rattle.auth_events.specs.declared.entry.Entry.{Entry}
 use Rattle.auth_events.specs.declared.reply.Reply.{Reply}
 use Rattle.auth_events.specs.declared.reply.Reply.TheVariants as replies
@@ -249,3 +249,11 @@ pub record IsNewcomer (group : Option (List ℕ)) (f : Fields) : Type 0 where
 pub record HasRankOf (f g : Fields) : Type 0 where
   pub wiz : g.wiz ≡ f.wiz
   pub group_is : g.group ≡ f.group
+
+-- ---- what entries say of being kept
+
+-- the reply isn't that the history is full, and says that the entry wasn't kept exactly where it wasn't
+pub record SaysIfKept (entry : Entry) : Type 0 where
+  pub never_full : (limit : ℕ) → entry.reply ≢ replies.Denied (Full limit)
+  pub unkept : entry.kept ≡ false → entry.reply ≡ replies.Denied NotKept
+  pub says_unkept : entry.reply ≡ replies.Denied NotKept → entry.kept ≡ false

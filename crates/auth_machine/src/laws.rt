@@ -1,5 +1,6 @@
 //! What holds of every history. Each function states laws and does nothing.
-ghost use Rattle.std.specs.Prelude.{◌≡◌, ◌≢◌, ℕ, suc, max, ◌∷◌, ◌++◌, [], List, length, Option, Some, None, true, false, IfSome};
+ghost use Rattle.std.specs.Prelude.{◌≡◌, ℕ, suc, max, ◌∷◌, ◌++◌, [], List, length, Option, Some, None, true, false, IfSome};
+ghost use Rattle.std.specs.List.{AllByRecursion};
 ghost use Rattle.std.specs.Str.{bytes_eq};
 ghost use Rattle.fw_outside.specs.Keyed.{Ascends};
 ghost use Rattle.auth_records.specs.Spelling.{Fields};
@@ -10,7 +11,7 @@ ghost use Rattle.auth_events.specs.declared.reply.Summary.{Summary};
 ghost use Rattle.auth_events.specs.declared.request.Request.TheVariants as requests;
 ghost use Rattle.auth_machine.specs.Answer.{summary_profile};
 ghost use Rattle.auth_machine.specs.History.{IsLegal, Origin, after};
-ghost use Rattle.auth_machine.specs.Laws.{AreLeft, FreesNone, HasLockOf, HasRankOf, IsDenied, IsGroupWizard, IsLockDenial, IsNewcomer, IsOutOfReach, IsLocked, LoginStands, SetsNone, ShowsLeast, ShowsNone, accepted, later_word, phase_of, tries, words_of};
+ghost use Rattle.auth_machine.specs.Laws.{AreLeft, FreesNone, HasLockOf, HasRankOf, IsDenied, IsGroupWizard, IsLockDenial, IsNewcomer, IsOutOfReach, IsLocked, LoginStands, SaysIfKept, SetsNone, ShowsLeast, ShowsNone, accepted, later_word, phase_of, tries, words_of};
 ghost use Rattle.auth_machine.specs.State.{name_of, record_at};
 ghost use Rattle.auth_machine.specs.declared.session.Phase.TheVariants.{In};
 
@@ -81,4 +82,9 @@ pub fn group_wizards_stay_in_their_group()
         → IsLegal origin (before ++ entry ∷ []) → IsGroupWizard (after origin before) entry.sid user group
         → record_at name (after origin before).records ≡ Some f
         → IfSome (record_at name (after origin (before ++ entry ∷ [])).records) (HasRankOf f) }
+{}
+
+/// No entry of a history says that the history is full, and an entry says that it wasn't kept exactly where it wasn't.
+pub fn entries_say_if_kept()
+    ensures { (origin : Origin) (history : List Entry) → IsLegal origin history → AllByRecursion SaysIfKept history }
 {}
