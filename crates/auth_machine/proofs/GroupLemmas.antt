@@ -20,10 +20,8 @@ use Rattle.auth_machine.specs.declared.session.Phase.{Phase}
 use Rattle.auth_machine.specs.declared.session.Phase.TheVariants.{Bogus, Idle, In, Waiting}
 use Rattle.auth_machine.specs.declared.session.Session.{Session}
 use Rattle.auth_machine.proofs.ActLemmas.{AddsTo, altered, power_for, target}
-use Rattle.auth_machine.proofs.HistoryLemmas.{after_joined}
-use Rattle.auth_machine.proofs.RecordLemmas.{Awaited, RecordMoves, record_moves}
+use Rattle.auth_machine.proofs.RecordLemmas.{Awaited, RecordMoves, last_moves}
 use Rattle.auth_machine.proofs.RecordLemmas.RecordMoves.{becomes, enters, fails, made, removed, same, uses}
-use Rattle.auth_machine.proofs.StepLemmas.{last_step}
 
 -- ---- the power
 
@@ -149,13 +147,6 @@ module _ (policy : PolicyView) (s : State) (entry : Entry) (user : List ℕ) (gr
 later_wizard : (s : State) (at sid : ℕ) (user : List ℕ) (group : Option (List ℕ)) → IsGroupWizard s sid user group → IsGroupWizard (at_moment at s) sid user group
 later_wizard s at sid user group w =
     record { session = w.session; there = w.there; console = w.console; phase = w.phase; own = w.own; own_there = w.own_there; wiz = w.wiz; group_is = w.group_is }
-
-last_moves : (origin : Origin) (before : List Entry) (entry : Entry) (k : List ℕ) → IsLegal origin (before ++ entry ∷ [])
-    → RecordMoves origin.policy (at_moment entry.at (after origin before)) k entry (record_at k (after origin before).records) (record_at k (after origin (before ++ entry ∷ [])).records)
-last_moves origin before entry k legal =
-    subst (λ (t : State). RecordMoves origin.policy (at_moment entry.at (after origin before)) k entry (record_at k (after origin before).records) (record_at k t.records))
-    (sym (after_joined origin.policy (start origin.records) 0 before (entry ∷ [])))
-    (record_moves origin.policy (after origin before) (0 + length before) entry (last_step origin before entry legal) k)
 
 turned : (m n : List ℕ) → bytes_eq m n ≡ false → bytes_eq n m ≡ false
 turned m n other = choose (bytes_eq n m) refl

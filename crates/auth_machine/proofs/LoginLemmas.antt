@@ -6,7 +6,7 @@ use Rattle.auth_events.specs.declared.entry.Entry.{Entry}
 use Rattle.auth_events.specs.declared.request.Request.{Request}
 use Rattle.auth_events.specs.declared.request.Request.TheVariants as requests
 use Rattle.auth_machine.specs.History.{AreSteps, IsLegal, IsStep, Origin, after, after_entries, after_entry}
-use Rattle.auth_machine.specs.Laws.{HasNone, IsLogin, IsNaming, LoginStands, is_end, is_naming, is_own, is_response, phase_of}
+use Rattle.auth_machine.specs.Laws.{HasNone, IsLogin, IsNaming, LoginStands, SomeLoginStands, is_end, is_naming, is_own, is_response, phase_of}
 use Rattle.auth_machine.specs.Policy.{PolicyView}
 use Rattle.auth_machine.specs.State.{State, start}
 use Rattle.auth_machine.specs.declared.session.Phase.{Phase}
@@ -251,3 +251,42 @@ login_is_so origin history sid name legal said =
     let early = earlier_after origin.policy sid name said.before 0 (start origin.records) (none_first sid) first in
     ap (λ h. phase_of sid (after origin h)) said.is ∙ ap (phase_of sid) (after_joined origin.policy (start origin.records) 0 said.before rest)
     ∙ from_naming origin.policy sid name said.naming said.between said.response said.since (0 + length said.before) (after origin said.before) early behind said.named said.named_last said.answered said.stands
+
+-- ---- who it is
+
+module _ (sid place : ℕ) (entry : Entry) where
+  someone_next : (p q : Option Phase) → Moves sid place entry p q → IsLogin sid entry → (name : List ℕ) × (q ≡ Some (In name))
+  someone_next p q (same _ end out) login = absurd (out login)
+  someone_next p q (missing out) login = absurd (out login)
+  someone_next p q (opened _ is out) login = absurd (out login)
+  someone_next p q (turned_away _ naming) login = let e = login_no_naming sid entry login in absurd (cc)
+  someone_next p q (failed _ no_in out) login = absurd (out login)
+  someone_next p q (waits _ other own request) login =
+      let a = own_naming sid other entry (own, request) in
+      let b = login_no_naming sid entry login in
+      absurd (cc)
+  someone_next p q (fooled _ naming) login = let e = login_no_naming sid entry login in absurd (cc)
+  someone_next p q (logs_in name _) login = (name, refl)
+  someone_next p q (closed _ end out) login = let e = login.1 in absurd (cc)
+
+from_login : (policy : PolicyView) (sid : ℕ) (response : Entry) (since : List Entry) (place : ℕ) (s : State) → IsEarlier sid place (phase_of sid s) → AreSteps policy s place (response ∷ since)
+    → IsLogin sid response → HasNone sid is_end since → (name : List ℕ) × (phase_of sid (after_entries policy s place (response ∷ since)) ≡ Some (In name))
+unfolding IsEarlier
+from_login policy sid response since place s early steps login stands =
+    let s2 = after_entry policy s place response in
+    let moves = step_moves policy s place response steps.0 sid in
+    let someone = someone_next sid place response (phase_of sid s) (phase_of sid s2) moves login in
+    let early2 : IsEarlier sid (suc place) (phase_of sid s2) = earlier_next sid someone.0 place response (phase_of sid s) (phase_of sid s2) moves early in
+    let below : sid < suc place = early2 (ap is_some someone.1) in
+    (someone.0, stands_after policy sid someone.0 since (suc place) s2 someone.1 below steps.1 stands)
+
+pub login_is_someone : (origin : Origin) (history : List Entry) (sid : ℕ) → IsLegal origin history → SomeLoginStands sid history → (name : List ℕ) × LoginStands sid name history
+login_is_someone origin history sid legal said =
+    let rest = said.response ∷ said.since in
+    let legal2 : AreSteps origin.policy (start origin.records) 0 (said.before ++ rest) = subst (IsLegal origin) said.is legal in
+    let first = parts_before origin.policy (start origin.records) 0 said.before rest legal2 in
+    let behind = parts_behind origin.policy (start origin.records) 0 said.before rest legal2 in
+    let early = earlier_after origin.policy sid [] said.before 0 (start origin.records) (none_first sid) first in
+    let someone = from_login origin.policy sid said.response said.since (0 + length said.before) (after origin said.before) early behind said.answered said.stands in
+    (someone.0, login_is_said origin history sid someone.0 legal
+        (ap (λ h. phase_of sid (after origin h)) said.is ∙ ap (phase_of sid) (after_joined origin.policy (start origin.records) 0 said.before rest) ∙ someone.1))

@@ -1,5 +1,5 @@
 -- What a step makes of the record under a name.
-use Rattle.std.proofs.Common.{◌≡◌, ◌≢◌, ℕ, Bool, true, false, cond, List, [], ◌∷◌, Option, Some, None, is_some, option_map, refl, sym, ap, subst, ◌∙◌}
+use Rattle.std.proofs.Common.{◌≡◌, ◌≢◌, ℕ, ◌+◌, Bool, true, false, cond, List, [], ◌∷◌, ◌++◌, length, Option, Some, None, is_some, option_map, refl, sym, ap, subst, ◌∙◌}
 use Rattle.std.proofs.Common as common
 use Rattle.std.specs.Str.{bytes_eq}
 use Rattle.std.proofs.lemmas.Slice.Eq.{bytes_eq-Decides}
@@ -15,12 +15,12 @@ use Rattle.auth_events.specs.declared.request.Request.{Request}
 use Rattle.auth_events.specs.declared.request.Request.TheVariants as requests
 use Rattle.auth_machine.specs.Answer.{Answer, answer_of}
 use Rattle.auth_machine.specs.Answer.Answer.{Denied, Ok}
-use Rattle.auth_machine.specs.History.{IsStep, after_entry}
+use Rattle.auth_machine.specs.History.{IsLegal, IsStep, Origin, after, after_entry}
 use Rattle.auth_machine.specs.Laws.{is_response, phase_of, word_of}
 use Rattle.auth_machine.specs.Login.{failed, logged_in, refusal, used}
 use Rattle.auth_machine.specs.Policy.{PolicyView}
 use Rattle.auth_machine.specs.Powers.{new_user, power_of, reached}
-use Rattle.auth_machine.specs.State.{Change, State, at_moment, changed, edited, name_of, record_at, session_of}
+use Rattle.auth_machine.specs.State.{Change, State, at_moment, changed, edited, name_of, record_at, session_of, start}
 use Rattle.auth_machine.specs.Step.{is_edit}
 use Rattle.auth_machine.specs.declared.edit.Edit.{Edit}
 use Rattle.auth_machine.specs.declared.edit.Edit.TheVariants.{Leave, Put, Delete}
@@ -32,9 +32,10 @@ use Rattle.auth_machine.proofs.ActLemmas.Administers.{alters, makes, nothing, re
 use Rattle.auth_machine.proofs.ActLemmas.Asks.{asks_a_word, asks_denied, asks_nobody, asks_password}
 use Rattle.auth_machine.proofs.ActLemmas.Happens.{absent, administering, asking, closing, opening, responding}
 use Rattle.auth_machine.proofs.ActLemmas.Responds.{dropped, right_password, right_word, stays, turned_down, wrong_one}
+use Rattle.auth_machine.proofs.HistoryLemmas.{after_joined}
 use Rattle.auth_machine.proofs.OrderLemmas.{itself}
 use Rattle.auth_machine.proofs.PhaseLemmas.{edits, no_edit, ok_reply, other_no_response, proposed_happens}
-use Rattle.auth_machine.proofs.StepLemmas.{proposed_at, refused_at}
+use Rattle.auth_machine.proofs.StepLemmas.{last_step, proposed_at, refused_at}
 
 -- ---- records by their names
 
@@ -217,3 +218,11 @@ pub record_moves : (policy : PolicyView) (s : State) (place : ℕ) (entry : Entr
 record_moves policy s place entry step k =
     on_happens policy (at_moment entry.at s) k entry place (session_at entry.request place entry.sid) entry.request (proposed_at policy s place entry)
     (proposed_happens policy s place entry step) refl (refused_at policy s place entry) (edits policy s place entry step) step.reply
+
+-- the last entry of a legal history
+pub last_moves : (origin : Origin) (before : List Entry) (entry : Entry) (k : List ℕ) → IsLegal origin (before ++ entry ∷ [])
+    → RecordMoves origin.policy (at_moment entry.at (after origin before)) k entry (record_at k (after origin before).records) (record_at k (after origin (before ++ entry ∷ [])).records)
+last_moves origin before entry k legal =
+    subst (λ (t : State). RecordMoves origin.policy (at_moment entry.at (after origin before)) k entry (record_at k (after origin before).records) (record_at k t.records))
+    (sym (after_joined origin.policy (start origin.records) 0 before (entry ∷ [])))
+    (record_moves origin.policy (after origin before) (0 + length before) entry (last_step origin before entry legal) k)

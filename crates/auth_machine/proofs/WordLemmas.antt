@@ -13,7 +13,7 @@ use Rattle.auth_events.specs.declared.request.Request.{Request}
 use Rattle.auth_events.specs.declared.request.Request.TheVariants as requests
 use Rattle.otp_md5.specs.Passwords.{next_of}
 use Rattle.auth_machine.specs.History.{AreSteps, IsLegal, IsStep, Origin, after, after_entry}
-use Rattle.auth_machine.specs.Laws.{AreLeft, GoesDown, SetsNone, accepted, accepted_in, asks_words, is_about, is_by_words, is_ok, is_response, is_setting, later_word, phase_of, waits_for, with_first, word_of, words_of}
+use Rattle.auth_machine.specs.Laws.{AreLeft, GoesDown, IsAcceptance, Lowers, SetsNone, accepted, accepted_in, asks_words, is_about, is_by_words, is_ok, is_response, is_setting, later_word, phase_of, waits_for, with_first, word_of, words_of}
 use Rattle.auth_machine.specs.Login.{lowered}
 use Rattle.auth_machine.specs.Policy.{PolicyView}
 use Rattle.auth_machine.specs.State.{State, at_moment, record_at, start}
@@ -22,7 +22,7 @@ use Rattle.auth_machine.specs.declared.session.Phase.TheVariants.{Bogus, Idle, I
 use Rattle.auth_machine.proofs.ActLemmas.{IsWord, altered, target}
 use Rattle.auth_machine.proofs.HistoryLemmas.{parts_behind}
 use Rattle.auth_machine.proofs.OrderLemmas.{itself}
-use Rattle.auth_machine.proofs.RecordLemmas.{LogsInAs, RecordMoves, record_moves}
+use Rattle.auth_machine.proofs.RecordLemmas.{LogsInAs, RecordMoves, last_moves, record_moves}
 use Rattle.auth_machine.proofs.RecordLemmas.RecordMoves.{becomes, enters, fails, made, removed, same, uses}
 
 -- ---- which entries accept
@@ -175,3 +175,30 @@ pub words_once : (origin : Origin) (before during : List Entry) (name : List ℕ
 words_once origin before during name legal none first between rest word is =
     left_once (words_of (record_at name (after origin before).records)) first between rest word
     (subst (AreLeft (words_of (record_at name (after origin before).records))) is (words_go_down origin before during name legal none))
+
+-- ---- each acceptance
+
+module _ (policy : PolicyView) (s : State) (k : List ℕ) (entry : Entry) (login : LogsInAs s k entry) where
+  no_request : {A : Type 0} → (request : Request) → entry.request ≡ request → is_response request ≡ false → A
+  no_request request is none =
+      let e : is_response entry.request ≡ false = ap is_response is ∙ none in
+      let f = login.1 in
+      absurd (cc)
+
+  lowers : (old new : Option Fields) → RecordMoves policy s k entry old new → asks_words old ≡ true → Lowers entry.request (words_of old) (words_of new)
+  lowers old new (same _ out) asks = absurd (out login)
+  lowers old new (made long group session is there to) asks = no_request (requests.Adduser k long) is refl
+  lowers old new (removed f session is reply there power) asks = no_request (requests.Deluser k) is refl
+  lowers old new (becomes f session to reply there power) asks = no_request entry.request refl (target_no_response entry.request k to)
+  lowers old new (fails f awaited out) asks = absurd (out login)
+  lowers old new (enters f awaited reply proto) asks =
+      let e : is_by_words f.proto ≡ false = ap is_by_words proto in
+      absurd (cc)
+  lowers old new (uses f otp w awaited reply word chain) asks =
+      record { word = w; given = word; otp = otp; old_is = chain.otp_is; left = eqb-false otp.number 0 chain.left; chained = chain.chained; new_is = refl }
+
+pub word_lowers : (origin : Origin) (before : List Entry) (entry : Entry) (name : List ℕ) → IsLegal origin (before ++ entry ∷ []) → IsAcceptance name (after origin before) entry
+    → Lowers entry.request (words_of (record_at name (after origin before).records)) (words_of (record_at name (after origin (before ++ entry ∷ [])).records))
+word_lowers origin before entry name legal acceptance =
+    lowers origin.policy (at_moment entry.at (after origin before)) name entry (acceptance.waits, acceptance.responds, acceptance.reply) _ _
+    (last_moves origin before entry name legal) acceptance.by_words

@@ -1,5 +1,5 @@
 -- Words for what holds of every history.
-use Rattle.std.specs.Prelude.{◌≡◌, ◌≢◌, ℕ, zero, suc, ◌<◌, ◌≤◌, Bool, true, false, ◌&&◌, ◌==◌, List, [], ◌∷◌, ◌++◌, length, Option, Some, None, option_map, IfSome, ◌⊎◌, IsTrue, if◌then◌else◌}
+use Rattle.std.specs.Prelude.{◌≡◌, ◌≢◌, ℕ, zero, suc, ◌-◌, ◌<◌, ◌≤◌, Bool, true, false, ◌&&◌, ◌==◌, List, [], ◌∷◌, ◌++◌, length, Option, Some, None, option_map, IfSome, ◌⊎◌, IsTrue, if◌then◌else◌}
 use Rattle.std.specs.List.{AllByRecursion}
 use Rattle.std.specs.Str.{bytes_eq}
 use Rattle.fw_outside.specs.Name.{is_before}
@@ -107,6 +107,15 @@ pub record LoginStands (sid : ℕ) (name : List ℕ) (history : List Entry) : Ty
   pub answered : IsLogin sid response
   pub stands : HasNone sid is_end since
 
+-- a login stands for the session: a response of it was answered Ok, and after it the session names nobody and isn't closed
+pub record SomeLoginStands (sid : ℕ) (history : List Entry) : Type 0 where
+  pub before : List Entry
+  pub response : Entry
+  pub since : List Entry
+  pub is : history ≡ before ++ (response ∷ since)
+  pub answered : IsLogin sid response
+  pub stands : HasNone sid is_end since
+
 -- ---- one-time passwords
 
 -- the one-time password of a response, if it was one
@@ -172,6 +181,23 @@ GoesDown kept (word ∷ words) = (next_of word ≡ kept) × GoesDown word words
 abbrev pub AreLeft : Option OtpFields → List ℕ → Type 0
 AreLeft None words = words ≡ []
 AreLeft (Some otp) words = GoesDown otp.kept words × (length words ≤ otp.number)
+
+-- a response to one that was asked for was answered Ok
+pub record IsAcceptance (name : List ℕ) (s : State) (entry : Entry) : Type 0 where
+  pub waits : phase_of entry.sid s ≡ Some (Waiting name)
+  pub by_words : asks_words (record_at name s.records) ≡ true
+  pub responds : is_response entry.request ≡ true
+  pub reply : entry.reply ≡ replies.Ok
+
+-- it was a one-time password whose next is the kept one; it is kept now, and the number of those left fell by one
+pub record Lowers (request : Request) (old new : Option OtpFields) : Type 0 where
+  pub word : ℕ
+  pub given : word_of request ≡ Some word
+  pub otp : OtpFields
+  pub old_is : old ≡ Some otp
+  pub left : otp.number ≢ 0
+  pub chained : next_of word ≡ otp.kept
+  pub new_is : new ≡ Some (record { number = otp.number - 1; word_seed = otp.word_seed; kept = word })
 
 -- so many times the next one
 abbrev pub later_word : ℕ → ℕ → ℕ

@@ -11,7 +11,7 @@ ghost use Rattle.auth_events.specs.declared.reply.Summary.{Summary};
 ghost use Rattle.auth_events.specs.declared.request.Request.TheVariants as requests;
 ghost use Rattle.auth_machine.specs.Answer.{summary_profile};
 ghost use Rattle.auth_machine.specs.History.{IsLegal, Origin, after};
-ghost use Rattle.auth_machine.specs.Laws.{AreLeft, FreesNone, HasLockOf, HasRankOf, IsDenied, IsGroupWizard, IsLockDenial, IsNewcomer, IsOutOfReach, IsLocked, LoginStands, SaysIfKept, SetsNone, ShowsLeast, ShowsNone, accepted, later_word, phase_of, tries, words_of};
+ghost use Rattle.auth_machine.specs.Laws.{AreLeft, FreesNone, HasLockOf, HasRankOf, IsAcceptance, IsDenied, IsGroupWizard, IsLockDenial, IsNewcomer, IsOutOfReach, IsLocked, LoginStands, Lowers, SaysIfKept, SetsNone, ShowsLeast, ShowsNone, SomeLoginStands, accepted, later_word, phase_of, tries, words_of};
 ghost use Rattle.auth_machine.specs.State.{name_of, record_at};
 ghost use Rattle.auth_machine.specs.declared.session.Phase.TheVariants.{In};
 
@@ -32,18 +32,25 @@ pub fn the_least_is_listed()
         → entry.reply ≡ replies.Denied denials.NoSuch → ShowsNone (after origin before) entry.sid told }
 {}
 
-/// A session is logged in as a user exactly where the entries alone say so.
+/// A session is logged in as a user exactly where the entries alone say so. Each response that is answered Ok logs somebody
+/// in (`is_someone`).
 pub fn login_stands()
     ensures is_said { (origin : Origin) (history : List Entry) (sid : ℕ) (name : List ℕ) → IsLegal origin history
         → phase_of sid (after origin history) ≡ Some (In name) → LoginStands sid name history }
     ensures is_so { (origin : Origin) (history : List Entry) (sid : ℕ) (name : List ℕ) → IsLegal origin history
         → LoginStands sid name history → phase_of sid (after origin history) ≡ Some (In name) }
+    ensures is_someone { (origin : Origin) (history : List Entry) (sid : ℕ) → IsLegal origin history
+        → SomeLoginStands sid history → (name : List ℕ) × LoginStands sid name history }
 {}
 
 /// While no new ones are set for a user, the one-time passwords that are accepted go down the chain from the one that was
-/// kept, and there are no more than were left then: each acceptance has its own number (`go_down`). As numbers of 64 bits
-/// two of them are the same only where the chain runs into a cycle there (`once`).
+/// kept, and there are no more than were left then (`go_down`). Each acceptance lowers the number by one, so each has a
+/// number of its own (`lowers`). As numbers of 64 bits two of them are the same only where the chain runs into a cycle
+/// there (`once`).
 pub fn words_are_used_once()
+    ensures lowers { (origin : Origin) (before : List Entry) (entry : Entry) (name : List ℕ) → IsLegal origin (before ++ entry ∷ [])
+        → IsAcceptance name (after origin before) entry
+        → Lowers entry.request (words_of (record_at name (after origin before).records)) (words_of (record_at name (after origin (before ++ entry ∷ [])).records)) }
     ensures go_down { (origin : Origin) (before during : List Entry) (name : List ℕ) → IsLegal origin (before ++ during) → SetsNone name during
         → AreLeft (words_of (record_at name (after origin before).records)) (accepted origin.policy name (after origin before) (length before) during) }
     ensures once { (origin : Origin) (before during : List Entry) (name : List ℕ) → IsLegal origin (before ++ during) → SetsNone name during
