@@ -1,14 +1,21 @@
-pub mod AnswerLemmas
 mod ApplyLemmas
+pub mod ActLemmas
+pub mod AnswerLemmas
 pub mod BookLemmas
-mod Corners
 pub mod FitLemmas
+pub mod GroupLemmas
 pub mod HistoryLemmas
-mod OpeningLemmas
+pub mod ListLemmas
+pub mod LockLemmas
+pub mod LoginLemmas
 pub mod OperationsLemmas
+pub mod OrderLemmas
+pub mod OwnLemmas
+pub mod PartsLemmas
+pub mod PhaseLemmas
 pub mod PolicyLemmas
 pub mod PortLemmas
-mod Rows
-mod Runs
+pub mod RecordLemmas
+pub mod StepLemmas
 pub mod TableLemmas
-mod WizardCorners
+pub mod WordLemmas

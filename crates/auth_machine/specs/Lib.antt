@@ -13,3 +13,4 @@ pub mod Book
 pub mod Answers
 pub mod Port
 pub mod Opening
+pub mod Laws
