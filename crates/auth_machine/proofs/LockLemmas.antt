@@ -49,6 +49,7 @@ locked_out policy f (Some seconds) moment is locks =
     choose : (b : Bool) → nat_lt moment (later f.since seconds) ≡ b → moment < later f.since seconds → nat_lt moment (later f.since seconds) ≡ true
     choose true e h = e
     choose false e h = absurd (grind (arith, nat_tests))
+
     both : (a b : Bool) → a ≡ true → b ≡ true → cond (a && b) (Some (Sleeping (later f.since seconds))) None ≡ Some (Sleeping (later f.since seconds))
     both true true ea eb = refl
     both true false ea eb = absurd (cc)
@@ -200,7 +201,6 @@ module _ (policy : PolicyView) (f : Fields) (name : List ℕ) (m : ℕ) (locked 
   kept_by s entry old new (fails g awaited out) most none kept = absurd (usable_not g s entry kept most awaited)
   kept_by s entry old new (enters g awaited reply proto) most none kept = absurd (usable_not g s entry kept most awaited)
   kept_by s entry old new (uses g otp w awaited reply word chain) most none kept = absurd (usable_not g s entry kept most awaited)
-
 
   kept_after : (entries : List Entry) (place : ℕ) (s : State) → AreSteps policy s place entries → (after_entries policy s place entries).moment ≤ m → FreesNone name entries
       → Kept f (record_at name s.records) → Kept f (record_at name (after_entries policy s place entries).records)

@@ -76,13 +76,28 @@ module _ (sid place : ℕ) (entry : Entry) (done : List Entry) where
   says_more (Some Idle) end says = tt
   says_more (Some Bogus) end says = tt
   says_more (Some (Waiting name)) end says =
-      record { before = says.before; naming = says.naming; between = says.between ++ entry ∷ [];
-          is = longer says.before says.naming says.between says.is; named = says.named; named_last = all_more (λ e. is_own sid is_naming e ≡ false) says.between entry says.named_last (unnamed_end sid entry end) }
+      record {
+        before = says.before;
+        naming = says.naming;
+        between = says.between ++ entry ∷ [];
+        is = longer says.before says.naming says.between says.is;
+        named = says.named;
+        named_last = all_more (λ e. is_own sid is_naming e ≡ false) says.between entry says.named_last (unnamed_end sid entry end);
+      }
   says_more (Some (In name)) end says =
-      record { before = says.before; naming = says.naming; between = says.between; response = says.response; since = says.since ++ entry ∷ [];
-          is = longer says.before says.naming (says.between ++ (says.response ∷ says.since)) says.is
-              ∙ ap (λ xs. says.before ++ (says.naming ∷ xs)) (append_assoc says.between (says.response ∷ says.since) (entry ∷ []));
-          named = says.named; named_last = says.named_last; answered = says.answered; stands = all_more (λ e. is_own sid is_end e ≡ false) says.since entry says.stands end }
+      record {
+        before = says.before;
+        naming = says.naming;
+        between = says.between;
+        response = says.response;
+        since = says.since ++ entry ∷ [];
+        is = longer says.before says.naming (says.between ++ (says.response ∷ says.since)) says.is
+            ∙ ap (λ xs. says.before ++ (says.naming ∷ xs)) (append_assoc says.between (says.response ∷ says.since) (entry ∷ []));
+        named = says.named;
+        named_last = says.named_last;
+        answered = says.answered;
+        stands = all_more (λ e. is_own sid is_end e ≡ false) says.since entry says.stands end;
+      }
 
   says_next : (p q : Option Phase) → Moves sid place entry p q → Says sid done p → Says sid (done ++ entry ∷ []) q
   unfolding Says
@@ -95,8 +110,18 @@ module _ (sid place : ℕ) (entry : Entry) (done : List Entry) where
       record { before = done; naming = entry; between = []; is = refl; named = (own, request); named_last = tt }
   says_next p q (fooled _ naming) says = tt
   says_next p q (logs_in name login) says =
-      record { before = says.before; naming = says.naming; between = says.between; response = entry; since = [];
-          is = longer says.before says.naming says.between says.is; named = says.named; named_last = says.named_last; answered = login; stands = tt }
+      record {
+        before = says.before;
+        naming = says.naming;
+        between = says.between;
+        response = entry;
+        since = [];
+        is = longer says.before says.naming says.between says.is;
+        named = says.named;
+        named_last = says.named_last;
+        answered = login;
+        stands = tt;
+      }
   says_next p q (closed _ end out) says = tt
 
 says_read : (sid : ℕ) (name : List ℕ) (done : List Entry) (p : Option Phase) → p ≡ Some (In name) → Says sid done p → LoginStands sid name done
@@ -110,8 +135,8 @@ says_first sid = tt
 pub login_is_said : (origin : Origin) (history : List Entry) (sid : ℕ) (name : List ℕ) → IsLegal origin history → phase_of sid (after origin history) ≡ Some (In name) → LoginStands sid name history
 login_is_said origin history sid name legal is =
     let all = reaches origin.policy (λ done place s. Says sid done (phase_of sid s))
-        (λ done place s entry says step. says_next sid place entry done (phase_of sid s) (phase_of sid (after_entry origin.policy s place entry)) (step_moves origin.policy s place entry step sid) says)
-        [] history 0 (start origin.records) (says_first sid) legal in
+    (λ done place s entry says step. says_next sid place entry done (phase_of sid s) (phase_of sid (after_entry origin.policy s place entry)) (step_moves origin.policy s place entry step sid) says)
+    [] history 0 (start origin.records) (says_first sid) legal in
     says_read sid name history (phase_of sid (after origin history)) is all.1
 
 -- ---- what is said is so
@@ -287,6 +312,8 @@ login_is_someone origin history sid legal said =
     let first = parts_before origin.policy (start origin.records) 0 said.before rest legal2 in
     let behind = parts_behind origin.policy (start origin.records) 0 said.before rest legal2 in
     let early = earlier_after origin.policy sid [] said.before 0 (start origin.records) (none_first sid) first in
-    let someone = from_login origin.policy sid said.response said.since (0 + length said.before) (after origin said.before) early behind said.answered said.stands in
-    (someone.0, login_is_said origin history sid someone.0 legal
-        (ap (λ h. phase_of sid (after origin h)) said.is ∙ ap (phase_of sid) (after_joined origin.policy (start origin.records) 0 said.before rest) ∙ someone.1))
+    let someone = from_login origin.policy sid said.response said.since (0 + length said.before) (after origin said.before) early behind said.answered said.stands in (
+      someone.0,
+      login_is_said origin history sid someone.0 legal
+          (ap (λ h. phase_of sid (after origin h)) said.is ∙ ap (phase_of sid) (after_joined origin.policy (start origin.records) 0 said.before rest) ∙ someone.1),
+    )

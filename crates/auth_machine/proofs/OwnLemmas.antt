@@ -81,6 +81,12 @@ module _ (policy : PolicyView) (s : State) (place sid : ℕ) where
 not_own : (d : Denial) (a : Answer) → a ≡ Denied d → IsOwn a → IsOwnDenial d
 not_own d a is own = subst IsOwn is own
 
+full_clash : (limit : ℕ) → IsOwnDenial (denials.Full limit) → ⊥
+full_clash limit own = let e = own.0 in cc
+
+unkept_clash : IsOwnDenial denials.NotKept → ⊥
+unkept_clash own = let e = own.1 in cc
+
 said_denied : (reply : Reply) (d : Denial) → answer_of reply ≡ Denied d → reply ≡ replies.Denied d
 said_denied (replies.Denied other) d is = cc
 said_denied (replies.Opened sid) d is = absurd (cc)
@@ -95,16 +101,16 @@ says true false a reply own at_rest is =
     let said = said_denied reply denials.NotKept is in
     (λ limit e. absurd (cc), λ e. said, λ e. refl)
 says true true a reply own at_rest is =
-    (λ limit e. not_own (denials.Full limit) a (sym is ∙ ap answer_of e) own, λ e. absurd (cc), λ e. absurd (not_own denials.NotKept a (sym is ∙ ap answer_of e) own))
+    (λ limit e. full_clash limit (not_own (denials.Full limit) a (sym is ∙ ap answer_of e) own), λ e. absurd (cc), λ e. absurd (unkept_clash (not_own denials.NotKept a (sym is ∙ ap answer_of e) own)))
 says false true a reply own at_rest is =
-    (λ limit e. not_own (denials.Full limit) a (sym is ∙ ap answer_of e) own, λ e. absurd (cc), λ e. absurd (not_own denials.NotKept a (sym is ∙ ap answer_of e) own))
+    (λ limit e. full_clash limit (not_own (denials.Full limit) a (sym is ∙ ap answer_of e) own), λ e. absurd (cc), λ e. absurd (unkept_clash (not_own denials.NotKept a (sym is ∙ ap answer_of e) own)))
 says false false a reply own at_rest is = let e = at_rest refl in absurd (cc)
 
 step_says : (policy : PolicyView) (s : State) (place : ℕ) (entry : Entry) → IsStep policy s place entry → SaysIfKept entry
 unfolding proposed
 step_says policy s place entry step =
     let all = says (keeps policy s place entry.sid entry.at entry.request) entry.kept (proposed_at policy s place entry).answer entry.reply
-        (own_change policy (at_moment entry.at s) place entry.sid entry.request) step.kept step.reply in
+    (own_change policy (at_moment entry.at s) place entry.sid entry.request) step.kept step.reply in
     record { never_full = all.0; unkept = all.1; says_unkept = all.2 }
 
 all_say : (policy : PolicyView) (entries : List Entry) (place : ℕ) (s : State) → AreSteps policy s place entries → AllByRecursion SaysIfKept entries

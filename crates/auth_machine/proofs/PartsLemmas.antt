@@ -9,7 +9,7 @@ use Rattle.auth_machine.specs.State.{State}
 -- what each step keeps of the entries so far, the next place and the state holds after all entries
 module _ (policy : PolicyView) (P : List Entry → ℕ → State → Type 0)
     (step : (done : List Entry) (place : ℕ) (s : State) (entry : Entry) → P done place s → IsStep policy s place entry
-        → P (done ++ entry ∷ []) (suc place) (after_entry policy s place entry)) where
+    → P (done ++ entry ∷ []) (suc place) (after_entry policy s place entry)) where
   pub reaches : (done entries : List Entry) (place : ℕ) (s : State) → P done place s → AreSteps policy s place entries
       → (last : ℕ) × P (done ++ entries) last (after_entries policy s place entries)
   reaches done [] place s h steps = (place, rw append-nil h)

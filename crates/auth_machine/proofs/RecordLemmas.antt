@@ -190,14 +190,14 @@ module _ (policy : PolicyView) (s : State) (k : List ℕ) (entry : Entry) where
   on_administers request session change j there other (removes n f found power) is false reply =
       delete_move n f found
       (λ one. subst (λ (name : List ℕ). RecordMoves policy s name entry (Some f) None) (sym one)
-          (removed f session is (ok_reply entry.reply reply) there (subst (λ r. reached (power_of s session) r ≡ common.Ok f) found power)))
+      (removed f session is (ok_reply entry.reply reply) there (subst (λ r. reached (power_of s session) r ≡ common.Ok f) found power)))
       (no_response (requests.Deluser n) is refl)
   on_administers request session change j there other (alters _ n f to found power) is false reply =
       put_move n (Some f) (altered request f) found (altered_name request f ∙ found_name n s.records f found)
       (λ one. subst (λ (name : List ℕ). RecordMoves policy s name entry (Some f) (Some (altered request f))) (sym one)
-          (subst (λ r. RecordMoves policy s n entry (Some f) (Some (altered r f))) is
-          (becomes f session (ap target is ∙ to) (ok_reply entry.reply reply) there
-          (subst (λ r. reached (power_for s session r n) (Some f) ≡ common.Ok f) (sym is) (subst (λ r. reached (power_for s session request n) r ≡ common.Ok f) found power)))))
+      (subst (λ r. RecordMoves policy s n entry (Some f) (Some (altered r f))) is
+      (becomes f session (ap target is ∙ to) (ok_reply entry.reply reply) there
+      (subst (λ r. reached (power_for s session r n) (Some f) ≡ common.Ok f) (sym is) (subst (λ r. reached (power_for s session request n) r ≡ common.Ok f) found power)))))
       (λ e. no_response request is (other_no_response request other))
 
   on_happens : (place j : ℕ) (request : Request) (change : Change) → Happens policy s place entry.sid request change → entry.request ≡ request
