@@ -35,12 +35,12 @@ denied : (d : Denial) → IsOwnDenial d → IsOwn (Denied d)
 denied d own = own
 
 own_shown : (found : Option Fields) → IsOwn (shows_some found).answer
-own_shown None = tt
+own_shown None = (refl, refl)
 own_shown (Some f) = tt
 
 own_lists : (power : Option Power) (told : Option (List ℕ)) (records : List Fields) → IsOwn (lists power told records).answer
-own_lists None told records = tt
-own_lists (Some Nobody) told records = tt
+own_lists None told records = (refl, refl)
+own_lists (Some Nobody) told records = (refl, refl)
 own_lists (Some (Members group)) told records = own_shown (find (is_next_seen (Members group) told) records)
 own_lists (Some Everybody) told records = own_shown (find (is_next_seen Everybody told) records)
 
