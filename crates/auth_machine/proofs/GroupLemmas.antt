@@ -4,22 +4,21 @@ use Rattle.std.proofs.Common as common
 use Rattle.std.specs.Str.{bytes_eq}
 use Rattle.std.proofs.lemmas.Slice.Eq.{bytes_eq-Decides}
 use Rattle.auth_records.specs.Spelling.{Fields}
-use Rattle.auth_records.specs.declared.record.Wiz.TheVariants as wizards
 use Rattle.auth_events.specs.declared.denial.Denial.TheVariants as denials
 use Rattle.auth_events.specs.declared.entry.Entry.{Entry}
 use Rattle.auth_events.specs.declared.request.Request.{Request}
 use Rattle.auth_events.specs.declared.request.Request.TheVariants as requests
-use Rattle.auth_machine.specs.History.{IsLegal, IsStep, Origin, after, after_entry}
-use Rattle.auth_machine.specs.Laws.{HasRankOf, IsGroupWizard, IsNewcomer, IsOutOfReach, phase_of}
+use Rattle.auth_machine.specs.History.{IsLegal, Origin, after}
+use Rattle.auth_machine.specs.Laws.{HasRankOf, IsGroupWizard, IsNewcomer, IsOutOfReach}
+use Rattle.auth_machine.specs.Logins.{phase_of}
 use Rattle.auth_machine.specs.Policy.{PolicyView}
-use Rattle.auth_machine.specs.Powers.{covers, is_name_in, is_super, name_in, new_user, over_all, own_power, power_of, reached, record_of, same_group, user_of, wizard_power}
-use Rattle.auth_machine.specs.State.{State, at_moment, record_at, session_of, start}
-use Rattle.auth_machine.specs.declared.power.Power.{Power}
+use Rattle.auth_machine.specs.Powers.{covers, is_name_in, is_super, name_in, over_all, own_power, power_of, reached, record_of, same_group, user_of, wizard_power}
+use Rattle.auth_machine.specs.State.{State, at_moment, record_at, session_of}
 use Rattle.auth_machine.specs.declared.power.Power.TheVariants.{Nobody, Members, Everybody}
 use Rattle.auth_machine.specs.declared.session.Phase.{Phase}
-use Rattle.auth_machine.specs.declared.session.Phase.TheVariants.{Bogus, Idle, In, Waiting}
+use Rattle.auth_machine.specs.declared.session.Phase.TheVariants.{In, Waiting}
 use Rattle.auth_machine.specs.declared.session.Session.{Session}
-use Rattle.auth_machine.proofs.ActLemmas.{AddsTo, altered, power_for, target}
+use Rattle.auth_machine.proofs.ActLemmas.{AddsTo, altered, power_for}
 use Rattle.auth_machine.proofs.RecordLemmas.{Awaited, RecordMoves, last_moves}
 use Rattle.auth_machine.proofs.RecordLemmas.RecordMoves.{becomes, enters, fails, made, removed, same, uses}
 

@@ -1,5 +1,5 @@
 -- What is listed is the least record that is seen.
-use Rattle.std.proofs.Common.{◌≡◌, ◌≢◌, ℕ, Bool, true, false, cond, List, [], ◌∷◌, ◌++◌, find, Option, Some, None, IsTrue, Ordering, Less, Equal, Greater, is_eq, is_lt, nat_cmp, is_some, refl, sym, ap, subst, ◌∙◌}
+use Rattle.std.proofs.Common.{◌≡◌, ℕ, Bool, true, false, cond, List, [], ◌∷◌, ◌++◌, find, Option, Some, None, IsTrue, Ordering, Less, Equal, Greater, is_eq, is_lt, nat_cmp, refl, sym, ap, subst, ◌∙◌}
 use Rattle.std.specs.Cmp.Lexicographic.{slice_cmp, nat_list_cmp_total}
 use Rattle.std.specs.List.{AllByRecursion}
 use Rattle.std.specs.Ordering.{ordering_reverse}
@@ -14,10 +14,10 @@ use Rattle.auth_events.specs.declared.request.Request.{Request}
 use Rattle.auth_events.specs.declared.request.Request.TheVariants as requests
 use Rattle.auth_events.specs.declared.reply.Reply.TheVariants as replies
 use Rattle.auth_events.specs.declared.reply.Summary.{Summary}
-use Rattle.auth_machine.specs.Answer.{Answer, Profile, answer_of, profile_of, summary_profile}
+use Rattle.auth_machine.specs.Answer.{Profile, answer_of, profile_of, summary_profile}
 use Rattle.auth_machine.specs.Answer.Answer.{Denied, Shown}
-use Rattle.auth_machine.specs.History.{IsLegal, IsStep, Origin, after}
-use Rattle.auth_machine.specs.Laws.{HasPower, IsLeastSeen, SeesNone, ShowsLeast, ShowsNone}
+use Rattle.auth_machine.specs.History.{IsLegal, Origin, after}
+use Rattle.auth_machine.specs.Laws.{IsLeastSeen, SeesNone, ShowsLeast, ShowsNone}
 use Rattle.auth_machine.specs.Policy.{PolicyView}
 use Rattle.auth_machine.specs.Powers.{is_next_seen, list, lists, power_of, shows_some}
 use Rattle.auth_machine.specs.State.{State, at_moment, name_of, record_at, session_of}
@@ -25,9 +25,9 @@ use Rattle.auth_machine.specs.Step.{in_session, proposed}
 use Rattle.auth_machine.specs.declared.power.Power.{Power}
 use Rattle.auth_machine.specs.declared.power.Power.TheVariants.{Nobody, Members, Everybody}
 use Rattle.auth_machine.specs.declared.session.Session.{Session}
-use Rattle.auth_machine.proofs.PartsLemmas.{parts_before}
+use Rattle.auth_machine.proofs.EntriesLemmas.{parts_before}
 use Rattle.auth_machine.proofs.OrderLemmas.{after_ascends, itself}
-use Rattle.auth_machine.proofs.StepLemmas.{last_step, proposed_at, step_answered}
+use Rattle.auth_machine.proofs.StepLemmas.{last_step, step_answered}
 
 -- ---- names
 

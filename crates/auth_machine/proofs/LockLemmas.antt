@@ -1,6 +1,5 @@
 -- A lock holds.
-use Rattle.std.proofs.Common.{◌≡◌, ◌≢◌, ℕ, suc, ◌+◌, ◌≤◌, ◌<◌, max, Bool, true, false, cond, not, ◌&&◌, ◌||◌, List, [], ◌∷◌, ◌++◌, length, Option, Some, None, option_map, nat_eq, nat_lt, refl, sym, ap, subst, ◌∙◌, arith, eq-eqb}
-use Rattle.std.specs.Str.{bytes_eq}
+use Rattle.std.proofs.Common.{◌≡◌, ℕ, suc, ◌+◌, ◌≤◌, ◌<◌, max, Bool, true, false, cond, not, ◌&&◌, ◌||◌, List, [], ◌∷◌, ◌++◌, length, Option, Some, None, option_map, nat_eq, nat_lt, refl, sym, ap, subst, ◌∙◌, arith, eq-eqb}
 use Rattle.std.proofs.lemmas.Bool.Decides.{nat_tests}
 use Rattle.std.proofs.lemmas.List.{append_assoc}
 use Rattle.std.proofs.lemmas.Slice.Eq.{bytes_eq-Decides}
@@ -13,11 +12,11 @@ use Rattle.auth_events.specs.declared.reply.Reply.{Reply}
 use Rattle.auth_events.specs.declared.reply.Reply.TheVariants as replies
 use Rattle.auth_events.specs.declared.request.Request.{Request}
 use Rattle.auth_events.specs.declared.request.Request.TheVariants as requests
-use Rattle.auth_machine.specs.Answer.{Answer, answer_of}
+use Rattle.auth_machine.specs.Answer.{answer_of}
 use Rattle.auth_machine.specs.Answer.Answer.{Denied}
 use Rattle.auth_machine.specs.History.{AreSteps, IsLegal, IsStep, Origin, after, after_entries, after_entry}
-use Rattle.auth_machine.specs.Laws.{FreesNone, HasLockOf, IsDenied, IsLockDenial, IsLocked, LocksAt, is_freeing, is_ok, phase_of, tries}
-use Rattle.auth_machine.specs.Login.{authenticate, authenticate_as, drops, has_password, later, lockout, refusal, respond, respond_as, respond_in}
+use Rattle.auth_machine.specs.Logins.{FreesNone, HasLockOf, IsDenied, IsLockDenial, IsLocked, LocksAt, is_freeing, is_ok, phase_of, tries}
+use Rattle.auth_machine.specs.Login.{authenticate, drops, has_password, later, lockout, refusal, respond, respond_in}
 use Rattle.auth_machine.specs.Policy.{PolicyView}
 use Rattle.auth_machine.specs.State.{Change, State, at_moment, changed, record_at, session_of, start}
 use Rattle.auth_machine.specs.Step.{change_of, in_session, is_edit, proposed}
@@ -25,7 +24,7 @@ use Rattle.auth_machine.specs.declared.session.Phase.{Phase}
 use Rattle.auth_machine.specs.declared.session.Phase.TheVariants.{Bogus, Idle, In, Waiting}
 use Rattle.auth_machine.specs.declared.session.Session.{Session}
 use Rattle.auth_machine.proofs.ActLemmas.{altered, target}
-use Rattle.auth_machine.proofs.PartsLemmas.{after_joined, parts_before, parts_behind}
+use Rattle.auth_machine.proofs.EntriesLemmas.{after_joined, parts_before, parts_behind}
 use Rattle.auth_machine.proofs.PhaseLemmas.{edits}
 use Rattle.auth_machine.proofs.RecordLemmas.{Awaited, RecordMoves, record_moves}
 use Rattle.auth_machine.proofs.RecordLemmas.RecordMoves.{becomes, enters, fails, made, removed, same, uses}

@@ -1,9 +1,9 @@
 -- The records stand in the order of their names, and the first that is seen is the least.
-use Rattle.std.proofs.Common.{◌≡◌, ℕ, Bool, true, false, cond, not, List, [], ◌∷◌, find, filter, Option, Some, None, IsTrue, is_some, refl, sym, ap, subst, ◌∙◌}
+use Rattle.std.proofs.Common.{◌≡◌, ℕ, Bool, true, false, cond, List, [], ◌∷◌, None, IsTrue, is_some, refl, ap, ◌∙◌}
 use Rattle.std.specs.List.{AllByRecursion}
 use Rattle.std.specs.Str.{bytes_eq}
 use Rattle.std.proofs.lemmas.Slice.Eq.{bytes_eq-Decides}
-use Rattle.fw_outside.specs.Keyed.{Ascends, is_named, placed, under, without}
+use Rattle.fw_outside.specs.Keyed.{Ascends, under, without}
 use Rattle.fw_outside.specs.KeyedLemmas.{placed_ascends, under_without}
 use Rattle.fw_outside.specs.Name.{is_before}
 use Rattle.auth_records.specs.Spelling.{Fields}
@@ -15,7 +15,7 @@ use Rattle.auth_machine.specs.Step.{is_refused, proposed}
 use Rattle.auth_events.specs.Port.{session_at}
 use Rattle.auth_machine.specs.declared.edit.Edit.{Edit}
 use Rattle.auth_machine.specs.declared.edit.Edit.TheVariants.{Leave, Put, Delete}
-use Rattle.auth_machine.proofs.PartsLemmas.{holds_after}
+use Rattle.auth_machine.proofs.EntriesLemmas.{holds_after}
 
 pub itself : (name : List ℕ) → bytes_eq name name ≡ true
 itself name = (bytes_eq-Decides name name).1 refl

@@ -1,9 +1,7 @@
 -- How a session moves from one phase to the next.
-use Rattle.std.proofs.Common.{◌≡◌, ◌≢◌, ℕ, suc, Bool, true, false, cond, not, ◌&&◌, List, [], ◌∷◌, ◌++◌, find, filter, Option, Some, None, is_some, option_map, nat_eq, refl, sym, ap, subst, ◌∙◌, eq-eqb}
+use Rattle.std.proofs.Common.{◌≡◌, ◌≢◌, ℕ, Bool, true, false, cond, not, ◌&&◌, List, Option, Some, None, option_map, nat_eq, refl, sym, ap, subst, ◌∙◌}
 use Rattle.std.proofs.lemmas.Bool.{eqb-true, eqb-false}
-use Rattle.auth_records.specs.Spelling.{Fields}
 use Rattle.auth_events.specs.Port.{session_at}
-use Rattle.auth_events.specs.declared.denial.Denial.{Denial}
 use Rattle.auth_events.specs.declared.denial.Denial.TheVariants as denials
 use Rattle.auth_events.specs.declared.entry.Entry.{Entry}
 use Rattle.auth_events.specs.declared.reply.Reply.{Reply}
@@ -13,79 +11,24 @@ use Rattle.auth_events.specs.declared.request.Request.TheVariants as requests
 use Rattle.auth_machine.specs.Answer.{Answer, answer_of}
 use Rattle.auth_machine.specs.Answer.Answer.{Denied, Ok}
 use Rattle.auth_machine.specs.History.{IsStep, after_entry}
-use Rattle.auth_machine.specs.Laws.{IsLogin, is_end, is_naming, is_own, is_response, phase_of}
-use Rattle.auth_machine.specs.Login.{answers_only, drops, in_phase, settles}
+use Rattle.auth_machine.specs.Logins.{IsLogin, is_end, is_naming, is_own, is_response, phase_of}
+use Rattle.auth_machine.specs.Login.{in_phase}
 use Rattle.auth_machine.specs.Policy.{PolicyView}
-use Rattle.auth_machine.specs.Powers.{new_user}
-use Rattle.auth_machine.specs.State.{Change, State, at_moment, changed, session_of, turned, without_session}
-use Rattle.auth_machine.specs.Step.{closes, is_edit, keeps, opens, proposed}
+use Rattle.auth_machine.specs.State.{Change, State, at_moment, changed, session_of, turned}
+use Rattle.auth_machine.specs.Step.{is_edit, keeps, proposed}
 use Rattle.auth_machine.specs.declared.edit.Turn.{Turn}
 use Rattle.auth_machine.specs.declared.edit.Turn.TheVariants.{Become, End, Stay}
 use Rattle.auth_machine.specs.declared.session.Phase.{Phase}
 use Rattle.auth_machine.specs.declared.session.Phase.TheVariants.{Bogus, Idle, In, Waiting}
 use Rattle.auth_machine.specs.declared.session.Session.{Session}
-use Rattle.auth_machine.proofs.ActLemmas.{Administers, Asks, Awaits, Happens, NotIn, Responds, happens, is_other, waits_not_in}
+use Rattle.auth_machine.proofs.ActLemmas.{Administers, Happens, happens, is_other}
+use Rattle.auth_machine.proofs.LoginActs.{Asks, Responds, waits_not_in}
 use Rattle.auth_machine.proofs.ActLemmas.Administers.{alters, makes, nothing, removes}
-use Rattle.auth_machine.proofs.ActLemmas.Asks.{asks_a_word, asks_denied, asks_nobody, asks_password}
+use Rattle.auth_machine.proofs.LoginActs.Asks.{asks_a_word, asks_denied, asks_nobody, asks_password}
 use Rattle.auth_machine.proofs.ActLemmas.Happens.{absent, administering, asking, closing, opening, responding}
-use Rattle.auth_machine.proofs.ActLemmas.Responds.{dropped, right_password, right_word, stays, turned_down, wrong_one}
+use Rattle.auth_machine.proofs.LoginActs.Responds.{dropped, right_password, right_word, stays, turned_down, wrong_one}
 use Rattle.auth_machine.proofs.StepLemmas.{proposed_at, refused_at}
-
--- ---- sessions by their numbers
-
-pub found_sid : (sid : ℕ) (xs : List Session) (x : Session) → session_of sid xs ≡ Some x → x.sid ≡ sid
-found_sid sid [] x is = absurd (cc)
-found_sid sid (y ∷ xs) x is = choose (nat_eq y.sid sid) refl is (found_sid sid xs x)
-  where
-    choose : (b : Bool) → nat_eq y.sid sid ≡ b → cond b (Some y) (session_of sid xs) ≡ Some x → (session_of sid xs ≡ Some x → x.sid ≡ sid) → x.sid ≡ sid
-    choose true e is rest = let same : y ≡ x = cc in subst (λ (z : Session). z.sid ≡ sid) same (eqb-true y.sid sid e)
-    choose false e is rest = rest is
-
-own_gone : (sid : ℕ) (xs ys : List Session) → session_of sid (without_session sid xs ++ ys) ≡ session_of sid ys
-own_gone sid [] ys = refl
-own_gone sid (x ∷ xs) ys = choose (nat_eq x.sid sid) refl (own_gone sid xs ys)
-  where
-    choose : (b : Bool) → nat_eq x.sid sid ≡ b → session_of sid (without_session sid xs ++ ys) ≡ session_of sid ys
-        → session_of sid (cond (not b) (x ∷ without_session sid xs) (without_session sid xs) ++ ys) ≡ session_of sid ys
-    choose true e rest = rest
-    choose false e rest = ap (λ (b : Bool). cond b (Some x) (session_of sid (without_session sid xs ++ ys))) e ∙ rest
-
-others_stay : (k sid : ℕ) (xs ys : List Session) → nat_eq k sid ≡ false → session_of sid ys ≡ None → session_of sid (without_session k xs ++ ys) ≡ session_of sid xs
-others_stay k sid [] ys other none = none
-others_stay k sid (x ∷ xs) ys other none = choose (nat_eq x.sid k) refl (others_stay k sid xs ys other none)
-  where
-    choose : (b : Bool) → nat_eq x.sid k ≡ b → session_of sid (without_session k xs ++ ys) ≡ session_of sid xs
-        → session_of sid (cond (not b) (x ∷ without_session k xs) (without_session k xs) ++ ys) ≡ cond (nat_eq x.sid sid) (Some x) (session_of sid xs)
-    choose true e rest =
-        let same : x.sid ≡ k = eqb-true x.sid k e in
-        rest ∙ sym (ap (λ (b : Bool). cond b (Some x) (session_of sid xs)) (ap (λ (n : ℕ). nat_eq n sid) same ∙ other))
-    choose false e rest = ap (λ (found : Option Session). cond (nat_eq x.sid sid) (Some x) found) rest
-
-without_is : (k : ℕ) (xs : List Session) → without_session k xs ≡ without_session k xs ++ []
-without_is k [] = refl
-without_is k (x ∷ xs) = choose (not (nat_eq x.sid k)) (without_is k xs)
-  where
-    choose : (b : Bool) → without_session k xs ≡ without_session k xs ++ [] → cond b (x ∷ without_session k xs) (without_session k xs) ≡ cond b (x ∷ without_session k xs) (without_session k xs) ++ []
-    choose true rest = ap (λ zs. x ∷ zs) rest
-    choose false rest = rest
-
-itself : (n : ℕ) → nat_eq n n ≡ true
-itself n = eq-eqb n n refl
-
--- what the session of a number becomes
-became_own : (x : Session) (sid k : ℕ) (xs : List Session) → x.sid ≡ sid → session_of sid (turned (Become x) k xs) ≡ Some x
-became_own x sid k xs is =
-    subst (λ (n : ℕ). session_of n (without_session x.sid xs ++ (x ∷ [])) ≡ Some x) is
-    (own_gone x.sid xs (x ∷ []) ∙ ap (λ (b : Bool). cond b (Some x) None) (itself x.sid))
-
-became_other : (x : Session) (sid k : ℕ) (xs : List Session) → nat_eq x.sid sid ≡ false → session_of sid (turned (Become x) k xs) ≡ session_of sid xs
-became_other x sid k xs other = others_stay x.sid sid xs (x ∷ []) other (ap (λ (b : Bool). cond b (Some x) None) other)
-
-ended_own : (sid : ℕ) (xs : List Session) → session_of sid (turned End sid xs) ≡ None
-ended_own sid xs = rw (without_is sid xs) (own_gone sid xs [])
-
-ended_other : (k sid : ℕ) (xs : List Session) → nat_eq k sid ≡ false → session_of sid (turned End k xs) ≡ session_of sid xs
-ended_other k sid xs other = rw (without_is k xs) (others_stay k sid xs [] other refl)
+use Rattle.auth_machine.proofs.SessionLemmas.{became_other, became_own, ended_other, ended_own, found_sid, itself}
 
 -- ---- moves
 

@@ -16,23 +16,24 @@ use Rattle.auth_events.specs.declared.request.Request.TheVariants as requests
 use Rattle.auth_machine.specs.Answer.{Answer, answer_of}
 use Rattle.auth_machine.specs.Answer.Answer.{Denied, Ok}
 use Rattle.auth_machine.specs.History.{IsLegal, IsStep, Origin, after, after_entry}
-use Rattle.auth_machine.specs.Laws.{is_response, phase_of, word_of}
+use Rattle.auth_machine.specs.Logins.{is_response, phase_of}
+use Rattle.auth_machine.specs.Chains.{word_of}
 use Rattle.auth_machine.specs.Login.{failed, logged_in, refusal, used}
 use Rattle.auth_machine.specs.Policy.{PolicyView}
 use Rattle.auth_machine.specs.Powers.{new_user, power_of, reached}
 use Rattle.auth_machine.specs.State.{Change, State, at_moment, changed, edited, name_of, record_at, session_of, start}
 use Rattle.auth_machine.specs.Step.{is_edit}
-use Rattle.auth_machine.specs.declared.edit.Edit.{Edit}
-use Rattle.auth_machine.specs.declared.edit.Edit.TheVariants.{Leave, Put, Delete}
+use Rattle.auth_machine.specs.declared.edit.Edit.TheVariants.{Put, Delete}
 use Rattle.auth_machine.specs.declared.session.Phase.{Phase}
-use Rattle.auth_machine.specs.declared.session.Phase.TheVariants.{Bogus, Idle, In, Waiting}
+use Rattle.auth_machine.specs.declared.session.Phase.TheVariants.{Waiting}
 use Rattle.auth_machine.specs.declared.session.Session.{Session}
-use Rattle.auth_machine.proofs.ActLemmas.{AddsTo, Administers, Asks, Awaits, Happens, IsWord, Responds, altered, is_other, power_for, target}
+use Rattle.auth_machine.proofs.ActLemmas.{AddsTo, Administers, Happens, altered, is_other, power_for, target}
+use Rattle.auth_machine.proofs.LoginActs.{Asks, Awaits, IsWord, Responds}
 use Rattle.auth_machine.proofs.ActLemmas.Administers.{alters, makes, nothing, removes}
-use Rattle.auth_machine.proofs.ActLemmas.Asks.{asks_a_word, asks_denied, asks_nobody, asks_password}
+use Rattle.auth_machine.proofs.LoginActs.Asks.{asks_a_word, asks_denied, asks_nobody, asks_password}
 use Rattle.auth_machine.proofs.ActLemmas.Happens.{absent, administering, asking, closing, opening, responding}
-use Rattle.auth_machine.proofs.ActLemmas.Responds.{dropped, right_password, right_word, stays, turned_down, wrong_one}
-use Rattle.auth_machine.proofs.PartsLemmas.{after_joined}
+use Rattle.auth_machine.proofs.LoginActs.Responds.{dropped, right_password, right_word, stays, turned_down, wrong_one}
+use Rattle.auth_machine.proofs.EntriesLemmas.{after_joined}
 use Rattle.auth_machine.proofs.OrderLemmas.{itself}
 use Rattle.auth_machine.proofs.PhaseLemmas.{edits, no_edit, ok_reply, other_no_response, proposed_happens}
 use Rattle.auth_machine.proofs.StepLemmas.{last_step, proposed_at, refused_at}

@@ -1,16 +1,15 @@
 -- One step, by whether it is refused.
-use Rattle.std.proofs.Common.{◌≡◌, ◌≢◌, ℕ, Bool, true, false, cond, List, [], ◌∷◌, ◌++◌, Option, Some, None, refl, sym, ap, subst, ◌∙◌, ◌+◌, length}
-use Rattle.std.specs.Str.{bytes_eq}
+use Rattle.std.proofs.Common.{◌≡◌, ◌≢◌, ℕ, Bool, true, false, cond, List, [], ◌∷◌, ◌++◌, refl, sym, ◌∙◌, ◌+◌, length}
 use Rattle.auth_events.specs.Port.{session_at}
 use Rattle.auth_events.specs.declared.denial.Denial.TheVariants.{NotKept}
 use Rattle.auth_events.specs.declared.entry.Entry.{Entry}
 use Rattle.auth_machine.specs.Answer.{Answer, answer_of}
 use Rattle.auth_machine.specs.Answer.Answer.{Denied}
-use Rattle.auth_machine.specs.History.{AreSteps, IsLegal, IsStep, Origin, after, after_entries, after_entry}
+use Rattle.auth_machine.specs.History.{IsLegal, IsStep, Origin, after, after_entry}
 use Rattle.auth_machine.specs.Policy.{PolicyView}
 use Rattle.auth_machine.specs.State.{Change, State, at_moment, changed, start}
 use Rattle.auth_machine.specs.Step.{is_refused, proposed}
-use Rattle.auth_machine.proofs.PartsLemmas.{parts_behind}
+use Rattle.auth_machine.proofs.EntriesLemmas.{parts_behind}
 
 answered : (refused : Bool) (x a : Answer) → a ≡ cond refused (Denied NotKept) x → a ≢ Denied NotKept → (refused ≡ false) × (x ≡ a)
 answered true x a is not = absurd (not is)

@@ -1,10 +1,8 @@
 -- Accepted one-time passwords go down the chain.
-use Rattle.std.proofs.Common.{◌≡◌, ◌≢◌, ℕ, suc, ◌+◌, ◌-◌, ◌≤◌, ◌<◌, Bool, true, false, cond, ◌&&◌, List, [], ◌∷◌, ◌++◌, length, Option, Some, None, nat_eq, refl, sym, ap, subst, ◌∙◌, arith}
-use Rattle.std.specs.Str.{bytes_eq}
+use Rattle.std.proofs.Common.{◌≡◌, ◌≢◌, ℕ, suc, ◌+◌, ◌-◌, ◌≤◌, Bool, true, false, cond, ◌&&◌, List, [], ◌∷◌, ◌++◌, length, Option, Some, None, nat_eq, refl, sym, ap, subst, ◌∙◌, arith}
 use Rattle.std.proofs.lemmas.Bool.{eqb-false}
 use Rattle.std.proofs.lemmas.Slice.Eq.{bytes_eq-Decides}
 use Rattle.auth_records.specs.Spelling.{Fields, OtpFields}
-use Rattle.auth_records.specs.declared.record.Proto.{Proto}
 use Rattle.auth_records.specs.declared.record.Proto.TheVariants as protos
 use Rattle.auth_events.specs.declared.entry.Entry.{Entry}
 use Rattle.auth_events.specs.declared.reply.Reply.{Reply}
@@ -12,17 +10,18 @@ use Rattle.auth_events.specs.declared.reply.Reply.TheVariants as replies
 use Rattle.auth_events.specs.declared.request.Request.{Request}
 use Rattle.auth_events.specs.declared.request.Request.TheVariants as requests
 use Rattle.otp_md5.specs.Passwords.{next_of}
-use Rattle.auth_machine.specs.History.{AreSteps, IsLegal, IsStep, Origin, after, after_entry}
-use Rattle.auth_machine.specs.Laws.{AreLeft, GoesDown, IsAcceptance, Lowers, SetsNone, accepted, accepted_in, asks_words, is_about, is_by_words, is_ok, is_response, is_setting, later_word, phase_of, waits_for, with_first, word_of, words_of}
+use Rattle.auth_machine.specs.History.{AreSteps, IsLegal, Origin, after, after_entry}
+use Rattle.auth_machine.specs.Logins.{is_ok, is_response, phase_of}
+use Rattle.auth_machine.specs.Chains.{AreLeft, GoesDown, SetsNone, accepted, asks_words, is_about, is_by_words, is_setting, later_word, waits_for, with_first, word_of, words_of}
 use Rattle.auth_machine.specs.Login.{lowered}
 use Rattle.auth_machine.specs.Policy.{PolicyView}
 use Rattle.auth_machine.specs.State.{State, at_moment, record_at, start}
 use Rattle.auth_machine.specs.declared.session.Phase.{Phase}
 use Rattle.auth_machine.specs.declared.session.Phase.TheVariants.{Bogus, Idle, In, Waiting}
-use Rattle.auth_machine.proofs.ActLemmas.{IsWord, altered, target}
-use Rattle.auth_machine.proofs.PartsLemmas.{parts_behind}
+use Rattle.auth_machine.proofs.ActLemmas.{altered, target}
+use Rattle.auth_machine.proofs.EntriesLemmas.{parts_behind}
 use Rattle.auth_machine.proofs.OrderLemmas.{itself}
-use Rattle.auth_machine.proofs.RecordLemmas.{LogsInAs, RecordMoves, last_moves, record_moves}
+use Rattle.auth_machine.proofs.RecordLemmas.{LogsInAs, RecordMoves, record_moves}
 use Rattle.auth_machine.proofs.RecordLemmas.RecordMoves.{becomes, enters, fails, made, removed, same, uses}
 
 -- ---- which entries accept
@@ -49,11 +48,11 @@ none_unless true true false word h = refl
 none_unless true true true None h = refl
 none_unless true true true (Some w) h = absurd (h w refl refl refl)
 
-target_no_response : (request : Request) (k : List ℕ) → target request ≡ Some k → is_response request ≡ false
+pub target_no_response : (request : Request) (k : List ℕ) → target request ≡ Some k → is_response request ≡ false
 target_no_response (requests.Response hash word) k h = absurd (cc)
 target_no_response _ k h = refl
 
-altered_words : (request : Request) (k : List ℕ) (f : Fields) → target request ≡ Some k → is_about k request ≡ false → (altered request f).otp ≡ f.otp
+pub altered_words : (request : Request) (k : List ℕ) (f : Fields) → target request ≡ Some k → is_about k request ≡ false → (altered request f).otp ≡ f.otp
 altered_words (requests.Otp name number word_seed kept) k f to none =
     let one : name ≡ k = cc in
     let e = (bytes_eq-Decides name k).1 one in
@@ -80,15 +79,15 @@ one_less otp w words left chain h =
     ((chain, h.0), most)
 
 module _ (s : State) (k : List ℕ) (entry : Entry) where
-  abbrev accepted_of : Option Fields → Option ℕ
+  abbrev pub accepted_of : Option Fields → Option ℕ
   accepted_of found = cond (is_ok entry.reply && (waits_for k (phase_of entry.sid s) && asks_words found)) (word_of entry.request) None
 
-  not_accepted : (found : Option Fields) → (LogsInAs s k entry → ⊥) → accepted_of found ≡ None
+  pub not_accepted : (found : Option Fields) → (LogsInAs s k entry → ⊥) → accepted_of found ≡ None
   not_accepted found out =
       none_unless (is_ok entry.reply) (waits_for k (phase_of entry.sid s)) (asks_words found) (word_of entry.request)
       (λ w ok waits word. out (waiting_is k (phase_of entry.sid s) waits, word_responds entry.request w word, ok_is entry.reply ok))
 
-  not_by_words : (f : Fields) → f.proto ≡ protos.Plain → accepted_of (Some f) ≡ None
+  pub not_by_words : (f : Fields) → f.proto ≡ protos.Plain → accepted_of (Some f) ≡ None
   not_by_words f proto =
       ap (λ p. cond (is_ok entry.reply && (waits_for k (phase_of entry.sid s) && is_by_words p)) (word_of entry.request) None) proto
       ∙ choose (is_ok entry.reply) (waits_for k (phase_of entry.sid s)) (word_of entry.request)
@@ -98,7 +97,7 @@ module _ (s : State) (k : List ℕ) (entry : Entry) where
       choose true false word = refl
       choose true true word = refl
 
-  is_accepted : (f : Fields) (w : ℕ) → entry.reply ≡ replies.Ok → phase_of entry.sid s ≡ Some (Waiting k) → f.proto ≡ protos.Otp → word_of entry.request ≡ Some w → accepted_of (Some f) ≡ Some w
+  pub is_accepted : (f : Fields) (w : ℕ) → entry.reply ≡ replies.Ok → phase_of entry.sid s ≡ Some (Waiting k) → f.proto ≡ protos.Otp → word_of entry.request ≡ Some w → accepted_of (Some f) ≡ Some w
   is_accepted f w reply phase proto word =
       let a : is_ok entry.reply ≡ true = ap is_ok reply in
       let b : waits_for k (phase_of entry.sid s) ≡ true = ap (waits_for k) phase ∙ itself k in
@@ -114,7 +113,7 @@ module _ (s : State) (k : List ℕ) (entry : Entry) where
   none_first : (found : Option Fields) (otp : Option OtpFields) (words : List ℕ) → accepted_of found ≡ None → AreLeft otp words → AreLeft otp (with_first (accepted_of found) words)
   none_first found otp words none left = subst (λ w. AreLeft otp (with_first w words)) (sym none) left
 
-  unanswered : (request : Request) → entry.request ≡ request → is_response request ≡ false → LogsInAs s k entry → ⊥
+  pub unanswered : (request : Request) → entry.request ≡ request → is_response request ≡ false → LogsInAs s k entry → ⊥
   unanswered request is none login =
       let e : is_response entry.request ≡ false = ap is_response is ∙ none in
       let f = login.1 in
@@ -175,30 +174,3 @@ pub words_once : (origin : Origin) (before during : List Entry) (name : List ℕ
 words_once origin before during name legal none first between rest word is =
     left_once (words_of (record_at name (after origin before).records)) first between rest word
     (subst (AreLeft (words_of (record_at name (after origin before).records))) is (words_go_down origin before during name legal none))
-
--- ---- each acceptance
-
-module _ (policy : PolicyView) (s : State) (k : List ℕ) (entry : Entry) (login : LogsInAs s k entry) where
-  no_request : {A : Type 0} → (request : Request) → entry.request ≡ request → is_response request ≡ false → A
-  no_request request is none =
-      let e : is_response entry.request ≡ false = ap is_response is ∙ none in
-      let f = login.1 in
-      absurd (cc)
-
-  lowers : (old new : Option Fields) → RecordMoves policy s k entry old new → asks_words old ≡ true → Lowers entry.request (words_of old) (words_of new)
-  lowers old new (same _ out) asks = absurd (out login)
-  lowers old new (made long group session is there to) asks = no_request (requests.Adduser k long) is refl
-  lowers old new (removed f session is reply there power) asks = no_request (requests.Deluser k) is refl
-  lowers old new (becomes f session to reply there power) asks = no_request entry.request refl (target_no_response entry.request k to)
-  lowers old new (fails f awaited out) asks = absurd (out login)
-  lowers old new (enters f awaited reply proto) asks =
-      let e : is_by_words f.proto ≡ false = ap is_by_words proto in
-      absurd (cc)
-  lowers old new (uses f otp w awaited reply word chain) asks =
-      record { word = w; given = word; otp = otp; old_is = chain.otp_is; left = eqb-false otp.number 0 chain.left; chained = chain.chained; new_is = refl }
-
-pub word_lowers : (origin : Origin) (before : List Entry) (entry : Entry) (name : List ℕ) → IsLegal origin (before ++ entry ∷ []) → IsAcceptance name (after origin before) entry
-    → Lowers entry.request (words_of (record_at name (after origin before).records)) (words_of (record_at name (after origin (before ++ entry ∷ [])).records))
-word_lowers origin before entry name legal acceptance =
-    lowers origin.policy (at_moment entry.at (after origin before)) name entry (acceptance.waits, acceptance.responds, acceptance.reply) _ _
-    (last_moves origin before entry name legal) acceptance.by_words

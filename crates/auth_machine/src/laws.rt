@@ -1,9 +1,9 @@
 //! What holds of every history. Each function states laws and does nothing.
-ghost use Rattle.std.specs.Prelude.{◌≡◌, ℕ, suc, max, ◌∷◌, ◌++◌, [], List, length, Option, Some, None, true, false, IfSome};
+ghost use Rattle.std.specs.Prelude.{◌≡◌, ℕ, suc, ◌+◌, max, ◌∷◌, ◌++◌, [], List, length, Option, Some, None, true, false, IfSome};
 ghost use Rattle.std.specs.List.{AllByRecursion};
 ghost use Rattle.std.specs.Str.{bytes_eq};
 ghost use Rattle.fw_outside.specs.Keyed.{Ascends};
-ghost use Rattle.auth_records.specs.Spelling.{Fields};
+ghost use Rattle.auth_records.specs.Spelling.{Fields, OtpFields};
 ghost use Rattle.auth_events.specs.declared.denial.Denial.TheVariants as denials;
 ghost use Rattle.auth_events.specs.declared.entry.Entry.{Entry};
 ghost use Rattle.auth_events.specs.declared.reply.Reply.TheVariants as replies;
@@ -11,7 +11,9 @@ ghost use Rattle.auth_events.specs.declared.reply.Summary.{Summary};
 ghost use Rattle.auth_events.specs.declared.request.Request.TheVariants as requests;
 ghost use Rattle.auth_machine.specs.Answer.{summary_profile};
 ghost use Rattle.auth_machine.specs.History.{IsLegal, Origin, after};
-ghost use Rattle.auth_machine.specs.Laws.{AreLeft, FreesNone, HasLockOf, HasRankOf, IsAcceptance, IsDenied, IsGroupWizard, IsLockDenial, IsNewcomer, IsOutOfReach, IsLocked, LoginStands, Lowers, SaysIfKept, SetsNone, ShowsLeast, ShowsNone, SomeLoginStands, accepted, later_word, phase_of, tries, words_of};
+ghost use Rattle.auth_machine.specs.Laws.{HasRankOf, IsGroupWizard, IsNewcomer, IsOutOfReach, SaysIfKept, ShowsLeast, ShowsNone};
+ghost use Rattle.auth_machine.specs.Logins.{FreesNone, HasLockOf, IsDenied, IsLockDenial, IsLocked, LoginStands, SomeLoginStands, phase_of, tries};
+ghost use Rattle.auth_machine.specs.Chains.{AreLeft, IsAcceptance, Lowers, SetsNone, accepted, later_word, words_of};
 ghost use Rattle.auth_machine.specs.State.{name_of, record_at};
 ghost use Rattle.auth_machine.specs.declared.session.Phase.TheVariants.{In};
 
@@ -44,15 +46,18 @@ pub fn login_stands()
 {}
 
 /// While no new ones are set for a user, the one-time passwords that are accepted go down the chain from the one that was
-/// kept, and there are no more than were left then (`go_down`). Each acceptance lowers the number by one, so each has a
-/// number of its own (`lowers`). As numbers of 64 bits two of them are the same only where the chain runs into a cycle
-/// there (`once`).
+/// kept, and there are no more than were left then (`go_down`). Each acceptance lowers the number by one (`lowers`), and
+/// nothing else changes it (`counted`), so each has a number of its own. As numbers of 64 bits two of them are the same only
+/// where the chain runs into a cycle there (`once`).
 pub fn words_are_used_once()
     ensures lowers { (origin : Origin) (before : List Entry) (entry : Entry) (name : List ℕ) → IsLegal origin (before ++ entry ∷ [])
         → IsAcceptance name (after origin before) entry
         → Lowers entry.request (words_of (record_at name (after origin before).records)) (words_of (record_at name (after origin (before ++ entry ∷ [])).records)) }
     ensures go_down { (origin : Origin) (before during : List Entry) (name : List ℕ) → IsLegal origin (before ++ during) → SetsNone name during
         → AreLeft (words_of (record_at name (after origin before).records)) (accepted origin.policy name (after origin before) (length before) during) }
+    ensures counted { (origin : Origin) (before during : List Entry) (name : List ℕ) (old new : OtpFields) → IsLegal origin (before ++ during) → SetsNone name during
+        → words_of (record_at name (after origin before).records) ≡ Some old → words_of (record_at name (after origin (before ++ during)).records) ≡ Some new
+        → new.number + length (accepted origin.policy name (after origin before) (length before) during) ≡ old.number }
     ensures once { (origin : Origin) (before during : List Entry) (name : List ℕ) → IsLegal origin (before ++ during) → SetsNone name during
         → (first between rest : List ℕ) (word : ℕ)
         → accepted origin.policy name (after origin before) (length before) during ≡ first ++ (word ∷ (between ++ (word ∷ rest)))

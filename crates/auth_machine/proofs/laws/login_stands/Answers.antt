@@ -1,4 +1,5 @@
-use Rattle.auth_machine.proofs.LoginLemmas.{login_is_said, login_is_so, login_is_someone}
+use Rattle.auth_machine.proofs.LoginLemmas.{login_is_so, login_is_someone}
+use Rattle.auth_machine.proofs.SaidLemmas.{login_is_said}
 use Rattle.auth_machine.proofs.laws.login_stands.Goals as goal
 
 pub returns-clause-is_said : goal.returns-clause-is_said

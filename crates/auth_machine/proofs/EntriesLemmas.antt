@@ -1,5 +1,5 @@
 -- What holds after every history, by its entries one after another.
-use Rattle.std.proofs.Common.{◌≡◌, ℕ, suc, ◌+◌, List, [], ◌∷◌, ◌++◌, length, refl, sym, ap, arith}
+use Rattle.std.proofs.Common.{◌≡◌, ℕ, suc, ◌+◌, List, [], ◌∷◌, ◌++◌, length, refl, arith}
 use Rattle.std.proofs.lemmas.List.{append_assoc, append-nil}
 use Rattle.auth_events.specs.declared.entry.Entry.{Entry}
 use Rattle.auth_machine.specs.History.{AreSteps, IsStep, after_entries, after_entry}
