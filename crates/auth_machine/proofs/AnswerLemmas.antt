@@ -1,5 +1,5 @@
 -- What the machine answers by itself: never that the history is full, and never that something wasn't kept.
-use Rattle.std.proofs.Common.{◌≡◌, refl, ℕ, Bool, true, false, cond, List, Option, Some, None, Result, Ok, Err, IfSome}
+use Rattle.std.proofs.Common.{refl, ℕ, Bool, true, false, cond, List, Option, Some, None, Ok, Err, IfSome}
 use Rattle.auth_records.specs.Spelling.{Fields, OtpFields}
 use Rattle.auth_records.specs.declared.record.Plain.{Plain}
 use Rattle.auth_records.specs.declared.record.Proto.{Proto}
@@ -8,12 +8,12 @@ use Rattle.auth_events.specs.declared.denial.Denial.{Denial}
 use Rattle.auth_events.specs.declared.denial.Denial.TheVariants as denials
 use Rattle.auth_events.specs.declared.request.OpService.{OpService}
 use Rattle.fw_outside.specs.declared.host.Host.{Host}
-use Rattle.auth_machine.specs.Answer.{Answer, profile_of}
-use Rattle.auth_machine.specs.Answer.Answer.{Opened, Password, Challenged, Shown, Denied, Ok as Done}
+use Rattle.auth_machine.specs.Answer.{Answer}
+use Rattle.auth_machine.specs.Answer.Answer.{Password, Challenged, Denied, Ok as Done}
 use Rattle.auth_machine.specs.Answers.{IsOwnDenial}
-use Rattle.auth_machine.specs.Login.{asks, asks_word, authenticate, authenticate_as, challenges, checks, checks_otp, checks_plain, checks_word, guarded, is_own, is_password, later, lockout, logged_in, refusal, respond, respond_as, respond_in, unless_refused, used, has_password}
+use Rattle.auth_machine.specs.Login.{asks, asks_word, authenticate, authenticate_as, checks, checks_otp, checks_plain, checks_word, guarded, later, lockout, refusal, respond, respond_as, respond_in, unless_refused}
 use Rattle.auth_machine.specs.Policy.{PolicyView}
-use Rattle.auth_machine.specs.Powers.{add_user, adds, adds_to, operation_answer, covers, done_with, is_next_seen, list, lists, operation, operation_by, reached, shows_some}
+use Rattle.auth_machine.specs.Powers.{add_user, adds, adds_to, operation_answer, covers, done_with, operation, operation_by, reached}
 use Rattle.auth_machine.specs.State.{State, Change, challenge_at, record_at}
 use Rattle.auth_machine.specs.Step.{in_session}
 use Rattle.auth_machine.specs.declared.session.Challenge.{Challenge}

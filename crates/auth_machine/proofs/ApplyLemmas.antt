@@ -1,5 +1,5 @@
 -- Putting a record in its place.
-use Rattle.std.proofs.Common.{◌≡◌, ℕ, not, List, ◌∙◌, ap, sym}
+use Rattle.std.proofs.Common.{◌≡◌, ℕ, not, List, ◌∙◌}
 use Rattle.std.specs.List.{insert, position_or_len}
 use Rattle.fw_outside.specs.Keyed.{placed, without}
 use Rattle.fw_outside.specs.KeyedLemmas.{insert_is_placed}

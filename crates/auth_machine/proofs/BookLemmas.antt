@@ -1,9 +1,8 @@
 -- A book with one entry more.
-use Rattle.std.proofs.Common.{rules, arith, ◌≡◌, refl, sym, ap, subst, ◌∙◌, ℕ, ◌+◌, ◌-◌, ◌^◌, ◌<◌, ◌≤◌, min, Bool, true, false, not, ◌&&◌, cond, List, [], ◌∷◌, ◌++◌, length, Option, Some, None, IfSome, Result, Ok}
+use Rattle.std.proofs.Common.{arith, ◌≡◌, refl, sym, ap, subst, ◌∙◌, ℕ, ◌<◌, ◌≤◌, Bool, true, false, not, ◌&&◌, cond, List, [], ◌∷◌, ◌++◌, length, Option, None, IfSome, Ok}
 use Rattle.std.proofs.lemmas.List.{length_push}
 use Rattle.fw_outside.specs.Counts.{Rose}
 use Rattle.fw_outside.specs.Vault.{AreSame, Vault}
-use Rattle.fw_outside.specs.declared.no_memory.NoMemory.{NoMemory}
 use Rattle.auth_records.specs.Spelling.{Fields}
 use Rattle.auth_events.specs.Fits.{Fits}
 use Rattle.auth_events.specs.Port.{session_at}
@@ -16,14 +15,12 @@ use Rattle.auth_machine.proofs.FitLemmas.{IsOwn, own_answer}
 use Rattle.auth_machine.proofs.HistoryLemmas.{after_one_more, legal_one_more, unkept_one_more}
 use Rattle.auth_machine.proofs.TableLemmas.{clash, count_after, kept_unless, table_after, unkept_rose}
 use Rattle.auth_machine.specs.Answer.{Answer, answer_of}
-use Rattle.auth_machine.specs.Answer.Answer.{Denied}
 use Rattle.auth_machine.specs.Answers.{full_answer, full_of, is_unkept, is_unkept_answer}
-use Rattle.auth_machine.specs.Book.{Answers, AnswersKept, Asked, BookView, Enters, Kept, Replies, RepliesKept, RoseIfNotKept, Stands}
-use Rattle.auth_machine.specs.History.{HasRecords, IsLegal, IsStep, NoMoreThanFaults, Origin, after, after_entry, table_of, unkept}
-use Rattle.auth_machine.specs.Keeping.{Keeps}
+use Rattle.auth_machine.specs.Book.{Asked, Enters, Replies, RepliesKept, Stands}
+use Rattle.auth_machine.specs.History.{HasRecords, IsStep, NoMoreThanFaults, Origin, after, table_of, unkept}
 use Rattle.auth_machine.specs.Policy.{PolicyView}
 use Rattle.auth_machine.specs.State.{State, Change, at_moment, changed, edited}
-use Rattle.auth_machine.specs.Step.{answer, is_edit, is_refused, keeps, next, proposed}
+use Rattle.auth_machine.specs.Step.{answer, is_refused, keeps, proposed}
 use Rattle.auth_machine.specs.Stepping.{Steps}
 
 -- ---- a session's number is told once

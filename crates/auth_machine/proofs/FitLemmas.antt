@@ -4,7 +4,7 @@ use mathlib.Core.Bool.{true≢false}
 use Rattle.std.specs.Option.{option_map}
 use Rattle.auth_records.specs.Spelling.{Fields}
 use Rattle.auth_records.specs.declared.record.Wiz.TheVariants as wizards
-use Rattle.auth_events.specs.Fits.{Answers, Fits, comes_after}
+use Rattle.auth_events.specs.Fits.{Fits, comes_after}
 use Rattle.auth_events.specs.declared.denial.Denial.{Denial}
 use Rattle.auth_events.specs.declared.denial.Denial.TheVariants as denials
 use Rattle.auth_events.specs.declared.reply.Reply.{Reply}
@@ -17,7 +17,7 @@ use Rattle.auth_machine.specs.Answer.Answer.{Opened, Password, Challenged, Shown
 use Rattle.auth_machine.specs.Answers.{IsOwnDenial, full_answer, is_unkept_answer}
 use Rattle.auth_machine.specs.Login.{authenticate, respond}
 use Rattle.auth_machine.specs.Policy.{PolicyView}
-use Rattle.auth_machine.specs.Powers.{add_user, by_super, by_user, by_wizard, deletes, disabled, done_with, enabled, is_next_seen, list, lists, operation, over_all, own_power, power_of, reached, sees, shows, shows_some, stores, with_group, with_otp, with_password, with_proto, with_wiz}
+use Rattle.auth_machine.specs.Powers.{add_user, by_super, by_user, by_wizard, deletes, disabled, done_with, enabled, list, lists, operation, over_all, own_power, power_of, reached, sees, shows, shows_some, stores, with_group, with_otp, with_password, with_proto, with_wiz}
 use Rattle.auth_machine.specs.State.{State, Change, record_at, session_of}
 use Rattle.auth_machine.specs.Step.{change_of, closes, in_session}
 use Rattle.auth_machine.specs.declared.power.Power.{Power}

@@ -1,14 +1,31 @@
+pub mod ActLemmas
 pub mod AnswerLemmas
 mod ApplyLemmas
 pub mod BookLemmas
 mod Corners
+pub mod CountLemmas
+pub mod EntriesLemmas
 pub mod FitLemmas
+pub mod GroupLemmas
 pub mod HistoryLemmas
+mod LawRows
+pub mod ListLemmas
+pub mod LockLemmas
+pub mod LoginActs
+pub mod LoginLemmas
 mod OpeningLemmas
 pub mod OperationsLemmas
+pub mod OrderLemmas
+pub mod OwnLemmas
+pub mod PhaseLemmas
 pub mod PolicyLemmas
 pub mod PortLemmas
+pub mod RecordLemmas
 mod Rows
 mod Runs
+pub mod SaidLemmas
+pub mod SessionLemmas
+pub mod StepLemmas
 pub mod TableLemmas
 mod WizardCorners
+pub mod WordLemmas

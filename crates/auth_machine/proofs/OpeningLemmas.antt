@@ -37,10 +37,6 @@ one_more front f entry left entries has is bytes = record {
   bytes = rw (table_further front f left, bytes) has.bytes;
 }
 
-pub one_bad : (front : List Fields) (at : ℕ) (entry : List ℕ × List ℕ) (left entries : Table) → HasRead front (entry ∷ left) entries
-    → record_in entry ≡ Err at → records_in entries ≡ Err (entry.0, at)
-one_bad front at entry left entries has is = rw (← has.reads, is) refl
-
 -- ---- the order
 
 all_names : (P : List ℕ → Type 0) (records : List Fields) → AllByRecursion (λ entry. P (vault.name_of entry)) (table_of records) → AllByRecursion (λ f. P (name_of f)) records

@@ -1,10 +1,9 @@
 -- What asking a book does to it as a port.
-use Rattle.std.proofs.Common.{rules, arith, ◌≡◌, refl, sym, ap, subst, ◌∙◌, ℕ, zero, suc, ◌+◌, ◌<◌, ◌==◌, Bool, true, false, cond, nat_eq, List, [], ◌∷◌, ◌++◌, length, Option, Some, None, IfSome, Result, Ok, Err}
+use Rattle.std.proofs.Common.{rules, arith, ◌≡◌, refl, sym, ap, subst, ◌∙◌, ℕ, suc, ◌<◌, ◌==◌, Bool, true, false, cond, List, [], ◌∷◌, ◌++◌, length, Option, Some, None, Ok}
 use Rattle.std.proofs.lemmas.List.{length_push}
 use Rattle.auth_events.specs.Fits.{Fits}
 use Rattle.auth_events.specs.Port.{Port, session_at, Stays}
 use Rattle.auth_events.specs.Port as ports
-use Rattle.auth_events.specs.declared.denial.Denial.{Denial}
 use Rattle.auth_events.specs.declared.denial.Denial.TheVariants as denials
 use Rattle.auth_events.specs.declared.entry.Entry.{Entry}
 use Rattle.auth_events.specs.declared.reply.Reply.{Reply}
@@ -16,7 +15,7 @@ use Rattle.auth_machine.proofs.HistoryLemmas.{last_step}
 use Rattle.auth_machine.proofs.TableLemmas.{clash}
 use Rattle.auth_machine.specs.Answer.{answer_of}
 use Rattle.auth_machine.specs.Answers.{full_of}
-use Rattle.auth_machine.specs.Book.{Answers, Asked, BookView, Enters, IsFull, Replies}
+use Rattle.auth_machine.specs.Book.{Asked, BookView, Enters, IsFull, Replies}
 use Rattle.auth_machine.specs.History.{IsLegal, Origin, after}
 use Rattle.auth_machine.specs.Policy.{PolicyView}
 use Rattle.auth_machine.specs.Port.{full_at, places, port_of}

@@ -1,11 +1,11 @@
 -- What the keeper has after it was called.
-use Rattle.std.proofs.Common.{rules, arith, ◌≡◌, refl, sym, ap, subst, ◌∙◌, ℕ, ◌+◌, ◌-◌, ◌^◌, ◌≤◌, min, Bool, true, false, not, ◌&&◌, cond, List, [], ◌∷◌, find, map, Option, Some, None, option_map, is_some, IfSome}
+use Rattle.std.proofs.Common.{arith, ◌≡◌, refl, sym, ap, subst, ◌∙◌, ℕ, ◌+◌, ◌-◌, ◌^◌, ◌≤◌, min, Bool, true, false, not, ◌&&◌, cond, List, [], ◌∷◌, Option, Some, None, option_map, is_some, IfSome}
 use mathlib.Core.Bool.{true≢false}
 use Rattle.std.specs.Str.{bytes_eq}
 use Rattle.std.proofs.lemmas.Slice.Eq.{bytes_eq-Decides}
 use Rattle.fw_outside.specs.Cabinet.{held}
-use Rattle.fw_outside.specs.Counts.{Rose, counted}
-use Rattle.fw_outside.specs.Keyed.{placed, under, without}
+use Rattle.fw_outside.specs.Counts.{Rose}
+use Rattle.fw_outside.specs.Keyed.{without}
 use Rattle.fw_outside.specs.KeyedLemmas.{under_placed, under_without}
 use Rattle.fw_outside.specs.Vault.{AreSame, IsKept, IsSetTo, IsToldSet, Missed, Table, Vault}
 use Rattle.auth_records.specs.Spelling.{Fields, spelling}

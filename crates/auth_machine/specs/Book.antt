@@ -11,7 +11,7 @@ use Rattle.auth_machine.specs.Answers.{full_of, is_unkept}
 use Rattle.auth_machine.specs.History.{NoMoreThanFaults, HasRecords, IsLegal, Origin, after}
 use Rattle.auth_machine.specs.Keeping.{Keeps}
 use Rattle.auth_machine.specs.Policy.{PolicyView}
-use Rattle.auth_machine.specs.State.{State, Change}
+use Rattle.auth_machine.specs.State.{State}
 use Rattle.auth_machine.specs.Step.{keeps, proposed}
 
 -- the entries so far, how many fit, the policy and the loaded records, and the keeper

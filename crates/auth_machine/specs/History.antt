@@ -1,5 +1,5 @@
 -- Histories: which are legal, and what they leave.
-use Rattle.std.specs.Prelude.{◌≡◌, ℕ, suc, ◌+◌, ◌-◌, ◌^◌, ◌≤◌, min, Bool, true, false, List, [], ◌∷◌, ◌++◌, length, map, Option, Some, None, IfSome, if◌then◌else◌}
+use Rattle.std.specs.Prelude.{◌≡◌, ℕ, suc, ◌+◌, ◌-◌, ◌^◌, ◌≤◌, min, true, false, List, [], ◌∷◌, map, IfSome, if◌then◌else◌}
 use Rattle.fw_outside.specs.Vault.{AreSame, Table, Vault}
 use Rattle.auth_records.specs.Spelling.{Fields, spelling}
 use Rattle.auth_events.specs.Port.{session_at}

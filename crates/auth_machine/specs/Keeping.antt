@@ -1,5 +1,5 @@
 -- Keeping what becomes of the records.
-use Rattle.std.specs.Prelude.{◌≡◌, Bool, true, false, Option, Some, None, Result, Ok, Err}
+use Rattle.std.specs.Prelude.{◌≡◌, Bool, true, false, Some, None, Result, Ok, Err}
 use Rattle.auth_records.specs.Spelling.{spelling}
 use Rattle.fw_outside.specs.declared.keep_fault.KeepFault.{KeepFault}
 use Rattle.fw_outside.specs.declared.keep_fault.KeepFault.TheVariants as faults

@@ -11,5 +11,8 @@ pub mod Keeping
 pub mod Stepping
 pub mod Book
 pub mod Answers
+pub mod Laws
+pub mod Logins
+pub mod Chains
 pub mod Port
 pub mod Opening

@@ -1,5 +1,5 @@
 -- Logging in: whom a password is asked of, and whether the response is right.
-use Rattle.std.specs.Prelude.{ℕ, ◌+◌, ◌-◌, ◌^◌, min, Bool, true, false, not, ◌&&◌, ◌||◌, ◌==◌, nat_lt, List, ◌++◌, Option, Some, None, is_some, if◌then◌else◌}
+use Rattle.std.specs.Prelude.{ℕ, ◌+◌, ◌-◌, ◌^◌, min, Bool, false, not, ◌&&◌, ◌||◌, ◌==◌, nat_lt, List, ◌++◌, Option, Some, None, is_some, if◌then◌else◌}
 use Rattle.std.specs.Str.{bytes_eq}
 use Rattle.md5.specs.Md5.{md5}
 use Rattle.auth_records.specs.Spelling.{Fields, OtpFields}
@@ -10,7 +10,7 @@ use Rattle.auth_events.specs.declared.denial.Denial.{Denial}
 use Rattle.auth_events.specs.declared.denial.Denial.TheVariants.{Unknown, Wrong, Disabled, Sleeping, Busy, Exhausted, NoChallenge}
 use Rattle.otp_md5.specs.Passwords.{next_of}
 use Rattle.auth_machine.specs.Answer.{Answer}
-use Rattle.auth_machine.specs.Answer.Answer.{Opened, Password, Challenged, Ok, Shown, Denied}
+use Rattle.auth_machine.specs.Answer.Answer.{Password, Challenged, Ok, Denied}
 use Rattle.auth_machine.specs.Policy.{PolicyView}
 use Rattle.auth_machine.specs.State.{State, Change, challenge_at, record_at}
 use Rattle.auth_machine.specs.declared.edit.Edit.TheVariants.{Leave, Put}

@@ -15,14 +15,14 @@ use Rattle.auth_events.specs.declared.denial.Denial.{Denial}
 use Rattle.auth_events.specs.declared.denial.Denial.TheVariants.{NotIn, NotWizard, Exists, NoSuch, NoRule}
 use Rattle.auth_events.specs.declared.request.OpService.{OpService}
 use Rattle.auth_machine.specs.Answer.{Answer, profile_of}
-use Rattle.auth_machine.specs.Answer.Answer.{Opened, Password, Challenged, Ok, Shown, Denied}
+use Rattle.auth_machine.specs.Answer.Answer.{Ok, Shown, Denied}
 use Rattle.auth_machine.specs.Login.{answers_only}
 use Rattle.auth_machine.specs.Operations.{operation_verdict}
 use Rattle.gate_rules.specs.declared.verdict.Verdict.{Verdict}
 use Rattle.gate_rules.specs.declared.verdict.Verdict.TheVariants.{Permit, Deny}
 use Rattle.auth_machine.specs.Policy.{PolicyView}
 use Rattle.auth_machine.specs.State.{State, Change, record_at}
-use Rattle.auth_machine.specs.declared.edit.Edit.TheVariants.{Leave, Put, Delete}
+use Rattle.auth_machine.specs.declared.edit.Edit.TheVariants.{Put, Delete}
 use Rattle.auth_machine.specs.declared.edit.Hold.TheVariants.{Same, Free}
 use Rattle.auth_machine.specs.declared.edit.Turn.TheVariants.{Stay}
 use Rattle.auth_machine.specs.declared.power.Power.{Power}

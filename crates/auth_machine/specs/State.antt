@@ -1,5 +1,5 @@
 -- What the machine knows, and what a change leaves of it.
-use Rattle.std.specs.Prelude.{ℕ, max, Bool, not, ◌==◌, List, [], ◌∷◌, ◌++◌, find, filter, Option, if◌then◌else◌}
+use Rattle.std.specs.Prelude.{ℕ, max, not, ◌==◌, List, [], ◌∷◌, ◌++◌, find, filter, Option}
 use Rattle.std.specs.Str.{bytes_eq}
 use Rattle.fw_outside.specs.Keyed.{placed, under, without}
 use Rattle.auth_records.specs.Spelling.{Fields}

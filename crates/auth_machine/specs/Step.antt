@@ -8,7 +8,7 @@ use Rattle.auth_events.specs.declared.request.Request.{Request}
 use Rattle.auth_events.specs.declared.request.Request.TheVariants as requests
 use Rattle.auth_events.specs.Port.{session_at}
 use Rattle.auth_machine.specs.Answer.{Answer}
-use Rattle.auth_machine.specs.Answer.Answer.{Opened, Password, Challenged, Ok, Shown, Denied}
+use Rattle.auth_machine.specs.Answer.Answer.{Opened, Ok, Denied}
 use Rattle.auth_machine.specs.Login.{answers_only, authenticate, respond}
 use Rattle.auth_machine.specs.Policy.{PolicyView}
 use Rattle.auth_machine.specs.Powers.{add_user, by_super, by_user, by_wizard, deletes, disabled, enabled, list, operation, shows, stores, with_group, with_otp, with_password, with_proto, with_wiz}

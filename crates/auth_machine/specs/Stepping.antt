@@ -6,7 +6,7 @@ use Rattle.auth_events.specs.declared.request.Request.{Request}
 use Rattle.auth_machine.specs.Answer.{answer_of}
 use Rattle.auth_machine.specs.Keeping.{Keeps}
 use Rattle.auth_machine.specs.Policy.{PolicyView}
-use Rattle.auth_machine.specs.State.{State, Change}
+use Rattle.auth_machine.specs.State.{State}
 use Rattle.auth_machine.specs.Step.{answer, keeps, next, proposed}
 
 -- the reply, the state and what the keeper has kept are the machine's

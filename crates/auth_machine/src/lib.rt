@@ -19,6 +19,7 @@ mod change;
 mod edit;
 mod keeping;
 mod kept;
+pub mod laws;
 mod login;
 mod machine;
 mod open_fault;

@@ -313,9 +313,7 @@ fn lists_have_1_to_64_patterns(rt: HostRuntime) -> Result<(), Fail> {
         words.push(word(alloc, b"a.*", true)?)?;
     }
     assert_eq!(rt;
-        PatternList::parse(alloc, words.as_slice())?
-            .patterns()
-            .len(),
+        PatternList::parse(alloc, words.as_slice())?.texts().len(),
         64
     );
     words.push(word(alloc, b"!", false)?)?;

@@ -1,6 +1,3 @@
-use Rattle.std.proofs.Common.{rules, ◌≡◌, ℕ, Some, None, ◌+◌, ◌-◌, ◌*◌, ◌<◌, ◌≤◌, length, ◌/◌, ◌%◌, Bool, true, false, nat_eq, nat_lt, List, [], ◌∷◌, ◌++◌, slice_index_or, slice_set, bit_and, bit_or, Fits, w8, w32, w64, Bor, MutBor}
-use Rattle.auth_machine.specs.State.{State, session_of}
-use Rattle.auth_machine.specs.Step.{change_of}
 use Rattle.auth_machine.proofs.asking.asked.Goals as goal
 
 pub returns-in-Group : goal.returns-in-Group

@@ -1,4 +1,4 @@
-use Rattle.std.proofs.Common.{rules, arith, ◌≡◌, ◌∙◌, ap, sym, subst, length, ◌<◌, ◌≤◌, List, ◌++◌, ◌∷◌, [], Ok, true}
+use Rattle.std.proofs.Common.{rules, ◌≡◌, ◌∙◌, ap, sym, subst, length, ◌<◌, List, ◌++◌, ◌∷◌, [], Ok, true}
 use Rattle.fw_outside.specs.Counts.{Rose}
 use Rattle.auth_events.specs.Port.{session_at}
 use Rattle.auth_events.specs.declared.entry.Entry.{Entry}

@@ -1,4 +1,3 @@
-use Rattle.std.proofs.Common.{rules}
 use Rattle.auth_machine.proofs.PortLemmas.{port_lacks, port_replies}
 use Rattle.auth_machine.proofs.port.BookAuthPort.ask.Goals as goal
 
