@@ -1,4 +1,6 @@
 pub mod Acts
+pub mod DistanceLemmas
+pub mod KeptLemmas
 pub mod NumberLemmas
 pub mod ReplyLemmas
 pub mod SpaceLemmas

@@ -6,17 +6,17 @@ use Rattle.authsrv_lines.specs.declared.place.Place.{Place}
 use Rattle.authsrv_lines.specs.declared.place.Place.TheVariants.{Waiting, Listing}
 
 -- so many of one number
-pub times : ℕ → ℕ → ℕ
+unfoldable pub times : ℕ → ℕ → ℕ
 times zero w = 0
 times (suc n) w = w + times n w
 
 -- how many texts there are of so many bytes at most, or more
-pub wide : ℕ → ℕ
+unfoldable pub wide : ℕ → ℕ
 wide zero = 1
 wide (suc n) = times 257 (wide n)
 
 -- the place of a text of so many bytes at most among all of them
-pub rank : ℕ → List ℕ → ℕ
+unfoldable pub rank : ℕ → List ℕ → ℕ
 rank zero text = 0
 rank (suc n) [] = 0
 rank (suc n) (b ∷ text) = wide n + times b (wide n) + rank n text

@@ -7,3 +7,5 @@ pub mod Request
 pub mod Words
 pub mod Acts
 pub mod Dialogue
+pub mod Distance
+pub mod Session

@@ -1,0 +1,95 @@
+-- What no act of a session breaks.
+use Rattle.std.proofs.Common.{rules, arith, ◌≡◌, refl, sym, ap, subst, ◌∙◌, ℕ, ◌+◌, ◌≤◌, ◌<◌, List, ◌++◌, length, Result}
+use Rattle.std.proofs.lemmas.List.{length-append}
+use Rattle.fw_acts.specs.Acts.{Row}
+use Rattle.fw_acts.specs.Kept.{Kept}
+use Rattle.fw_acts.specs.KeptLemmas.{ran_kept}
+use Rattle.fw_acts.specs.Ran.{Ran}
+use Rattle.fw_outside.specs.Window.{Listens}
+use Rattle.fw_outside.specs.declared.heard.Heard.{Heard}
+use Rattle.fw_outside.specs.declared.heard.Heard.TheVariants.{Line, TooLong, Stopped}
+use Rattle.fw_outside.specs.declared.heard.Stop.TheVariants as stops
+use Rattle.authsrv_lines.specs.Acts.{Act, Answer, Does, Dropping, Failing, FailingSo, Hears, HearsLine, Stops, World, acts}
+use Rattle.authsrv_lines.specs.Acts.Act.{Hear, Salt, Ask, Say}
+use Rattle.authsrv_lines.specs.Dialogue.{rows}
+use Rattle.authsrv_lines.specs.Distance.{ahead}
+use Rattle.authsrv_lines.specs.declared.cause.Cause.{Cause}
+use Rattle.authsrv_lines.specs.declared.cause.Cause.TheVariants.{ClientFault, Idle, Spent, AuthFault, NoMemory}
+use Rattle.authsrv_lines.specs.declared.place.Place.{Place}
+
+-- no more bytes may be heard than before, and the references are the same
+pub record Stays {Origin : Type 0} (old new : World Origin) : Type 0 where
+  pub nearer : ahead new ≤ ahead old
+  pub names : new.names ≡ old.names
+
+module _ {Origin : Type 0} where
+  stays_same : (old : World Origin) → Stays old old
+  stays_same old = record { nearer = omega (arith); names = refl }
+
+  stays_both : (old mid new : World Origin) → Stays old mid → Stays mid new → Stays old new
+  stays_both old mid new a b = record { nearer = omega (arith, a.nearer, b.nearer); names = b.names ∙ a.names }
+
+  -- a world with the same window and references
+  by_world : (old new world : World Origin) → world.window ≡ old.window → world.names ≡ old.names → new ≡ world → Stays old new
+  by_world old new world window names is = record {
+    nearer = subst (λ (w : World Origin). ahead w ≤ ahead old) (sym is) (rw window (omega (arith)));
+    names = ap (λ (w : World Origin). w.names) is ∙ names;
+  }
+
+  heard_ahead : (heard : Heard) (old new : World Origin) → (h : Hears heard old new) → ahead old ≡ length h.listens.bytes + ahead new
+  heard_ahead heard old new h =
+      let lengths : length (old.window.pending ++ h.listens.reads.pulled) ≡ length (h.listens.bytes ++ h.window.pending) = ap length h.listens.reads.window in
+      let left = length-append old.window.pending h.listens.reads.pulled in
+      let right = length-append h.listens.bytes h.window.pending in
+      let room = h.listens.reads.room in
+      let is : ahead old ≡ length h.listens.bytes + (length h.window.pending + h.window.room) = omega (arith, lengths, left, right, room) in
+      is ∙ ap (λ (w : World Origin). length h.listens.bytes + ahead w) (sym h.is)
+
+  stays_heard : (heard : Heard) (old new : World Origin) → Hears heard old new → Stays old new
+  stays_heard heard old new h =
+      let is : ahead old ≡ length h.listens.bytes + ahead new = heard_ahead heard old new h in
+      record { nearer = omega (arith, is); names = ap (λ (w : World Origin). w.names) h.is }
+
+  stays_line : (heard : Heard) (old new : World Origin) → HearsLine heard old new → Stays old new
+  stays_line (Line line) old new h = stays_heard (Line line) old new h
+  stays_line TooLong old new h = stays_heard TooLong old new h
+  stays_line (Stopped stops.End) old new h = stays_heard (Stopped stops.End) old new h
+  stays_line (Stopped stops.Idle) old new h = absurd h
+  stays_line (Stopped stops.Failed) old new h = absurd h
+  stays_line (Stopped stops.Spent) old new h = absurd h
+
+  stays_act : (act : Act) (answer : Answer act) (old new : World Origin) → Does act answer old new → Stays old new
+  stays_act Hear heard old new h = stays_line heard old new h
+  stays_act Salt salt old new h = by_world old new _ refl refl h.is
+  stays_act (Ask request) reply old new h = by_world old new _ refl refl h.is
+  stays_act (Say text) done old new h = by_world old new _ refl refl h
+
+  stays_failing : (act : Act) (cause : Cause) (old new : World Origin) → Stops act cause old new → Stays old new
+  stays_failing Hear ClientFault old new h = stays_heard (Stopped stops.Failed) old new h
+  stays_failing Hear Idle old new h = stays_heard (Stopped stops.Idle) old new h
+  stays_failing Hear Spent old new h = stays_heard (Stopped stops.Spent) old new h
+  stays_failing Hear AuthFault old new h = absurd h
+  stays_failing Hear NoMemory old new h = absurd h
+  stays_failing (Say text) ClientFault old new h = by_world old new _ refl refl h.is
+  stays_failing (Say text) Idle old new h = absurd h
+  stays_failing (Say text) Spent old new h = absurd h
+  stays_failing (Say text) AuthFault old new h = absurd h
+  stays_failing (Say text) NoMemory old new h = absurd h
+  stays_failing (Ask request) AuthFault old new h = by_world old new _ refl refl h.failing.is
+  stays_failing (Ask request) NoMemory old new h = by_world old new _ refl refl h.is
+  stays_failing (Ask request) ClientFault old new h = absurd h
+  stays_failing (Ask request) Idle old new h = absurd h
+  stays_failing (Ask request) Spent old new h = absurd h
+  stays_failing Salt ClientFault old new h = absurd h
+  stays_failing Salt Idle old new h = absurd h
+  stays_failing Salt Spent old new h = absurd h
+  stays_failing Salt AuthFault old new h = absurd h
+  stays_failing Salt NoMemory old new h = absurd h
+
+  pub keeps : Kept (acts Origin) Stays
+  keeps = record { none = stays_same; both = stays_both; act = stays_act; stop = stays_failing }
+
+  -- a run of rows keeps them
+  pub ran_stays : {T : Type 0} {r : Row (acts Origin) Place} {at : T → Row (acts Origin) Place} {old new : World Origin} {result : Result T Cause}
+      → Ran rows r at old new result → Stays old new
+  ran_stays ran = ran_kept keeps ran

@@ -1,0 +1,101 @@
+-- A whole session: its dialogue, the close that is owed, and how it ends.
+use Rattle.std.specs.Prelude.{◌≡◌, ℕ, ◌^◌, Bool, List, [], Option, Some, None, Result, Ok, Err}
+use Rattle.auth_events.specs.Port.{Port}
+use Rattle.auth_events.specs.declared.reply.Reply.{Reply}
+use Rattle.auth_events.specs.declared.request.Request.TheVariants as requests
+use Rattle.fw_acts.specs.Acts.{Row}
+use Rattle.fw_acts.specs.Acts.Row.{Over}
+use Rattle.fw_acts.specs.Ran.{Ran}
+use Rattle.fw_outside.specs.Drain.{Drain}
+use Rattle.fw_outside.specs.Hours.{Hours}
+use Rattle.fw_outside.specs.Spring.{Spring}
+use Rattle.fw_outside.specs.Throws.{Throws}
+use Rattle.fw_outside.specs.declared.ending.Ending.{Ending}
+use Rattle.fw_outside.specs.declared.ending.Ending.TheVariants as endings
+use Rattle.authsrv_lines.specs.Acts.{Asking, Stops, World, acts}
+use Rattle.authsrv_lines.specs.Acts.Act.{Ask}
+use Rattle.authsrv_lines.specs.Dialogue.{rows, session_row}
+use Rattle.authsrv_lines.specs.declared.cause.Cause.{Cause}
+use Rattle.authsrv_lines.specs.declared.cause.Cause.TheVariants as causes
+use Rattle.authsrv_lines.specs.declared.place.Place.{Place}
+
+-- ---- endings
+
+abbrev pub ending_by : Cause → Ending
+ending_by causes.ClientFault = endings.ClientFault
+ending_by causes.Idle = endings.Idle
+ending_by causes.Spent = endings.Spent
+ending_by causes.AuthFault = endings.AuthFault
+ending_by causes.NoMemory = endings.NoMemory
+
+-- a dialogue that came to its end is done, and one that stopped ends by its cause
+abbrev pub ending_of : Result (Unit {0}) Cause → Ending
+ending_of (Ok _) = endings.Done
+ending_of (Err cause) = ending_by cause
+
+-- what is done but couldn't be closed ends by that cause, and what stopped before keeps its ending
+abbrev pub closed_ending : Result (Unit {0}) Cause → Result Reply Cause → Ending
+closed_ending dialogue (Ok reply) = ending_of dialogue
+closed_ending (Ok _) (Err cause) = ending_by cause
+closed_ending (Err first) (Err cause) = ending_by first
+
+-- ---- the close that is owed
+
+-- Close was asked, and answered or not
+abbrev pub ClosesSo : {Origin : Type 0} → Result Reply Cause → World Origin → World Origin → Type 0
+ClosesSo (Ok reply) old new = Asking requests.Close reply old new
+ClosesSo (Err cause) old new = Stops (Ask requests.Close) cause old new
+
+pub record Closing {Origin : Type 0} (dialogue : Result (Unit {0}) Cause) (old new : World Origin) (ending : Ending) : Type 0 where
+  pub answer : Result Reply Cause
+  pub closes : ClosesSo answer old new
+  pub ends : ending ≡ closed_ending dialogue answer
+
+-- where a session is open that wasn't asked to close, that is asked; where none is, nothing more is done
+abbrev pub Closes : {Origin : Type 0} → Option ℕ → Result (Unit {0}) Cause → World Origin → World Origin → Ending → Type 0
+Closes None dialogue old new ending = (new ≡ old) × (ending ≡ ending_of dialogue)
+Closes (Some sid) dialogue old new ending = Closing dialogue old new ending
+
+-- ---- the session
+
+-- the rows were run to their end, or to the act at which they stopped; then the session was closed where that was owed
+pub record Held {Origin : Type 0} (console : Bool) (old new : World Origin) (ending : Ending) : Type 0 where
+  pub dialogue : Result (Unit {0}) Cause
+  pub mid : World Origin
+  pub ran : Ran rows (session_row console) (λ done. Over) old mid dialogue
+  pub closed : Closes mid.opened dialogue mid new ending
+
+-- the devices that a session is lent
+pub record Devices (Origin : Type 0) : Type 0 where
+  pub inlet : Spring
+  pub outlet : Drain
+  pub port : Port Origin
+  pub hours : Hours
+  pub throws : Throws
+
+-- no more bytes than these are taken from a client
+abbrev pub most_taken : ℕ
+most_taken = 2 ^ 40
+
+-- at first nothing was heard, and no session is open
+abbrev pub at_first : {Origin : Type 0} → Devices Origin → List ℕ → World Origin
+at_first devices names = record {
+  inlet = devices.inlet;
+  window = record { pending = []; room = most_taken };
+  outlet = devices.outlet;
+  port = devices.port;
+  hours = devices.hours;
+  throws = devices.throws;
+  opened = None;
+  names = names;
+}
+
+abbrev pub devices_of : {Origin : Type 0} → World Origin → Devices Origin
+devices_of world = record { inlet = world.inlet; outlet = world.outlet; port = world.port; hours = world.hours; throws = world.throws }
+
+-- a session over these devices, which leaves them so
+pub record Session {Origin : Type 0} (console : Bool) (old new : Devices Origin) (ending : Ending) : Type 0 where
+  pub names : List ℕ
+  pub last : World Origin
+  pub held : Held console (at_first old names) last ending
+  pub leaves : devices_of last ≡ new
