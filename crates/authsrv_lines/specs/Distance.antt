@@ -1,7 +1,12 @@
 -- How far a session is from its end, at most: by the bytes that it may still hear, and in a list by the names that may still
 -- follow.
-use Rattle.std.specs.Prelude.{ℕ, zero, suc, ◌+◌, ◌-◌, List, [], ◌∷◌, length, Option, Some, None}
+use Rattle.std.specs.Prelude.{◌≡◌, ℕ, zero, suc, ◌+◌, ◌-◌, List, [], ◌∷◌, length, Option, Some, None, IsTrue}
+use Rattle.auth_events.specs.declared.reply.Reply.{Reply}
+use Rattle.fw_outside.specs.Name.{is_name}
+use Rattle.fw_outside.specs.declared.heard.Heard.{Heard}
+use Rattle.fw_outside.specs.declared.heard.Heard.TheVariants.{Line, TooLong, Stopped}
 use Rattle.authsrv_lines.specs.Acts.{World}
+use Rattle.authsrv_lines.specs.Dialogue.{shown_name}
 use Rattle.authsrv_lines.specs.declared.place.Place.{Place}
 use Rattle.authsrv_lines.specs.declared.place.Place.TheVariants.{Waiting, Listing}
 
@@ -36,3 +41,30 @@ left_at (Listing after) = wide 32 - rank_of after
 
 abbrev pub distance : {Origin : Type 0} → Place → World Origin → ℕ
 distance place world = times (ahead world) (suc (wide 32)) + left_at place
+
+-- where a list goes on from a reply
+abbrev pub listing_from : Option (List ℕ) → Place
+listing_from None = Waiting
+listing_from (Some name) = Listing (Some name)
+
+abbrev pub listed_place : Reply → Place
+listed_place reply = listing_from (shown_name reply)
+
+-- a place that a line leads to: the next line, or the beginning of a list
+abbrev pub IsFresh : Option Place → Type 0
+IsFresh None = Unit {0}
+IsFresh (Some Waiting) = Unit {0}
+IsFresh (Some (Listing None)) = Unit {0}
+IsFresh (Some (Listing (Some name))) = ⊥
+
+-- after the end of what the client says nothing follows
+abbrev pub IsNext : Heard → Option Place → Type 0
+IsNext (Line line) next = IsFresh next
+IsNext TooLong next = IsFresh next
+IsNext (Stopped stop) next = next ≡ None
+
+-- a list goes on from a name
+abbrev pub IsPlace : Place → Type 0
+IsPlace Waiting = Unit {0}
+IsPlace (Listing None) = Unit {0}
+IsPlace (Listing (Some name)) = IsTrue (is_name name)

@@ -1,11 +1,13 @@
 //! The rows of the dialogue.
-ghost use Rattle.std.specs.Prelude.{◌≡◌, ◌≤◌, ◌++◌, ◌∷◌, [], length, Some, None, codes, IfErr, OnOk};
+ghost use Rattle.std.specs.Prelude.{◌≡◌, ◌≤◌, ◌++◌, ◌∷◌, [], length, Some, None, codes, IfErr, IfOk, IfSome, IsTrue, OnOk};
 ghost use Rattle.fw_acts.specs.Acts.Row.{At, Do, Over};
 ghost use Rattle.fw_acts.specs.Ran.{Ran};
 ghost use Rattle.authsrv_lines.specs.Acts.{Saying, Stops};
 ghost use Rattle.authsrv_lines.specs.Acts.Act.{Ask, Say};
 ghost use Rattle.authsrv_lines.specs.declared.place.Place.TheVariants.{Waiting};
 ghost use Rattle.authsrv_lines.specs.Dialogue.{ask_row, heard_row, is_no_such, leads, line_row, listed_by, listed_row, opened_place, opened_row, password_row, quit_row, rows, say, session_row, shown_name};
+ghost use Rattle.authsrv_lines.specs.Distance.{IsFresh, IsNext, IsPlace, listed_place};
+ghost use Rattle.fw_outside.specs.Name.{is_name};
 ghost use Rattle.authsrv_lines.specs.Fault.{fault_text};
 ghost use Rattle.authsrv_lines.specs.Reply.{reply_line};
 ghost use Rattle.authsrv_lines.specs.Request.{request_of};
@@ -31,7 +33,8 @@ fn say_line<D: Stage>(stage: &mut D, line: &[u8]) -> Result<(), Cause>
 #[tactic(auto, using(crate::proofs::Acts::acting))]
 fn tell<D: Stage>(stage: &mut D, line: &[u8], place: Option<Place>) -> Result<Option<Place>, Cause>
     requires { length line.now ≤ 512 }
-    ensures { Ran rows (say line.now (leads place)) leads (D.world stage.old) (D.world stage.new) result }
+    ensures ran { Ran rows (say line.now (leads place)) leads (D.world stage.old) (D.world stage.new) result }
+    ensures at { IfOk result (λ next. next ≡ place) }
 {
     say_line(stage, line)?;
     Ok(place)
@@ -40,7 +43,8 @@ fn tell<D: Stage>(stage: &mut D, line: &[u8], place: Option<Place>) -> Result<Op
 // Gives the client a reply, and comes to a place, or to the end.
 #[tactic(auto, using(crate::proofs::Acts::acting))]
 fn tell_reply<D: Stage>(stage: &mut D, reply: &Reply, place: Option<Place>) -> Result<Option<Place>, Cause>
-    ensures { Ran rows (say (reply_line reply.now) (leads place)) leads (D.world stage.old) (D.world stage.new) result }
+    ensures ran { Ran rows (say (reply_line reply.now) (leads place)) leads (D.world stage.old) (D.world stage.new) result }
+    ensures at { IfOk result (λ next. next ≡ place) }
 {
     let mut text = ArrayVec::new();
     reply_text(reply, &mut text);
@@ -50,7 +54,8 @@ fn tell_reply<D: Stage>(stage: &mut D, reply: &Reply, place: Option<Place>) -> R
 // Asks, and tells the client the reply.
 #[tactic(auto, using(crate::proofs::Acts::acting))]
 fn ask_row<D: Stage>(stage: &mut D, request: Request) -> Result<Option<Place>, Cause>
-    ensures { Ran rows (ask_row request) leads (D.world stage.old) (D.world stage.new) result }
+    ensures ran { Ran rows (ask_row request) leads (D.world stage.old) (D.world stage.new) result }
+    ensures at { IfOk result (λ next. next ≡ Some Waiting) }
 {
     let reply = stage.ask(request)?;
     tell_reply(stage, &reply, Some(Place::Waiting))
@@ -59,7 +64,8 @@ fn ask_row<D: Stage>(stage: &mut D, request: Request) -> Result<Option<Place>, C
 // Asks for a new password, with a salt of the dice.
 #[tactic(auto, using(crate::proofs::Acts::acting))]
 fn password_row<D: Stage>(stage: &mut D, name: Name, hash: [u8; 16]) -> Result<Option<Place>, Cause>
-    ensures { Ran rows (password_row name hash) leads (D.world stage.old) (D.world stage.new) result }
+    ensures ran { Ran rows (password_row name hash) leads (D.world stage.old) (D.world stage.new) result }
+    ensures at { IfOk result (λ next. next ≡ Some Waiting) }
 {
     let salt = stage.salt();
     ask_row(stage, Request::Password { name, salt, hash })
@@ -68,7 +74,8 @@ fn password_row<D: Stage>(stage: &mut D, name: Name, hash: [u8; 16]) -> Result<O
 // Asks for the session's end, and tells the client the reply.
 #[tactic(auto, using(crate::proofs::Acts::acting))]
 fn quit_row<D: Stage>(stage: &mut D) -> Result<Option<Place>, Cause>
-    ensures { Ran rows quit_row leads (D.world stage.old) (D.world stage.new) result }
+    ensures ran { Ran rows quit_row leads (D.world stage.old) (D.world stage.new) result }
+    ensures at { IfOk result (λ next. next ≡ None) }
 {
     let reply = stage.ask(Request::Close)?;
     tell_reply(stage, &reply, None)
@@ -77,7 +84,8 @@ fn quit_row<D: Stage>(stage: &mut D) -> Result<Option<Place>, Cause>
 // Tells the client why a line asks for nothing.
 #[tactic(auto, using(crate::proofs::Acts::acting))]
 fn fault_row<D: Stage>(stage: &mut D, fault: WireFault) -> Result<Option<Place>, Cause>
-    ensures { Ran rows (say (fault_text fault) (At Waiting)) leads (D.world stage.old) (D.world stage.new) result }
+    ensures ran { Ran rows (say (fault_text fault) (At Waiting)) leads (D.world stage.old) (D.world stage.new) result }
+    ensures at { IfOk result (λ next. next ≡ Some Waiting) }
 {
     tell(stage, fault.text(), Some(Place::Waiting))
 }
@@ -85,7 +93,8 @@ fn fault_row<D: Stage>(stage: &mut D, fault: WireFault) -> Result<Option<Place>,
 // Does what a line asks for.
 #[tactic(auto, using(crate::proofs::Acts::acting))]
 fn line_row<D: Stage>(stage: &mut D, line: &[u8]) -> Result<Option<Place>, Cause>
-    ensures { Ran rows (line_row (request_of line.now)) leads (D.world stage.old) (D.world stage.new) result }
+    ensures ran { Ran rows (line_row (request_of line.now)) leads (D.world stage.old) (D.world stage.new) result }
+    ensures at { IfOk result IsFresh }
 {
     match read_request(line) {
         Err(fault) => fault_row(stage, fault),
@@ -99,7 +108,8 @@ fn line_row<D: Stage>(stage: &mut D, line: &[u8]) -> Result<Option<Place>, Cause
 // Asks for the session's end at the end of what the client says, who is told nothing.
 #[tactic(auto, using(crate::proofs::Acts::acting))]
 fn end_row<D: Stage>(stage: &mut D) -> Result<Option<Place>, Cause>
-    ensures { Ran rows (Do (Ask Request.Close) (λ reply. Over)) leads (D.world stage.old) (D.world stage.new) result }
+    ensures ran { Ran rows (Do (Ask Request.Close) (λ reply. Over)) leads (D.world stage.old) (D.world stage.new) result }
+    ensures at { IfOk result (λ next. next ≡ None) }
 {
     stage.ask(Request::Close)?;
     Ok(None)
@@ -108,7 +118,8 @@ fn end_row<D: Stage>(stage: &mut D) -> Result<Option<Place>, Cause>
 // Does what was heard asks for.
 #[tactic(auto, using(crate::proofs::Acts::acting))]
 pub(crate) fn heard_row<D: Stage>(stage: &mut D, heard: Heard) -> Result<Option<Place>, Cause>
-    ensures { Ran rows (heard_row heard) leads (D.world stage.old) (D.world stage.new) result }
+    ensures ran { Ran rows (heard_row heard) leads (D.world stage.old) (D.world stage.new) result }
+    ensures at { IfOk result (IsNext heard) }
 {
     match heard {
         Heard::Line(line) => line_row(stage, line.as_slice()),
@@ -126,11 +137,21 @@ fn is_no_such(reply: &Reply) -> bool
     }
 }
 
+// The same name, of whose form the caller learns.
+fn checked(name: Name) -> Name
+    ensures is { result ≡ name }
+    ensures form { IsTrue (is_name name) }
+{
+    let _ = name.text();
+    name
+}
+
 fn shown_name(reply: &Reply) -> Option<Name>
-    ensures { result ≡ shown_name reply.now }
+    ensures is { result ≡ shown_name reply.now }
+    ensures form { IfSome result (λ name. IsTrue (is_name name)) }
 {
     match reply {
-        Reply::Shown(summary) => Some(summary.name.twin()),
+        Reply::Shown(summary) => Some(checked(summary.name.twin())),
         Reply::Opened { .. } | Reply::Password | Reply::Challenge { .. } | Reply::Ok | Reply::Denied(_) => None,
     }
 }
@@ -138,7 +159,8 @@ fn shown_name(reply: &Reply) -> Option<Name>
 // Ends a list, with `ok` or with another denial.
 #[tactic(auto, using(crate::proofs::Acts::acting))]
 fn list_end<D: Stage>(stage: &mut D, reply: &Reply) -> Result<Option<Place>, Cause>
-    ensures { Ran rows (listed_by None reply.now) leads (D.world stage.old) (D.world stage.new) result }
+    ensures ran { Ran rows (listed_by None reply.now) leads (D.world stage.old) (D.world stage.new) result }
+    ensures at { IfOk result (λ next. next ≡ Some Waiting) }
 {
     if is_no_such(reply) {
         return tell(stage, b"ok", Some(Place::Waiting));
@@ -149,7 +171,9 @@ fn list_end<D: Stage>(stage: &mut D, reply: &Reply) -> Result<Option<Place>, Cau
 // Tells the client of a record, or ends the list.
 #[tactic(auto, using(crate::proofs::Acts::acting))]
 pub(crate) fn listed_row<D: Stage>(stage: &mut D, reply: &Reply) -> Result<Option<Place>, Cause>
-    ensures { Ran rows (listed_row reply.now) leads (D.world stage.old) (D.world stage.new) result }
+    ensures ran { Ran rows (listed_row reply.now) leads (D.world stage.old) (D.world stage.new) result }
+    ensures at { IfOk result (λ next. next ≡ Some (listed_place reply.now)) }
+    ensures form { IfOk result (λ next. IfSome next IsPlace) }
 {
     match shown_name(reply) {
         Some(name) => tell_reply(stage, reply, Some(Place::Listing(Some(name)))),
@@ -158,7 +182,8 @@ pub(crate) fn listed_row<D: Stage>(stage: &mut D, reply: &Reply) -> Result<Optio
 }
 
 fn opened_place(reply: &Reply) -> Option<Place>
-    ensures { result ≡ opened_place reply.now }
+    ensures is { result ≡ opened_place reply.now }
+    ensures fresh { IsFresh result }
 {
     match reply {
         Reply::Opened { .. } => Some(Place::Waiting),
@@ -169,7 +194,8 @@ fn opened_place(reply: &Reply) -> Option<Place>
 // Opens the session.
 #[tactic(auto, using(crate::proofs::Acts::acting))]
 pub(crate) fn session_row<D: Stage>(stage: &mut D, console: bool) -> Result<Option<Place>, Cause>
-    ensures { Ran rows (session_row console) leads (D.world stage.old) (D.world stage.new) result }
+    ensures ran { Ran rows (session_row console) leads (D.world stage.old) (D.world stage.new) result }
+    ensures at { IfOk result IsFresh }
 {
     let reply = stage.ask(Request::Open { console })?;
     let place = opened_place(&reply);

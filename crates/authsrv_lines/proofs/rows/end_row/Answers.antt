@@ -3,8 +3,8 @@ use Rattle.fw_acts.specs.RanLemmas.{ran_here}
 use Rattle.authsrv_lines.proofs.Acts.{asked, halted, said, thrown}
 use Rattle.authsrv_lines.proofs.rows.end_row.Goals as goal
 
-pub returns-in_err-ask : goal.returns-in_err-ask
-returns-in_err-ask g c = halted _ c.in_err-ask.ensures.stopped c.from_residual.ensures.1
+pub returns-in_err-ask-clause-ran : goal.returns-in_err-ask-clause-ran
+returns-in_err-ask-clause-ran g c = halted _ c.in_err-ask.ensures.stopped c.from_residual.ensures.1
 
-pub returns : goal.returns
-returns g c = asked c.in_ok-ask.ensures.asked (ran_here (refl, refl))
+pub returns-clause-ran : goal.returns-clause-ran
+returns-clause-ran g c = asked c.in_ok-ask.ensures.asked (ran_here (refl, refl))

@@ -3,11 +3,11 @@ use Rattle.fw_acts.specs.RanLemmas.{ran_here}
 use Rattle.authsrv_lines.proofs.Acts.{asked, halted, said, thrown}
 use Rattle.authsrv_lines.proofs.rows.heard_row.Goals as goal
 
-pub returns-in-Line : goal.returns-in-Line
-returns-in-Line g c = rw (c.in-Line.is, sym c.as_slice.ensures.value) c.line_row.ensures
+pub returns-in-Line-clause-ran : goal.returns-in-Line-clause-ran
+returns-in-Line-clause-ran g c = rw (c.in-Line.is, sym c.as_slice.ensures.value) c.line_row.ensures.ran
 
-pub returns-in-TooLong : goal.returns-in-TooLong
-returns-in-TooLong g c = rw c.in-TooLong.is c.fault_row.ensures
+pub returns-in-TooLong-clause-ran : goal.returns-in-TooLong-clause-ran
+returns-in-TooLong-clause-ran g c = rw c.in-TooLong.is c.fault_row.ensures.ran
 
-pub returns-in-Stopped : goal.returns-in-Stopped
-returns-in-Stopped g c = rw c.in-Stopped.is c.end_row.ensures
+pub returns-in-Stopped-clause-ran : goal.returns-in-Stopped-clause-ran
+returns-in-Stopped-clause-ran g c = rw c.in-Stopped.is c.end_row.ensures.ran

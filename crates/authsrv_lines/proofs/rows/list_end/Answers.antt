@@ -3,8 +3,8 @@ use Rattle.fw_acts.specs.RanLemmas.{ran_here}
 use Rattle.authsrv_lines.proofs.Acts.{asked, halted, said, thrown}
 use Rattle.authsrv_lines.proofs.rows.list_end.Goals as goal
 
-pub returns-then-is_no_such : goal.returns-then-is_no_such
-returns-then-is_no_such g c = rw (sym c.is_no_such.ensures ∙ c.if-is_no_such.true) c.tell.ensures
+pub returns-then-is_no_such-clause-ran : goal.returns-then-is_no_such-clause-ran
+returns-then-is_no_such-clause-ran g c = rw (sym c.is_no_such.ensures ∙ c.if-is_no_such.true) c.tell.ensures.ran
 
-pub returns : goal.returns
-returns g c = rw (sym c.is_no_such.ensures ∙ c.if-is_no_such.false) c.tell_reply.ensures
+pub returns-clause-ran : goal.returns-clause-ran
+returns-clause-ran g c = rw (sym c.is_no_such.ensures ∙ c.if-is_no_such.false) c.tell_reply.ensures.ran

@@ -3,5 +3,5 @@ use Rattle.fw_acts.specs.RanLemmas.{ran_here}
 use Rattle.authsrv_lines.proofs.Acts.{asked, halted, said, thrown}
 use Rattle.authsrv_lines.proofs.rows.password_row.Goals as goal
 
-pub returns : goal.returns
-returns g c = thrown c.salt-salt.ensures c.ask_row.ensures
+pub returns-clause-ran : goal.returns-clause-ran
+returns-clause-ran g c = thrown c.salt-salt.ensures c.ask_row.ensures.ran

@@ -3,8 +3,8 @@ use Rattle.fw_acts.specs.RanLemmas.{ran_here}
 use Rattle.authsrv_lines.proofs.Acts.{asked, halted, said, thrown}
 use Rattle.authsrv_lines.proofs.rows.tell.Goals as goal
 
-pub returns-in_err-say_line : goal.returns-in_err-say_line
-returns-in_err-say_line g c = halted _ c.in_err-say_line.ensures.stopped c.from_residual.ensures.1
+pub returns-in_err-say_line-clause-ran : goal.returns-in_err-say_line-clause-ran
+returns-in_err-say_line-clause-ran g c = halted _ c.in_err-say_line.ensures.stopped c.from_residual.ensures.1
 
-pub returns : goal.returns
-returns g c = said c.in_ok-say_line.ensures.said (ran_here (refl, refl))
+pub returns-clause-ran : goal.returns-clause-ran
+returns-clause-ran g c = said c.in_ok-say_line.ensures.said (ran_here (refl, refl))

@@ -3,5 +3,5 @@ use Rattle.fw_acts.specs.RanLemmas.{ran_here}
 use Rattle.authsrv_lines.proofs.Acts.{asked, halted, said, thrown}
 use Rattle.authsrv_lines.proofs.rows.tell_reply.Goals as goal
 
-pub returns : goal.returns
-returns g c = rw (sym (c.as_slice.ensures.value ∙ c.reply_text.ensures.text)) c.tell.ensures
+pub returns-clause-ran : goal.returns-clause-ran
+returns-clause-ran g c = rw (sym (c.as_slice.ensures.value ∙ c.reply_text.ensures.text)) c.tell.ensures.ran
