@@ -10,12 +10,12 @@ use Rattle.fw_outside.specs.Bytes.{is_name_byte}
 use Rattle.fw_outside.specs.Name.{is_before, is_name}
 use Rattle.authsrv_lines.specs.Distance.{rank, times, wide}
 
-clash : {A : Type 0} → false ≡ true → A
+pub clash : {A : Type 0} → false ≡ true → A
 clash h = absurd (true≢false (sym h))
 
 -- ---- products
 
-step_times : (x y w : ℕ) → x < y → times x w + w ≤ times y w
+pub step_times : (x y w : ℕ) → x < y → times x w + w ≤ times y w
 unfolding times
 step_times x zero w h = absurd (omega (arith, h))
 step_times x (suc y) w h = choose (nat_lt x y) refl (λ less. step_times x y w less)
@@ -27,7 +27,7 @@ step_times x (suc y) w h = choose (nat_lt x y) refl (λ less. step_times x y w l
         let same : x ≡ y = omega (arith, h, least) in
         rw same (omega (arith))
 
-positive : (n : ℕ) → 0 < wide n
+pub positive : (n : ℕ) → 0 < wide n
 unfolding wide
 positive zero = omega (arith)
 positive (suc n) =
@@ -37,7 +37,7 @@ positive (suc n) =
 
 -- ---- ranks
 
-below : (n : ℕ) (text : List ℕ) → AllByRecursion (λ b. b < 256) text → rank n text < wide n
+pub below : (n : ℕ) (text : List ℕ) → AllByRecursion (λ b. b < 256) text → rank n text < wide n
 unfolding rank wide
 below zero text bytes = omega (arith)
 below (suc n) [] bytes = positive (suc n)

@@ -36,7 +36,7 @@ module _ {Origin : Type 0} where
     names = ap (λ (w : World Origin). w.names) is ∙ names;
   }
 
-  heard_ahead : (heard : Heard) (old new : World Origin) → (h : Hears heard old new) → ahead old ≡ length h.listens.bytes + ahead new
+  pub heard_ahead : (heard : Heard) (old new : World Origin) → (h : Hears heard old new) → ahead old ≡ length h.listens.bytes + ahead new
   heard_ahead heard old new h =
       let lengths : length (old.window.pending ++ h.listens.reads.pulled) ≡ length (h.listens.bytes ++ h.window.pending) = ap length h.listens.reads.window in
       let left = length-append old.window.pending h.listens.reads.pulled in

@@ -19,6 +19,7 @@ mod reply_reading;
 mod reply_writing;
 mod request;
 mod rows;
+mod session;
 mod stage;
 mod summary;
 mod wire;

@@ -1,0 +1,122 @@
+//! A session from the client's bytes to replies.
+ghost use Rattle.std.specs.Prelude.{◌≡◌, ◌<◌, Some, IfOk, IfSome};
+ghost use Rattle.fw_acts.specs.Acts.Row.{At, Over};
+ghost use Rattle.fw_acts.specs.Ran.{Ran};
+ghost use Rattle.authsrv_lines.specs.Dialogue.{leads, rows, session_row};
+ghost use Rattle.authsrv_lines.specs.Distance.{IsPlace, distance};
+ghost use Rattle.authsrv_lines.specs.Session.{Closes, Closing, Held, Session, closed_ending, ending_by, ending_of};
+
+use crate::desk::Desk;
+use crate::rows::{heard_row, listed_row, session_row};
+use crate::stage::Stage;
+use crate::{Cause, Place};
+use auth_events::{AuthPort, Reply, Request};
+use fw_outside::{Clock, Dice, Ending, LineReader, Name, Sink, Source};
+
+// No more bytes than these are taken from a client.
+const MOST_TAKEN: u64 = 1 << 40;
+
+// Does what the next line asks for.
+fn line_turn<D: Stage>(stage: &mut D) -> Result<Option<Place>, Cause>
+    ensures ran { Ran rows (At Place.Waiting) leads (D.world stage.old) (D.world stage.new) result }
+    ensures form { IfOk result (λ next. IfSome next IsPlace) }
+    ensures nearer { IfOk result (λ next. IfSome next (λ p. distance p (D.world stage.new) < distance Place.Waiting (D.world stage.old))) }
+{
+    let heard = stage.hear()?;
+    heard_row(stage, heard)
+}
+
+// Asks for the next record of a list.
+fn list_turn<D: Stage>(stage: &mut D, after: Option<Name>) -> Result<Option<Place>, Cause>
+    requires { IsPlace (Place.Listing after) }
+    ensures ran { Ran rows (At (Place.Listing after)) leads (D.world stage.old) (D.world stage.new) result }
+    ensures form { IfOk result (λ next. IfSome next IsPlace) }
+    ensures nearer { IfOk result (λ next. IfSome next (λ p. distance p (D.world stage.new) < distance (Place.Listing after) (D.world stage.old))) }
+{
+    let reply = stage.ask(Request::List { after })?;
+    listed_row(stage, &reply)
+}
+
+// Does what is done at a place.
+fn turn<D: Stage>(stage: &mut D, place: Place) -> Result<Option<Place>, Cause>
+    requires { IsPlace place }
+    ensures ran { Ran rows (At place) leads (D.world stage.old) (D.world stage.new) result }
+    ensures form { IfOk result (λ next. IfSome next IsPlace) }
+    ensures nearer { IfOk result (λ next. IfSome next (λ p. distance p (D.world stage.new) < distance place (D.world stage.old))) }
+{
+    match place {
+        Place::Waiting => line_turn(stage),
+        Place::Listing(after) => list_turn(stage, after),
+    }
+}
+
+// The dialogue, to its end or to the act at which it stopped.
+fn dialogue<D: Stage>(stage: &mut D, console: bool) -> Result<(), Cause>
+    ensures { Ran rows (session_row console) (λ done. Over) (D.world stage.old) (D.world stage.new) result }
+{
+    let mut next = session_row(stage, console)?;
+    while let Some(place) = next {
+        next = turn(stage, place)?;
+    }
+    Ok(())
+}
+
+fn ending_by(cause: Cause) -> Ending
+    ensures { result ≡ ending_by cause }
+{
+    match cause {
+        Cause::ClientFault => Ending::ClientFault,
+        Cause::Idle => Ending::Idle,
+        Cause::Spent => Ending::Spent,
+        Cause::AuthFault => Ending::AuthFault,
+        Cause::NoMemory => Ending::NoMemory,
+    }
+}
+
+fn ending_of(dialogue: Result<(), Cause>) -> Ending
+    ensures { result ≡ ending_of dialogue }
+{
+    match dialogue {
+        Ok(()) => Ending::Done,
+        Err(cause) => ending_by(cause),
+    }
+}
+
+fn closed_ending(dialogue: Result<(), Cause>, answer: &Result<Reply, Cause>) -> Ending
+    ensures { result ≡ closed_ending dialogue answer.now }
+{
+    match answer {
+        Ok(_) => ending_of(dialogue),
+        Err(cause) => match dialogue {
+            Ok(()) => ending_by(*cause),
+            Err(first) => ending_by(first),
+        },
+    }
+}
+
+// Asks Close of a session that is open.
+fn close_open<D: Stage>(stage: &mut D, dialogue: Result<(), Cause>) -> Ending
+    ensures { Closing dialogue (D.world stage.old) (D.world stage.new) result }
+{
+    let answer = stage.ask(Request::Close);
+    closed_ending(dialogue, &answer)
+}
+
+// Asks Close where that is owed.
+fn close<D: Stage>(stage: &mut D, dialogue: Result<(), Cause>) -> Ending
+    ensures { Closes (D.world stage.old).opened dialogue (D.world stage.old) (D.world stage.new) result }
+{
+    if stage.is_open() {
+        return close_open(stage, dialogue);
+    }
+    ending_of(dialogue)
+}
+
+// The session on a stage.
+fn held<D: Stage>(stage: &mut D, console: bool) -> Ending
+    ensures held { Held console (D.world stage.old) (D.world stage.new) result }
+    ensures names { (D.world stage.new).names ≡ (D.world stage.old).names }
+{
+    let dialogue = dialogue(stage, console);
+    close(stage, dialogue)
+}
