@@ -1,5 +1,9 @@
 -- What no act of a session breaks.
-use Rattle.std.proofs.Common.{rules, arith, ◌≡◌, refl, sym, ap, subst, ◌∙◌, ℕ, ◌+◌, ◌≤◌, ◌<◌, List, ◌++◌, length, Result}
+use Rattle.std.proofs.Common.{rules, arith, ◌≡◌, refl, sym, ap, subst, ◌∙◌, ℕ, ◌+◌, ◌≤◌, ◌<◌, List, ◌++◌, length, Option, Some, None, Result, Ok, Err}
+use Rattle.auth_events.specs.declared.reply.Reply.{Reply}
+use Rattle.auth_events.specs.declared.request.Request.TheVariants as requests
+use Rattle.fw_outside.specs.declared.ending.Ending.{Ending}
+use Rattle.authsrv_lines.specs.Session.{Closes, ClosesSo}
 use Rattle.std.proofs.lemmas.List.{length-append}
 use Rattle.fw_acts.specs.Acts.{Row}
 use Rattle.fw_acts.specs.Kept.{Kept}
@@ -93,3 +97,12 @@ module _ {Origin : Type 0} where
   pub ran_stays : {T : Type 0} {r : Row (acts Origin) Place} {at : T → Row (acts Origin) Place} {old new : World Origin} {result : Result T Cause}
       → Ran rows r at old new result → Stays old new
   ran_stays ran = ran_kept keeps ran
+
+closing_names : {Origin : Type 0} (answer : Result Reply Cause) (old new : World Origin) → ClosesSo answer old new → new.names ≡ old.names
+closing_names (Ok reply) old new h = (stays_act (Ask requests.Close) reply old new h).names
+closing_names (Err cause) old new h = (stays_failing (Ask requests.Close) cause old new h).names
+
+-- closing keeps the references
+pub closes_names : {Origin : Type 0} (opened : Option ℕ) (dialogue : Result (Unit {0}) Cause) (old new : World Origin) (ending : Ending) → Closes opened dialogue old new ending → new.names ≡ old.names
+closes_names {Origin} None dialogue old new ending h = ap (λ (w : World Origin). w.names) h.0
+closes_names (Some sid) dialogue old new ending h = closing_names h.answer old new h.closes

@@ -18,7 +18,10 @@ use Rattle.authsrv_lines.proofs.DistanceLemmas.{below, clash, positive, rises, s
 use Rattle.authsrv_lines.proofs.KeptLemmas.{Stays, heard_ahead}
 use Rattle.authsrv_lines.specs.Acts.{Asking, Hears, HearsLine, World}
 use Rattle.authsrv_lines.specs.Distance.{IsFresh, IsNext, IsPlace, ahead, distance, left_at, listed_place, listing_from, rank, rank_of, times, wide}
-use Rattle.authsrv_lines.specs.Dialogue.{shown_name}
+use Rattle.fw_acts.specs.Acts.Row.{Over}
+use Rattle.fw_acts.specs.Ran.{Ran}
+use Rattle.fw_acts.specs.RanLemmas.{ran_as}
+use Rattle.authsrv_lines.specs.Dialogue.{leads, rows, session_row, shown_name}
 use Rattle.authsrv_lines.specs.declared.cause.Cause.{Cause}
 use Rattle.authsrv_lines.specs.declared.place.Place.{Place}
 use Rattle.authsrv_lines.specs.declared.place.Place.TheVariants.{Waiting, Listing}
@@ -137,3 +140,33 @@ near_next after reply old mid new (Err cause) place h stays at form = tt
 near_next after reply old mid new (Ok next) place h stays at form =
     let listed : IsPlace (listed_place reply) = subst (λ (n : Option Place). IfSome n IsPlace) at form in
     subst (λ (n : Option Place). IfSome n (λ p. distance p new < distance (Listing after) old)) (sym at) (near_list after reply old mid new place listed h stays)
+
+-- ---- the dialogue
+
+-- from the beginning of a session to a place, or to the end
+pub record Talks {Origin : Type 0} (console : Bool) (old now : World Origin) (next : Option Place) : Type 0 where
+  pub ran : Ran rows (session_row console) leads old now (Ok next)
+  pub form : IfSome next IsPlace
+
+pub fresh_form : (next : Option Place) → IsFresh next → IfSome next IsPlace
+fresh_form None fresh = tt
+fresh_form (Some Waiting) fresh = tt
+fresh_form (Some (Listing None)) fresh = tt
+fresh_form (Some (Listing (Some name))) fresh = absurd fresh
+
+-- how far it is, at most, to the end
+abbrev pub still : {Origin : Type 0} → Option Place → World Origin → ℕ
+still None world = 0
+still (Some place) world = suc (distance place world)
+
+pub still_less : {Origin : Type 0} (next : Option Place) (place : Place) (old new : World Origin) → IfSome next (λ p. distance p new < distance place old) → still next new < suc (distance place old)
+still_less None place old new less = omega (arith)
+still_less (Some p) place old new less = omega (arith, less)
+
+pub at_place : {Origin : Type 0} {console : Bool} {old now : World Origin} {next : Option Place} {place : Place} → Talks console old now next → next ≡ Some place
+    → Ran rows (session_row console) leads old now (Ok (Some place))
+at_place {Origin} {console} {old} {now} {next} {place} talks is = subst (λ (n : Option Place). Ran rows (session_row console) leads old now (Ok n)) is talks.ran
+
+pub at_end : {Origin : Type 0} {console : Bool} {old now : World Origin} {next : Option Place} → Talks console old now next → next ≡ None
+    → Ran rows (session_row console) (λ done. Over) old now (Ok (tt {0}))
+at_end {Origin} {console} {old} {now} {next} talks is = ran_as (subst (λ (n : Option Place). Ran rows (session_row console) leads old now (Ok n)) is talks.ran) refl

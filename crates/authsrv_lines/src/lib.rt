@@ -31,6 +31,7 @@ pub use place::Place;
 pub use reply_reading::read_reply;
 pub use reply_writing::reply_text;
 pub use request::read_request;
+pub use session::authsrv_session;
 pub use wire::{Wire, WireFault};
 
 #[cfg(test)]

@@ -120,3 +120,33 @@ fn held<D: Stage>(stage: &mut D, console: bool) -> Ending
     let dialogue = dialogue(stage, console);
     close(stage, dialogue)
 }
+
+/// A session of `authsrv`: from the client's bytes to replies, each request asked of the port at a moment of the clock.
+/// The salts of new passwords come from the dice. It takes at most 2^40 bytes from the client.
+///
+/// A session at the console may do everything. The answer is `Done` after `quit`, at the end of what the client says, or
+/// where no session could be opened; else why the session stopped. Close is asked of each session that was opened.
+pub fn authsrv_session<P: AuthPort, S: Source, K: Sink, C: Clock, R: Dice>(
+    console: bool,
+    port: &mut P,
+    from: &mut S,
+    to: &mut K,
+    clock: &mut C,
+    dice: &mut R,
+) -> Ending
+    ensures { Session console
+        (record { inlet = S.spring from.old; outlet = K.drain to.old; port = P.port port.old; hours = C.hours clock.old; throws = R.throws dice.old })
+        (record { inlet = S.spring from.new; outlet = K.drain to.new; port = P.port port.new; hours = C.hours clock.new; throws = R.throws dice.new })
+        result }
+{
+    let mut desk = Desk {
+        port,
+        from,
+        to,
+        clock,
+        dice,
+        reader: LineReader::new(MOST_TAKEN),
+        opened: None,
+    };
+    held(&mut desk, console)
+}

@@ -1,35 +1,28 @@
-use Rattle.std.proofs.Common.{rules, ◌≡◌, ◌<◌, Some, IfOk, IfSome, ℕ, ◌+◌, ◌-◌, ◌*◌, ◌≤◌, length, ◌/◌, ◌%◌, Bool, true, false, nat_eq, nat_lt, List, [], ◌∷◌, ◌++◌, slice_index_or, slice_set, bit_and, bit_or, Fits, w8, w32, w64, Bor, MutBor}
-use Rattle.fw_acts.specs.Acts.Row.{At, Over}
+use Rattle.std.proofs.Common.{rules, refl, sym, ap, subst, ◌≡◌, ◌∙◌, Some, IfSome, Option, Result, Ok}
 use Rattle.fw_acts.specs.Ran.{Ran}
-use Rattle.authsrv_lines.specs.Dialogue.{leads, rows, session_row}
-use Rattle.authsrv_lines.specs.Distance.{IsPlace, distance}
-use Rattle.authsrv_lines.specs.Session.{Closes, Closing, Held, Session, closed_ending, ending_by, ending_of}
+use Rattle.fw_acts.specs.RanLemmas.{ran_on, ran_then}
+use Rattle.authsrv_lines.specs.Distance.{IsPlace}
+use Rattle.authsrv_lines.specs.declared.place.Place.{Place}
+use Rattle.authsrv_lines.proofs.TurnLemmas.{Talks, at_end, at_place, fresh_form, still, still_less}
 use Rattle.authsrv_lines.proofs.session.dialogue.Goals as goal
 
--- src/session.rt:57:20
 pub returns-in_err-next : goal.returns-in_err-next
-returns-in_err-next g c = ?
+returns-in_err-next g c = ran_on c.in_err-next.ensures.ran c.from_residual.ensures.1
 
--- src/session.rt:58:5
 pub loop-next-init : goal.loop-next-init
-loop-next-init g c = ?
+loop-next-init g c = record { ran = c.in_ok-next.ensures.ran; form = fresh_form _ c.in_ok-next.ensures.at }
 
--- src/session.rt:59:16
 pub turn-requires : goal.turn-requires
-turn-requires g c = ?
+turn-requires g c = subst (λ (n : Option Place). IfSome n IsPlace) c.in-Some.is c.loop-next.invariant.form
 
--- src/session.rt:59:16
 pub returns-in_err-next-2 : goal.returns-in_err-next-2
-returns-in_err-next-2 g c = ?
+returns-in_err-next-2 g c = ran_on (ran_then (at_place c.loop-next.invariant c.in-Some.is) c.in_err-next-2.ensures.ran) c.from_residual-in_err-next-2.ensures.1
 
--- src/session.rt:58:5
 pub loop-next-smaller : goal.loop-next-smaller
-loop-next-smaller g c = ?
+loop-next-smaller g c = rw c.in-Some.is (still_less c.in_ok-next-2.next c.in-Some.place (g.D.Stage.world c.loop-next.stage) (g.D.Stage.world c.turn.new.stage) c.in_ok-next-2.ensures.nearer)
 
--- src/session.rt:58:5
 pub loop-next-preserved : goal.loop-next-preserved
-loop-next-preserved g c = ?
+loop-next-preserved g c = record { ran = ran_then (at_place c.loop-next.invariant c.in-Some.is) c.in_ok-next-2.ensures.ran; form = c.in_ok-next-2.ensures.form }
 
--- src/session.rt:54:1
 pub returns : goal.returns
-returns g c = ?
+returns g c = at_end c.loop-next.invariant (search rules)

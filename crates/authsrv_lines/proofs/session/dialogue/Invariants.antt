@@ -1,13 +1,8 @@
-use Rattle.std.proofs.Common.{◌≡◌, ◌<◌, Some, IfOk, IfSome, ℕ, ◌+◌, ◌-◌, ◌*◌, ◌≤◌, length}
-use Rattle.fw_acts.specs.Acts.Row.{At, Over}
-use Rattle.fw_acts.specs.Ran.{Ran}
-use Rattle.authsrv_lines.specs.Dialogue.{leads, rows, session_row}
-use Rattle.authsrv_lines.specs.Distance.{IsPlace, distance}
-use Rattle.authsrv_lines.specs.Session.{Closes, Closing, Held, Session, closed_ending, ending_by, ending_of}
+use Rattle.authsrv_lines.proofs.TurnLemmas.{Talks, still}
 use Rattle.authsrv_lines.proofs.session.dialogue.Given as goal
 
 abbrev pub invariant-loop-next : goal.invariant-loop-next
-invariant-loop-next g l = ?
+invariant-loop-next g l = Talks l.fn.console (g.D.Stage.world l.fn.stage) (g.D.Stage.world l.stage) l.next
 
 abbrev pub decreases-loop-next : goal.decreases-loop-next
-decreases-loop-next g l = ?
+decreases-loop-next g l = still l.next (g.D.Stage.world l.stage)
