@@ -1,10 +1,10 @@
 //! A session from the client's bytes to replies.
-ghost use Rattle.std.specs.Prelude.{◌≡◌, ◌<◌, Some, IfOk, IfSome};
+ghost use Rattle.std.specs.Prelude.{◌≡◌, ◌<◌, [], Some, None, IfOk, IfSome};
 ghost use Rattle.fw_acts.specs.Acts.Row.{At, Over};
 ghost use Rattle.fw_acts.specs.Ran.{Ran};
 ghost use Rattle.authsrv_lines.specs.Dialogue.{leads, rows, session_row};
 ghost use Rattle.authsrv_lines.specs.Distance.{IsPlace, distance};
-ghost use Rattle.authsrv_lines.specs.Session.{Closes, Closing, Held, Session, closed_ending, ending_by, ending_of};
+ghost use Rattle.authsrv_lines.specs.Session.{Closes, Closing, Held, Session, closed_ending, ending_by, ending_of, most_taken};
 
 use crate::desk::Desk;
 use crate::rows::{heard_row, listed_row, session_row};
@@ -121,6 +121,26 @@ fn held<D: Stage>(stage: &mut D, console: bool) -> Ending
     close(stage, dialogue)
 }
 
+// The session at a desk where nothing was heard and none is open.
+fn at_desk<'p, 's, 'k, 'c, 'r, P: AuthPort, S: Source, K: Sink, C: Clock, R: Dice>(
+    desk: &mut Desk<'p, 's, 'k, 'c, 'r, P, S, K, C, R>,
+    console: bool,
+) -> Ending
+    requires reader { desk.old.reader ≡ record { pending = []; room = most_taken } }
+    requires opened { desk.old.opened ≡ None }
+    ensures session { Session console
+        (record { inlet = S.spring desk.old.from.now; outlet = K.drain desk.old.to.now; port = P.port desk.old.port.now; hours = C.hours desk.old.clock.now; throws = R.throws desk.old.dice.now })
+        (record { inlet = S.spring desk.new.from.now; outlet = K.drain desk.new.to.now; port = P.port desk.new.port.now; hours = C.hours desk.new.clock.now; throws = R.throws desk.new.dice.now })
+        result }
+    ensures same_port { desk.new.port.ghost_name ≡ desk.old.port.ghost_name }
+    ensures same_from { desk.new.from.ghost_name ≡ desk.old.from.ghost_name }
+    ensures same_to { desk.new.to.ghost_name ≡ desk.old.to.ghost_name }
+    ensures same_clock { desk.new.clock.ghost_name ≡ desk.old.clock.ghost_name }
+    ensures same_dice { desk.new.dice.ghost_name ≡ desk.old.dice.ghost_name }
+{
+    held(desk, console)
+}
+
 /// A session of `authsrv`: from the client's bytes to replies, each request asked of the port at a moment of the clock.
 /// The salts of new passwords come from the dice. It takes at most 2^40 bytes from the client.
 ///
@@ -148,5 +168,5 @@ pub fn authsrv_session<P: AuthPort, S: Source, K: Sink, C: Clock, R: Dice>(
         reader: LineReader::new(MOST_TAKEN),
         opened: None,
     };
-    held(&mut desk, console)
+    at_desk(&mut desk, console)
 }
