@@ -71,8 +71,9 @@ rises (suc n) (x ∷ a) (y ∷ b) bytes fits before = choose (nat_lt x y) refl (
         let less : x ≤ y = ltb-false y x most in
         let same : x ≡ y = omega (arith, least, less) in
         let rest : rank n a < rank n b = further
-              (more_only (nat_cmp x y) (slice_cmp nat_cmp a b) (sym (nat_cmp_is x y Equal same)) before) in
+        (more_only (nat_cmp x y) (slice_cmp nat_cmp a b) (sym (nat_cmp_is x y Equal same)) before) in
         rw same (omega (arith, rest))
+
     choose : (c : Bool) → nat_lt x y ≡ c → (is_lt (slice_cmp nat_cmp a b) ≡ true → rank n a < rank n b) → wide n + times x (wide n) + rank n a < wide n + times y (wide n) + rank n b
     choose true less further =
         let more : times x (wide n) + wide n ≤ times y (wide n) = step_times x y (wide n) (ltb-true x y less) in

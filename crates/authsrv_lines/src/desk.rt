@@ -26,7 +26,11 @@ fn opened_by(request: &Request, reply: &Reply, opened: Option<u64>) -> Option<u6
     match request {
         Request::Open { .. } => match reply {
             Reply::Opened { sid } => Some(*sid),
-            Reply::Password | Reply::Challenge { .. } | Reply::Ok | Reply::Shown(_) | Reply::Denied(_) => opened,
+            Reply::Password
+            | Reply::Challenge { .. }
+            | Reply::Ok
+            | Reply::Shown(_)
+            | Reply::Denied(_) => opened,
         },
         Request::Close => None,
         _ => opened,
@@ -52,7 +56,8 @@ fn cause_of(fault: PortFault) -> Cause
     }
 }
 
-impl<'p, 's, 'k, 'c, 'r, P: AuthPort, S: Source, K: Sink, C: Clock, R: Dice> Stage for Desk<'p, 's, 'k, 'c, 'r, P, S, K, C, R> {
+impl<'p, 's, 'k, 'c, 'r, P: AuthPort, S: Source, K: Sink, C: Clock, R: Dice> Stage
+    for Desk<'p, 's, 'k, 'c, 'r, P, S, K, C, R> {
     type Origin = P::Origin;
 
     ghost world = { λ d. record {

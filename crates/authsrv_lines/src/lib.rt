@@ -4,7 +4,10 @@
 //! `specs/Request.antt`. [`reply_text`] writes a reply and [`read_reply`] reads one; both are proved against the one
 //! text of each reply, `reply_line` of `specs/Reply.antt`. So `read_reply` gives a reply exactly for the text that
 //! `reply_text` writes of it, but for the answer to an Open, whose text doesn't hold the session's number. All lines
-//! are without their ends. Nothing here takes memory.
+//! are without their ends. None of these takes memory.
+//!
+//! [`authsrv_session`] is a whole session, from a client's bytes to replies. Its contract is the run of its rows, which
+//! stand in `specs/Dialogue.antt` as the dialogue does, then the Close that is owed, then the ending by its cause.
 #![tactic(auto)]
 
 mod cause;

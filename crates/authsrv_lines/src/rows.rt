@@ -16,7 +16,7 @@ use crate::stage::Stage;
 use crate::{Cause, Place, Wire, WireFault, read_request, reply_text};
 use arrayvec::ArrayVec;
 use auth_events::{Denial, Reply, Request};
-use fw_outside::{Heard, Name, append, append_byte, copy_of};
+use fw_outside::{Heard, Name, append_byte, copy_of};
 
 // Gives the client a line and its end.
 fn say_line<D: Stage>(stage: &mut D, line: &[u8]) -> Result<(), Cause>
@@ -42,7 +42,11 @@ fn tell<D: Stage>(stage: &mut D, line: &[u8], place: Option<Place>) -> Result<Op
 
 // Gives the client a reply, and comes to a place, or to the end.
 #[tactic(auto, using(crate::proofs::Acts::acting))]
-fn tell_reply<D: Stage>(stage: &mut D, reply: &Reply, place: Option<Place>) -> Result<Option<Place>, Cause>
+fn tell_reply<D: Stage>(
+    stage: &mut D,
+    reply: &Reply,
+    place: Option<Place>,
+) -> Result<Option<Place>, Cause>
     ensures ran { Ran rows (say (reply_line reply.now) (leads place)) leads (D.world stage.old) (D.world stage.new) result }
     ensures at { IfOk result (λ next. next ≡ place) }
 {
@@ -133,7 +137,11 @@ fn is_no_such(reply: &Reply) -> bool
 {
     match reply {
         Reply::Denied(denial) => matches!(denial, Denial::NoSuch),
-        Reply::Opened { .. } | Reply::Password | Reply::Challenge { .. } | Reply::Ok | Reply::Shown(_) => false,
+        Reply::Opened { .. }
+        | Reply::Password
+        | Reply::Challenge { .. }
+        | Reply::Ok
+        | Reply::Shown(_) => false,
     }
 }
 
@@ -152,7 +160,11 @@ fn shown_name(reply: &Reply) -> Option<Name>
 {
     match reply {
         Reply::Shown(summary) => Some(checked(summary.name.twin())),
-        Reply::Opened { .. } | Reply::Password | Reply::Challenge { .. } | Reply::Ok | Reply::Denied(_) => None,
+        Reply::Opened { .. }
+        | Reply::Password
+        | Reply::Challenge { .. }
+        | Reply::Ok
+        | Reply::Denied(_) => None,
     }
 }
 
@@ -187,7 +199,11 @@ fn opened_place(reply: &Reply) -> Option<Place>
 {
     match reply {
         Reply::Opened { .. } => Some(Place::Waiting),
-        Reply::Password | Reply::Challenge { .. } | Reply::Ok | Reply::Shown(_) | Reply::Denied(_) => None,
+        Reply::Password
+        | Reply::Challenge { .. }
+        | Reply::Ok
+        | Reply::Shown(_)
+        | Reply::Denied(_) => None,
     }
 }
 
