@@ -1,16 +1,15 @@
 -- A lemma for each act, by which the check follows the rows.
-use Rattle.std.specs.Prelude.{◌≡◌, ℕ, List, Option, Result, Err, IsErrAnd}
+use Rattle.std.specs.Prelude.{◌≡◌, ℕ, List, Result, Err, IsErrAnd}
 use Rattle.auth_events.specs.declared.port.PortFault.{PortFault}
 use Rattle.auth_events.specs.declared.port.PortFault.TheVariants as faults
 use Rattle.auth_events.specs.declared.reply.Reply.{Reply}
 use Rattle.auth_events.specs.declared.request.Request.{Request}
 use Rattle.fw_acts.specs.Acts.{Row, Table}
-use Rattle.fw_acts.specs.Acts.Row.{Do, At}
+use Rattle.fw_acts.specs.Acts.Row.{Do}
 use Rattle.fw_acts.specs.Ran.{Ran, StopsAt}
 use Rattle.fw_acts.specs.RanLemmas.{ran_did, ran_here, ran_on}
-use Rattle.fw_outside.specs.declared.heard.Heard.{Heard}
-use Rattle.authsrv_lines.specs.Acts.{Act, Answer, Asking, Failing, Saying, Stops, Throwing, World, acts, cause_of}
-use Rattle.authsrv_lines.specs.Acts.Act.{Hear, Salt, Ask, Say}
+use Rattle.authsrv_lines.specs.Acts.{Asking, Failing, Saying, Stops, Throwing, World, acts, cause_of}
+use Rattle.authsrv_lines.specs.Acts.Act.{Salt, Ask, Say}
 use Rattle.authsrv_lines.specs.declared.cause.Cause.{Cause}
 use Rattle.authsrv_lines.specs.declared.place.Place.{Place}
 

@@ -1,13 +1,11 @@
 -- Names that follow one another come nearer to the last.
-use Rattle.std.proofs.Common.{rules, arith, ◌≡◌, refl, sym, ap, subst, ◌∙◌, ℕ, zero, suc, ◌+◌, ◌-◌, ◌<◌, ◌≤◌, Bool, true, false, nat_lt, nat_eq, List, [], ◌∷◌, length, Ordering, Less, Equal, Greater, is_lt, nat_cmp, IsTrue}
+use Rattle.std.proofs.Common.{arith, ◌≡◌, refl, sym, subst, ℕ, zero, suc, ◌+◌, ◌<◌, ◌≤◌, Bool, true, false, nat_lt, List, [], ◌∷◌, length, Ordering, Equal, Greater, is_lt, nat_cmp}
 use mathlib.Core.Bool.{true≢false}
 use Rattle.std.specs.Cmp.Lexicographic.{slice_cmp}
-use Rattle.std.specs.List.{AllByRecursion, list_all}
+use Rattle.std.specs.List.{AllByRecursion}
 use Rattle.std.specs.Cmp.{nat_cmp_is}
 use Rattle.std.specs.Ordering.{ordering_then}
 use Rattle.std.proofs.lemmas.Bool.{ltb-true, ltb-false}
-use Rattle.fw_outside.specs.Bytes.{is_name_byte}
-use Rattle.fw_outside.specs.Name.{is_before, is_name}
 use Rattle.authsrv_lines.specs.Distance.{rank, times, wide}
 
 pub clash : {A : Type 0} → false ≡ true → A

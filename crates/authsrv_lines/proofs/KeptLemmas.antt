@@ -1,5 +1,5 @@
 -- What no act of a session breaks.
-use Rattle.std.proofs.Common.{rules, arith, ◌≡◌, refl, sym, ap, subst, ◌∙◌, ℕ, ◌+◌, ◌≤◌, ◌<◌, List, ◌++◌, length, Option, Some, None, Result, Ok, Err}
+use Rattle.std.proofs.Common.{arith, ◌≡◌, refl, sym, ap, subst, ◌∙◌, ℕ, ◌+◌, ◌≤◌, ◌++◌, length, Option, Some, None, Result, Ok, Err}
 use Rattle.auth_events.specs.declared.reply.Reply.{Reply}
 use Rattle.auth_events.specs.declared.request.Request.TheVariants as requests
 use Rattle.fw_outside.specs.declared.ending.Ending.{Ending}
@@ -9,11 +9,10 @@ use Rattle.fw_acts.specs.Acts.{Row}
 use Rattle.fw_acts.specs.Kept.{Kept}
 use Rattle.fw_acts.specs.KeptLemmas.{ran_kept}
 use Rattle.fw_acts.specs.Ran.{Ran}
-use Rattle.fw_outside.specs.Window.{Listens}
 use Rattle.fw_outside.specs.declared.heard.Heard.{Heard}
 use Rattle.fw_outside.specs.declared.heard.Heard.TheVariants.{Line, TooLong, Stopped}
 use Rattle.fw_outside.specs.declared.heard.Stop.TheVariants as stops
-use Rattle.authsrv_lines.specs.Acts.{Act, Answer, Does, Dropping, Failing, FailingSo, Hears, HearsLine, Stops, World, acts}
+use Rattle.authsrv_lines.specs.Acts.{Act, Answer, Does, Hears, HearsLine, Stops, World, acts}
 use Rattle.authsrv_lines.specs.Acts.Act.{Hear, Salt, Ask, Say}
 use Rattle.authsrv_lines.specs.Dialogue.{rows}
 use Rattle.authsrv_lines.specs.Distance.{ahead}

@@ -1,8 +1,6 @@
 -- Each turn comes nearer to the end.
-use Rattle.std.proofs.Common.{rules, arith, ◌≡◌, refl, sym, ap, subst, ◌∙◌, ℕ, zero, suc, ◌+◌, ◌-◌, ◌<◌, ◌≤◌, Bool, true, false, ◌&&◌, not, nat_lt, nat_le, List, [], ◌∷◌, length, Option, Some, None, IfSome, IfOk, IsTrue, Result, Ok, Err}
-use mathlib.Core.Bool.{true≢false}
+use Rattle.std.proofs.Common.{rules, arith, ◌≡◌, refl, sym, ap, subst, ℕ, suc, ◌+◌, ◌<◌, ◌≤◌, Bool, true, false, ◌&&◌, nat_lt, List, [], ◌∷◌, length, Option, Some, None, IfSome, IfOk, IsTrue, Result, Ok, Err}
 use Rattle.std.specs.List.{AllByRecursion, list_all}
-use Rattle.std.specs.Str.{bytes_eq}
 use Rattle.std.proofs.lemmas.Bool.{ltb-true, ltb-false}
 use Rattle.auth_events.specs.Fits.{comes_after}
 use Rattle.auth_events.specs.declared.reply.Reply.{Reply}
@@ -13,15 +11,14 @@ use Rattle.fw_outside.specs.Lines.{first_line}
 use Rattle.fw_outside.specs.Name.{is_name}
 use Rattle.fw_outside.specs.declared.heard.Heard.{Heard}
 use Rattle.fw_outside.specs.declared.heard.Heard.TheVariants.{Line, TooLong, Stopped}
-use Rattle.fw_outside.specs.declared.heard.Stop.TheVariants as stops
 use Rattle.authsrv_lines.proofs.DistanceLemmas.{below, clash, positive, rises, step_times}
 use Rattle.authsrv_lines.proofs.KeptLemmas.{Stays, heard_ahead}
 use Rattle.authsrv_lines.specs.Acts.{Asking, Hears, HearsLine, World}
-use Rattle.authsrv_lines.specs.Distance.{IsFresh, IsNext, IsPlace, ahead, distance, left_at, listed_place, listing_from, rank, rank_of, times, wide}
+use Rattle.authsrv_lines.specs.Distance.{IsFresh, IsNext, IsPlace, ahead, distance, left_at, listed_place, rank, rank_of, times, wide}
 use Rattle.fw_acts.specs.Acts.Row.{Over}
 use Rattle.fw_acts.specs.Ran.{Ran}
 use Rattle.fw_acts.specs.RanLemmas.{ran_as}
-use Rattle.authsrv_lines.specs.Dialogue.{leads, rows, session_row, shown_name}
+use Rattle.authsrv_lines.specs.Dialogue.{leads, rows, session_row}
 use Rattle.authsrv_lines.specs.declared.cause.Cause.{Cause}
 use Rattle.authsrv_lines.specs.declared.place.Place.{Place}
 use Rattle.authsrv_lines.specs.declared.place.Place.TheVariants.{Waiting, Listing}

@@ -1,5 +1,5 @@
 -- What a session of `authsrv` does: it hears lines, asks, throws dice for a salt, and says lines.
-use Rattle.std.specs.Prelude.{◌≡◌, ℕ, List, [], Option, Some, None, Result, Ok, Err, unwrap_or}
+use Rattle.std.specs.Prelude.{◌≡◌, ℕ, List, Option, Some, None, Err, unwrap_or}
 use Rattle.auth_events.specs.Port.{Asks, Port, Replies}
 use Rattle.auth_events.specs.declared.port.PortFault.{PortFault}
 use Rattle.auth_events.specs.declared.port.PortFault.TheVariants as faults

@@ -3,7 +3,6 @@ use Rattle.std.specs.Prelude.{◌≡◌, ℕ, ◌^◌, Bool, List, [], Option, S
 use Rattle.auth_events.specs.Port.{Port}
 use Rattle.auth_events.specs.declared.reply.Reply.{Reply}
 use Rattle.auth_events.specs.declared.request.Request.TheVariants as requests
-use Rattle.fw_acts.specs.Acts.{Row}
 use Rattle.fw_acts.specs.Acts.Row.{Over}
 use Rattle.fw_acts.specs.Ran.{Ran}
 use Rattle.fw_outside.specs.Drain.{Drain}
@@ -12,12 +11,11 @@ use Rattle.fw_outside.specs.Spring.{Spring}
 use Rattle.fw_outside.specs.Throws.{Throws}
 use Rattle.fw_outside.specs.declared.ending.Ending.{Ending}
 use Rattle.fw_outside.specs.declared.ending.Ending.TheVariants as endings
-use Rattle.authsrv_lines.specs.Acts.{Asking, Stops, World, acts}
+use Rattle.authsrv_lines.specs.Acts.{Asking, Stops, World}
 use Rattle.authsrv_lines.specs.Acts.Act.{Ask}
 use Rattle.authsrv_lines.specs.Dialogue.{rows, session_row}
 use Rattle.authsrv_lines.specs.declared.cause.Cause.{Cause}
 use Rattle.authsrv_lines.specs.declared.cause.Cause.TheVariants as causes
-use Rattle.authsrv_lines.specs.declared.place.Place.{Place}
 
 -- ---- endings
 

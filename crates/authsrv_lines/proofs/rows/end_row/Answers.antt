@@ -1,6 +1,6 @@
-use Rattle.std.proofs.Common.{rules, refl, sym, ap, subst, ◌≡◌, ◌∙◌}
+use Rattle.std.proofs.Common.{refl}
 use Rattle.fw_acts.specs.RanLemmas.{ran_here}
-use Rattle.authsrv_lines.proofs.Acts.{asked, halted, said, thrown}
+use Rattle.authsrv_lines.proofs.Acts.{asked, halted}
 use Rattle.authsrv_lines.proofs.rows.end_row.Goals as goal
 
 pub returns-in_err-ask-clause-ran : goal.returns-in_err-ask-clause-ran

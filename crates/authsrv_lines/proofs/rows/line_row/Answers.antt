@@ -1,6 +1,5 @@
-use Rattle.std.proofs.Common.{rules, refl, sym, ap, subst, ◌≡◌, ◌∙◌}
+use Rattle.std.proofs.Common.{refl, sym, ◌∙◌}
 use Rattle.fw_acts.specs.RanLemmas.{ran_here}
-use Rattle.authsrv_lines.proofs.Acts.{asked, halted, said, thrown}
 use Rattle.authsrv_lines.proofs.rows.line_row.Goals as goal
 
 pub returns-in-Err-clause-ran : goal.returns-in-Err-clause-ran

@@ -1,6 +1,4 @@
-use Rattle.std.proofs.Common.{rules, refl, sym, ap, subst, ◌≡◌, ◌∙◌}
-use Rattle.fw_acts.specs.RanLemmas.{ran_here}
-use Rattle.authsrv_lines.proofs.Acts.{asked, halted, said, thrown}
+use Rattle.std.proofs.Common.{sym, ◌∙◌}
 use Rattle.authsrv_lines.proofs.rows.list_end.Goals as goal
 
 pub returns-then-is_no_such-clause-ran : goal.returns-then-is_no_such-clause-ran

@@ -1,6 +1,5 @@
-use Rattle.std.proofs.Common.{rules, refl, sym, ap, subst, ◌≡◌, ◌∙◌}
-use Rattle.fw_acts.specs.RanLemmas.{ran_here}
-use Rattle.authsrv_lines.proofs.Acts.{asked, halted, said, thrown}
+use Rattle.std.proofs.Common.{sym}
+use Rattle.authsrv_lines.proofs.Acts.{asked, halted}
 use Rattle.authsrv_lines.proofs.rows.session_row.Goals as goal
 
 pub returns-in_err-reply-clause-ran : goal.returns-in_err-reply-clause-ran

@@ -1,7 +1,7 @@
-use Rattle.std.proofs.Common.{rules, refl, sym, subst, ◌≡◌, ◌∷◌, [], List, ℕ, Option, ◌^◌}
+use Rattle.std.proofs.Common.{refl, subst, ◌∷◌, [], List, ℕ, Option, ◌^◌}
 use Rattle.fw_outside.specs.Window.{Window}
 use Rattle.authsrv_lines.specs.Acts.{World}
-use Rattle.authsrv_lines.specs.Session.{Held, Session}
+use Rattle.authsrv_lines.specs.Session.{Held}
 use Rattle.authsrv_lines.proofs.session.at_desk.Goals as goal
 
 pub returns-clause-session : goal.returns-clause-session

@@ -1,9 +1,8 @@
-use Rattle.std.proofs.Common.{rules, refl, sym, ap, subst, ◌≡◌, ◌∙◌, Some, IfSome, Option, Result, Ok}
-use Rattle.fw_acts.specs.Ran.{Ran}
+use Rattle.std.proofs.Common.{rules, subst, IfSome, Option}
 use Rattle.fw_acts.specs.RanLemmas.{ran_on, ran_then}
 use Rattle.authsrv_lines.specs.Distance.{IsPlace}
 use Rattle.authsrv_lines.specs.declared.place.Place.{Place}
-use Rattle.authsrv_lines.proofs.TurnLemmas.{Talks, at_end, at_place, fresh_form, still, still_less}
+use Rattle.authsrv_lines.proofs.TurnLemmas.{at_end, at_place, fresh_form, still_less}
 use Rattle.authsrv_lines.proofs.session.dialogue.Goals as goal
 
 pub returns-in_err-next : goal.returns-in_err-next

@@ -1,4 +1,3 @@
-use Rattle.std.proofs.Common.{rules, refl, sym, ap, subst, ◌≡◌, ◌∙◌}
 use Rattle.fw_acts.specs.RanLemmas.{ran_at}
 use Rattle.authsrv_lines.proofs.Acts.{halted}
 use Rattle.authsrv_lines.proofs.KeptLemmas.{ran_stays}

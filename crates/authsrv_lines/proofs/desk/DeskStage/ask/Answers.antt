@@ -1,5 +1,4 @@
-use Rattle.std.proofs.Common.{rules, refl, sym, ap, subst, ◌≡◌, ◌∙◌}
-use Rattle.fw_acts.specs.RanLemmas.{ran_here}
+use Rattle.std.proofs.Common.{refl, sym}
 use Rattle.authsrv_lines.proofs.Acts.{failing_stops}
 use Rattle.authsrv_lines.proofs.desk.DeskStage.ask.Goals as goal
 
