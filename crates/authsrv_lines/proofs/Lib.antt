@@ -4,5 +4,6 @@ pub mod KeptLemmas
 pub mod NumberLemmas
 pub mod ReplyLemmas
 pub mod SpaceLemmas
+pub mod ToldLemmas
 pub mod TurnLemmas
 pub mod WordLemmas

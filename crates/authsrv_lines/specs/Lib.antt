@@ -9,3 +9,4 @@ pub mod Acts
 pub mod Dialogue
 pub mod Distance
 pub mod Session
+pub mod Told

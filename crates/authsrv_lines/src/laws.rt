@@ -1,5 +1,9 @@
-//! What holds of all replies and all lines.
-ghost use Rattle.std.specs.Prelude.{◌≡◌, List, ℕ, IsTrue, Option, Some};
+//! What holds of all replies and all lines, and of every session.
+ghost use Rattle.std.specs.Prelude.{◌≡◌, List, ℕ, Bool, IsTrue, Option, Some};
+ghost use Rattle.fw_outside.specs.declared.ending.Ending.{Ending};
+ghost use Rattle.authsrv_lines.specs.Acts.{World};
+ghost use Rattle.authsrv_lines.specs.Session.{Held};
+ghost use Rattle.authsrv_lines.specs.Told.{Told};
 ghost use Rattle.auth_events.specs.declared.reply.Reply.{Reply};
 ghost use Rattle.authsrv_lines.specs.Reply.{Answers, IsReply, is_whole, reply_line};
 
@@ -9,4 +13,10 @@ pub fn inverse()
     ensures written_is_read { (reply : Reply) (answer : Option Reply) → IsReply reply → IsTrue (is_whole reply) → Answers (reply_line reply) answer → answer ≡ Some reply }
     ensures read_is_written { (line : List ℕ) (reply : Reply) → Answers line (Some reply) → reply_line reply ≡ line }
     ensures one_reply { (first second : Reply) → IsReply first → IsReply second → IsTrue (is_whole first) → IsTrue (is_whole second) → reply_line first ≡ reply_line second → first ≡ second }
+{}
+
+/// What a client was given by a session is the texts that it said, one after another, and a front of the one at which it
+/// stopped, if it did at one; closing tells nothing.
+pub fn the_client_is_told<Origin>()
+    ensures { (console : Bool) (old new : World Origin) (ending : Ending) → Held console old new ending → Told console old new }
 {}
