@@ -2,7 +2,6 @@
 use Rattle.std.proofs.Common.{arith, ◌≡◌, refl, sym, ap, subst, ◌∙◌, ℕ, ◌+◌, ◌≤◌, ◌++◌, length, Option, Some, None, Result, Ok, Err}
 use Rattle.auth_events.specs.declared.reply.Reply.{Reply}
 use Rattle.auth_events.specs.declared.request.Request.TheVariants as requests
-use Rattle.fw_outside.specs.declared.ending.Ending.{Ending}
 use Rattle.authsrv_lines.specs.Session.{Closes, ClosesSo}
 use Rattle.std.proofs.lemmas.List.{length-append}
 use Rattle.fw_acts.specs.Acts.{Row}
@@ -102,6 +101,6 @@ closing_names (Ok reply) old new h = (stays_act (Ask requests.Close) reply old n
 closing_names (Err cause) old new h = (stays_failing (Ask requests.Close) cause old new h).names
 
 -- closing keeps the references
-pub closes_names : {Origin : Type 0} (opened : Option ℕ) (dialogue : Result (Unit {0}) Cause) (old new : World Origin) (ending : Ending) → Closes opened dialogue old new ending → new.names ≡ old.names
-closes_names {Origin} None dialogue old new ending h = ap (λ (w : World Origin). w.names) h.0
-closes_names (Some sid) dialogue old new ending h = closing_names h.answer old new h.closes
+pub closes_names : {Origin : Type 0} (opened : Option ℕ) (old new : World Origin) → Closes opened old new → new.names ≡ old.names
+closes_names {Origin} None old new h = ap (λ (w : World Origin). w.names) h
+closes_names (Some sid) old new h = closing_names h.answer old new h.closes

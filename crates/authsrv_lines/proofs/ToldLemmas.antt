@@ -1,18 +1,22 @@
 -- What the client was given.
-use Rattle.std.proofs.Common.{rules, ◌≡◌, refl, sym, ap, subst, ◌∙◌, ℕ, Bool, List, [], ◌∷◌, ◌++◌, Option, Some, None, Result, Ok, Err, append_assoc, append-nil}
+use Rattle.std.proofs.Common.{◌≡◌, refl, sym, ap, subst, ◌∙◌, ℕ, Bool, List, [], ◌++◌, Option, Some, None, Result, Ok, Err, append_assoc, append-nil}
 use Rattle.auth_events.specs.declared.reply.Reply.{Reply}
-use Rattle.auth_events.specs.declared.request.Request.TheVariants as requests
-use Rattle.fw_acts.specs.Projections.{Cuts, Gave, Grows, InPart}
-use Rattle.fw_acts.specs.ProjectionLemmas.{ran_gave}
+use Rattle.fw_acts.specs.Acts.{Row}
+use Rattle.fw_acts.specs.Acts.Row.{Do, At, Over}
+use Rattle.fw_acts.specs.Projections.{Grows, projection}
+use Rattle.fw_acts.specs.ProjectionLemmas.{ran_grew}
+use Rattle.fw_acts.specs.Ran.{Comes, StopsAt}
+use Rattle.authsrv_lines.specs.Dialogue.{act_at, rows}
+use Rattle.authsrv_lines.specs.declared.place.Place.{Place}
 use Rattle.fw_outside.specs.Telling.{grown}
 use Rattle.fw_outside.specs.declared.ending.Ending.{Ending}
 use Rattle.fw_outside.specs.declared.heard.Heard.{Heard}
 use Rattle.fw_outside.specs.declared.heard.Heard.TheVariants.{Line, TooLong, Stopped}
 use Rattle.fw_outside.specs.declared.heard.Stop.TheVariants as stops
-use Rattle.authsrv_lines.specs.Acts.{Act, Answer, Does, Hears, HearsLine, Stops, World, acts}
+use Rattle.authsrv_lines.specs.Acts.{Act, Answer, Does, HearsLine, Stops, World, acts}
 use Rattle.authsrv_lines.specs.Acts.Act.{Hear, Salt, Ask, Say}
 use Rattle.authsrv_lines.specs.Session.{Closes, ClosesSo, Held}
-use Rattle.authsrv_lines.specs.Told.{GrewBy, Told, text_of}
+use Rattle.authsrv_lines.specs.Told.{GrewBy, PartAt, PartOf, PartOfAct, Told, text_of}
 use Rattle.authsrv_lines.specs.declared.cause.Cause.{Cause}
 use Rattle.authsrv_lines.specs.declared.cause.Cause.TheVariants.{ClientFault, Idle, Spent, AuthFault, NoMemory}
 
@@ -49,13 +53,16 @@ module _ {Origin : Type 0} where
   grows : Grows (acts Origin) text_of GrewBy
   grows = record { none = λ world. by_nothing world.outlet.given; both = grew_both; act = grew_act }
 
-  no_part : (act : Act) (old new : World Origin) → new.outlet ≡ old.outlet → InPart (acts Origin) text_of GrewBy act old new
-  no_part act old new same = record { part = []; front = λ answer. (text_of act answer, refl); grew = same_outlet old new same }
+  -- what an act at which the session stopped has given
+  pub record Parts (act : Act) (old new : World Origin) : Type 0 where
+    pub part : List ℕ
+    pub is_part : PartOfAct act part
+    pub grew : GrewBy part old new
 
-  cuts : Cuts (acts Origin) text_of GrewBy
-  cuts Hear ClientFault old new h = no_part Hear old new (ap (λ (w : World Origin). w.outlet) h.is)
-  cuts Hear Idle old new h = no_part Hear old new (ap (λ (w : World Origin). w.outlet) h.is)
-  cuts Hear Spent old new h = no_part Hear old new (ap (λ (w : World Origin). w.outlet) h.is)
+  cuts : (act : Act) (cause : Cause) (old new : World Origin) → Stops act cause old new → Parts act old new
+  cuts Hear ClientFault old new h = record { part = []; is_part = refl; grew = same_outlet old new (ap (λ (w : World Origin). w.outlet) h.is) }
+  cuts Hear Idle old new h = record { part = []; is_part = refl; grew = same_outlet old new (ap (λ (w : World Origin). w.outlet) h.is) }
+  cuts Hear Spent old new h = record { part = []; is_part = refl; grew = same_outlet old new (ap (λ (w : World Origin). w.outlet) h.is) }
   cuts Hear AuthFault old new h = absurd h
   cuts Hear NoMemory old new h = absurd h
   cuts Salt ClientFault old new h = absurd h
@@ -63,20 +70,47 @@ module _ {Origin : Type 0} where
   cuts Salt Spent old new h = absurd h
   cuts Salt AuthFault old new h = absurd h
   cuts Salt NoMemory old new h = absurd h
-  cuts (Ask request) AuthFault old new h = no_part (Ask request) old new (ap (λ (w : World Origin). w.outlet) h.failing.is)
-  cuts (Ask request) NoMemory old new h = no_part (Ask request) old new (ap (λ (w : World Origin). w.outlet) h.is)
+  cuts (Ask request) AuthFault old new h = record { part = []; is_part = refl; grew = same_outlet old new (ap (λ (w : World Origin). w.outlet) h.failing.is) }
+  cuts (Ask request) NoMemory old new h = record { part = []; is_part = refl; grew = same_outlet old new (ap (λ (w : World Origin). w.outlet) h.is) }
   cuts (Ask request) ClientFault old new h = absurd h
   cuts (Ask request) Idle old new h = absurd h
   cuts (Ask request) Spent old new h = absurd h
   cuts (Say text) ClientFault old new h = record {
     part = h.cut.part;
-    front = λ answer. (h.cut.rest, h.cut.cut);
+    is_part = (h.cut.rest, h.cut.cut);
     grew = ap (λ (w : World Origin). w.outlet.given) h.is ∙ ap (λ o. o.given) h.cut.is;
   }
   cuts (Say text) Idle old new h = absurd h
   cuts (Say text) Spent old new h = absurd h
   cuts (Say text) AuthFault old new h = absurd h
   cuts (Say text) NoMemory old new h = absurd h
+
+  -- and so has what stopped with a row left
+  pub record LeftParts (left : Row (acts Origin) Place) (old new : World Origin) : Type 0 where
+    pub part : List ℕ
+    pub is_part : PartOf left part
+    pub grew : GrewBy part old new
+
+  cut_row : (left : Row (acts Origin) Place) (cause : Cause) (old new : World Origin) → StopsAt rows left cause old new → LeftParts left old new
+  cut_row (Do act go) cause old new h = let cut = cuts act cause old new h in record { part = cut.part; is_part = cut.is_part; grew = cut.grew }
+  cut_row (At place) cause old new h = let cut = cuts (act_at place) cause old new h in record { part = cut.part; is_part = cut.is_part; grew = cut.grew }
+  cut_row Over cause old new h = absurd h
+
+  pub record Given (dialogue : Result (Unit {0}) Cause) (left : Row (acts Origin) Place) (texts : List ℕ) (old new : World Origin) : Type 0 where
+    pub part : List ℕ
+    pub is_part : PartAt dialogue left part
+    pub grew : GrewBy (texts ++ part) old new
+
+  comes_given : (dialogue : Result (Unit {0}) Cause) (left : Row (acts Origin) Place) (texts : List ℕ) (old mid new : World Origin) → GrewBy texts old mid
+      → Comes rows (λ done. Over) dialogue new left mid → Given dialogue left texts old new
+  comes_given (Ok done) left texts old mid new grew comes = record {
+    part = [];
+    is_part = refl;
+    grew = subst (λ (w : World Origin). GrewBy (texts ++ []) old w) comes.1 (rw append-nil grew);
+  }
+  comes_given (Err cause) left texts old mid new grew comes =
+      let cut = cut_row left cause mid new comes in
+      record { part = cut.part; is_part = cut.is_part; grew = grew_both texts cut.part old mid new grew cut.grew }
 
   -- closing tells nothing
   quiet_answer : (answer : Result Reply Cause) (old new : World Origin) → ClosesSo answer old new → new.outlet ≡ old.outlet
@@ -87,18 +121,15 @@ module _ {Origin : Type 0} where
   quiet_answer (Err Idle) old new h = absurd h
   quiet_answer (Err Spent) old new h = absurd h
 
-  quiet_close : (opened : Option ℕ) (dialogue : Result (Unit {0}) Cause) (old new : World Origin) (ending : Ending) → Closes opened dialogue old new ending → new.outlet ≡ old.outlet
-  quiet_close None dialogue old new ending h = ap (λ (w : World Origin). w.outlet) h.0
-  quiet_close (Some sid) dialogue old new ending h = quiet_answer h.answer old new h.closes
+  quiet_close : (opened : Option ℕ) (old new : World Origin) → Closes opened old new → new.outlet ≡ old.outlet
+  quiet_close None old new h = ap (λ (w : World Origin). w.outlet) h
+  quiet_close (Some sid) old new h = quiet_answer h.answer old new h.closes
 
-  pub held_told : (console : Bool) (old new : World Origin) (ending : Ending) → Held console old new ending → Told console old new
+  pub held_told : (console : Bool) (old new : World Origin) (ending : Ending) (held : Held console old new ending) → Told console old new ending held
   held_told console old new ending held =
-      let gave = ran_gave grows cuts held.dialogue held.ran in
+      let given = comes_given held.dialogue held.ran.left (projection text_of held.ran.steps) old held.ran.mid held.mid (ran_grew grows held.ran) held.ran.comes in
       record {
-        steps = held.ran.steps;
-        left = held.ran.left;
-        run = held.ran.run;
-        given = gave.given;
-        grew = ap (λ o. o.given) (quiet_close held.mid.opened held.dialogue held.mid new ending held.closed) ∙ gave.grew;
-        front = gave.front;
+        part = given.part;
+        is_part = given.is_part;
+        grew = ap (λ o. o.given) (quiet_close held.mid.opened held.mid new held.closed) ∙ given.grew;
       }

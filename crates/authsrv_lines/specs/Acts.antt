@@ -1,5 +1,5 @@
 -- What a session of `authsrv` does: it hears lines, asks, throws dice for a salt, and says lines.
-use Rattle.std.specs.Prelude.{◌≡◌, ℕ, List, Option, Some, None, Err, unwrap_or}
+use Rattle.std.specs.Prelude.{length, ◌≤◌, ◌≡◌, ℕ, List, Option, Some, None, Err, unwrap_or}
 use Rattle.auth_events.specs.Port.{Asks, Port, Replies}
 use Rattle.auth_events.specs.declared.port.PortFault.{PortFault}
 use Rattle.auth_events.specs.declared.port.PortFault.TheVariants as faults
@@ -47,11 +47,12 @@ Answer (Say text) = Unit {0}
 
 -- ---- acts that were done
 
--- this was heard of the client
+-- this was heard of the client, from whom at most 4,096 bytes were taken beyond it
 pub record Hears {Origin : Type 0} (heard : Heard) (old new : World Origin) : Type 0 where
   pub inlet : Spring
   pub window : Window
   pub listens : Listens heard old.window window old.inlet inlet
+  pub near : length window.pending ≤ 4096
   pub is : new ≡ record old { inlet = inlet; window = window }
 
 -- a line, or the end
@@ -120,16 +121,16 @@ pub record Failing {Origin : Type 0} (request : Request) (fault : PortFault) (ol
   pub asks : Asks (Err fault) (number_told old.opened) moment request old.port port
   pub is : new ≡ record old { hours = hours; port = port; opened = closed_by request old.opened }
 
--- faults of the port that end a session as such
-abbrev pub IsFault : PortFault → Type 0
-IsFault faults.Link = Unit {0}
-IsFault faults.Strange = Unit {0}
-IsFault faults.NoMemory = ⊥
+-- faults that the port counts
+abbrev pub IsCounted : PortFault → Type 0
+IsCounted faults.Link = Unit {0}
+IsCounted faults.Strange = Unit {0}
+IsCounted faults.NoMemory = ⊥
 
 -- the link failed or something strange came
 pub record FailingSo {Origin : Type 0} (request : Request) (old new : World Origin) : Type 0 where
   pub fault : PortFault
-  pub cause : IsFault fault
+  pub cause : IsCounted fault
   pub failing : Failing request fault old new
 
 abbrev pub Stops : {Origin : Type 0} → Act → Cause → World Origin → World Origin → Type 0

@@ -31,12 +31,6 @@ abbrev pub ending_of : Result (Unit {0}) Cause → Ending
 ending_of (Ok _) = endings.Done
 ending_of (Err cause) = ending_by cause
 
--- what is done but couldn't be closed ends by that cause, and what stopped before keeps its ending
-abbrev pub closed_ending : Result (Unit {0}) Cause → Result Reply Cause → Ending
-closed_ending dialogue (Ok reply) = ending_of dialogue
-closed_ending (Ok _) (Err cause) = ending_by cause
-closed_ending (Err first) (Err cause) = ending_by first
-
 -- ---- the close that is owed
 
 -- Close was asked, and answered or not
@@ -44,24 +38,25 @@ abbrev pub ClosesSo : {Origin : Type 0} → Result Reply Cause → World Origin 
 ClosesSo (Ok reply) old new = Asking requests.Close reply old new
 ClosesSo (Err cause) old new = Stops (Ask requests.Close) cause old new
 
-pub record Closing {Origin : Type 0} (dialogue : Result (Unit {0}) Cause) (old new : World Origin) (ending : Ending) : Type 0 where
+pub record Closing {Origin : Type 0} (old new : World Origin) : Type 0 where
   pub answer : Result Reply Cause
   pub closes : ClosesSo answer old new
-  pub ends : ending ≡ closed_ending dialogue answer
 
 -- where a session is open that wasn't asked to close, that is asked; where none is, nothing more is done
-abbrev pub Closes : {Origin : Type 0} → Option ℕ → Result (Unit {0}) Cause → World Origin → World Origin → Ending → Type 0
-Closes None dialogue old new ending = (new ≡ old) × (ending ≡ ending_of dialogue)
-Closes (Some sid) dialogue old new ending = Closing dialogue old new ending
+abbrev pub Closes : {Origin : Type 0} → Option ℕ → World Origin → World Origin → Type 0
+Closes None old new = new ≡ old
+Closes (Some sid) old new = Closing old new
 
 -- ---- the session
 
--- the rows were run to their end, or to the act at which they stopped; then the session was closed where that was owed
+-- the rows were run to their end, or to the act at which they stopped; then the session was closed where that was owed,
+-- which changes no ending
 pub record Held {Origin : Type 0} (console : Bool) (old new : World Origin) (ending : Ending) : Type 0 where
   pub dialogue : Result (Unit {0}) Cause
   pub mid : World Origin
   pub ran : Ran rows (session_row console) (λ done. Over) old mid dialogue
-  pub closed : Closes mid.opened dialogue mid new ending
+  pub closed : Closes mid.opened mid new
+  pub ends : ending ≡ ending_of dialogue
 
 -- the devices that a session is lent
 pub record Devices (Origin : Type 0) : Type 0 where

@@ -18,5 +18,5 @@ pub fn inverse()
 /// What a client was given by a session is the texts that it said, one after another, and a front of the one at which it
 /// stopped, if it did at one; closing tells nothing.
 pub fn the_client_is_told<Origin>()
-    ensures { (console : Bool) (old new : World Origin) (ending : Ending) → Held console old new ending → Told console old new }
+    ensures { (console : Bool) (old new : World Origin) (ending : Ending) (held : Held console old new ending) → Told console old new ending held }
 {}

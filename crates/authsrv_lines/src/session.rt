@@ -4,13 +4,13 @@ ghost use Rattle.fw_acts.specs.Acts.Row.{At, Over};
 ghost use Rattle.fw_acts.specs.Ran.{Ran};
 ghost use Rattle.authsrv_lines.specs.Dialogue.{leads, rows, session_row};
 ghost use Rattle.authsrv_lines.specs.Distance.{IsPlace, distance};
-ghost use Rattle.authsrv_lines.specs.Session.{Closes, Closing, Held, Session, closed_ending, ending_by, ending_of, most_taken};
+ghost use Rattle.authsrv_lines.specs.Session.{Closes, Closing, Held, Session, ending_by, ending_of, most_taken};
 
 use crate::desk::Desk;
 use crate::rows::{heard_row, listed_row, session_row};
 use crate::stage::Stage;
 use crate::{Cause, Place};
-use auth_events::{AuthPort, Reply, Request};
+use auth_events::{AuthPort, Request};
 use fw_outside::{Clock, Dice, Ending, LineReader, Name, Sink, Source};
 
 // No more bytes than these are taken from a client.
@@ -82,34 +82,20 @@ fn ending_of(dialogue: Result<(), Cause>) -> Ending
     }
 }
 
-fn closed_ending(dialogue: Result<(), Cause>, answer: &Result<Reply, Cause>) -> Ending
-    ensures { result ≡ closed_ending dialogue answer.now }
+// Asks Close of the session that is open.
+fn close_open<D: Stage>(stage: &mut D)
+    ensures { Closing (D.world stage.old) (D.world stage.new) }
 {
-    match answer {
-        Ok(_) => ending_of(dialogue),
-        Err(cause) => match dialogue {
-            Ok(()) => ending_by(*cause),
-            Err(first) => ending_by(first),
-        },
-    }
-}
-
-// Asks Close of a session that is open.
-fn close_open<D: Stage>(stage: &mut D, dialogue: Result<(), Cause>) -> Ending
-    ensures { Closing dialogue (D.world stage.old) (D.world stage.new) result }
-{
-    let answer = stage.ask(Request::Close);
-    closed_ending(dialogue, &answer)
+    let _ = stage.ask(Request::Close);
 }
 
 // Asks Close where that is owed.
-fn close<D: Stage>(stage: &mut D, dialogue: Result<(), Cause>) -> Ending
-    ensures { Closes (D.world stage.old).opened dialogue (D.world stage.old) (D.world stage.new) result }
+fn close<D: Stage>(stage: &mut D)
+    ensures { Closes (D.world stage.old).opened (D.world stage.old) (D.world stage.new) }
 {
     if stage.is_open() {
-        return close_open(stage, dialogue);
+        close_open(stage);
     }
-    ending_of(dialogue)
 }
 
 // The session on a stage.
@@ -118,7 +104,8 @@ fn held<D: Stage>(stage: &mut D, console: bool) -> Ending
     ensures names { (D.world stage.new).names ≡ (D.world stage.old).names }
 {
     let dialogue = dialogue(stage, console);
-    close(stage, dialogue)
+    close(stage);
+    ending_of(dialogue)
 }
 
 // The session at a desk where nothing was heard and none is open.
@@ -144,8 +131,8 @@ fn at_desk<'p, 's, 'k, 'c, 'r, P: AuthPort, S: Source, K: Sink, C: Clock, R: Dic
 /// A session of `authsrv`: from the client's bytes to replies, each request asked of the port at a moment of the clock.
 /// The salts of new passwords come from the dice. It takes at most 2^40 bytes from the client.
 ///
-/// A session at the console may do everything. The answer is `Done` after `quit`, at the end of what the client says, or
-/// where no session could be opened; else why the session stopped. Close is asked of each session that was opened.
+/// The answer is `Done` after `quit`, at the end of what the client says, or where the port denied to open a session; else
+/// why the session stopped. Then Close is asked of a session that is open and wasn't asked to close.
 pub fn authsrv_session<P: AuthPort, S: Source, K: Sink, C: Clock, R: Dice>(
     console: bool,
     port: &mut P,

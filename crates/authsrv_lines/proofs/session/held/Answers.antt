@@ -3,4 +3,4 @@ use Rattle.authsrv_lines.proofs.KeptLemmas.{closes_names, ran_stays}
 use Rattle.authsrv_lines.proofs.session.held.Goals as goal
 
 pub returns-clause-names : goal.returns-clause-names
-returns-clause-names g c = closes_names _ _ _ _ _ c.close.ensures ∙ (ran_stays c.dialogue-dialogue.ensures).names
+returns-clause-names g c = closes_names _ _ _ c.close.ensures ∙ (ran_stays c.dialogue-dialogue.ensures).names
