@@ -24,6 +24,9 @@ pub(crate) struct Talk {
     pub(crate) given: &'static [&'static str],
 }
 
+/// This line stands for one of 513 bytes.
+pub(crate) const LONG_LINE: &str = "LONG LINE";
+
 /// What fails.
 #[derive(Clone, Copy, PartialEq, Eq)]
 pub(crate) enum Device {
@@ -65,6 +68,27 @@ pub(crate) fn text_of(alloc: Global, lines: &[&str], end: &[u8]) -> Result<Vec<u
     Ok(text)
 }
 
+fn add_long_line(text: &mut Vec<u8>) -> Result<(), Fail> {
+    for _ in 0..513u32 {
+        text.push(b'x')?;
+    }
+    Ok(())
+}
+
+// What the client says.
+fn said_of(alloc: Global, lines: &[&str]) -> Result<Vec<u8>, Fail> {
+    let mut text = Vec::new(alloc);
+    for line in lines {
+        if *line == LONG_LINE {
+            add_long_line(&mut text)?;
+        } else {
+            text.extend_from_slice(line.as_bytes())?;
+        }
+        text.extend_from_slice(b"\r\n")?;
+    }
+    Ok(text)
+}
+
 /// The book before the session.
 pub(crate) fn book_before(
     alloc: Global,
@@ -91,7 +115,7 @@ fn calls_of(alloc: Global, fault: Fault, device: Device) -> Result<Calls, Fail> 
 }
 
 fn source_of(alloc: Global, talk: &Talk, piece: usize, fault: Fault) -> Result<MemSource, Fail> {
-    let bytes = Octets::of(text_of(alloc, talk.said, b"\r\n")?);
+    let bytes = Octets::of(said_of(alloc, talk.said)?);
     let fails = calls_of(alloc, fault, Device::Source)?;
     let idle = calls_of(alloc, fault, Device::IdleSource)?;
     Ok(MemSource::new(bytes, piece.max(1), fails, idle))
