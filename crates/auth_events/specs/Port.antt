@@ -1,5 +1,5 @@
 -- What a port means, and what asking it does to that.
-use Rattle.std.specs.Prelude.{◌≡◌, ℕ, Bool, List, [], ◌∷◌, ◌++◌, length, Option, Some, None, Result, Ok, Err, IfSome}
+use Rattle.std.specs.Prelude.{◌≡◌, ℕ, zero, suc, Bool, true, List, [], ◌∷◌, ◌++◌, length, Option, Some, None, Result, Ok, Err, IfSome}
 use Rattle.fw_outside.specs.Counts.{Rose}
 use Rattle.auth_events.specs.Fits.{Fits}
 use Rattle.auth_events.specs.declared.entry.Entry.{Entry}
@@ -12,16 +12,23 @@ use Rattle.auth_events.specs.declared.port.PortFault.{PortFault}
 use Rattle.auth_events.specs.declared.port.PortFault.TheVariants.{NoMemory, Link, Strange}
 
 -- the history as far as the port has seen it, and the places in it of the port's own entries, rising; the limit of the
--- history, once it has been reached; how often the link failed, and how often something strange came; what the answers
--- stand on beside the history; and which shared history the port belongs to: nothing where it has one of its own
+-- history, once it has been reached; whether a request was refused because of that; how often the link failed, and how
+-- often something strange came; what the answers stand on beside the history; and which shared history the port belongs
+-- to: nothing where it has one of its own
 pub record Port (Origin : Type 0) : Type 0 where
   pub seen : List Entry
   pub mine : List ℕ
   pub full : Option ℕ
+  pub refused : Bool
   pub faults : ℕ
   pub odd : ℕ
   pub origin : Origin
   pub home : List ℕ
+
+-- the first places of a history
+abbrev pub places : ℕ → List ℕ
+places zero = []
+places (suc n) = places n ++ n ∷ []
 
 -- the number of the session to which a request at this place belongs: an Open's own place, else the one that was told
 abbrev pub session_at : Request → ℕ → ℕ → ℕ
@@ -44,11 +51,11 @@ pub record Enters {Origin : Type 0} (sid at : ℕ) (request : Request) (reply : 
   pub fits : Fits request place reply
   pub is : new ≡ record old { seen = (old.seen ++ others) ++ record { sid = session_at request place sid; at = at; request = request; kept = kept; reply = reply } ∷ []; mine = old.mine ++ place ∷ []; full = full }
 
--- the history has reached this limit: nothing was entered by this request
+-- the history has reached this limit: nothing was entered by this request, which is noted
 pub record IsFull {Origin : Type 0} (limit : ℕ) (old new : Port Origin) : Type 0 where
   pub others : List Entry
   pub stays : Stays old.full (Some limit)
-  pub is : new ≡ record old { seen = old.seen ++ others; full = Some limit }
+  pub is : new ≡ record old { seen = old.seen ++ others; full = Some limit; refused = true }
 
 -- no memory: nothing was entered or counted
 pub record Lacks {Origin : Type 0} (old new : Port Origin) : Type 0 where

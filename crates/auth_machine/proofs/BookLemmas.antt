@@ -162,7 +162,7 @@ one_longer h entry limit fits = omega (arith, length_push h entry, fits)
 
 -- the step of a book's policy and state is that of its origin and history
 rebased : (origin : Origin) (h : List Entry) (limit : ℕ) (policy : PolicyView) (s new : State) (place sid at : ℕ) (request : Request) (reply : Reply) (kept : Bool) (before now : Vault)
-    → Stands (record { history = h; limit = limit; origin = origin; vault = before }) policy s → place ≡ length h
+    → Stands h limit origin before policy s → place ≡ length h
     → Steps policy place sid at request reply kept s new before now → Next origin h sid at request reply kept new before now
 rebased origin h limit policy s new place sid at request reply kept before now book is step =
     subst (λ (n : ℕ). Steps origin.policy n sid at request reply kept (after origin h) new before now) is
@@ -171,9 +171,9 @@ rebased origin h limit policy s new place sid at request reply kept before now b
 
 -- the book stands with the entry
 pub stands_with : (origin : Origin) (h : List Entry) (limit : ℕ) (policy : PolicyView) (s new : State) (place sid at : ℕ) (request : Request) (reply : Reply) (kept : Bool) (before now : Vault)
-    → Stands (record { history = h; limit = limit; origin = origin; vault = before }) policy s → place ≡ length h → length h < limit → session_at request place sid ≡ sid
+    → Stands h limit origin before policy s → place ≡ length h → length h < limit → session_at request place sid ≡ sid
     → Steps policy place sid at request reply kept s new before now
-    → Stands (record { history = h ++ entry_of sid at request kept reply ∷ []; limit = limit; origin = origin; vault = now }) policy new
+    → Stands (h ++ entry_of sid at request kept reply ∷ []) limit origin now policy new
 stands_with origin h limit policy s new place sid at request reply kept before now book is fits own step =
     let next : Next origin h sid at request reply kept new before now = rebased origin h limit policy s new place sid at request reply kept before now book is step in
     record {
@@ -188,12 +188,12 @@ stands_with origin h limit policy s new place sid at request reply kept before n
 
 -- what asking does, where an entry is made
 pub asked_with : (origin : Origin) (h : List Entry) (limit : ℕ) (policy : PolicyView) (s new : State) (place told sid at : ℕ) (request : Request) (reply : Reply) (kept : Bool) (before now : Vault)
-    → Stands (record { history = h; limit = limit; origin = origin; vault = before }) policy s → place ≡ length h → length h < limit → sid ≡ session_at request place told
+    → Stands h limit origin before policy s → place ≡ length h → length h < limit → sid ≡ session_at request place told
     → Steps policy place sid at request reply kept s new before now
     → Asked told at request limit origin h (Ok reply) (h ++ entry_of sid at request kept reply ∷ [])
 asked_with origin h limit policy s new place told sid at request reply kept before now book is fits sid_is step =
     let own : session_at request place sid ≡ sid = ap (session_at request place) sid_is ∙ same_session request place told ∙ sym sid_is in
-    let stands : Stands (record { history = h ++ entry_of sid at request kept reply ∷ []; limit = limit; origin = origin; vault = now }) policy new =
+    let stands : Stands (h ++ entry_of sid at request kept reply ∷ []) limit origin now policy new =
     stands_with origin h limit policy s new place sid at request reply kept before now book is fits own step in
     let entered : Enters told at request reply limit h (h ++ entry_of sid at request kept reply ∷ []) = record {
       kept = kept;
@@ -209,7 +209,7 @@ asked_with origin h limit policy s new place told sid at request reply kept befo
 
 -- and what it does to the keeper
 pub kept_with : (origin : Origin) (h : List Entry) (limit : ℕ) (policy : PolicyView) (s new : State) (place sid at : ℕ) (request : Request) (reply : Reply) (kept : Bool) (before now : Vault)
-    → Stands (record { history = h; limit = limit; origin = origin; vault = before }) policy s → place ≡ length h
+    → Stands h limit origin before policy s → place ≡ length h
     → Steps policy place sid at request reply kept s new before now
     → RepliesKept (full_of reply) origin h (h ++ entry_of sid at request kept reply ∷ []) before now
 kept_with origin h limit policy s new place sid at request reply kept before now book is step =

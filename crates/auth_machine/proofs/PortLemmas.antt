@@ -2,7 +2,7 @@
 use Rattle.std.proofs.Common.{rules, arith, ◌≡◌, refl, sym, ap, subst, ◌∙◌, ℕ, suc, ◌<◌, ◌==◌, Bool, true, false, cond, List, [], ◌∷◌, ◌++◌, length, Option, Some, None, Ok}
 use Rattle.std.proofs.lemmas.List.{length_push}
 use Rattle.auth_events.specs.Fits.{Fits}
-use Rattle.auth_events.specs.Port.{Port, session_at, Stays}
+use Rattle.auth_events.specs.Port.{Port, places, session_at, Stays}
 use Rattle.auth_events.specs.Port as ports
 use Rattle.auth_events.specs.declared.denial.Denial.TheVariants as denials
 use Rattle.auth_events.specs.declared.entry.Entry.{Entry}
@@ -15,10 +15,10 @@ use Rattle.auth_machine.proofs.HistoryLemmas.{last_step}
 use Rattle.auth_machine.proofs.TableLemmas.{clash}
 use Rattle.auth_machine.specs.Answer.{answer_of}
 use Rattle.auth_machine.specs.Answers.{full_of}
-use Rattle.auth_machine.specs.Book.{Asked, BookView, Enters, IsFull, Replies}
+use Rattle.auth_machine.specs.Book.{Asked, BookView, Enters, IsFull, Replies, refused_after, refused_by}
 use Rattle.auth_machine.specs.History.{IsLegal, Origin, after}
 use Rattle.auth_machine.specs.Policy.{PolicyView}
-use Rattle.auth_machine.specs.Port.{full_at, places, port_of}
+use Rattle.auth_machine.specs.Port.{full_at, port_of}
 use Rattle.auth_machine.specs.State.{State}
 use Rattle.auth_machine.specs.Step.{answer, is_refused, proposed}
 
@@ -92,13 +92,14 @@ fits_last origin h entry legal =
 
 -- ---- the port
 
-abbrev made : List Entry → List ℕ → Option ℕ → Origin → Port Origin
-made seen mine full origin = record { seen = seen; mine = mine; full = full; faults = 0; odd = 0; origin = origin; home = [] }
+abbrev made : List Entry → List ℕ → Option ℕ → Bool → Origin → Port Origin
+made seen mine full refused origin = record { seen = seen; mine = mine; full = full; refused = refused; faults = 0; odd = 0; origin = origin; home = [] }
 
-same_port : (seen more : List Entry) (mine others : List ℕ) (full told : Option ℕ) (origin other : Origin) → seen ≡ more → mine ≡ others → full ≡ told → origin ≡ other
-    → made seen mine full origin ≡ made more others told other
-same_port seen more mine others full told origin other a b c d =
-    ap (λ (x : List Entry). made x mine full origin) a ∙ ap (λ (x : List ℕ). made more x full origin) b ∙ ap (λ (x : Option ℕ). made more others x origin) c ∙ ap (λ (x : Origin). made more others told x) d
+same_port : (seen more : List Entry) (mine others : List ℕ) (full told : Option ℕ) (refused known : Bool) (origin other : Origin) → seen ≡ more → mine ≡ others → full ≡ told → refused ≡ known → origin ≡ other
+    → made seen mine full refused origin ≡ made more others told known other
+same_port seen more mine others full told refused known origin other a b c d e =
+    ap (λ (x : List Entry). made x mine full refused origin) a ∙ ap (λ (x : List ℕ). made more x full refused origin) b ∙ ap (λ (x : Option ℕ). made more others x refused origin) c
+    ∙ ap (λ (x : Bool). made more others told x origin) d ∙ ap (λ (x : Origin). made more others told known x) e
 
 nothing_more : (h : List Entry) → h ++ [] ≡ h
 nothing_more h = search rules
@@ -128,9 +129,9 @@ next_place h entry =
     let more : length (h ++ entry ∷ []) ≡ suc (length h) = omega (arith, length_push h entry) in
     ap places more
 
-port_entered : (sid at : ℕ) (request : Request) (reply : Reply) (old new : BookView) → new.limit ≡ old.limit → new.origin ≡ old.origin
+port_entered : (sid at : ℕ) (request : Request) (reply : Reply) (old new : BookView) → new.limit ≡ old.limit → new.origin ≡ old.origin → new.refused ≡ old.refused
     → Enters sid at request reply old.limit old.history new.history → IsLegal old.origin new.history → ports.Enters sid at request reply (port_of old) (port_of new)
-port_entered sid at request reply old new limit origin enters legal =
+port_entered sid at request reply old new limit origin refused enters legal =
     let entry : Entry = record { sid = session_at request (length old.history) sid; at = at; request = request; kept = enters.kept; reply = reply } in
     let same : old.history ++ [] ≡ old.history = nothing_more old.history in
     record {
@@ -141,40 +142,40 @@ port_entered sid at request reply old new limit origin enters legal =
       open_before = not_yet old.limit old.history enters.fits;
       is_place = ap length (sym same);
       fits = fits_last old.origin old.history entry (subst (IsLegal old.origin) enters.is legal);
-      is = same_port _ _ _ _ _ _ _ _
+      is = same_port _ _ _ _ _ _ _ _ _ _
           (enters.is ∙ ap (λ (h : List Entry). h ++ entry ∷ []) (sym same))
           (ap (λ (h : List Entry). places (length h)) enters.is ∙ next_place old.history entry)
-          refl origin;
+          refl refused origin;
     }
 
-port_full : (told : ℕ) (old new : BookView) → new.limit ≡ old.limit → new.origin ≡ old.origin → IsFull told old.limit old.history new.history → ports.IsFull told (port_of old) (port_of new)
-port_full told old new limit origin full =
+port_full : (told : ℕ) (old new : BookView) → new.limit ≡ old.limit → new.origin ≡ old.origin → new.refused ≡ true → IsFull told old.limit old.history new.history → ports.IsFull told (port_of old) (port_of new)
+port_full told old new limit origin refused full =
     let at_limit : full_at old.limit old.history ≡ Some told = is_full old.limit old.history full.full ∙ ap (λ (n : ℕ). Some n) (sym full.limit_is) in
     record {
       others = [];
       stays = stays_at told (full_at old.limit old.history) at_limit;
-      is = same_port _ _ _ _ _ _ _ _
+      is = same_port _ _ _ _ _ _ _ _ _ _
           (full.is ∙ sym (nothing_more old.history))
           (ap (λ (h : List Entry). places (length h)) full.is)
-          (ap (λ (n : ℕ). full_at n new.history) limit ∙ ap (full_at old.limit) full.is ∙ at_limit) origin;
+          (ap (λ (n : ℕ). full_at n new.history) limit ∙ ap (full_at old.limit) full.is ∙ at_limit) refused origin;
     }
 
-pub port_lacks : (old new : BookView) → new.limit ≡ old.limit → new.origin ≡ old.origin → new.history ≡ old.history → ports.Lacks (port_of old) (port_of new)
-port_lacks old new limit origin same = record {
+pub port_lacks : (old new : BookView) → new.limit ≡ old.limit → new.origin ≡ old.origin → new.refused ≡ old.refused → new.history ≡ old.history → ports.Lacks (port_of old) (port_of new)
+port_lacks old new limit origin refused same = record {
   others = [];
   full = full_at old.limit old.history;
   stays = stays (full_at old.limit old.history);
-  is = same_port _ _ _ _ _ _ _ _
+  is = same_port _ _ _ _ _ _ _ _ _ _
       (same ∙ sym (nothing_more old.history))
       (ap (λ (h : List Entry). places (length h)) same)
-      (ap (λ (n : ℕ). full_at n new.history) limit ∙ ap (full_at old.limit) same) origin;
+      (ap (λ (n : ℕ). full_at n new.history) limit ∙ ap (full_at old.limit) same) refused origin;
 }
 
-replied : (sid at : ℕ) (request : Request) (reply : Reply) (full : Option ℕ) (old new : BookView) → full_of reply ≡ full → new.limit ≡ old.limit → new.origin ≡ old.origin
+replied : (sid at : ℕ) (request : Request) (reply : Reply) (full : Option ℕ) (old new : BookView) → full_of reply ≡ full → new.limit ≡ old.limit → new.origin ≡ old.origin → new.refused ≡ refused_after full old.refused
     → Replies full sid at request reply old.limit old.history new.history → IsLegal old.origin new.history → ports.Replies sid at request reply (port_of old) (port_of new)
-replied sid at request reply None old new is limit origin enters legal = entered reply is (port_entered sid at request reply old new limit origin enters legal)
-replied sid at request reply (Some told) old new is limit origin full legal = refused sid at request reply is (port_full told old new limit origin full)
+replied sid at request reply None old new is limit origin same enters legal = entered reply is (port_entered sid at request reply old new limit origin same enters legal)
+replied sid at request reply (Some told) old new is limit origin noted full legal = refused sid at request reply is (port_full told old new limit origin noted full)
 
-pub port_replies : (sid at : ℕ) (request : Request) (reply : Reply) (old new : BookView) → new.limit ≡ old.limit → new.origin ≡ old.origin
+pub port_replies : (sid at : ℕ) (request : Request) (reply : Reply) (old new : BookView) → new.limit ≡ old.limit → new.origin ≡ old.origin → new.refused ≡ refused_by (Ok reply) old.refused
     → Asked sid at request old.limit old.origin old.history (Ok reply) new.history → ports.Replies sid at request reply (port_of old) (port_of new)
-port_replies sid at request reply old new limit origin asked = replied sid at request reply (full_of reply) old new refl limit origin asked.answers asked.legal
+port_replies sid at request reply old new limit origin refused asked = replied sid at request reply (full_of reply) old new refl limit origin refused asked.answers asked.legal

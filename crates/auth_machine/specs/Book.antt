@@ -14,22 +14,24 @@ use Rattle.auth_machine.specs.Policy.{PolicyView}
 use Rattle.auth_machine.specs.State.{State}
 use Rattle.auth_machine.specs.Step.{keeps, proposed}
 
--- the entries so far, how many fit, the policy and the loaded records, and the keeper
+-- the entries so far, how many fit, the policy and the loaded records, the keeper, and whether a request was answered that
+-- the history is full
 pub record BookView : Type 0 where
   pub history : List Entry
   pub limit : ℕ
   pub origin : Origin
   pub vault : Vault
+  pub refused : Bool
 
 -- the history is legal and fits; the state is that after it; the keeper has the records, where it tells; and it failed at
 -- least as often as entries were not kept
-pub record Stands (book : BookView) (policy : PolicyView) (s : State) : Type 0 where
-  pub policy_is : policy ≡ book.origin.policy
-  pub state_is : s ≡ after book.origin book.history
-  pub legal : IsLegal book.origin book.history
-  pub within : length book.history ≤ book.limit
-  pub records : HasRecords book.origin book.history book.vault
-  pub faults : NoMoreThanFaults book.history book.vault
+pub record Stands (history : List Entry) (limit : ℕ) (origin : Origin) (vault : Vault) (policy : PolicyView) (s : State) : Type 0 where
+  pub policy_is : policy ≡ origin.policy
+  pub state_is : s ≡ after origin history
+  pub legal : IsLegal origin history
+  pub within : length history ≤ limit
+  pub records : HasRecords origin history vault
+  pub faults : NoMoreThanFaults history vault
 
 -- ---- what asking does
 
@@ -60,10 +62,19 @@ pub record Asked (sid at : ℕ) (request : Request) (limit : ℕ) (origin : Orig
   pub legal : IsLegal origin now
   pub within : length now ≤ limit
 
+-- whether a request was ever refused, after a reply that tells how many entries fit, or doesn't
+abbrev pub refused_after : Option ℕ → Bool → Bool
+refused_after None before = before
+refused_after (Some told) before = true
+
+abbrev pub refused_by : Result Reply NoMemory → Bool → Bool
+refused_by (Ok reply) before = refused_after (full_of reply) before
+refused_by (Err _) before = before
+
 -- ---- what it does to the keeper
 
--- the keeper was called exactly where the machine has it keep a record anew or drop one, and the entry says whether it was
--- kept
+-- where the machine has it keep a record anew or drop one, the keeper has done so or has failed, and the entry says which;
+-- elsewhere it has what it had
 pub record Kept (origin : Origin) (before now : List Entry) (old new : Vault) : Type 0 where
   pub entry : Entry
   pub is : now ≡ before ++ entry ∷ []

@@ -16,7 +16,7 @@ Calls (Delete name) true old new = IsKept name None old new
 Calls (Put f) false old new = Missed old new
 Calls (Delete name) false old new = Missed old new
 
--- the keeper is called exactly where the records are edited; elsewhere all is as it was, and counts as kept
+-- where the records are edited, the keeper has kept that or has failed; elsewhere all is as it was, and counts as kept
 abbrev pub Keeps : Bool → Edit → Bool → Vault → Vault → Type 0
 Keeps true edit kept old new = Calls edit kept old new
 Keeps false edit kept old new = (kept ≡ true) × (new ≡ old)

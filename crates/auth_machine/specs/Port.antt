@@ -1,14 +1,9 @@
 -- A book as a port.
-use Rattle.std.specs.Prelude.{ℕ, zero, suc, ◌==◌, List, [], ◌∷◌, ◌++◌, length, Option, Some, None, if◌then◌else◌}
-use Rattle.auth_events.specs.Port.{Port}
+use Rattle.std.specs.Prelude.{ℕ, ◌==◌, List, [], length, Option, Some, None, if◌then◌else◌}
+use Rattle.auth_events.specs.Port.{Port, places}
 use Rattle.auth_events.specs.declared.entry.Entry.{Entry}
 use Rattle.auth_machine.specs.Book.{BookView}
 use Rattle.auth_machine.specs.History.{Origin}
-
--- the first places
-abbrev pub places : ℕ → List ℕ
-places zero = []
-places (suc n) = places n ++ n ∷ []
 
 -- the limit, where so many entries are there
 abbrev pub full_at : ℕ → List Entry → Option ℕ
@@ -20,6 +15,7 @@ port_of book = record {
   seen = book.history;
   mine = places (length book.history);
   full = full_at book.limit book.history;
+  refused = book.refused;
   faults = 0;
   odd = 0;
   origin = book.origin;

@@ -81,23 +81,7 @@ fn without_session(place: u64, request: &Request) -> Change
 {
     match request {
         Request::Open { console } => opens(place, *console),
-        Request::Authenticate { .. }
-        | Request::Response { .. }
-        | Request::Operation { .. }
-        | Request::Adduser { .. }
-        | Request::Deluser { .. }
-        | Request::Enable { .. }
-        | Request::Disable { .. }
-        | Request::Group { .. }
-        | Request::Proto { .. }
-        | Request::Password { .. }
-        | Request::Otp { .. }
-        | Request::Wiz { .. }
-        | Request::Unwiz { .. }
-        | Request::Superwiz { .. }
-        | Request::Display { .. }
-        | Request::List { .. }
-        | Request::Close => Change::denied(Denial::Closed),
+        _ => Change::denied(Denial::Closed),
     }
 }
 

@@ -1,7 +1,7 @@
-ghost use Rattle.std.specs.Prelude.{◌≡◌, ◌≤◌, [], IfErr, IfOk, IfSome, Ok, length};
+ghost use Rattle.std.specs.Prelude.{◌≡◌, ◌≤◌, [], IfErr, IfOk, IfSome, Ok, false, length};
 ghost use Rattle.fw_outside.specs.Keyed.{Ascends};
 ghost use Rattle.fw_outside.specs.Vault.{AreSame};
-ghost use Rattle.auth_machine.specs.Book.{AnswersKept, Asked, RoseIfNotKept, Stands};
+ghost use Rattle.auth_machine.specs.Book.{AnswersKept, Asked, RoseIfNotKept, Stands, refused_by};
 ghost use Rattle.auth_machine.specs.History.{NoMoreThanFaults, HasRecords, IsLegal, table_of};
 ghost use Rattle.auth_machine.specs.Opening.{ReadsAs, Refuses};
 ghost use Rattle.auth_machine.specs.Standing.{state_of};
@@ -28,6 +28,7 @@ pub struct Book<K: Keeper> {
     standing: Standing,
     history: Vec<Entry>,
     limit: u64,
+    refused: bool,
     origin: Snapshot<Loaded>,
 }
 
@@ -37,16 +38,16 @@ impl<K: Keeper> Model for Book<K> {
 
     ghost Value = { BookView };
 
-    ghost view = { λ b. record { history = b.history.items; limit = b.limit; origin = b.origin.value; vault = K.vault b.keeper } };
+    ghost view = { λ b. record { history = b.history.items; limit = b.limit; origin = b.origin.value; vault = K.vault b.keeper; refused = b.refused } };
 
-    ghost invariant = { λ b. Stands (record { history = b.history.items; limit = b.limit; origin = b.origin.value; vault = K.vault b.keeper }) b.policy (state_of b.standing) };
+    ghost invariant = { λ b. Stands b.history.items b.limit b.origin.value (K.vault b.keeper) b.policy (state_of b.standing) };
 }
 
 impl<K: Keeper> Book<K> {
     // The book of these records, with an empty history.
     fn over(alloc: Global, keeper: K, policy: Policy, records: Vec<Kept>, limit: u64) -> Book<K>
         requires { IfSome (K.vault keeper).table (λ table. AreSame table (table_of records.items)) }
-        ensures { result ≡ record { history = []; limit = limit; origin = record { policy = policy; records = records.items }; vault = K.vault keeper } }
+        ensures { result ≡ record { history = []; limit = limit; origin = record { policy = policy; records = records.items }; vault = K.vault keeper; refused = false } }
     {
         let loaded = Loaded { policy, records };
         let origin = Snapshot::of(&loaded);
@@ -58,6 +59,7 @@ impl<K: Keeper> Book<K> {
             standing: Standing::at_first(alloc, records),
             history: Vec::new(alloc),
             limit,
+            refused: false,
             origin,
         }
     }
@@ -81,6 +83,7 @@ impl<K: Keeper> Book<K> {
         ensures policy { IfOk result (λ book. book.origin.policy ≡ policy) }
         ensures history { IfOk result (λ book. book.history ≡ []) }
         ensures limit { IfOk result (λ book. book.limit ≡ limit) }
+        ensures refused { IfOk result (λ book. book.refused ≡ false) }
         ensures fault { IfErr result (λ e. Refuses e.1 (K.vault keeper) (K.vault e.0)) }
     {
         let mut keeper = keeper;
@@ -95,10 +98,12 @@ impl<K: Keeper> Book<K> {
         ensures asked { Asked sid at request self.old.limit self.old.origin self.old.history result self.new.history }
         ensures kept { AnswersKept result self.old.origin self.old.history self.new.history self.old.vault self.new.vault }
         ensures not_kept { RoseIfNotKept result self.old.vault self.new.vault }
+        ensures refused { self.new.refused ≡ refused_by result self.old.refused }
         ensures limit { self.new.limit ≡ self.old.limit }
         ensures origin { self.new.origin ≡ self.old.origin }
     {
         if self.history.len() as u64 == self.limit {
+            self.refused = true;
             return Ok(Reply::Denied(Denial::Full { limit: self.limit }));
         }
         self.history.reserve(1)?;
@@ -134,6 +139,13 @@ impl<K: Keeper> Book<K> {
         ensures faults { NoMoreThanFaults self.now.history self.now.vault }
     {
         &self.history
+    }
+
+    /// Whether a request was answered that the history is full.
+    pub fn refused(&self) -> bool
+        ensures { result ≡ self.now.refused }
+    {
+        self.refused
     }
 
     /// Ends it: the keeper comes back, with the records that it has, and all entries.

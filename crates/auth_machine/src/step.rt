@@ -25,23 +25,7 @@ pub(crate) fn session_of(request: &Request, place: u64, sid: u64) -> u64
 {
     match request {
         Request::Open { .. } => place,
-        Request::Authenticate { .. }
-        | Request::Response { .. }
-        | Request::Operation { .. }
-        | Request::Adduser { .. }
-        | Request::Deluser { .. }
-        | Request::Enable { .. }
-        | Request::Disable { .. }
-        | Request::Group { .. }
-        | Request::Proto { .. }
-        | Request::Password { .. }
-        | Request::Otp { .. }
-        | Request::Wiz { .. }
-        | Request::Unwiz { .. }
-        | Request::Superwiz { .. }
-        | Request::Display { .. }
-        | Request::List { .. }
-        | Request::Close => sid,
+        _ => sid,
     }
 }
 

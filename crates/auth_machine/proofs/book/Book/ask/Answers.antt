@@ -1,11 +1,11 @@
-use Rattle.std.proofs.Common.{rules, ◌≡◌, ◌∙◌, ap, sym, subst, length, ◌<◌, List, ◌++◌, ◌∷◌, [], Ok, true}
+use Rattle.std.proofs.Common.{rules, ◌≡◌, ◌∙◌, ap, sym, subst, length, ◌<◌, List, ◌++◌, ◌∷◌, [], Ok, true, ℕ, Option, None}
 use Rattle.fw_outside.specs.Counts.{Rose}
 use Rattle.auth_events.specs.Port.{session_at}
 use Rattle.auth_events.specs.declared.entry.Entry.{Entry}
 use Rattle.auth_events.specs.declared.reply.Reply.{Reply}
-use Rattle.auth_machine.proofs.BookLemmas.{asked_with, kept_with, same_session, stands_with, step_rose}
+use Rattle.auth_machine.proofs.BookLemmas.{asked_with, kept_with, same_session, stands_with, step_not_full, step_rose}
 use Rattle.auth_machine.specs.Answers.{full_of, is_unkept}
-use Rattle.auth_machine.specs.Book.{Asked, BookView, RepliesKept, Stands}
+use Rattle.auth_machine.specs.Book.{Asked, BookView, RepliesKept, Stands, refused_after}
 use Rattle.auth_machine.specs.Standing.{state_of}
 use Rattle.auth_machine.specs.Stepping.{Steps}
 use Rattle.auth_machine.proofs.book.Book.ask.Goals as goal
@@ -19,7 +19,7 @@ invariant_of-self-2 g c =
     let own : session_at c.args.request c.len-place.result c.session_of-sid.result ≡ c.session_of-sid.result =
     ap (session_at c.args.request c.len-place.result) c.session_of-sid.ensures ∙ same_session c.args.request c.len-place.result c.args.sid ∙ sym c.session_of-sid.ensures in
     let items : c.push_reserved.new.self.items ≡ c.self.inside.history.items ++ record { sid = c.session_of-sid.result; at = c.args.at; request = c.args.request; kept = c.in_ok-stepped.stepped.kept; reply = c.in_ok-stepped.stepped.reply } ∷ [] = search rules in
-    subst (λ (entries : List Entry). Stands (record { history = entries; limit = c.self.inside.limit; origin = c.self.inside.origin.value; vault = g.K.Keeper.vault c.step.new.keeper }) c.self.inside.policy (state_of c.step.new.standing)) (sym items)
+    subst (λ (entries : List Entry). Stands entries c.self.inside.limit c.self.inside.origin.value (g.K.Keeper.vault c.step.new.keeper) c.self.inside.policy (state_of c.step.new.standing)) (sym items)
     (stands_with c.self.inside.origin.value c.self.inside.history.items c.self.inside.limit c.self.inside.policy (state_of c.self.inside.standing) (state_of c.step.new.standing) c.len-place.result c.session_of-sid.result c.args.at c.args.request
     c.in_ok-stepped.stepped.reply c.in_ok-stepped.stepped.kept (g.K.Keeper.vault c.self.inside.keeper) (g.K.Keeper.vault c.step.new.keeper) c.self.invariant place fits own step)
 
@@ -57,3 +57,12 @@ returns-clause-not_kept g c unkept =
     subst (λ (b : BookView). Rose b.vault.faults (g.K.Keeper.vault c.step.new.keeper).faults) c.self.view_is
     (step_rose c.self.inside.policy (state_of c.self.inside.standing) (state_of c.step.new.standing) c.len-place.result c.session_of-sid.result c.args.at c.args.request
     c.in_ok-stepped.stepped.kept c.in_ok-stepped.stepped.reply (g.K.Keeper.vault c.self.inside.keeper) (g.K.Keeper.vault c.step.new.keeper) step same)
+
+pub returns-clause-refused : goal.returns-clause-refused
+returns-clause-refused g c =
+    let step : Steps c.self.inside.policy c.len-place.result c.session_of-sid.result c.args.at c.args.request c.in_ok-stepped.stepped.reply c.in_ok-stepped.stepped.kept
+    (state_of c.self.inside.standing) (state_of c.step.new.standing) (g.K.Keeper.vault c.self.inside.keeper) (g.K.Keeper.vault c.step.new.keeper) = search rules in
+    let not_full : full_of c.twin-reply.result ≡ None = ap full_of c.twin-reply.ensures
+    ∙ step_not_full c.self.inside.policy (state_of c.self.inside.standing) c.len-place.result c.session_of-sid.result c.args.at c.args.request c.in_ok-stepped.stepped.kept c.in_ok-stepped.stepped.reply step.reply_is in
+    subst (λ (b : BookView). c.self.inside.refused ≡ refused_after (full_of c.twin-reply.result) b.refused) c.self.view_is
+    (ap (λ (full : Option ℕ). refused_after full c.self.inside.refused) (sym not_full))
