@@ -8,12 +8,13 @@ use Rattle.gate_rules.specs.Why as rule
 use Rattle.fwtk.specs.declared.fault.Device.{Device}
 use Rattle.fwtk.specs.declared.fault.Device.TheVariants as device
 use Rattle.fwtk.specs.declared.fault.Fault.{Fault}
-use Rattle.fwtk.specs.declared.fault.Fault.TheVariants.{Usage, Table, Rule, Outside, Memory}
+use Rattle.fwtk.specs.declared.fault.Fault.TheVariants.{Usage, Table, Rule, Outside, Memory, Record, Limit}
 
 abbrev pub device_text : Device → List ℕ
 device_text device.Table = codes "table"
 device_text device.Output = codes "output"
 device_text device.Log = codes "log"
+device_text device.Records = codes "records"
 
 -- a line, by its number, and what is wrong with it
 abbrev pub line_text : ℕ → List ℕ → List ℕ
@@ -32,6 +33,8 @@ fault_text (Table fault) = codes "fault table" ++ table_text fault ++ codes "\n"
 fault_text (Rule fault) = codes "fault rule" ++ rule_text fault ++ codes "\n"
 fault_text (Outside which) = codes "fault outside " ++ device_text which ++ codes "\n"
 fault_text Memory = codes "fault memory\n"
+fault_text (Record name at) = codes "fault record\n"
+fault_text Limit = codes "fault limit\n"
 
 -- the status with which a fault ends the run
 abbrev pub status_of : Fault → ℕ
@@ -40,3 +43,5 @@ status_of (Table fault) = 3
 status_of (Rule fault) = 3
 status_of (Outside which) = 4
 status_of Memory = 5
+status_of (Record name at) = 3
+status_of Limit = 6

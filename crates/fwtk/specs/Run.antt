@@ -58,12 +58,14 @@ pub record Decided (query : Query) (verdict : Verdict) (text : List ℕ) (status
   pub printed : Gives print text old.output new.output
   pub whole : IsPrinted verdict print
   pub files : new.files ≡ old.files
+  pub sitting : new.sitting ≡ old.sitting
 
 -- the log failed within the verdict's line, and nothing was printed
 pub record NotLogged (query : Query) (verdict : Verdict) (old new : Desk) : Type 0 where
   pub logged : Cut (decision_text verdict query.service query.peer) old.logs new.logs
   pub output : new.output ≡ old.output
   pub files : new.files ≡ old.files
+  pub sitting : new.sitting ≡ old.sitting
 
 -- a permission was logged, and the output failed within the text
 pub record NotPrinted (query : Query) (verdict : Verdict) (text : List ℕ) (old new : Desk) : Type 0 where
@@ -71,6 +73,7 @@ pub record NotPrinted (query : Query) (verdict : Verdict) (text : List ℕ) (old
   pub logged : new.logs ≡ with_given old.logs (decision_text verdict query.service query.peer)
   pub printed : Cut text old.output new.output
   pub files : new.files ≡ old.files
+  pub sitting : new.sitting ≡ old.sitting
 
 -- what logging a verdict and printing a text answers, a status or a fault, and leaves
 abbrev pub Concludes : Query → Verdict → List ℕ → Result ℕ Fault → Desk → Desk → Type 0
@@ -93,6 +96,7 @@ pub record NotRead (old new : Desk) : Type 0 where
   pub failed : FilesFailed old.files new.files
   pub output : new.output ≡ old.output
   pub logs : new.logs ≡ old.logs
+  pub sitting : new.sitting ≡ old.sitting
 
 -- a line that can't be read, and nothing else happened
 pub record Unreadable (name : List ℕ) (query : Query) (fault : Fault) (old new : Desk) : Type 0 where
@@ -105,12 +109,14 @@ pub record Shown (verdict : Verdict) (text : List ℕ) (status : ℕ) (old new :
   pub printed : new.output ≡ with_given old.output text
   pub logs : new.logs ≡ old.logs
   pub files : new.files ≡ old.files
+  pub sitting : new.sitting ≡ old.sitting
 
 -- the output failed within the text
 pub record NotShown (text : List ℕ) (old new : Desk) : Type 0 where
   pub printed : Cut text old.output new.output
   pub logs : new.logs ≡ old.logs
   pub files : new.files ≡ old.files
+  pub sitting : new.sitting ≡ old.sitting
 
 -- what printing a text of a verdict answers, a status or a fault, and leaves
 abbrev pub Shows : Verdict → List ℕ → Result ℕ Fault → Desk → Desk → Type 0
@@ -156,6 +162,7 @@ pub record Tells (text : List ℕ) (old new : Desk) : Type 0 where
   pub logged : Gives told text old.logs new.logs
   pub output : new.output ≡ old.output
   pub files : new.files ≡ old.files
+  pub sitting : new.sitting ≡ old.sitting
 
 -- a status ends the run as it stands; a fault is told first, and gives the status
 abbrev pub Ends : Result ℕ Fault → ℕ → Desk → Desk → Type 0

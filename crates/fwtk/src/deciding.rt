@@ -24,7 +24,7 @@ fn verdict_in<L: Ledger>(blank: Blank, rules: &Rules, peer: &Peer) -> Verdict
 }
 
 // The verdict, whose steps nobody counts.
-fn verdict_of(rules: &Rules, peer: &Peer) -> Verdict
+pub(crate) fn verdict_of(rules: &Rules, peer: &Peer) -> Verdict
     ensures { result ≡ verdict_of rules.now peer.now }
 {
     verdict_in::<Brand>(Blank::new(1), rules, peer)

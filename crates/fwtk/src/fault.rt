@@ -5,7 +5,7 @@ ghost use Rattle.fwtk.specs.Fault.{device_text, fault_text, line_text, status_of
 
 use crate::texts::LogLine;
 use arrayvec::ArrayVec;
-use fw_outside::{NoMemory, append, append_u32};
+use fw_outside::{Name, NoMemory, append, append_u32};
 use gate_rules::RuleFault;
 use netperm_table::TableFault;
 use std::alloc::AllocFailed;
@@ -19,10 +19,12 @@ pub enum Device {
     Output,
     /// The log.
     Log,
+    /// The keeper of the users' records.
+    Records,
 }
 
 /// Why a run stops.
-#[derive(Clone, Copy, Debug, PartialEq, Eq)]
+#[derive(Drop)]
 pub enum Fault {
     /// The words are no command.
     Usage,
@@ -34,16 +36,21 @@ pub enum Fault {
     Outside(Device),
     /// There was no memory.
     Memory,
+    /// A record can't be read.
+    Record { name: Name, at: usize },
+    /// A request was answered that the history is full.
+    Limit,
 }
 
 fn device_text(device: Device) -> &'static [u8]
     ensures text { result.now ≡ device_text device }
-    ensures short { length result.now ≤ 6 }
+    ensures short { length result.now ≤ 7 }
 {
     match device {
         Device::Table => b"table",
         Device::Output => b"output",
         Device::Log => b"log",
+        Device::Records => b"records",
     }
 }
 
@@ -69,6 +76,8 @@ impl Fault {
             Fault::Table(_) | Fault::Rule(_) => 3,
             Fault::Outside(_) => 4,
             Fault::Memory => 5,
+            Fault::Record { .. } => 3,
+            Fault::Limit => 6,
         }
     }
 
@@ -93,6 +102,8 @@ impl Fault {
                 append(&mut out, device_text(*device));
             }
             Fault::Memory => append(&mut out, b"memory"),
+            Fault::Record { .. } => append(&mut out, b"record"),
+            Fault::Limit => append(&mut out, b"limit"),
         }
         append(&mut out, b"\n");
         out

@@ -18,7 +18,7 @@ fn fault_of(fault: TableFault) -> Fault
     }
 }
 
-fn read_table<F: Files>(alloc: Global, files: &mut F, name: &[u8]) -> Result<Table, Fault>
+pub(crate) fn read_table<F: Files>(alloc: Global, files: &mut F, name: &[u8]) -> Result<Table, Fault>
     ensures { ReadsTable name.now result (F.cabinet files.old) (F.cabinet files.new) }
 {
     let Some(mut source) = files.source(name) else {
@@ -32,7 +32,7 @@ fn read_table<F: Files>(alloc: Global, files: &mut F, name: &[u8]) -> Result<Tab
     }
 }
 
-fn read_rules(alloc: Global, table: &Table, service: &Service) -> Result<Rules, Fault>
+pub(crate) fn read_rules(alloc: Global, table: &Table, service: &Service) -> Result<Rules, Fault>
     ensures { ReadsRules service.now table.now result }
 {
     match Rules::of(alloc, table, service) {

@@ -1,16 +1,24 @@
 ghost use Rattle.std.specs.Prelude.{◌≡◌};
 ghost use Rattle.fw_outside.specs.Drain.{Gives};
 
-use fw_outside::{Failed, Files, Sink};
+use fw_outside::{Clock, Dice, Failed, Files, Keeper, Sink, Source};
 use std::marker::Model;
 
 /// The kinds of device that a run is given.
 pub trait Kit {
     type Files: Files;
 
+    type Input: Source;
+
     type Output: Sink;
 
     type Logs: Sink;
+
+    type Tick: Clock;
+
+    type Dice: Dice;
+
+    type Keeper: Keeper;
 }
 
 /// The devices that a run is given.
@@ -18,13 +26,22 @@ pub trait Kit {
 pub struct World<T: Kit> {
     /// Where the permission table stands.
     pub files: T::Files,
-    /// Where decisions are printed.
+    /// What a client says.
+    pub input: T::Input,
+    /// Where decisions are printed, and what a client is told.
     pub output: T::Output,
     /// Where log lines go.
     pub logs: T::Logs,
+    /// Whence the moments come.
+    pub clock: T::Tick,
+    /// Whence the salts of new passwords come.
+    pub dice: T::Dice,
+    /// Who keeps the users' records. It is there whenever a run begins or ends.
+    pub keeper: Option<T::Keeper>,
 }
 
 impl<T: Kit> Model for World<T> {
+    ghost use Rattle.std.specs.Option.{option_map};
     ghost use Rattle.fwtk.specs.Desk.{Desk};
 
     ghost Value = { Desk };
@@ -33,6 +50,12 @@ impl<T: Kit> Model for World<T> {
       files = T.Files.cabinet w.files;
       output = T.Output.drain w.output;
       logs = T.Logs.drain w.logs;
+      sitting = record {
+        input = T.Input.spring w.input;
+        hours = T.Tick.hours w.clock;
+        throws = T.Dice.throws w.dice;
+        keeper = option_map T.Keeper.vault w.keeper;
+      };
     } };
 }
 
@@ -42,6 +65,7 @@ impl<T: Kit> World<T> {
         ensures output { Gives result text.now self.old.output self.new.output }
         ensures logs { self.new.logs ≡ self.old.logs }
         ensures files { self.new.files ≡ self.old.files }
+        ensures sitting { self.new.sitting ≡ self.old.sitting }
     {
         self.output.give(text)
     }
@@ -51,6 +75,7 @@ impl<T: Kit> World<T> {
         ensures logs { Gives result line.now self.old.logs self.new.logs }
         ensures output { self.new.output ≡ self.old.output }
         ensures files { self.new.files ≡ self.old.files }
+        ensures sitting { self.new.sitting ≡ self.old.sitting }
     {
         self.logs.give(line)
     }

@@ -9,16 +9,20 @@
 #![tactic(auto)]
 
 use fw_outside::{NoMemory, Octets, Sink};
-use real::{Paths, Process, Writing};
+use fw_real::{Paths, Reading, Records, Salts, SystemClock, Writing};
+use process::Process;
 use std::env;
 use std::io::ErrorKind;
 use std::process::ExitCode;
 
+mod authsrv;
+mod conn;
 mod deciding;
+mod ending_line;
 mod fault;
 mod finding;
 mod kit;
-mod real;
+mod process;
 mod run;
 mod sheet;
 mod texts;
@@ -28,7 +32,9 @@ pub use fault::{Device, Fault};
 pub use kit::{Kit, World};
 pub use run::run;
 pub use texts::LogLine;
-pub use words::{Command, Query, read_command};
+pub use conn::conn;
+pub use ending_line::{denied_line, ending_line, ending_status};
+pub use words::{Command, Query, Visit, read_command};
 
 const HELP: &[u8] =
     b"usage: fwtk [-t FILE] netacl DAEMON ADDR [NAME]\n       fwtk [-t FILE] table SERVICE ADDR [NAME]\n";
@@ -75,10 +81,17 @@ fn serve(rt: HostRuntime) -> Result<u8, Fault> {
             Err(_) => Err(Fault::Outside(Device::Output)),
         };
     }
-    let mut world: World<Process<HostRuntime>> = World {
+    let Ok(dice) = Salts::new(&rt) else {
+        return Err(Fault::Memory);
+    };
+    let mut world: World<Process> = World {
         files: Paths::new(rt),
+        input: Reading::new(rt.stdin()),
         output,
         logs: Writing::new(rt.stderr()),
+        clock: SystemClock::new(rt),
+        dice,
+        keeper: Some(Records::new(rt, b"authdb")?),
     };
     Ok(run(rt.alloc(), &words, &mut world))
 }

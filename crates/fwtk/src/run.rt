@@ -5,6 +5,7 @@ ghost use Rattle.fwtk.specs.Run.{ByTable, DecidesBy, Does, Ends, Ran, ShowsBy, T
 ghost use Rattle.fwtk.specs.Status.{Fails, IsRuledBy, SomeRose, WantsMemory};
 ghost use Rattle.fwtk.specs.Words.{command_of, table_named};
 
+use crate::authsrv::attend;
 use crate::deciding::{decide, show};
 use crate::finding::find_rules;
 use crate::words::{read_command, table_named};
@@ -65,12 +66,13 @@ fn obey<T: Kit>(alloc: Global, words: &[Octets], world: &mut World<T>) -> Result
         None => Err(Fault::Usage),
         Some(Command::Netacl(query)) => netacl(alloc, table_named(words), &query, world),
         Some(Command::Table(query)) => table(alloc, table_named(words), &query, world),
+        Some(Command::Authsrv(visit)) => attend(alloc, table_named(words), &visit, world),
     }
 }
 
 // Tells the log of a fault. A line that can't be written changes nothing.
-fn tell<T: Kit>(world: &mut World<T>, fault: Fault)
-    ensures { Tells (fault_text fault) world.old world.new }
+fn tell<T: Kit>(world: &mut World<T>, fault: &Fault)
+    ensures { Tells (fault_text fault.now) world.old world.new }
 {
     let line = fault.text();
     let _ = world.log(line.as_slice());
@@ -83,7 +85,7 @@ fn end<T: Kit>(world: &mut World<T>, outcome: Result<u8, Fault>) -> u8
     match outcome {
         Ok(status) => status,
         Err(fault) => {
-            tell(world, fault);
+            tell(world, &fault);
             fault.status()
         }
     }

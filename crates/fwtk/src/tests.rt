@@ -4,7 +4,7 @@ mod rows;
 mod rule_lines;
 
 use super::*;
-use fw_outside::{Calls, MemFiles, MemSink};
+use fw_outside::{Calls, MemClock, MemDice, MemFiles, MemKeeper, MemSink, MemSource};
 use rows::{DENIED, NAMES, PERMITTED, ROWS, Row, TELNET};
 use rule_lines::{COUNT_OF_RULE_LINES, RULE_LINES};
 use std::alloc::Global;
@@ -17,9 +17,17 @@ struct Memory;
 impl Kit for Memory {
     type Files = MemFiles;
 
+    type Input = MemSource;
+
     type Output = MemSink;
 
     type Logs = MemSink;
+
+    type Tick = MemClock;
+
+    type Dice = MemDice;
+
+    type Keeper = MemKeeper;
 }
 
 /// The calls at which each device fails, and those at which the table's source is idle.
@@ -55,6 +63,10 @@ fn files_with(
     Ok(MemFiles::new(alloc, entries, piece, failing, idle))
 }
 
+fn no_source(alloc: Global) -> MemSource {
+    MemSource::new(Octets::of(Vec::new(alloc)), 1, Calls::none(), Calls::none())
+}
+
 fn octets(alloc: Global, words: &[&[u8]]) -> Result<Vec<Octets>, Fail> {
     let mut out = Vec::new(alloc);
     for word in words {
@@ -82,6 +94,10 @@ fn check(
         files: files_with(alloc, row.table, piece, table, idle)?,
         output: MemSink::new(alloc, 4096, output)?,
         logs: MemSink::new(alloc, 4096, logs)?,
+        input: no_source(alloc),
+        clock: MemClock::new(Vec::new(alloc)),
+        dice: MemDice::new(0),
+        keeper: Some(MemKeeper::new(alloc, Vec::new(alloc), Calls::none())),
     };
     let words = octets(alloc, row.words)?;
     let status = run(alloc, &words, &mut world);
@@ -208,6 +224,10 @@ fn told_of(
         files: files_with(alloc, table, 4096, Calls::none(), Calls::none())?,
         output: MemSink::new(alloc, 8192, Calls::none())?,
         logs: MemSink::new(alloc, 4096, Calls::none())?,
+        input: no_source(alloc),
+        clock: MemClock::new(Vec::new(alloc)),
+        dice: MemDice::new(0),
+        keeper: Some(MemKeeper::new(alloc, Vec::new(alloc), Calls::none())),
     };
     let words = octets(alloc, words)?;
     let answer = run(alloc, &words, &mut world);

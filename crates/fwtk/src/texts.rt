@@ -32,7 +32,7 @@ fn verdict_line(verdict: Verdict) -> u32
     }
 }
 
-fn append_service(out: &mut LogLine, service: &Service)
+pub(crate) fn append_service(out: &mut LogLine, service: &Service)
     requires { array_vec_len out.old ≤ 441 }
     ensures items { out.new.items ≡ out.old.items ++ service_text service.now }
     ensures room { array_vec_len out.new ≤ array_vec_len out.old + 71 }
@@ -42,7 +42,7 @@ fn append_service(out: &mut LogLine, service: &Service)
     append(out, text.as_slice());
 }
 
-fn append_peer(out: &mut LogLine, peer: &Peer)
+pub(crate) fn append_peer(out: &mut LogLine, peer: &Peer)
     requires { array_vec_len out.old ≤ 224 }
     ensures items { out.new.items ≡ out.old.items ++ peer_text peer.now }
     ensures room { array_vec_len out.new ≤ array_vec_len out.old + 288 }

@@ -14,6 +14,13 @@ pub struct Query {
     pub peer: Peer,
 }
 
+/// Who comes to the authentication server, at the console or from outside.
+#[derive(Drop)]
+pub struct Visit {
+    pub console: bool,
+    pub peer: Peer,
+}
+
 /// What the words of a command line ask for.
 #[derive(Drop)]
 pub enum Command {
@@ -21,6 +28,8 @@ pub enum Command {
     Netacl(Query),
     /// `table SERVICE ADDR [NAME]`: print what the table decides and sets.
     Table(Query),
+    /// `authsrv [-console] ADDR [NAME]`: hold a session of the authentication server.
+    Authsrv(Visit),
 }
 
 const DEFAULT_TABLE: &[u8] = b"/usr/local/etc/netperm-table";
@@ -96,10 +105,19 @@ fn daemon(label: &Octets) -> Option<Service>
     Label::read(label.bytes()).map(Service::Netacl)
 }
 
+fn visit(words: &[Octets]) -> Option<Visit> {
+    match words {
+        [first, addr, names @ ..] if is_word(first, b"-console") => Some(Visit { console: true, peer: peer(addr, names)? }),
+        [addr, names @ ..] => Some(Visit { console: false, peer: peer(addr, names)? }),
+        _ => None,
+    }
+}
+
 fn command_in(words: &[Octets]) -> Option<Command>
     ensures { result ≡ command_in words.now }
 {
     match words {
+        [name, rest @ ..] if is_word(name, b"authsrv") => visit(rest).map(Command::Authsrv),
         [name, what, addr, names @ ..] => {
             if is_word(name, b"netacl") {
                 return query_for(daemon(what), peer(addr, names)).map(Command::Netacl);

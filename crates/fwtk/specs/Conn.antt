@@ -1,0 +1,89 @@
+-- One client: the verdict, the session, and how it ended.
+use Rattle.std.specs.Prelude.{◌≡◌, ℕ, ◌^◌, ◌-◌, min, Bool, false, List, Option, Some, None, Result, Ok, Err}
+use Rattle.authsrv_lines.specs.Session.{Devices, Session}
+use Rattle.fw_outside.specs.Drain.{Drain, Gives}
+use Rattle.fw_outside.specs.Spring.{waiting}
+use Rattle.fw_outside.specs.declared.ending.Ending.{Ending}
+use Rattle.fw_outside.specs.declared.ending.Ending.TheVariants as endings
+use Rattle.fw_outside.specs.declared.failed.Failed.{Failed}
+use Rattle.fw_outside.specs.declared.peer.Peer.{Peer}
+use Rattle.gate_rules.specs.Reading.{RuleBook}
+use Rattle.gate_rules.specs.Verdict.{setting_of, verdict_of}
+use Rattle.gate_rules.specs.declared.service.Service.{Service}
+use Rattle.gate_rules.specs.declared.setting.Setting.TheVariants.{Timeout}
+use Rattle.gate_rules.specs.declared.verdict.Verdict.{Verdict}
+use Rattle.gate_rules.specs.declared.verdict.Verdict.TheVariants.{Permit, Deny}
+use Rattle.fwtk.specs.Endings.{denied_text, ending_line}
+use Rattle.fwtk.specs.Texts.{decision_text}
+
+-- what a client meets: the devices of its session, and the log
+pub record Meeting (Origin : Type 0) : Type 0 where
+  pub devices : Devices Origin
+  pub logs : Drain
+
+-- the seconds that a source waits for a client: as the table sets them, or else an hour
+abbrev pub seconds_by : Option (ℕ × ℕ) → ℕ
+seconds_by None = 3600
+seconds_by (Some set) = min set.0 (2 ^ 32 - 1)
+
+abbrev pub timeout_of : RuleBook → ℕ
+timeout_of rules = seconds_by (setting_of rules Timeout)
+
+-- these devices, whose source waits so long
+abbrev pub patient : {Origin : Type 0} → ℕ → Devices Origin → Devices Origin
+patient seconds devices = record devices { inlet = waiting devices.inlet seconds }
+
+-- ---- the ending's line
+
+-- the log was given a line, in whole or in part
+pub record Noted {Origin : Type 0} (line : List ℕ) (old new : Meeting Origin) : Type 0 where
+  pub told : Result (Unit {0}) Failed
+  pub logs : Drain
+  pub gives : Gives told line old.logs logs
+  pub is : new ≡ record old { logs = logs }
+
+abbrev pub NotedIf : {Origin : Type 0} → Option (List ℕ) → Meeting Origin → Meeting Origin → Type 0
+NotedIf None old new = new ≡ old
+NotedIf (Some line) old new = Noted line old new
+
+-- a session was held, and then its ending's line given to the log, which changes no ending
+pub record Ended {Origin : Type 0} (console : Bool) (service : Service) (peer : Peer) (ending : Ending) (old new : Meeting Origin) : Type 0 where
+  pub devices : Devices Origin
+  pub session : Session console old.devices devices ending
+  pub noted : NotedIf (ending_line service peer ending) (record old { devices = devices }) new
+
+-- ---- a client
+
+-- the client was told that it is denied, in whole or in part
+pub record Refused {Origin : Type 0} (line : ℕ) (ending : Ending) (old new : Meeting Origin) : Type 0 where
+  pub told : Result (Unit {0}) Failed
+  pub outlet : Drain
+  pub gives : Gives told (denied_text line) old.devices.outlet outlet
+  pub ends : ending ≡ endings.Denied line
+  pub is : new ≡ record old { devices = record (old.devices) { outlet = outlet } }
+
+-- the session was held, over a source that waits as the table has it
+abbrev pub Served : {Origin : Type 0} → Service → RuleBook → Peer → Ending → Meeting Origin → Meeting Origin → Type 0
+Served service rules peer ending old new = Ended false service peer ending (record old { devices = patient (timeout_of rules) old.devices }) new
+
+abbrev pub Treated : {Origin : Type 0} → Verdict → Service → RuleBook → Peer → Ending → Meeting Origin → Meeting Origin → Type 0
+Treated (Deny line) service rules peer ending old new = Refused line ending old new
+Treated (Permit line) service rules peer ending old new = Served service rules peer ending old new
+
+-- the log failed within the verdict's line, and nothing else was done
+pub record Untold {Origin : Type 0} (ending : Ending) (old new : Meeting Origin) : Type 0 where
+  pub ends : ending ≡ endings.LogFault
+  pub is : new ≡ old
+
+-- what is done after the verdict's line was given to the log, in whole or in part
+abbrev pub AfterLine : {Origin : Type 0} → Result (Unit {0}) Failed → Verdict → Service → RuleBook → Peer → Ending → Meeting Origin → Meeting Origin → Type 0
+AfterLine (Err failed) verdict service rules peer ending old new = Untold ending old new
+AfterLine (Ok _) verdict service rules peer ending old new = Treated verdict service rules peer ending old new
+
+-- a client of a service: the verdict is logged, and then the client told that it is denied, or its session held; what the
+-- devices are left with, and the ending
+pub record Conn {Origin : Type 0} (service : Service) (rules : RuleBook) (peer : Peer) (old new : Meeting Origin) (ending : Ending) : Type 0 where
+  pub logging : Result (Unit {0}) Failed
+  pub logs : Drain
+  pub logged : Gives logging (decision_text (verdict_of rules peer) service peer) old.logs logs
+  pub rest : AfterLine logging (verdict_of rules peer) service rules peer ending (record old { logs = logs }) new

@@ -1,0 +1,47 @@
+-- What the log and the client are told of how a session ended, and its status.
+use Rattle.std.specs.Prelude.{ℕ, List, ◌++◌, Option, Some, None, codes}
+use Rattle.std.specs.Fmt.{decimal}
+use Rattle.std.specs.Option.{option_map}
+use Rattle.fw_outside.specs.Peer.{peer_text}
+use Rattle.fw_outside.specs.declared.ending.Ending.{Ending}
+use Rattle.fw_outside.specs.declared.ending.Ending.TheVariants.{Done, Denied, ClientFault, ServerFault, LogFault, AuthFault, Idle, NoRoute, Spent, NoMemory}
+use Rattle.fw_outside.specs.declared.peer.Peer.{Peer}
+use Rattle.gate_rules.specs.Service.{service_text}
+use Rattle.gate_rules.specs.declared.service.Service.{Service}
+
+-- the word of an ending; a denial has its own line, and a log that failed is told nothing more
+abbrev pub ending_word : Ending → Option (List ℕ)
+ending_word Done = Some (codes "done")
+ending_word (Denied line) = None
+ending_word ClientFault = Some (codes "client")
+ending_word ServerFault = Some (codes "server")
+ending_word LogFault = None
+ending_word AuthFault = Some (codes "auth")
+ending_word Idle = Some (codes "idle")
+ending_word NoRoute = Some (codes "noroute")
+ending_word Spent = Some (codes "spent")
+ending_word NoMemory = Some (codes "memory")
+
+-- `end SERVICE PEER WORD`
+abbrev pub ending_text : Service → Peer → List ℕ → List ℕ
+ending_text service peer word = codes "end " ++ service_text service ++ codes " " ++ peer_text peer ++ codes " " ++ word ++ codes "\n"
+
+-- the log's line of an ending, where it has one
+abbrev pub ending_line : Service → Peer → Ending → Option (List ℕ)
+ending_line service peer ending = option_map (ending_text service peer) (ending_word ending)
+
+abbrev pub ending_status : Ending → ℕ
+ending_status Done = 0
+ending_status (Denied line) = 1
+ending_status ClientFault = 4
+ending_status ServerFault = 4
+ending_status LogFault = 4
+ending_status AuthFault = 4
+ending_status Idle = 4
+ending_status NoRoute = 4
+ending_status Spent = 6
+ending_status NoMemory = 5
+
+-- what a client is told whom the table denies
+abbrev pub denied_text : ℕ → List ℕ
+denied_text line = codes "denied line " ++ decimal line ++ codes "\n"

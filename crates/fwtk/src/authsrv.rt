@@ -1,0 +1,144 @@
+//! The command `authsrv`: the table and the records are read, a client is served, and the records are given back.
+ghost use Rattle.std.specs.Prelude.{◌≡◌, IsSome, IfOk, IfErr};
+ghost use Rattle.fwtk.specs.Conn.{Conn, Ended};
+ghost use Rattle.fwtk.specs.Serving.{Attends, GivesOrders, Held, Visits, meeting, outcome_of};
+
+use crate::conn::{conn, note_ending};
+use crate::ending_line::ending_status;
+use crate::finding::{read_rules, read_table};
+use crate::{Device, Fault, Kit, Visit, World};
+use auth_machine::{Book, OpenFault, Policy};
+use authsrv_lines::authsrv_session;
+use fw_outside::{Ending, Files, Keeper, Peer};
+use gate_rules::{Rules, RulesFault, Service};
+use netperm_table::Table;
+use std::alloc::Global;
+
+/// So many requests fit in a history.
+const MOST_ENTRIES: u64 = 4_194_304;
+
+/// The rules for clients of the authentication server, and what it goes by.
+#[derive(Drop)]
+pub(crate) struct Orders {
+    pub(crate) rules: Rules,
+    pub(crate) policy: Policy,
+}
+
+fn read_policy(alloc: Global, table: &Table) -> Result<Policy, Fault> {
+    match Policy::of(alloc, table) {
+        Ok(policy) => Ok(policy),
+        Err(RulesFault::Rule(fault)) => Err(Fault::Rule(fault)),
+        Err(RulesFault::NoMemory) => Err(Fault::Memory),
+    }
+}
+
+// What the table with this name says to the authentication server.
+fn read_orders<F: Files>(alloc: Global, files: &mut F, name: &[u8]) -> Result<Orders, Fault> {
+    let table = read_table(alloc, files, name)?;
+    let rules = read_rules(alloc, &table, &Service::Authsrv)?;
+    let policy = read_policy(alloc, &table)?;
+    Ok(Orders { rules, policy })
+}
+
+fn fault_of(fault: OpenFault) -> Fault {
+    match fault {
+        OpenFault::LoadFault => Fault::Outside(Device::Records),
+        OpenFault::BadRecord { name, at } => Fault::Record { name, at },
+        OpenFault::NoMemory => Fault::Memory,
+    }
+}
+
+// Opens the book of the records that the keeper has. A keeper whose records can't be read goes back to the world.
+fn open_book<T: Kit>(
+    alloc: Global,
+    world: &mut World<T>,
+    policy: Policy,
+) -> Result<Book<T::Keeper>, Fault> {
+    let Some(keeper) = world.keeper.take() else {
+        unreachable!()
+    };
+    match Book::open(alloc, keeper, policy, MOST_ENTRIES) {
+        Ok(book) => Ok(book),
+        Err((keeper, fault)) => {
+            world.keeper = Some(keeper);
+            Err(fault_of(fault))
+        }
+    }
+}
+
+// A session at the console, and then its ending's line.
+fn hold_at_console<T: Kit>(
+    peer: &Peer,
+    book: &mut Book<T::Keeper>,
+    world: &mut World<T>,
+) -> Ending {
+    let ending = authsrv_session(
+        true,
+        book,
+        &mut world.input,
+        &mut world.output,
+        &mut world.clock,
+        &mut world.dice,
+    );
+    note_ending(&Service::Authsrv, peer, ending, &mut world.logs);
+    ending
+}
+
+fn hold<T: Kit>(
+    rules: &Rules,
+    visit: &Visit,
+    book: &mut Book<T::Keeper>,
+    world: &mut World<T>,
+) -> Ending {
+    if visit.console {
+        return hold_at_console(&visit.peer, book, world);
+    }
+    conn(
+        &Service::Authsrv,
+        rules,
+        &visit.peer,
+        book,
+        &mut world.input,
+        &mut world.output,
+        &mut world.logs,
+        &mut world.clock,
+        &mut world.dice,
+    )
+}
+
+// What a visit comes to.
+fn outcome_of(refused: bool, ending: Ending) -> Result<u8, Fault>
+    ensures { result ≡ outcome_of refused ending }
+{
+    if refused && ending == Ending::Done {
+        return Err(Fault::Limit);
+    }
+    Ok(ending_status(ending))
+}
+
+// Holds the visit over the records that the keeper has, and gives the keeper back.
+fn visit_with<T: Kit>(
+    alloc: Global,
+    orders: Orders,
+    visit: &Visit,
+    world: &mut World<T>,
+) -> Result<u8, Fault> {
+    let Orders { rules, policy } = orders;
+    let mut book = open_book(alloc, world, policy)?;
+    let ending = hold(&rules, visit, &mut book, world);
+    let refused = book.refused();
+    let (keeper, _history) = book.close();
+    world.keeper = Some(keeper);
+    outcome_of(refused, ending)
+}
+
+/// A client of the authentication server, or a session at its console.
+pub(crate) fn attend<T: Kit>(
+    alloc: Global,
+    name: &[u8],
+    visit: &Visit,
+    world: &mut World<T>,
+) -> Result<u8, Fault> {
+    let orders = read_orders(alloc, &mut world.files, name)?;
+    visit_with(alloc, orders, visit, world)
+}

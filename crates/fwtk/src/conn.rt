@@ -1,0 +1,79 @@
+//! One client of a service: the verdict, the session, and how it ended.
+ghost use Rattle.std.specs.Prelude.{◌≡◌};
+ghost use Rattle.fw_outside.specs.Drain.{Gives};
+ghost use Rattle.fwtk.specs.Conn.{Conn, seconds_by, timeout_of};
+ghost use Rattle.gate_rules.specs.declared.service.Service.TheVariants.{Authsrv};
+
+use crate::deciding::verdict_of;
+use crate::ending_line::{denied_line, ending_line};
+use crate::texts::decision_line;
+use auth_events::AuthPort;
+use authsrv_lines::authsrv_session;
+use fw_outside::{Clock, Dice, Ending, Peer, Sink, Source};
+use gate_rules::{Rules, Service, Setting, Verdict};
+
+fn seconds_by(set: Option<(u64, u32)>) -> u32
+    ensures { result ≡ seconds_by set }
+{
+    match set {
+        Some((value, _)) => u32::try_from(value).unwrap_or(u32::MAX),
+        None => 3600,
+    }
+}
+
+// The seconds that a source waits for a client.
+fn timeout_of(rules: &Rules) -> u32
+    ensures { result ≡ timeout_of rules.now }
+{
+    seconds_by(rules.setting(Setting::Timeout))
+}
+
+// Gives the log the line of an ending, where it has one.
+pub(crate) fn note_ending<G: Sink>(
+    service: &Service,
+    peer: &Peer,
+    ending: Ending,
+    logs: &mut G,
+) {
+    if let Some(line) = ending_line(service, peer, ending) {
+        let _ = logs.give(line.as_slice());
+    }
+}
+
+/// One client of the service `authsrv`: the verdict is logged, and then the client is told that it is denied, or its session
+/// is held and its ending logged.
+pub fn conn<P: AuthPort, S: Source, K: Sink, G: Sink, C: Clock, R: Dice>(
+    service: &Service,
+    rules: &Rules,
+    peer: &Peer,
+    port: &mut P,
+    from: &mut S,
+    to: &mut K,
+    logs: &mut G,
+    clock: &mut C,
+    dice: &mut R,
+) -> Ending
+    requires service { service.now ≡ Authsrv }
+    ensures { Conn service.now rules.now peer.now
+        (record { devices = record { inlet = S.spring from.old; outlet = K.drain to.old; port = P.port port.old; hours = C.hours clock.old; throws = R.throws dice.old }; logs = G.drain logs.old })
+        (record { devices = record { inlet = S.spring from.new; outlet = K.drain to.new; port = P.port port.new; hours = C.hours clock.new; throws = R.throws dice.new }; logs = G.drain logs.new })
+        result }
+{
+    let verdict = verdict_of(rules, peer);
+    let line = decision_line(verdict, service, peer);
+    if logs.give(line.as_slice()).is_err() {
+        return Ending::LogFault;
+    }
+    match verdict {
+        Verdict::Deny { line } => {
+            let _ = to.give(denied_line(line).as_slice());
+            Ending::Denied { line }
+        }
+        Verdict::Permit { .. } => {
+            from.patience(timeout_of(rules));
+            let ending = authsrv_session(false, port, from, to, clock, dice);
+            note_ending(service, peer, ending, logs);
+            ending
+        }
+    }
+}
