@@ -7,10 +7,10 @@ use Rattle.gate_rules.specs.Reading.{RuleBook}
 use Rattle.gate_rules.specs.Verdict.{verdict_of}
 use Rattle.fwtk.specs.declared.fault.Device.TheVariants as device
 use Rattle.fwtk.specs.declared.fault.Fault.{Fault}
-use Rattle.fwtk.specs.declared.fault.Fault.TheVariants.{Usage, Table, Rule, Outside, Memory}
+use Rattle.fwtk.specs.declared.fault.Fault.TheVariants.{Usage, Table, Rule, Outside, Memory, Record, Limit}
 use Rattle.fwtk.specs.declared.words.Query.{Query}
 use Rattle.fwtk.specs.Desk.{Desk}
-use Rattle.fwtk.specs.Run.{DecidesBy, ShowsBy, verdict_status}
+use Rattle.fwtk.specs.Deciding.{DecidesBy, ShowsBy, verdict_status}
 
 -- what a command does by the rules ends with the verdict's status, or with a fault of the output, the log or memory
 pub record IsCommand (query : Query) (does : Result ℕ Fault → Desk → Desk → RuleBook → Type 0) : Type 0 where
@@ -21,6 +21,9 @@ pub record IsCommand (query : Query) (does : Result ℕ Fault → Desk → Desk 
   pub files : (old new : Desk) (rules : RuleBook) → does (Err (Outside device.Table)) old new rules → ⊥
   pub output : (old new : Desk) (rules : RuleBook) → does (Err (Outside device.Output)) old new rules → Rose old.output.faults new.output.faults
   pub log : (old new : Desk) (rules : RuleBook) → does (Err (Outside device.Log)) old new rules → Rose old.logs.faults new.logs.faults
+  pub records : (old new : Desk) (rules : RuleBook) → does (Err (Outside device.Records)) old new rules → ⊥
+  pub record_bad : (user : _) (at : _) (old new : Desk) (rules : RuleBook) → does (Err (Record user at)) old new rules → ⊥
+  pub limit : (old new : Desk) (rules : RuleBook) → does (Err Limit) old new rules → ⊥
   pub memory : (old new : Desk) (rules : RuleBook) → does (Err Memory) old new rules → new ≡ old
   pub kept : (outcome : Result ℕ Fault) (old new : Desk) (rules : RuleBook) → does outcome old new rules → new.files ≡ old.files
 
@@ -39,7 +42,10 @@ decides_kept query (Err (Rule fault)) old new rules told = absurd told
 decides_kept query (Err (Outside device.Table)) old new rules told = absurd told
 decides_kept query (Err (Outside device.Output)) old new rules told = told.files
 decides_kept query (Err (Outside device.Log)) old new rules told = told.files
+decides_kept query (Err (Outside device.Records)) old new rules told = absurd told
 decides_kept query (Err Memory) old new rules told = ap (λ (d : Desk). d.files) told
+decides_kept query (Err (Record user at)) old new rules told = absurd told
+decides_kept query (Err Limit) old new rules told = absurd told
 
 shows_kept : (query : Query) (outcome : Result ℕ Fault) (old new : Desk) (rules : RuleBook) → ShowsBy query outcome old new rules → new.files ≡ old.files
 shows_kept query (Ok n) old new rules told = told.files
@@ -49,7 +55,10 @@ shows_kept query (Err (Rule fault)) old new rules told = absurd told
 shows_kept query (Err (Outside device.Table)) old new rules told = absurd told
 shows_kept query (Err (Outside device.Output)) old new rules told = told.files
 shows_kept query (Err (Outside device.Log)) old new rules told = absurd told
+shows_kept query (Err (Outside device.Records)) old new rules told = absurd told
 shows_kept query (Err Memory) old new rules told = ap (λ (d : Desk). d.files) told
+shows_kept query (Err (Record user at)) old new rules told = absurd told
+shows_kept query (Err Limit) old new rules told = absurd told
 
 pub decides_command : (query : Query) → IsCommand query (DecidesBy query)
 decides_command query = record {
@@ -60,6 +69,9 @@ decides_command query = record {
   files = λ old new rules told. told;
   output = λ old new rules told. cut_rose _ old.output new.output told.printed;
   log = λ old new rules told. cut_rose _ old.logs new.logs told.logged;
+  records = λ old new rules told. told;
+  record_bad = λ user at old new rules told. told;
+  limit = λ old new rules told. told;
   memory = λ old new rules told. told;
   kept = decides_kept query;
 }
@@ -73,6 +85,9 @@ shows_command query = record {
   files = λ old new rules told. told;
   output = λ old new rules told. cut_rose _ old.output new.output told.printed;
   log = λ old new rules told. absurd told;
+  records = λ old new rules told. told;
+  record_bad = λ user at old new rules told. told;
+  limit = λ old new rules told. told;
   memory = λ old new rules told. told;
   kept = shows_kept query;
 }

@@ -7,7 +7,7 @@ use Rattle.gate_rules.specs.declared.verdict.Verdict.{Verdict}
 use Rattle.gate_rules.specs.declared.verdict.Verdict.TheVariants.{Permit, Deny}
 use Rattle.fwtk.specs.declared.words.Query.{Query}
 use Rattle.fwtk.specs.Desk.{Desk}
-use Rattle.fwtk.specs.Run.{Concludes, Decided, IsPrinted, unprinted, verdict_status, with_given}
+use Rattle.fwtk.specs.Deciding.{Concludes, Decided, IsPrinted, unprinted, verdict_status, with_given}
 use Rattle.fwtk.specs.Texts.{decision_text}
 
 -- the log has the verdict's line, and nothing else has changed
@@ -15,12 +15,14 @@ pub record Logged (query : Query) (verdict : Verdict) (old new : Desk) : Type 0 
   pub logs : new.logs ≡ with_given old.logs (decision_text verdict query.service query.peer)
   pub output : new.output ≡ old.output
   pub files : new.files ≡ old.files
+  pub sitting : new.sitting ≡ old.sitting
 
 -- the output was given a text, in whole or in part, and nothing else has changed
 pub record Printed (print : Result (Unit {0}) Failed) (text : List ℕ) (old new : Desk) : Type 0 where
   pub output : Gives print text old.output new.output
   pub logs : new.logs ≡ old.logs
   pub files : new.files ≡ old.files
+  pub sitting : new.sitting ≡ old.sitting
 
 printed_whole : (verdict : Verdict) → IsPrinted verdict (Ok tt)
 printed_whole (Permit line) = search rules
@@ -37,6 +39,7 @@ told_whole query verdict text old mid new logged printed = record {
   printed = whole text old.output mid.output new.output logged.output printed.output;
   whole = printed_whole verdict;
   files = printed.files ∙ logged.files;
+  sitting = printed.sitting ∙ logged.sitting;
 }
 
 short : (text : List ℕ) (a b c : Drain) → b ≡ a → Cut text b c → Cut text a c
@@ -48,6 +51,7 @@ told_short query (Permit line) text failed old mid new logged printed = record {
   logged = printed.logs ∙ logged.logs;
   printed = short text old.output mid.output new.output logged.output printed.output;
   files = printed.files ∙ logged.files;
+  sitting = printed.sitting ∙ logged.sitting;
 }
 told_short query (Deny line) text failed old mid new logged printed = record {
   print = Err failed;
@@ -56,4 +60,5 @@ told_short query (Deny line) text failed old mid new logged printed = record {
   printed = short text old.output mid.output new.output logged.output printed.output;
   whole = tt;
   files = printed.files ∙ logged.files;
+  sitting = printed.sitting ∙ logged.sitting;
 }

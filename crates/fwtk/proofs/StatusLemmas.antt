@@ -19,7 +19,8 @@ use Rattle.fwtk.specs.Desk.{Desk}
 use Rattle.fwtk.specs.Fault.{fault_text}
 use Rattle.fwtk.specs.Ruling.{OfText, ruling}
 use Rattle.gate_rules.specs.Reading.{RuleBook}
-use Rattle.fwtk.specs.Run.{ByTable, DecidesBy, Does, Ends, FilesFailed, Ran, ShowsBy, Tells, verdict_status}
+use Rattle.fwtk.specs.Run.{Does, Ends, Ran, Tells}
+use Rattle.fwtk.specs.Deciding.{ByTable, DecidesBy, FilesFailed, ShowsBy, verdict_status}
 use Rattle.fwtk.specs.Status.{Fails, IsRuled, IsRuledBy, SomeRose, WantsMemory}
 use Rattle.fwtk.specs.Words.{command_of, table_named}
 use Rattle.fwtk.proofs.CommandLemmas.{IsCommand, cut_rose, decides_command, shows_command}

@@ -1,6 +1,8 @@
 -- One client: the verdict, the session, and how it ended.
-use Rattle.std.specs.Prelude.{◌≡◌, ℕ, ◌^◌, ◌-◌, min, Bool, false, List, Option, Some, None, Result, Ok, Err}
+use Rattle.std.specs.Prelude.{◌≡◌, ℕ, ◌^◌, ◌-◌, ◌⊎◌, min, Bool, false, List, Option, Some, None, Result, Ok, Err}
+use Rattle.authsrv_lines.specs.Causes.{Caused}
 use Rattle.authsrv_lines.specs.Session.{Devices, Session}
+use Rattle.fw_outside.specs.Counts.{Rose}
 use Rattle.fw_outside.specs.Drain.{Drain, Gives}
 use Rattle.fw_outside.specs.Spring.{waiting}
 use Rattle.fw_outside.specs.declared.ending.Ending.{Ending}
@@ -35,30 +37,26 @@ patient seconds devices = record devices { inlet = waiting devices.inlet seconds
 
 -- ---- the ending's line
 
--- the log was given a line, in whole or in part
-pub record Noted {Origin : Type 0} (line : List ℕ) (old new : Meeting Origin) : Type 0 where
+-- a sink was given a line, in whole or in part
+pub record Noted (line : List ℕ) (old new : Drain) : Type 0 where
   pub told : Result (Unit {0}) Failed
-  pub logs : Drain
-  pub gives : Gives told line old.logs logs
-  pub is : new ≡ record old { logs = logs }
+  pub gives : Gives told line old new
 
-abbrev pub NotedIf : {Origin : Type 0} → Option (List ℕ) → Meeting Origin → Meeting Origin → Type 0
+abbrev pub NotedIf : Option (List ℕ) → Drain → Drain → Type 0
 NotedIf None old new = new ≡ old
 NotedIf (Some line) old new = Noted line old new
 
 -- a session was held, and then its ending's line given to the log, which changes no ending
 pub record Ended {Origin : Type 0} (console : Bool) (service : Service) (peer : Peer) (ending : Ending) (old new : Meeting Origin) : Type 0 where
-  pub devices : Devices Origin
-  pub session : Session console old.devices devices ending
-  pub noted : NotedIf (ending_line service peer ending) (record old { devices = devices }) new
+  pub session : Session console old.devices new.devices ending
+  pub noted : NotedIf (ending_line service peer ending) old.logs new.logs
 
 -- ---- a client
 
 -- the client was told that it is denied, in whole or in part
 pub record Refused {Origin : Type 0} (line : ℕ) (ending : Ending) (old new : Meeting Origin) : Type 0 where
-  pub told : Result (Unit {0}) Failed
   pub outlet : Drain
-  pub gives : Gives told (denied_text line) old.devices.outlet outlet
+  pub noted : Noted (denied_text line) old.devices.outlet outlet
   pub ends : ending ≡ endings.Denied line
   pub is : new ≡ record old { devices = record (old.devices) { outlet = outlet } }
 
@@ -87,3 +85,23 @@ pub record Conn {Origin : Type 0} (service : Service) (rules : RuleBook) (peer :
   pub logs : Drain
   pub logged : Gives logging (decision_text (verdict_of rules peer) service peer) old.logs logs
   pub rest : AfterLine logging (verdict_of rules peer) service rules peer ending (record old { logs = logs }) new
+
+-- ---- what an ending says
+
+-- a denial is the verdict's; where the log failed, it has counted it; and any other ending has its cause in the session's devices
+abbrev pub Causes : {Origin : Type 0} → Verdict → Ending → Meeting Origin → Meeting Origin → Type 0
+Causes verdict (endings.Denied line) old new = verdict ≡ Deny line
+Causes verdict endings.LogFault old new = Rose old.logs.faults new.logs.faults
+Causes verdict endings.Done old new = Unit {0}
+Causes verdict endings.ClientFault old new = Caused endings.ClientFault old.devices new.devices
+Causes verdict endings.ServerFault old new = ⊥
+Causes verdict endings.AuthFault old new = Caused endings.AuthFault old.devices new.devices
+Causes verdict endings.Idle old new = Caused endings.Idle old.devices new.devices
+Causes verdict endings.NoRoute old new = ⊥
+Causes verdict endings.Spent old new = Caused endings.Spent old.devices new.devices
+Causes verdict endings.NoMemory old new = Unit {0}
+
+-- a client that the verdict denies is denied by its line, unless the log failed
+abbrev pub IsRefused : Verdict → Ending → Type 0
+IsRefused (Deny line) ending = (ending ≡ endings.Denied line) ⊎ (ending ≡ endings.LogFault)
+IsRefused (Permit line) ending = Unit {0}

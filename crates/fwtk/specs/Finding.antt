@@ -5,13 +5,12 @@ use Rattle.netperm_table.specs.declared.line.Line.{Line}
 use Rattle.netperm_table.specs.declared.table_fault.TableFault.{TableFault}
 use Rattle.netperm_table.specs.declared.table_fault.TableFault.TheVariants as table
 use Rattle.netperm_table.specs.Table.{table_of}
-use Rattle.gate_rules.specs.declared.service.Service.{Service}
+use Rattle.gate_rules.specs.declared.fault.RuleFault.{RuleFault}
 use Rattle.fwtk.specs.declared.fault.Device.TheVariants as device
 use Rattle.fwtk.specs.declared.fault.Fault.{Fault}
-use Rattle.fwtk.specs.declared.fault.Fault.TheVariants.{Usage, Table, Rule, Outside, Memory}
-use Rattle.fwtk.specs.Ruling.{OfText, ruling}
-use Rattle.gate_rules.specs.Reading.{RuleBook, rules_of}
-use Rattle.fwtk.specs.Run.{FilesFailed}
+use Rattle.fwtk.specs.declared.fault.Fault.TheVariants.{Usage, Table, Rule, Outside, Memory, Record, Limit}
+use Rattle.fwtk.specs.Ruling.{OfText}
+use Rattle.fwtk.specs.Deciding.{FilesFailed}
 
 -- a fact of the text under a name, where the files tell it; the files are as before
 pub record OfTable (name : List ℕ) (P : List ℕ → Type 0) (old new : Cabinet) : Type 0 where
@@ -27,27 +26,35 @@ ReadsTable name (Err (Rule fault)) old new = ⊥
 ReadsTable name (Err (Outside device.Table)) old new = FilesFailed old new
 ReadsTable name (Err (Outside device.Output)) old new = ⊥
 ReadsTable name (Err (Outside device.Log)) old new = ⊥
+ReadsTable name (Err (Outside device.Records)) old new = ⊥
 ReadsTable name (Err Memory) old new = new ≡ old
+ReadsTable name (Err (Record user at)) old new = ⊥
+ReadsTable name (Err Limit) old new = ⊥
 
--- what reading the rules of a service from lines answers
-abbrev pub ReadsRules : Service → List Line → Result RuleBook Fault → Type 0
-ReadsRules service lines (Ok rules) = rules_of service lines ≡ Ok rules
-ReadsRules service lines (Err Usage) = ⊥
-ReadsRules service lines (Err (Table fault)) = ⊥
-ReadsRules service lines (Err (Rule fault)) = rules_of service lines ≡ Err fault
-ReadsRules service lines (Err (Outside which)) = ⊥
-ReadsRules service lines (Err Memory) = Unit {0}
+-- what reading something from lines answers
+abbrev pub ReadsLines : {A : Type 0} → Result A RuleFault → Result A Fault → Type 0
+ReadsLines said (Ok x) = said ≡ Ok x
+ReadsLines said (Err Usage) = ⊥
+ReadsLines said (Err (Table fault)) = ⊥
+ReadsLines said (Err (Rule fault)) = said ≡ Err fault
+ReadsLines said (Err (Outside which)) = ⊥
+ReadsLines said (Err Memory) = Unit {0}
+ReadsLines said (Err (Record user at)) = ⊥
+ReadsLines said (Err Limit) = ⊥
 
--- what finding the rules of a service answers and leaves
-abbrev pub Finds : List ℕ → Service → Result RuleBook Fault → Cabinet → Cabinet → Type 0
-Finds name service (Ok rules) old new = OfTable name (λ text. ruling text service ≡ Ok rules) old new
-Finds name service (Err Usage) old new = ⊥
-Finds name service (Err (Table fault)) old new = OfTable name (λ text. ruling text service ≡ Err (Table fault)) old new
-Finds name service (Err (Rule fault)) old new = OfTable name (λ text. ruling text service ≡ Err (Rule fault)) old new
-Finds name service (Err (Outside device.Table)) old new = FilesFailed old new
-Finds name service (Err (Outside device.Output)) old new = ⊥
-Finds name service (Err (Outside device.Log)) old new = ⊥
-Finds name service (Err Memory) old new = new ≡ old
+-- what finding something in the table of this name answers and leaves
+abbrev pub Finds : {A : Type 0} → (List ℕ → Result A Fault) → List ℕ → Result A Fault → Cabinet → Cabinet → Type 0
+Finds said name (Ok x) old new = OfTable name (λ text. said text ≡ Ok x) old new
+Finds said name (Err Usage) old new = ⊥
+Finds said name (Err (Table fault)) old new = OfTable name (λ text. said text ≡ Err (Table fault)) old new
+Finds said name (Err (Rule fault)) old new = OfTable name (λ text. said text ≡ Err (Rule fault)) old new
+Finds said name (Err (Outside device.Table)) old new = FilesFailed old new
+Finds said name (Err (Outside device.Output)) old new = ⊥
+Finds said name (Err (Outside device.Log)) old new = ⊥
+Finds said name (Err (Outside device.Records)) old new = ⊥
+Finds said name (Err Memory) old new = new ≡ old
+Finds said name (Err (Record user at)) old new = ⊥
+Finds said name (Err Limit) old new = ⊥
 
 -- a fault of the source or of memory is told as one of the files or of memory
 abbrev pub fault_of : TableFault → Fault

@@ -1,8 +1,13 @@
+pub mod Conn
+pub mod Deciding
 pub mod Desk
+pub mod Endings
 pub mod Fault
 pub mod Finding
+pub mod Opening
 pub mod Run
 pub mod Ruling
+pub mod Serving
 pub mod Sheet
 pub mod Status
 pub mod Texts

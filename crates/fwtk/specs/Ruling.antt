@@ -14,17 +14,21 @@ use Rattle.gate_rules.specs.Verdict.{options_at}
 use Rattle.fwtk.specs.declared.fault.Fault.{Fault}
 use Rattle.fwtk.specs.declared.fault.Fault.TheVariants.{Table, Rule}
 
-abbrev pub or_rule_fault : Result RuleBook RuleFault → Result RuleBook Fault
-or_rule_fault (Ok rules) = Ok rules
+abbrev pub or_rule_fault : {A : Type 0} → Result A RuleFault → Result A Fault
+or_rule_fault (Ok said) = Ok said
 or_rule_fault (Err fault) = Err (Rule fault)
 
-abbrev pub rules_by : Service → Result (List Line) TableFault → Result RuleBook Fault
-rules_by service (Ok lines) = or_rule_fault (rules_of service lines)
-rules_by service (Err fault) = Err (Table fault)
+abbrev pub said_by : {A : Type 0} → (List Line → Result A RuleFault) → Result (List Line) TableFault → Result A Fault
+said_by said (Ok lines) = or_rule_fault (said lines)
+said_by said (Err fault) = Err (Table fault)
+
+-- what the lines of a table's text say, or the fault of the first one that can't be read
+unfoldable pub said_in : {A : Type 0} → (List Line → Result A RuleFault) → List ℕ → Result A Fault
+said_in said text = said_by said (table_of text)
 
 -- the rules of the service, or the fault of the first line of the table, or of the service, that can't be read
-unfoldable pub ruling : List ℕ → Service → Result RuleBook Fault
-ruling text service = rules_by service (table_of text)
+abbrev pub ruling : List ℕ → Service → Result RuleBook Fault
+ruling text service = said_in (rules_of service) text
 
 abbrev pub exec_in : Option Options → List (List ℕ)
 exec_in None = []

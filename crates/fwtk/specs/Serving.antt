@@ -1,65 +1,46 @@
 -- What `authsrv` does: the table and the records are read, a client is served, and the records are given back.
-use Rattle.std.specs.Prelude.{◌≡◌, ℕ, Bool, true, false, List, Option, Some, None, Result, Ok, Err}
+use Rattle.std.specs.Prelude.{◌≡◌, ℕ, Bool, true, false, List, [], Some, Result, Ok, Err}
 use Rattle.auth_machine.specs.Book.{BookView}
 use Rattle.auth_machine.specs.History.{HasRecords, IsLegal, NoMoreThanFaults, Origin}
 use Rattle.auth_machine.specs.Opening.{ReadsAs}
 use Rattle.auth_machine.specs.Policy.{PolicyView, policy_of}
 use Rattle.auth_machine.specs.Port.{port_of}
-use Rattle.auth_events.specs.declared.entry.Entry.{Entry}
-use Rattle.authsrv_lines.specs.Session.{Devices}
-use Rattle.fw_outside.specs.Cabinet.{Cabinet}
 use Rattle.fw_outside.specs.Vault.{Missed, Vault}
 use Rattle.fw_outside.specs.declared.ending.Ending.{Ending}
 use Rattle.fw_outside.specs.declared.ending.Ending.TheVariants as endings
 use Rattle.fw_outside.specs.declared.peer.Peer.{Peer}
 use Rattle.gate_rules.specs.Reading.{RuleBook, rules_of}
 use Rattle.gate_rules.specs.declared.service.Service.TheVariants.{Authsrv}
-use Rattle.netperm_table.specs.Table.{table_of}
 use Rattle.netperm_table.specs.declared.line.Line.{Line}
-use Rattle.netperm_table.specs.declared.table_fault.TableFault.{TableFault}
+use Rattle.gate_rules.specs.declared.fault.RuleFault.{RuleFault}
+use Rattle.gate_rules.specs.declared.fault.RulesFault.{RulesFault}
+use Rattle.gate_rules.specs.declared.fault.RulesFault.TheVariants as rules_faults
 use Rattle.fwtk.specs.Conn.{Conn, Ended, Meeting}
-use Rattle.fwtk.specs.Desk.{Desk, Sitting}
+use Rattle.fwtk.specs.Desk.{Desk}
 use Rattle.fwtk.specs.Endings.{ending_status}
-use Rattle.fwtk.specs.Finding.{OfTable}
-use Rattle.fwtk.specs.Run.{FilesFailed, NotRead}
-use Rattle.fwtk.specs.Ruling.{OfText, or_rule_fault}
+use Rattle.fwtk.specs.Deciding.{NotRead}
+use Rattle.fwtk.specs.Ruling.{OfText, said_in}
 use Rattle.fwtk.specs.declared.fault.Device.TheVariants as device
 use Rattle.fwtk.specs.declared.fault.Fault.{Fault}
 use Rattle.fwtk.specs.declared.fault.Fault.TheVariants.{Usage, Table, Rule, Outside, Memory, Record, Limit}
+use Rattle.fwtk.specs.declared.orders.Orders.{Orders}
 use Rattle.fwtk.specs.declared.words.Visit.{Visit}
 
 -- ---- what the table says
 
--- the rules for clients of the authentication server, and what it goes by
-pub record Orders : Type 0 where
-  pub rules : RuleBook
-  pub policy : PolicyView
+abbrev pub both_of : Result RuleBook RuleFault → Result PolicyView RuleFault → Result Orders RuleFault
+both_of (Ok rules) (Ok policy) = Ok (record { rules = rules; policy = policy })
+both_of (Ok rules) (Err fault) = Err fault
+both_of (Err fault) policy = Err fault
 
-abbrev pub orders_with : RuleBook → Result PolicyView Fault → Result Orders Fault
-orders_with rules (Ok policy) = Ok (record { rules = rules; policy = policy })
-orders_with rules (Err fault) = Err fault
+-- both, or the first line of the server that can't be read
+abbrev pub orders_of : List Line → Result Orders RuleFault
+orders_of lines = both_of (rules_of Authsrv lines) (policy_of lines)
 
-abbrev pub orders_after : List Line → Result RuleBook Fault → Result Orders Fault
-orders_after lines (Ok rules) = orders_with rules (or_rule_fault (policy_of lines))
-orders_after lines (Err fault) = Err fault
-
-abbrev pub orders_by : Result (List Line) TableFault → Result Orders Fault
-orders_by (Ok lines) = orders_after lines (or_rule_fault (rules_of Authsrv lines))
-orders_by (Err fault) = Err (Table fault)
-
--- both, or the first line of the table, or of the server, that can't be read
-unfoldable pub orders_of : List ℕ → Result Orders Fault
-orders_of text = orders_by (table_of text)
-
--- what reading them answers and leaves
-abbrev pub GivesOrders : List ℕ → Result Orders Fault → Cabinet → Cabinet → Type 0
-GivesOrders name (Ok orders) old new = OfTable name (λ text. orders_of text ≡ Ok orders) old new
-GivesOrders name (Err (Table fault)) old new = OfTable name (λ text. orders_of text ≡ Err (Table fault)) old new
-GivesOrders name (Err (Rule fault)) old new = OfTable name (λ text. orders_of text ≡ Err (Rule fault)) old new
-GivesOrders name (Err (Outside device.Table)) old new = FilesFailed old new
-GivesOrders name (Err (Outside _)) old new = ⊥
-GivesOrders name (Err Memory) old new = new ≡ old
-GivesOrders name (Err _) old new = ⊥
+-- a fault of the lines is the one that they have, but for want of memory
+abbrev pub IsFaultOf : Result Orders RuleFault → RulesFault → Type 0
+IsFaultOf read (rules_faults.Rule fault) = read ≡ Err fault
+IsFaultOf read rules_faults.NoMemory = Unit {0}
 
 -- ---- a visit
 
@@ -99,6 +80,7 @@ pub record Held (visit : Visit) (orders : Orders) (outcome : Result ℕ Fault) (
   pub book : BookView
   pub ending : Ending
   pub visits : Visits visit.console orders.rules visit.peer (meeting old (book_at_first origin most_entries before)) (meeting new book) ending
+  pub origin_is : book.origin ≡ origin
   pub legal : IsLegal origin book.history
   pub has : HasRecords origin book.history book.vault
   pub faults : NoMoreThanFaults book.history book.vault
@@ -106,48 +88,73 @@ pub record Held (visit : Visit) (orders : Orders) (outcome : Result ℕ Fault) (
   pub kept : new.sitting.keeper ≡ Some book.vault
   pub files : new.files ≡ old.files
 
--- the table was read, and then the visit held
-pub record Serves (name : List ℕ) (visit : Visit) (outcome : Result ℕ Fault) (old new : Desk) : Type 0 where
-  pub orders : Orders
-  pub of_table : OfText old.files.holds name (λ text. orders_of text ≡ Ok orders)
-  pub held : Held visit orders outcome old new
+-- ---- records that can't be read
 
--- ---- what comes before a visit
-
--- a line that can't be read, and nothing else happened
-pub record Disordered (name : List ℕ) (fault : Fault) (old new : Desk) : Type 0 where
-  pub of_table : OfText old.files.holds name (λ text. orders_of text ≡ Err fault)
-  pub is : new ≡ old
-
--- the table was read, but the least name under which no record of that name stands is this one; nothing else happened
-pub record Misrecorded (name : List ℕ) (user : List ℕ) (at : ℕ) (old new : Desk) : Type 0 where
-  pub orders : Orders
-  pub of_table : OfText old.files.holds name (λ text. orders_of text ≡ Ok orders)
+-- the least name under which no record of that name stands is this one, and nothing happened
+pub record Misrecorded (user : List ℕ) (at : ℕ) (old new : Desk) : Type 0 where
   pub before : Vault
   pub keeper : old.sitting.keeper ≡ Some before
   pub bad : ReadsAs (Err (user, at)) before before
   pub is : new ≡ old
 
--- the table was read, but the keeper failed
-pub record Unloaded (name : List ℕ) (old new : Desk) : Type 0 where
-  pub orders : Orders
-  pub of_table : OfText old.files.holds name (λ text. orders_of text ≡ Ok orders)
+-- the keeper failed, and nothing else happened
+pub record Unloaded (old new : Desk) : Type 0 where
   pub before : Vault
   pub keeper : old.sitting.keeper ≡ Some before
   pub after : Vault
   pub missed : Missed before after
   pub is : new ≡ record old { sitting = record (old.sitting) { keeper = Some after } }
 
+-- why no book is opened
+abbrev pub Unopened : Fault → Desk → Desk → Type 0
+Unopened (Outside device.Records) old new = Unloaded old new
+Unopened (Record user at) old new = Misrecorded user at old new
+Unopened Memory old new = new ≡ old
+Unopened (Outside device.Table) old new = ⊥
+Unopened (Outside device.Output) old new = ⊥
+Unopened (Outside device.Log) old new = ⊥
+Unopened Usage old new = ⊥
+Unopened (Table fault) old new = ⊥
+Unopened (Rule fault) old new = ⊥
+Unopened Limit old new = ⊥
+
+-- what a visit answers and leaves, by these orders
+abbrev pub Proceeds : Visit → Orders → Result ℕ Fault → Desk → Desk → Type 0
+Proceeds visit orders (Ok status) old new = Held visit orders (Ok status) old new
+Proceeds visit orders (Err Limit) old new = Held visit orders (Err Limit) old new
+Proceeds visit orders (Err (Outside device.Records)) old new = Unloaded old new
+Proceeds visit orders (Err (Record user at)) old new = Misrecorded user at old new
+Proceeds visit orders (Err Memory) old new = new ≡ old
+Proceeds visit orders (Err (Outside device.Table)) old new = ⊥
+Proceeds visit orders (Err (Outside device.Output)) old new = ⊥
+Proceeds visit orders (Err (Outside device.Log)) old new = ⊥
+Proceeds visit orders (Err Usage) old new = ⊥
+Proceeds visit orders (Err (Table fault)) old new = ⊥
+Proceeds visit orders (Err (Rule fault)) old new = ⊥
+
+-- ---- the command
+
+-- the table was read, and then it was gone by
+pub record Follows (name : List ℕ) (visit : Visit) (outcome : Result ℕ Fault) (old new : Desk) : Type 0 where
+  pub orders : Orders
+  pub of_table : OfText old.files.holds name (λ text. said_in orders_of text ≡ Ok orders)
+  pub proceeds : Proceeds visit orders outcome old new
+
+-- a line that can't be read, and nothing else happened
+pub record Disordered (name : List ℕ) (fault : Fault) (old new : Desk) : Type 0 where
+  pub of_table : OfText old.files.holds name (λ text. said_in orders_of text ≡ Err fault)
+  pub is : new ≡ old
+
 -- what `authsrv` answers and leaves
 abbrev pub Attends : List ℕ → Visit → Result ℕ Fault → Desk → Desk → Type 0
-Attends name visit (Ok status) old new = Serves name visit (Ok status) old new
-Attends name visit (Err Usage) old new = ⊥
+Attends name visit (Ok status) old new = Follows name visit (Ok status) old new
+Attends name visit (Err Limit) old new = Follows name visit (Err Limit) old new
+Attends name visit (Err (Outside device.Records)) old new = Follows name visit (Err (Outside device.Records)) old new
+Attends name visit (Err (Record user at)) old new = Follows name visit (Err (Record user at)) old new
+Attends name visit (Err Memory) old new = new ≡ old
 Attends name visit (Err (Table fault)) old new = Disordered name (Table fault) old new
 Attends name visit (Err (Rule fault)) old new = Disordered name (Rule fault) old new
 Attends name visit (Err (Outside device.Table)) old new = NotRead old new
 Attends name visit (Err (Outside device.Output)) old new = ⊥
 Attends name visit (Err (Outside device.Log)) old new = ⊥
-Attends name visit (Err (Outside device.Records)) old new = Unloaded name old new
-Attends name visit (Err Memory) old new = new ≡ old
-Attends name visit (Err (Record user at)) old new = Misrecorded name user at old new
-Attends name visit (Err Limit) old new = Serves name visit (Err Limit) old new
+Attends name visit (Err Usage) old new = ⊥

@@ -1,16 +1,24 @@
 -- What the status of a run says.
-use Rattle.std.specs.Prelude.{◌≡◌, ℕ, ◌⊎◌, List, Option, Some, None, Result, Ok, Err}
+use Rattle.std.specs.Prelude.{◌≡◌, ℕ, ◌⊎◌, Bool, true, false, List, Option, Some, None, Result, Ok, Err, IfSome}
+use Rattle.auth_machine.specs.Opening.{ReadsAs}
+use Rattle.auth_records.specs.Spelling.{Fields}
 use Rattle.fw_outside.specs.Counts.{Rose}
+use Rattle.fw_outside.specs.Vault.{Vault}
 use Rattle.fw_outside.specs.declared.peer.Peer.{Peer}
-use Rattle.gate_rules.specs.Verdict.{verdict_of}
-use Rattle.fwtk.specs.declared.fault.Fault.{Fault}
-use Rattle.fwtk.specs.declared.words.Command.{Command}
-use Rattle.fwtk.specs.declared.words.Command.TheVariants.{Netacl, Table}
-use Rattle.fwtk.specs.declared.words.Query.{Query}
-use Rattle.fwtk.specs.Desk.{Desk}
-use Rattle.fwtk.specs.Ruling.{OfText, ruling}
 use Rattle.gate_rules.specs.Reading.{RuleBook}
-use Rattle.fwtk.specs.Run.{verdict_status}
+use Rattle.gate_rules.specs.Verdict.{verdict_of}
+use Rattle.gate_rules.specs.declared.verdict.Verdict.{Verdict}
+use Rattle.gate_rules.specs.declared.verdict.Verdict.TheVariants.{Permit, Deny}
+use Rattle.fwtk.specs.Deciding.{verdict_status}
+use Rattle.fwtk.specs.Desk.{Desk}
+use Rattle.fwtk.specs.Ruling.{OfText, ruling, said_in}
+use Rattle.fwtk.specs.Serving.{orders_of}
+use Rattle.fwtk.specs.declared.fault.Fault.{Fault}
+use Rattle.fwtk.specs.declared.orders.Orders.{Orders}
+use Rattle.fwtk.specs.declared.words.Command.{Command}
+use Rattle.fwtk.specs.declared.words.Command.TheVariants.{Netacl, Table, Authsrv}
+use Rattle.fwtk.specs.declared.words.Query.{Query}
+use Rattle.fwtk.specs.declared.words.Visit.{Visit}
 
 -- 0 or 1 by the verdict of the rules, and 3 where a line can't be read; else other holds of the status
 abbrev pub IsRuled : (ℕ → Type 0) → Result RuleBook Fault → Peer → ℕ → Type 0
@@ -21,11 +29,51 @@ IsRuled other (Err fault) peer status = (status ≡ 3) ⊎ other status
 abbrev pub IsRuledFor : (ℕ → Type 0) → List ℕ → Query → Desk → ℕ → Type 0
 IsRuledFor other name query old status = OfText old.files.holds name (λ text. IsRuled other (ruling text query.service) query.peer status)
 
+-- ---- a visit to the authentication server
+
+-- the keeper has no record under some name that is one of that name
+pub record HasBad (keeper : Vault) : Type 0 where
+  pub user : List ℕ
+  pub at : ℕ
+  pub bad : ReadsAs (Err (user, at)) keeper keeper
+
+-- all that the keeper has can be read
+pub record IsReadable (keeper : Vault) : Type 0 where
+  pub records : List Fields
+  pub read : ReadsAs (Ok records) keeper keeper
+
+-- the session came to its end: 6 where a request was answered that the history is full, or as many bytes were taken as may be
+abbrev pub IsHeld : ℕ → Type 0
+IsHeld status = (status ≡ 0) ⊎ (status ≡ 6)
+
+-- a client that the table denies is answered 1, unless it is at the console
+abbrev pub IsAnswered : Bool → Verdict → ℕ → Type 0
+IsAnswered true verdict status = IsHeld status
+IsAnswered false (Permit line) status = IsHeld status
+IsAnswered false (Deny line) status = status ≡ 1
+
+-- 3 where a record can't be read; and where all can, by the verdict
+abbrev pub IsServed : Orders → Visit → Vault → ℕ → Type 0
+IsServed orders visit keeper status =
+    ((status ≡ 3) × HasBad keeper) ⊎ (IsReadable keeper × IsAnswered visit.console (verdict_of orders.rules visit.peer) status)
+
+-- 3 where a line can't be read, and else by the records; or other holds of the status
+abbrev pub IsServedBy : (ℕ → Type 0) → Result Orders Fault → Visit → Option Vault → ℕ → Type 0
+IsServedBy other (Err fault) visit keeper status = (status ≡ 3) ⊎ other status
+IsServedBy other (Ok orders) visit keeper status = IfSome keeper (λ vault. IsServed orders visit vault status ⊎ other status)
+
+-- the same by the table's text, where the files tell it
+abbrev pub IsServedFor : (ℕ → Type 0) → List ℕ → Visit → Desk → ℕ → Type 0
+IsServedFor other name visit old status = OfText old.files.holds name (λ text. IsServedBy other (said_in orders_of text) visit old.sitting.keeper status)
+
+-- ---- a run
+
 -- the status of a command is ruled by the table's text, where the files tell it
 abbrev pub IsRuledBy : (ℕ → Type 0) → List ℕ → Option Command → Desk → ℕ → Type 0
 IsRuledBy other name None old status = Unit {0}
 IsRuledBy other name (Some (Netacl query)) old status = IsRuledFor other name query old status
 IsRuledBy other name (Some (Table query)) old status = IsRuledFor other name query old status
+IsRuledBy other name (Some (Authsrv visit)) old status = IsServedFor other name visit old status
 
 -- there was no memory
 abbrev pub WantsMemory : ℕ → Type 0
@@ -35,8 +83,15 @@ WantsMemory status = status ≡ 5
 abbrev pub Fails : ℕ → Type 0
 Fails status = (status ≡ 4) ⊎ WantsMemory status
 
+-- the keeper's count of failures rose
+abbrev pub KeeperRose : Option Vault → Option Vault → Type 0
+KeeperRose (Some old) (Some new) = Rose old.faults new.faults
+KeeperRose _ _ = ⊥
+
 -- a device's own count rose
 abbrev pub SomeRose : Desk → Desk → Type 0
 SomeRose old new =
     (Rose old.files.missing new.files.missing ⊎ Rose old.files.read_faults new.files.read_faults)
     ⊎ (Rose old.output.faults new.output.faults ⊎ Rose old.logs.faults new.logs.faults)
+    ⊎ (Rose old.sitting.input.faults new.sitting.input.faults ⊎ Rose old.sitting.input.idles new.sitting.input.idles)
+    ⊎ KeeperRose old.sitting.keeper new.sitting.keeper

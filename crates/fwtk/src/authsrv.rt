@@ -1,11 +1,16 @@
 //! The command `authsrv`: the table and the records are read, a client is served, and the records are given back.
-ghost use Rattle.std.specs.Prelude.{◌≡◌, IsSome, IfOk, IfErr};
-ghost use Rattle.fwtk.specs.Conn.{Conn, Ended};
-ghost use Rattle.fwtk.specs.Serving.{Attends, GivesOrders, Held, Visits, meeting, outcome_of};
+ghost use Rattle.std.specs.Prelude.{◌≡◌, IsSome, IfOk, IfErr, Ok};
+ghost use Rattle.fwtk.specs.Conn.{Ended};
+ghost use Rattle.fwtk.specs.Finding.{Finds, ReadsLines};
+ghost use Rattle.fwtk.specs.Opening.{Opened, fault_of};
+ghost use Rattle.fwtk.specs.Ruling.{said_in};
+ghost use Rattle.fwtk.specs.Serving.{Attends, IsFaultOf, Proceeds, Unopened, Visits, meeting, orders_of, outcome_of};
+ghost use Rattle.gate_rules.specs.declared.service.Service.TheVariants.{Authsrv};
 
 use crate::conn::{conn, note_ending};
 use crate::ending_line::ending_status;
-use crate::finding::{read_rules, read_table};
+use crate::finding::read_table;
+use crate::orders::Orders;
 use crate::{Device, Fault, Kit, Visit, World};
 use auth_machine::{Book, OpenFault, Policy};
 use authsrv_lines::authsrv_session;
@@ -17,30 +22,38 @@ use std::alloc::Global;
 /// So many requests fit in a history.
 const MOST_ENTRIES: u64 = 4_194_304;
 
-/// The rules for clients of the authentication server, and what it goes by.
-#[derive(Drop)]
-pub(crate) struct Orders {
-    pub(crate) rules: Rules,
-    pub(crate) policy: Policy,
+fn orders_in(alloc: Global, table: &Table) -> Result<Orders, RulesFault>
+    ensures ok { IfOk result (λ orders. orders_of table.now ≡ Ok orders) }
+    ensures fault { IfErr result (IsFaultOf (orders_of table.now)) }
+{
+    let rules = Rules::of(alloc, table, &Service::Authsrv)?;
+    let policy = Policy::of(alloc, table)?;
+    Ok(Orders { rules, policy })
 }
 
-fn read_policy(alloc: Global, table: &Table) -> Result<Policy, Fault> {
-    match Policy::of(alloc, table) {
-        Ok(policy) => Ok(policy),
+fn orders_of(alloc: Global, table: &Table) -> Result<Orders, Fault>
+    ensures { ReadsLines (orders_of table.now) result }
+{
+    match orders_in(alloc, table) {
+        Ok(orders) => Ok(orders),
         Err(RulesFault::Rule(fault)) => Err(Fault::Rule(fault)),
         Err(RulesFault::NoMemory) => Err(Fault::Memory),
     }
 }
 
 // What the table with this name says to the authentication server.
-fn read_orders<F: Files>(alloc: Global, files: &mut F, name: &[u8]) -> Result<Orders, Fault> {
-    let table = read_table(alloc, files, name)?;
-    let rules = read_rules(alloc, &table, &Service::Authsrv)?;
-    let policy = read_policy(alloc, &table)?;
-    Ok(Orders { rules, policy })
+fn read_orders<F: Files>(alloc: Global, files: &mut F, name: &[u8]) -> Result<Orders, Fault>
+    ensures { Finds (said_in orders_of) name.now result (F.cabinet files.old) (F.cabinet files.new) }
+{
+    match read_table(alloc, files, name) {
+        Ok(table) => orders_of(alloc, &table),
+        Err(fault) => Err(fault),
+    }
 }
 
-fn fault_of(fault: OpenFault) -> Fault {
+fn fault_of(fault: OpenFault) -> Fault
+    ensures { result ≡ fault_of fault }
+{
     match fault {
         OpenFault::LoadFault => Fault::Outside(Device::Records),
         OpenFault::BadRecord { name, at } => Fault::Record { name, at },
@@ -53,7 +66,11 @@ fn open_book<T: Kit>(
     alloc: Global,
     world: &mut World<T>,
     policy: Policy,
-) -> Result<Book<T::Keeper>, Fault> {
+) -> Result<Book<T::Keeper>, Fault>
+    requires keeper { IsSome world.old.sitting.keeper }
+    ensures opened { IfOk result (λ book. Opened policy book world.old world.new) }
+    ensures unopened { IfErr result (λ fault. Unopened fault world.old world.new) }
+{
     let Some(keeper) = world.keeper.take() else {
         unreachable!()
     };
@@ -71,7 +88,11 @@ fn hold_at_console<T: Kit>(
     peer: &Peer,
     book: &mut Book<T::Keeper>,
     world: &mut World<T>,
-) -> Ending {
+) -> Ending
+    ensures ended { Ended true Authsrv peer.now result (meeting world.old book.old) (meeting world.new book.new) }
+    ensures files { world.new.files ≡ world.old.files }
+    ensures keeper { world.new.sitting.keeper ≡ world.old.sitting.keeper }
+{
     let ending = authsrv_session(
         true,
         book,
@@ -89,7 +110,11 @@ fn hold<T: Kit>(
     visit: &Visit,
     book: &mut Book<T::Keeper>,
     world: &mut World<T>,
-) -> Ending {
+) -> Ending
+    ensures visits { Visits visit.now.console rules.now visit.now.peer (meeting world.old book.old) (meeting world.new book.new) result }
+    ensures files { world.new.files ≡ world.old.files }
+    ensures keeper { world.new.sitting.keeper ≡ world.old.sitting.keeper }
+{
     if visit.console {
         return hold_at_console(&visit.peer, book, world);
     }
@@ -122,7 +147,10 @@ fn visit_with<T: Kit>(
     orders: Orders,
     visit: &Visit,
     world: &mut World<T>,
-) -> Result<u8, Fault> {
+) -> Result<u8, Fault>
+    requires keeper { IsSome world.old.sitting.keeper }
+    ensures { Proceeds visit.now orders result world.old world.new }
+{
     let Orders { rules, policy } = orders;
     let mut book = open_book(alloc, world, policy)?;
     let ending = hold(&rules, visit, &mut book, world);
@@ -138,7 +166,10 @@ pub(crate) fn attend<T: Kit>(
     name: &[u8],
     visit: &Visit,
     world: &mut World<T>,
-) -> Result<u8, Fault> {
+) -> Result<u8, Fault>
+    requires keeper { IsSome world.old.sitting.keeper }
+    ensures { Attends name.now visit.now result world.old world.new }
+{
     let orders = read_orders(alloc, &mut world.files, name)?;
     visit_with(alloc, orders, visit, world)
 }

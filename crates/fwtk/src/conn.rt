@@ -1,7 +1,7 @@
 //! One client of a service: the verdict, the session, and how it ended.
 ghost use Rattle.std.specs.Prelude.{◌≡◌};
-ghost use Rattle.fw_outside.specs.Drain.{Gives};
-ghost use Rattle.fwtk.specs.Conn.{Conn, seconds_by, timeout_of};
+ghost use Rattle.fwtk.specs.Conn.{Conn, Noted, NotedIf, seconds_by, timeout_of};
+ghost use Rattle.fwtk.specs.Endings.{denied_text, ending_line};
 ghost use Rattle.gate_rules.specs.declared.service.Service.TheVariants.{Authsrv};
 
 use crate::deciding::verdict_of;
@@ -29,15 +29,19 @@ fn timeout_of(rules: &Rules) -> u32
 }
 
 // Gives the log the line of an ending, where it has one.
-pub(crate) fn note_ending<G: Sink>(
-    service: &Service,
-    peer: &Peer,
-    ending: Ending,
-    logs: &mut G,
-) {
+pub(crate) fn note_ending<G: Sink>(service: &Service, peer: &Peer, ending: Ending, logs: &mut G)
+    ensures { NotedIf (ending_line service.now peer.now ending) (G.drain logs.old) (G.drain logs.new) }
+{
     if let Some(line) = ending_line(service, peer, ending) {
         let _ = logs.give(line.as_slice());
     }
+}
+
+// Tells a client that it is denied by this line.
+fn deny<K: Sink>(line: u32, to: &mut K)
+    ensures { Noted (denied_text line) (K.drain to.old) (K.drain to.new) }
+{
+    let _ = to.give(denied_line(line).as_slice());
 }
 
 /// One client of the service `authsrv`: the verdict is logged, and then the client is told that it is denied, or its session
@@ -66,7 +70,7 @@ pub fn conn<P: AuthPort, S: Source, K: Sink, G: Sink, C: Clock, R: Dice>(
     }
     match verdict {
         Verdict::Deny { line } => {
-            let _ = to.give(denied_line(line).as_slice());
+            deny(line, to);
             Ending::Denied { line }
         }
         Verdict::Permit { .. } => {

@@ -2,7 +2,7 @@
 ghost use Rattle.std.specs.Prelude.{◌≡◌, ◌<◌};
 ghost use Rattle.gate_rules.specs.Verdict.{verdict_of};
 ghost use Rattle.fwtk.specs.Ruling.{exec_of};
-ghost use Rattle.fwtk.specs.Run.{Concludes, DecidesBy, Shows, ShowsBy, unprinted, verdict_status};
+ghost use Rattle.fwtk.specs.Deciding.{Concludes, DecidesBy, Shows, ShowsBy, unprinted, verdict_status};
 
 use crate::sheet::sheet_of;
 use crate::texts::{decision_line, print_of};

@@ -1,6 +1,8 @@
 //! From the files to the rules of a service.
 ghost use Rattle.std.specs.Prelude.{◌≡◌};
-ghost use Rattle.fwtk.specs.Finding.{Finds, ReadsRules, ReadsTable, fault_of};
+ghost use Rattle.fwtk.specs.Finding.{Finds, ReadsLines, ReadsTable, fault_of};
+ghost use Rattle.fwtk.specs.Ruling.{said_in};
+ghost use Rattle.gate_rules.specs.Reading.{rules_of};
 
 use crate::{Device, Fault};
 use fw_outside::Files;
@@ -32,8 +34,8 @@ pub(crate) fn read_table<F: Files>(alloc: Global, files: &mut F, name: &[u8]) ->
     }
 }
 
-pub(crate) fn read_rules(alloc: Global, table: &Table, service: &Service) -> Result<Rules, Fault>
-    ensures { ReadsRules service.now table.now result }
+fn read_rules(alloc: Global, table: &Table, service: &Service) -> Result<Rules, Fault>
+    ensures { ReadsLines (rules_of service.now table.now) result }
 {
     match Rules::of(alloc, table, service) {
         Ok(rules) => Ok(rules),
@@ -49,7 +51,7 @@ pub(crate) fn find_rules<F: Files>(
     name: &[u8],
     service: &Service,
 ) -> Result<Rules, Fault>
-    ensures { Finds name.now service.now result (F.cabinet files.old) (F.cabinet files.new) }
+    ensures { Finds (said_in (rules_of service.now)) name.now result (F.cabinet files.old) (F.cabinet files.new) }
 {
     match read_table(alloc, files, name) {
         Ok(table) => read_rules(alloc, &table, service),

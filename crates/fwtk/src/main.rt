@@ -22,6 +22,7 @@ mod ending_line;
 mod fault;
 mod finding;
 mod kit;
+mod orders;
 mod process;
 mod run;
 mod sheet;
@@ -30,6 +31,7 @@ mod words;
 
 pub use fault::{Device, Fault};
 pub use kit::{Kit, World};
+pub use orders::Orders;
 pub use run::run;
 pub use texts::LogLine;
 pub use conn::conn;

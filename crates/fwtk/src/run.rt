@@ -1,8 +1,11 @@
-ghost use Rattle.std.specs.Prelude.{◌≡◌, ◌↔◌};
+ghost use Rattle.std.specs.Prelude.{◌≡◌, ◌↔◌, IsSome};
 ghost use Rattle.fwtk.specs.Fault.{fault_text};
 ghost use Rattle.fwtk.specs.Finding.{Finds};
-ghost use Rattle.fwtk.specs.Run.{ByTable, DecidesBy, Does, Ends, Ran, ShowsBy, Tells};
+ghost use Rattle.fwtk.specs.Run.{Does, Ends, Ran, Tells};
+ghost use Rattle.fwtk.specs.Deciding.{ByTable, DecidesBy, ShowsBy};
 ghost use Rattle.fwtk.specs.Status.{Fails, IsRuledBy, SomeRose, WantsMemory};
+ghost use Rattle.fwtk.specs.Ruling.{said_in};
+ghost use Rattle.gate_rules.specs.Reading.{rules_of};
 ghost use Rattle.fwtk.specs.Words.{command_of, table_named};
 
 use crate::authsrv::attend;
@@ -21,9 +24,10 @@ fn rules_for<T: Kit>(
     query: &Query,
     world: &mut World<T>,
 ) -> Result<Rules, Fault>
-    ensures found { Finds name.now query.now.service result world.old.files world.new.files }
+    ensures found { Finds (said_in (rules_of query.now.service)) name.now result world.old.files world.new.files }
     ensures output { world.new.output ≡ world.old.output }
     ensures logs { world.new.logs ≡ world.old.logs }
+    ensures sitting { world.new.sitting ≡ world.old.sitting }
 {
     find_rules(alloc, &mut world.files, name, &query.service)
 }
@@ -60,6 +64,7 @@ fn table<T: Kit>(
 
 // Does what the words ask for.
 fn obey<T: Kit>(alloc: Global, words: &[Octets], world: &mut World<T>) -> Result<u8, Fault>
+    requires keeper { IsSome world.old.sitting.keeper }
     ensures { Does (table_named words.now) (command_of words.now) result world.old world.new }
 {
     match read_command(words) {
@@ -102,6 +107,7 @@ fn end<T: Kit>(world: &mut World<T>, outcome: Result<u8, Fault>) -> u8
 /// A status from 2 on is told to the log in one line that names its cause. `netacl` logs the verdict before it prints it,
 /// so a denial that was logged stands even if it couldn't be printed; `table` prints alone.
 pub fn run<T: Kit>(alloc: Global, words: &[Octets], world: &mut World<T>) -> u8
+    requires keeper { IsSome world.old.sitting.keeper }
     // What each status means, and what the devices were given.
     ensures ran { Ran words.now result world.old world.new }
     // 2 is exactly for words that are no command.

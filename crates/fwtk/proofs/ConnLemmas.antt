@@ -1,0 +1,66 @@
+-- What a client's ending says.
+use Rattle.std.proofs.Common.{◌≡◌, refl, sym, subst, ap, ℕ, List, inl, inr, Bool, true, false}
+use Rattle.std.specs.Prelude.{Option, Some, None, Result, Ok, Err}
+use Rattle.authsrv_lines.specs.Causes.{Caused}
+use Rattle.authsrv_lines.specs.CauseLemmas.{session_caused}
+use Rattle.authsrv_lines.specs.Session.{Devices}
+use Rattle.fw_outside.specs.Counts.{Rose}
+use Rattle.fw_outside.specs.Drain.{Cut, Drain, Gives}
+use Rattle.fw_outside.specs.declared.ending.Ending.{Ending}
+use Rattle.fw_outside.specs.declared.ending.Ending.TheVariants.{Done, Denied, ClientFault, ServerFault, LogFault, AuthFault, Idle, NoRoute, Spent, NoMemory}
+use Rattle.fw_outside.specs.declared.failed.Failed.{Failed}
+use Rattle.fw_outside.specs.declared.peer.Peer.{Peer}
+use Rattle.gate_rules.specs.Reading.{RuleBook}
+use Rattle.gate_rules.specs.Verdict.{verdict_of}
+use Rattle.gate_rules.specs.declared.service.Service.{Service}
+use Rattle.gate_rules.specs.declared.verdict.Verdict.{Verdict}
+use Rattle.gate_rules.specs.declared.verdict.Verdict.TheVariants.{Permit, Deny}
+use Rattle.fwtk.specs.Conn.{AfterLine, Causes, Conn, Ended, IsRefused, Meeting, Treated, patient, timeout_of}
+use Rattle.fwtk.proofs.CommandLemmas.{cut_rose}
+
+module _ {Origin : Type 0} where
+  abbrev meets : Devices Origin → Drain → Meeting Origin
+  meets devices logs = record { devices = devices; logs = logs }
+
+  -- what the devices say of an ending, how long the source waits counting for nothing
+  held_caused : (verdict : Verdict) (seconds : ℕ) (ending : Ending) (devices : Devices Origin) (logs : Drain) (new : Meeting Origin) → Caused ending (patient seconds devices) new.devices → Causes verdict ending (meets devices logs) new
+  held_caused verdict seconds Done devices logs new h = tt
+  held_caused verdict seconds (Denied line) devices logs new h = absurd h
+  held_caused verdict seconds ClientFault devices logs new h = h
+  held_caused verdict seconds ServerFault devices logs new h = absurd h
+  held_caused verdict seconds LogFault devices logs new h = absurd h
+  held_caused verdict seconds AuthFault devices logs new h = h
+  held_caused verdict seconds Idle devices logs new h = h
+  held_caused verdict seconds NoRoute devices logs new h = absurd h
+  held_caused verdict seconds Spent devices logs new h = record { bytes = h.bytes; all = h.all; took = h.took }
+  held_caused verdict seconds NoMemory devices logs new h = tt
+
+  treated_caused : (verdict : Verdict) (service : Service) (rules : RuleBook) (peer : Peer) (ending : Ending) (devices : Devices Origin) (before logs : Drain) (new : Meeting Origin) → Treated verdict service rules peer ending (meets devices logs) new → Causes verdict ending (meets devices before) new
+  treated_caused (Deny line) service rules peer ending devices before logs new h = subst (λ (e : Ending). Causes (Deny line) e (meets devices before) new) (sym h.ends) refl
+  treated_caused (Permit line) service rules peer ending devices before logs new h =
+      held_caused (Permit line) (timeout_of rules) ending devices before new (session_caused false (patient (timeout_of rules) devices) new.devices ending h.session)
+
+  after_caused : (logging : Result (Unit {0}) Failed) (verdict : Verdict) (service : Service) (rules : RuleBook) (peer : Peer) (ending : Ending) (text : List ℕ) (devices : Devices Origin) (before logs : Drain) (new : Meeting Origin)
+      → Gives logging text before logs → AfterLine logging verdict service rules peer ending (meets devices logs) new → Causes verdict ending (meets devices before) new
+  after_caused (Ok done) verdict service rules peer ending text devices before logs new gives h = treated_caused verdict service rules peer ending devices before logs new h
+  after_caused (Err failed) verdict service rules peer ending text devices before logs new gives h =
+      subst (λ (e : Ending). Causes verdict e (meets devices before) new) (sym h.ends)
+      (subst (λ (m : Meeting Origin). Rose before.faults m.logs.faults) (sym h.is) (cut_rose text before logs gives))
+
+  -- each ending has its cause
+  pub conn_caused : (service : Service) (rules : RuleBook) (peer : Peer) (old new : Meeting Origin) (ending : Ending) → Conn service rules peer old new ending → Causes (verdict_of rules peer) ending old new
+  conn_caused service rules peer old new ending conn =
+      after_caused conn.logging (verdict_of rules peer) service rules peer ending _ old.devices old.logs conn.logs new conn.logged conn.rest
+
+  after_refused : (logging : Result (Unit {0}) Failed) (verdict : Verdict) (service : Service) (rules : RuleBook) (peer : Peer) (ending : Ending) (old new : Meeting Origin) → AfterLine logging verdict service rules peer ending old new → IsRefused verdict ending
+  after_refused logging (Permit line) service rules peer ending old new h = tt
+  after_refused (Ok done) (Deny line) service rules peer ending old new h = inl h.ends
+  after_refused (Err failed) (Deny line) service rules peer ending old new h = inr h.ends
+
+  pub conn_refused : (service : Service) (rules : RuleBook) (peer : Peer) (old new : Meeting Origin) (ending : Ending) → Conn service rules peer old new ending → IsRefused (verdict_of rules peer) ending
+  conn_refused service rules peer old new ending conn =
+      after_refused conn.logging (verdict_of rules peer) service rules peer ending (record old { logs = conn.logs }) new conn.rest
+
+  -- so it is at the console
+  pub ended_caused : (service : Service) (peer : Peer) (ending : Ending) (old new : Meeting Origin) → Ended true service peer ending old new → Caused ending old.devices new.devices
+  ended_caused service peer ending old new h = session_caused true old.devices new.devices ending h.session
