@@ -12,3 +12,5 @@ pub mod Session
 pub mod Told
 pub mod Talk
 pub mod TalkLemmas
+pub mod LineLemmas
+pub mod SaltLemmas

@@ -1,6 +1,6 @@
 -- What a session asks, and what that comes to at the port and the clock.
 use Rattle.std.specs.Prelude.{◌≡◌, ◌≤◌, ◌||◌, ℕ, suc, Bool, true, false, not, List, [], ◌∷◌, ◌++◌, filter, length, map, slice_get, Option, Some, None, Result, Ok, Err, if◌then◌else◌}
-use Rattle.std.specs.List.{filter_map, list_any}
+use Rattle.std.specs.List.{filter_map, flat_map, list_any}
 use Rattle.auth_events.specs.Port.{Port}
 use Rattle.auth_events.specs.declared.denial.Denial.{Denial}
 use Rattle.auth_events.specs.declared.denial.Denial.TheVariants.{Full}
@@ -8,7 +8,7 @@ use Rattle.auth_events.specs.declared.entry.Entry.{Entry}
 use Rattle.auth_events.specs.declared.reply.Reply.{Reply}
 use Rattle.auth_events.specs.declared.reply.Reply.TheVariants.{Denied}
 use Rattle.auth_events.specs.declared.request.Request.{Request}
-use Rattle.auth_events.specs.declared.request.Request.TheVariants.{Close}
+use Rattle.auth_events.specs.declared.request.Request.TheVariants.{Open, Password, Close}
 use Rattle.fw_acts.specs.Acts.{Row}
 use Rattle.fw_acts.specs.Acts.Row.{Do, At, Over}
 use Rattle.fw_acts.specs.Projections.{projection}
@@ -58,6 +58,21 @@ asked_closing (Some sid) old new closed = (Close, reply_of closed.answer) ∷ []
 abbrev pub asked_of : {Origin : Type 0} {console : Bool} {old new : World Origin} {ending : Ending} → Held console old new ending → List (Request × Option Reply)
 asked_of {new = new} held =
     (projection asked_in held.ran.steps ++ asked_last held.dialogue held.ran.left) ++ asked_closing held.mid.opened held.mid new held.closed
+
+-- neither opens nor closes a session, and has no salt
+abbrev pub is_plain : Request → Bool
+is_plain (Open console) = false
+is_plain (Password name salt hash) = false
+is_plain Close = false
+is_plain _ = true
+
+-- the salts of the passwords that were asked to be set
+abbrev pub salt_of : Request → List (List ℕ)
+salt_of (Password name salt hash) = salt ∷ []
+salt_of _ = []
+
+abbrev pub salts_in : List (Request × Option Reply) → List (List ℕ)
+salts_in asks = flat_map (λ ask. salt_of ask.0) asks
 
 -- ---- what was answered
 

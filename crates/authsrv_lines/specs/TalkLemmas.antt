@@ -99,7 +99,7 @@ entered_both (moment ∷ first) more (ask ∷ asks) others same =
     let next : length first ≡ length asks = omega (arith, same) in
     ap (λ rest. here ++ rest) (entered_both first more asks others next) ∙ sym (append_assoc here (entered_at first asks) (entered_at more others))
 
-adds_none : {A : Type 0} (told : Option (List A)) → Adds [] told told
+pub adds_none : {A : Type 0} (told : Option (List A)) → Adds [] told told
 adds_none None = tt
 adds_none {A} (Some told) = ap (λ (z : List A). Some z) (append-nil told)
 
@@ -107,13 +107,13 @@ grown_both : {A : Type 0} (told : Option (List A)) (first more : List A) → gro
 grown_both None first more = refl
 grown_both {A} (Some told) first more = ap (λ (z : List A). Some z) (append_assoc told first more)
 
-adds_both : {A : Type 0} (first more : List A) (old mid new : Option (List A)) → Adds first old mid → Adds more mid new → Adds (first ++ more) old new
+pub adds_both : {A : Type 0} (first more : List A) (old mid new : Option (List A)) → Adds first old mid → Adds more mid new → Adds (first ++ more) old new
 adds_both first more old mid None a b = tt
 adds_both first more old None (Some told) a b = absurd (none-some told b)
 adds_both {A} first more old (Some between) (Some told) a b =
     sym (grown_both old first more) ∙ ap (λ (z : Option (List A)). grown z more) a ∙ b
 
-adds_one : {A : Type 0} (one : A) (old new : Option (List A)) → AddsOne one old new → Adds (one ∷ []) old new
+pub adds_one : {A : Type 0} (one : A) (old new : Option (List A)) → AddsOne one old new → Adds (one ∷ []) old new
 adds_one one old None a = tt
 adds_one one old (Some told) a = a
 

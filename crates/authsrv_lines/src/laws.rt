@@ -5,7 +5,7 @@ ghost use Rattle.auth_events.specs.Port.{places};
 ghost use Rattle.fw_outside.specs.declared.ending.Ending.{Ending};
 ghost use Rattle.authsrv_lines.specs.Acts.{World};
 ghost use Rattle.authsrv_lines.specs.Session.{Held};
-ghost use Rattle.authsrv_lines.specs.Talk.{Entered, asked_of, is_entered, is_refused, said_of, talk_of};
+ghost use Rattle.authsrv_lines.specs.Talk.{Adds, Entered, asked_of, is_entered, is_refused, said_of, salts_in, talk_of};
 ghost use Rattle.authsrv_lines.specs.Told.{Told};
 ghost use Rattle.auth_events.specs.declared.reply.Reply.{Reply};
 ghost use Rattle.authsrv_lines.specs.Reply.{Answers, IsReply, is_whole, reply_line};
@@ -31,4 +31,9 @@ pub fn the_talk_is_entered<Origin>()
     ensures entered { (console : Bool) (old new : World Origin) (ending : Ending) (held : Held console old new ending) → Entered (asked_of held) old new }
     ensures refused { (console : Bool) (old new : World Origin) (ending : Ending) (held : Held console old new ending) → new.port.refused ≡ (old.port.refused || list_any is_refused (talk_of held)) }
     ensures whole { (console : Bool) (old new : World Origin) (ending : Ending) (held : Held console old new ending) → old.port.mine ≡ [] → new.port.mine ≡ places (length new.port.seen) → map said_of new.port.seen ≡ filter is_entered (talk_of held) }
+{}
+
+/// The salts that the dice gave in a session are those of the passwords that it asked to set, in their order.
+pub fn the_salts_are_thrown<Origin>()
+    ensures { (console : Bool) (old new : World Origin) (ending : Ending) (held : Held console old new ending) → Adds (salts_in (asked_of held)) old.throws.told new.throws.told }
 {}
