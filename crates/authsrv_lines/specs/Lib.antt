@@ -11,6 +11,7 @@ pub mod Distance
 pub mod Session
 pub mod Told
 pub mod Talk
+pub mod EntryLemmas
 pub mod TalkLemmas
 pub mod LineLemmas
 pub mod SaltLemmas

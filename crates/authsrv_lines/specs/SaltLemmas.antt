@@ -27,7 +27,7 @@ use Rattle.authsrv_lines.specs.Reply.{reply_line}
 use Rattle.authsrv_lines.specs.Request.{request_of}
 use Rattle.authsrv_lines.specs.Session.{Closes, ClosesSo, Held}
 use Rattle.authsrv_lines.specs.Talk.{Adds, asked_closing, asked_in, asked_last, asked_of, is_plain, salt_of, salts_in, unanswered, unanswered_at}
-use Rattle.authsrv_lines.specs.TalkLemmas.{adds_both, adds_none, adds_one}
+use Rattle.authsrv_lines.specs.EntryLemmas.{adds_both, adds_none, adds_one}
 use Rattle.authsrv_lines.specs.declared.cause.Cause.{Cause}
 use Rattle.authsrv_lines.specs.declared.cause.Cause.TheVariants.{ClientFault, Idle, Spent, AuthFault, NoMemory}
 use Rattle.authsrv_lines.specs.declared.place.Place.{Place}

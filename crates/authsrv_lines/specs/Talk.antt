@@ -1,7 +1,8 @@
 -- What a session asks, and what that comes to at the port and the clock.
 use Rattle.std.specs.Prelude.{◌≡◌, ◌≤◌, ◌||◌, ℕ, suc, Bool, true, false, not, List, [], ◌∷◌, ◌++◌, filter, length, map, slice_get, Option, Some, None, Result, Ok, Err, if◌then◌else◌}
 use Rattle.std.specs.List.{filter_map, flat_map, list_any}
-use Rattle.auth_events.specs.Port.{Port}
+use Rattle.auth_events.specs.Fits.{Fits}
+use Rattle.auth_events.specs.Port.{Port, session_at}
 use Rattle.auth_events.specs.declared.denial.Denial.{Denial}
 use Rattle.auth_events.specs.declared.denial.Denial.TheVariants.{Full}
 use Rattle.auth_events.specs.declared.entry.Entry.{Entry}
@@ -14,7 +15,7 @@ use Rattle.fw_acts.specs.Acts.Row.{Do, At, Over}
 use Rattle.fw_acts.specs.Projections.{projection}
 use Rattle.fw_outside.specs.Telling.{grown}
 use Rattle.fw_outside.specs.declared.ending.Ending.{Ending}
-use Rattle.authsrv_lines.specs.Acts.{Act, Answer, World, acts}
+use Rattle.authsrv_lines.specs.Acts.{Act, Answer, World, acts, closed_by, number_told, opened_by}
 use Rattle.authsrv_lines.specs.Acts.Act.{Hear, Salt, Ask, Say}
 use Rattle.authsrv_lines.specs.Dialogue.{act_at}
 use Rattle.authsrv_lines.specs.Session.{Closes, Held}
@@ -111,16 +112,15 @@ is_entered ask = not (is_refused ask)
 abbrev pub said_of : Entry → Request × Reply
 said_of entry = (entry.request, entry.reply)
 
--- the moment of a request, where it was entered
-abbrev pub moment_if : Option Reply → ℕ → List ℕ
-moment_if None moment = []
-moment_if (Some reply) moment = if says_full reply then [] else moment ∷ []
+-- of what goes with each of these requests, what goes with those that were entered
+abbrev pub if_entered : Option Reply → ℕ → List ℕ
+if_entered None one = []
+if_entered (Some reply) one = if says_full reply then [] else one ∷ []
 
--- of the moments at which these were asked, those of the entered ones
-abbrev pub entered_at : List ℕ → List (Request × Option Reply) → List ℕ
-entered_at (moment ∷ moments) (ask ∷ asks) = moment_if ask.1 moment ++ entered_at moments asks
-entered_at [] asks = []
-entered_at moments [] = []
+abbrev pub of_entered : List ℕ → List (Request × Option Reply) → List ℕ
+of_entered (one ∷ more) (ask ∷ asks) = if_entered ask.1 one ++ of_entered more asks
+of_entered [] asks = []
+of_entered more [] = []
 
 -- from a place on, these entries stand at these places of a history, one behind another
 abbrev pub AreAt : ℕ → List ℕ → List Entry → List Entry → Type 0
@@ -129,11 +129,35 @@ AreAt from (place ∷ places) (entry ∷ entries) seen =
     (from ≤ place) × (slice_get seen place ≡ Some entry) × AreAt (suc place) places entries seen
 AreAt from _ _ seen = ⊥
 
+-- at these places the entries are of the sessions of these numbers, or open one, and their replies fit
+abbrev pub AreOf : List ℕ → List ℕ → List Entry → Type 0
+AreOf [] [] [] = Unit {0}
+AreOf (number ∷ numbers) (place ∷ places) (entry ∷ entries) =
+    (entry.sid ≡ session_at entry.request place number) × Fits entry.request place entry.reply × AreOf numbers places entries
+AreOf _ _ _ = ⊥
+
+-- ---- the session that is open
+
+-- after a request was asked
+abbrev pub opened_then : Request → Option Reply → Option ℕ → Option ℕ
+opened_then request None opened = closed_by request opened
+opened_then request (Some reply) opened = opened_by request reply opened
+
+-- after these were
+abbrev pub opened_after : Option ℕ → List (Request × Option Reply) → Option ℕ
+opened_after opened [] = opened
+opened_after opened (ask ∷ asks) = opened_after (opened_then ask.0 ask.1 opened) asks
+
+-- the numbers that are told with these
+abbrev pub numbers_told : Option ℕ → List (Request × Option Reply) → List ℕ
+numbers_told opened [] = []
+numbers_told opened (ask ∷ asks) = number_told opened ∷ numbers_told (opened_then ask.0 ask.1 opened) asks
+
 -- ---- what it comes to
 
--- what asking these at these moments came to at a port: an entry for each request that was answered, but for those that
--- were refused, behind all that was seen before; and it is noted whether one was refused
-pub record AtPort {Origin : Type 0} (moments : List ℕ) (asks : List (Request × Option Reply)) (old new : Port Origin) : Type 0 where
+-- what asking these came to at a port, with these numbers and at these moments: an entry for each request that was
+-- answered, but for those that were refused, behind all that was seen before; and it is noted whether one was refused
+pub record AtPort {Origin : Type 0} (numbers moments : List ℕ) (asks : List (Request × Option Reply)) (old new : Port Origin) : Type 0 where
   pub more : List Entry
   pub places : List ℕ
   pub entries : List Entry
@@ -141,7 +165,8 @@ pub record AtPort {Origin : Type 0} (moments : List ℕ) (asks : List (Request �
   pub mine : new.mine ≡ old.mine ++ places
   pub stand : AreAt (length old.seen) places entries new.seen
   pub said : map said_of entries ≡ filter is_entered (answered asks)
-  pub timed : map (λ entry. entry.at) entries ≡ entered_at moments asks
+  pub timed : map (λ entry. entry.at) entries ≡ of_entered moments asks
+  pub numbered : AreOf (of_entered numbers asks) places entries
   pub refused : new.refused ≡ (old.refused || list_any is_refused (answered asks))
   pub origin : new.origin ≡ old.origin
   pub home : new.home ≡ old.home
@@ -151,9 +176,11 @@ abbrev pub Adds : {A : Type 0} → List A → Option (List A) → Option (List A
 Adds more old None = Unit {0}
 Adds more old (Some told) = grown old more ≡ Some told
 
--- each of these was asked at a moment of the clock, answered or not, and came to this at the port
+-- each of these was asked for the session that was open, at a moment of the clock, answered or not, and came to this at
+-- the port
 pub record Entered {Origin : Type 0} (asks : List (Request × Option Reply)) (old new : World Origin) : Type 0 where
   pub moments : List ℕ
   pub one_each : length moments ≡ length asks
   pub told : Adds moments old.hours.told new.hours.told
-  pub port : AtPort moments asks old.port new.port
+  pub opened : new.opened ≡ opened_after old.opened asks
+  pub port : AtPort (numbers_told old.opened asks) moments asks old.port new.port
