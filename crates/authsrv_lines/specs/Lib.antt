@@ -10,3 +10,8 @@ pub mod Dialogue
 pub mod Distance
 pub mod Session
 pub mod Told
+pub mod Talk
+pub mod EntryLemmas
+pub mod TalkLemmas
+pub mod LineLemmas
+pub mod SaltLemmas

@@ -1,8 +1,11 @@
 //! What holds of all replies and all lines, and of every session.
-ghost use Rattle.std.specs.Prelude.{◌≡◌, List, ℕ, Bool, IsTrue, Option, Some};
+ghost use Rattle.std.specs.Prelude.{◌≡◌, ◌||◌, List, [], ℕ, Bool, IsTrue, Option, Some, filter, length, map};
+ghost use Rattle.std.specs.List.{list_any};
+ghost use Rattle.auth_events.specs.Port.{places};
 ghost use Rattle.fw_outside.specs.declared.ending.Ending.{Ending};
 ghost use Rattle.authsrv_lines.specs.Acts.{World};
 ghost use Rattle.authsrv_lines.specs.Session.{Held};
+ghost use Rattle.authsrv_lines.specs.Talk.{Adds, Entered, asked_of, is_entered, is_refused, said_of, salts_in, talk_of};
 ghost use Rattle.authsrv_lines.specs.Told.{Told};
 ghost use Rattle.auth_events.specs.declared.reply.Reply.{Reply};
 ghost use Rattle.authsrv_lines.specs.Reply.{Answers, IsReply, is_whole, reply_line};
@@ -19,4 +22,18 @@ pub fn inverse()
 /// stopped, if it did at one; closing tells nothing.
 pub fn the_client_is_told<Origin>()
     ensures { (console : Bool) (old new : World Origin) (ending : Ending) (held : Held console old new ending) → Told console old new ending held }
+{}
+
+/// A session asked each request at a moment of the clock, and what was answered stands in the port's history as it was
+/// asked and answered, but for what was refused because no more entries fit; of that the port says that it was refused. A
+/// port whose own entries are the whole history has nothing else in it.
+pub fn the_talk_is_entered<Origin>()
+    ensures entered { (console : Bool) (old new : World Origin) (ending : Ending) (held : Held console old new ending) → Entered (asked_of held) old new }
+    ensures refused { (console : Bool) (old new : World Origin) (ending : Ending) (held : Held console old new ending) → new.port.refused ≡ (old.port.refused || list_any is_refused (talk_of held)) }
+    ensures whole { (console : Bool) (old new : World Origin) (ending : Ending) (held : Held console old new ending) → old.port.mine ≡ [] → new.port.mine ≡ places (length new.port.seen) → map said_of new.port.seen ≡ filter is_entered (talk_of held) }
+{}
+
+/// The salts that the dice gave in a session are those of the passwords that it asked to set, in their order.
+pub fn the_salts_are_thrown<Origin>()
+    ensures { (console : Bool) (old new : World Origin) (ending : Ending) (held : Held console old new ending) → Adds (salts_in (asked_of held)) old.throws.told new.throws.told }
 {}
