@@ -20,9 +20,9 @@ with_entry entries entry = if is_behind entries entry.0 then Some (entries ++ en
 
 -- the entries with that of a row at the end, where it is one and belongs there
 abbrev pub with_row : Table → Row → Option Table
-with_row entries row = option_and_then (entry_of row) (with_entry entries)
+with_row entries row = option_and_then (with_entry entries) (entry_of row)
 
 -- the entries, and then those of the rows; nothing where a row is no entry or stands out of order
 abbrev pub with_rows : Table → List Row → Option Table
 with_rows entries [] = Some entries
-with_rows entries (row ∷ rows) = option_and_then (with_row entries row) (λ longer. with_rows longer rows)
+with_rows entries (row ∷ rows) = option_and_then (λ longer. with_rows longer rows) (with_row entries row)

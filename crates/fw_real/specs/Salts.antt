@@ -3,10 +3,10 @@ use Rattle.std.specs.Prelude.{ℕ, List, None}
 use Rattle.std.specs.Int.{to_be_bytes, w64}
 use Rattle.std.specs.List.{fold}
 use Rattle.std.specs.RandomState.{initial_hasher}
-use Rattle.std.specs.declared.random_state.RandomState.{RandomState}
-use Rattle.core.specs.Hash.DefaultHasher.{write, finish}
+use Rattle.std.specs.declared.hash.RandomState.{RandomState}
+use Rattle.std.specs.Hash.DefaultHasher.{write, finish}
 use Rattle.fw_outside.specs.Throws.{Throws}
-use Rattle.core.specs.Hash as fed
+use Rattle.std.specs.Hash as fed
 
 -- dice that tell nothing
 abbrev pub untold_throws : Throws

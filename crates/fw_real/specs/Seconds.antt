@@ -1,7 +1,7 @@
 -- The time of the system.
 use Rattle.std.specs.Prelude.{ℕ, ◌/◌, Option, Some, None}
-use Rattle.core.specs.Duration.{as_nanos}
-use Rattle.core.specs.declared.time.Duration.{Duration}
+use Rattle.std.specs.Duration.{as_nanos}
+use Rattle.std.specs.declared.time.Duration.{Duration}
 
 -- the whole seconds, or 0 where the time isn't known
 abbrev pub seconds_of : Option Duration → ℕ

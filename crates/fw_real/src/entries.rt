@@ -1,8 +1,8 @@
 //! Rows of the table as names with their bytes.
-ghost use Rattle.std.specs.Prelude.{◌≡◌, ◌≢◌, ◌∷◌, [], Some, None, IfOk, IfErr, OnOk, option_map};
+ghost use Rattle.std.specs.Prelude.{◌≡◌, ◌≢◌, ◌∷◌, ◌++◌, [], Some, None, IfOk, IfErr, OnOk, option_map};
 ghost use Rattle.fw_outside.specs.Keyed.{Ascends};
 ghost use Rattle.fw_outside.specs.Vault.{name_of};
-ghost use Rattle.fw_real.specs.Entries.{entry_of, is_behind, with_entry, with_rows};
+ghost use Rattle.fw_real.specs.Entries.{entry_of, is_behind, with_entry, with_row, with_rows};
 
 use fw_outside::{KeepFault, Name, Octets};
 use sqlite::Row;
@@ -46,6 +46,16 @@ fn is_behind(entries: &[(Name, Octets)], name: &Name) -> bool
     }
 }
 
+fn push(entries: &mut Vec<(Name, Octets)>, entry: (Name, Octets)) -> Result<(), KeepFault>
+    ensures ok { OnOk result (entries.new.items ≡ entries.old.items ++ entry ∷ []) }
+    ensures err { IfErr result (λ fault. fault ≡ KeepFault.NoMemory) }
+{
+    match entries.push(entry) {
+        Ok(()) => Ok(()),
+        Err(_) => Err(KeepFault::NoMemory),
+    }
+}
+
 // Adds an entry at the end, where its name belongs there.
 fn add(entries: &mut Vec<(Name, Octets)>, entry: (Name, Octets)) -> Result<(), KeepFault>
     requires { Ascends name_of entries.old.items }
@@ -56,9 +66,20 @@ fn add(entries: &mut Vec<(Name, Octets)>, entry: (Name, Octets)) -> Result<(), K
     if !is_behind(entries, &entry.0) {
         return Err(KeepFault::Failed);
     }
-    match entries.push(entry) {
-        Ok(()) => Ok(()),
-        Err(_) => Err(KeepFault::NoMemory),
+    push(entries, entry)?;
+    Ok(())
+}
+
+// Adds the entry of a row at the end.
+fn add_row(alloc: Global, entries: &mut Vec<(Name, Octets)>, row: &Row) -> Result<(), KeepFault>
+    requires { Ascends name_of entries.old.items }
+    ensures ordered { OnOk result (Ascends name_of entries.new.items) }
+    ensures ok { OnOk result (with_row entries.old.items row.now ≡ Some entries.new.items) }
+    ensures err { IfErr result (λ fault. fault ≢ KeepFault.NoMemory → with_row entries.old.items row.now ≡ None) }
+{
+    match entry(alloc, row) {
+        Ok(entry) => add(entries, entry),
+        Err(fault) => Err(fault),
     }
 }
 
@@ -70,8 +91,10 @@ pub(crate) fn read_all(alloc: Global, rows: &[Row]) -> Result<Vec<(Name, Octets)
 {
     let mut entries = Vec::new(alloc);
     for row in rows {
-        let entry = entry(alloc, row)?;
-        add(&mut entries, entry)?;
+        match add_row(alloc, &mut entries, row) {
+            Ok(()) => {}
+            Err(fault) => return Err(fault),
+        }
     }
     Ok(entries)
 }

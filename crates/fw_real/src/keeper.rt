@@ -82,6 +82,7 @@ impl Records {
     // Counts a failure; want of memory isn't one.
     fn count(&mut self, fault: KeepFault) -> KeepFault
         ensures answer { result ≡ fault }
+        ensures refuses { Refuses fault (untold self.old.faults) (untold self.new.faults) }
         ensures is { self.new ≡ record self.old { faults = after_fault fault self.old.faults } }
     {
         if fault == KeepFault::Failed {

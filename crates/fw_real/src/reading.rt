@@ -1,4 +1,4 @@
-ghost use Rattle.std.specs.Prelude.{◌≡◌, None, nat_lt};
+ghost use Rattle.std.specs.Prelude.{◌≡◌, ◌<◌, length, nat_lt};
 ghost use Rattle.fw_outside.specs.Spring.{Pulls, waiting};
 ghost use Rattle.fw_real.specs.Moving.{HandsOn, untold};
 
@@ -40,6 +40,7 @@ impl<R: Read + Drop> Source for Reading<R> {
     ghost spring = { λ s. untold s.faults s.waits };
 
     fn take(&mut self, buf: &mut [u8]) -> Result<Got, Failed>
+        requires { 0 < length buf.old }
         ensures pulls { Pulls result buf.new (untold self.old.faults self.old.waits) (untold self.new.faults self.new.waits) }
         ensures bytes { HandsOn result buf.new (R.remaining self.old.from) (R.remaining self.new.from) }
     {

@@ -24,7 +24,8 @@ impl<W: Write> Writing<W> {
     }
 
     fn fail(&mut self) -> Failed
-        ensures { self.new ≡ record self.old { faults = counted self.old.faults } }
+        ensures rose { Rose self.old.faults self.new.faults }
+        ensures is { self.new ≡ record self.old { faults = counted self.old.faults } }
     {
         self.faults = self.faults.saturating_add(1);
         Failed

@@ -26,6 +26,7 @@ pub record IsCommand (query : Query) (does : Result ℕ Fault → Desk → Desk 
   pub limit : (old new : Desk) (rules : RuleBook) → does (Err Limit) old new rules → ⊥
   pub memory : (old new : Desk) (rules : RuleBook) → does (Err Memory) old new rules → new ≡ old
   pub kept : (outcome : Result ℕ Fault) (old new : Desk) (rules : RuleBook) → does outcome old new rules → new.files ≡ old.files
+  pub sits : (outcome : Result ℕ Fault) (old new : Desk) (rules : RuleBook) → does outcome old new rules → new.sitting ≡ old.sitting
 
 rose_at : (a b c : ℕ) → Rose a b → c ≡ b → Rose a c
 rose_at a b c rose is = rw is rose
@@ -47,6 +48,19 @@ decides_kept query (Err Memory) old new rules told = ap (λ (d : Desk). d.files)
 decides_kept query (Err (Record user at)) old new rules told = absurd told
 decides_kept query (Err Limit) old new rules told = absurd told
 
+decides_sits : (query : Query) (outcome : Result ℕ Fault) (old new : Desk) (rules : RuleBook) → DecidesBy query outcome old new rules → new.sitting ≡ old.sitting
+decides_sits query (Ok n) old new rules told = told.sitting
+decides_sits query (Err Usage) old new rules told = absurd told
+decides_sits query (Err (Table fault)) old new rules told = absurd told
+decides_sits query (Err (Rule fault)) old new rules told = absurd told
+decides_sits query (Err (Outside device.Table)) old new rules told = absurd told
+decides_sits query (Err (Outside device.Output)) old new rules told = told.sitting
+decides_sits query (Err (Outside device.Log)) old new rules told = told.sitting
+decides_sits query (Err (Outside device.Records)) old new rules told = absurd told
+decides_sits query (Err Memory) old new rules told = ap (λ (d : Desk). d.sitting) told
+decides_sits query (Err (Record user at)) old new rules told = absurd told
+decides_sits query (Err Limit) old new rules told = absurd told
+
 shows_kept : (query : Query) (outcome : Result ℕ Fault) (old new : Desk) (rules : RuleBook) → ShowsBy query outcome old new rules → new.files ≡ old.files
 shows_kept query (Ok n) old new rules told = told.files
 shows_kept query (Err Usage) old new rules told = absurd told
@@ -59,6 +73,19 @@ shows_kept query (Err (Outside device.Records)) old new rules told = absurd told
 shows_kept query (Err Memory) old new rules told = ap (λ (d : Desk). d.files) told
 shows_kept query (Err (Record user at)) old new rules told = absurd told
 shows_kept query (Err Limit) old new rules told = absurd told
+
+shows_sits : (query : Query) (outcome : Result ℕ Fault) (old new : Desk) (rules : RuleBook) → ShowsBy query outcome old new rules → new.sitting ≡ old.sitting
+shows_sits query (Ok n) old new rules told = told.sitting
+shows_sits query (Err Usage) old new rules told = absurd told
+shows_sits query (Err (Table fault)) old new rules told = absurd told
+shows_sits query (Err (Rule fault)) old new rules told = absurd told
+shows_sits query (Err (Outside device.Table)) old new rules told = absurd told
+shows_sits query (Err (Outside device.Output)) old new rules told = told.sitting
+shows_sits query (Err (Outside device.Log)) old new rules told = absurd told
+shows_sits query (Err (Outside device.Records)) old new rules told = absurd told
+shows_sits query (Err Memory) old new rules told = ap (λ (d : Desk). d.sitting) told
+shows_sits query (Err (Record user at)) old new rules told = absurd told
+shows_sits query (Err Limit) old new rules told = absurd told
 
 pub decides_command : (query : Query) → IsCommand query (DecidesBy query)
 decides_command query = record {
@@ -74,6 +101,7 @@ decides_command query = record {
   limit = λ old new rules told. told;
   memory = λ old new rules told. told;
   kept = decides_kept query;
+  sits = decides_sits query;
 }
 
 pub shows_command : (query : Query) → IsCommand query (ShowsBy query)
@@ -90,4 +118,5 @@ shows_command query = record {
   limit = λ old new rules told. told;
   memory = λ old new rules told. told;
   kept = shows_kept query;
+  sits = shows_sits query;
 }

@@ -20,6 +20,15 @@ pub of_text : {P Q : List ℕ → Type 0} (holds : Option (List (List ℕ × Lis
 of_text None name more h = tt
 of_text (Some files) name more h = if_some (held files name) more h
 
+all_some : {P : List ℕ → Type 0} (text : Option (List ℕ)) → ((bytes : List ℕ) → P bytes) → IfSome text P
+all_some None all = tt
+all_some (Some bytes) all = all bytes
+
+-- a fact of every text is one of the text under the name
+pub of_any : {P : List ℕ → Type 0} (holds : Option (List (List ℕ × List ℕ))) (name : List ℕ) → ((text : List ℕ) → P text) → OfText holds name P
+of_any None name all = tt
+of_any (Some files) name all = all_some (held files name) all
+
 of_table : {P Q : List ℕ → Type 0} (name : List ℕ) (old new : Cabinet) → ((text : List ℕ) → P text → Q text) → OfTable name P old new → OfTable name Q old new
 of_table name old new more h = record { of_text = of_text old.holds name more h.of_text; is = h.is }
 

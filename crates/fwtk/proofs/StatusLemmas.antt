@@ -1,6 +1,6 @@
 -- What the status of a run says, from what the run does.
 use Rattle.std.proofs.Common.{◌≡◌, ℕ, ◌≤◌, List, refl, sym, ◌∙◌, ap, subst, inl, inr, arith, ◌⊎◌}
-use Rattle.std.specs.Prelude.{Option, Some, None, IfSome, Result, Ok, Err}
+use Rattle.std.specs.Prelude.{Option, Some, None, IfSome, IsSome, Result, Ok, Err}
 use Rattle.fw_outside.specs.Cabinet.{Cabinet, held}
 use Rattle.fw_outside.specs.Counts.{Rose}
 use Rattle.fw_outside.specs.Drain.{Drain, Gives}
@@ -11,20 +11,22 @@ use Rattle.gate_rules.specs.declared.verdict.Verdict.TheVariants.{Permit, Deny}
 use Rattle.gate_rules.specs.Verdict.{verdict_of}
 use Rattle.fwtk.specs.declared.fault.Device.TheVariants as device
 use Rattle.fwtk.specs.declared.fault.Fault.{Fault}
-use Rattle.fwtk.specs.declared.fault.Fault.TheVariants.{Usage, Table, Rule, Outside, Memory}
+use Rattle.fwtk.specs.declared.fault.Fault.TheVariants.{Usage, Table, Rule, Outside, Memory, Record, Limit}
 use Rattle.fwtk.specs.declared.words.Command.{Command}
 use Rattle.fwtk.specs.declared.words.Command.TheVariants as commands
 use Rattle.fwtk.specs.declared.words.Query.{Query}
-use Rattle.fwtk.specs.Desk.{Desk}
+use Rattle.fwtk.specs.Desk.{Desk, Sitting}
 use Rattle.fwtk.specs.Fault.{fault_text}
-use Rattle.fwtk.specs.Ruling.{OfText, ruling}
+use Rattle.fwtk.specs.Ruling.{OfText, ruling, said_in}
+use Rattle.fwtk.specs.Serving.{orders_of}
 use Rattle.gate_rules.specs.Reading.{RuleBook}
 use Rattle.fwtk.specs.Run.{Does, Ends, Ran, Tells}
 use Rattle.fwtk.specs.Deciding.{ByTable, DecidesBy, FilesFailed, ShowsBy, verdict_status}
 use Rattle.fwtk.specs.Status.{Fails, IsRuled, IsRuledBy, SomeRose, WantsMemory}
 use Rattle.fwtk.specs.Words.{command_of, table_named}
 use Rattle.fwtk.proofs.CommandLemmas.{IsCommand, cut_rose, decides_command, shows_command}
-use Rattle.fwtk.proofs.FindingLemmas.{of_text}
+use Rattle.fwtk.proofs.FindingLemmas.{of_any, of_text}
+use Rattle.fwtk.proofs.ServingLemmas.{attends_keeper, attends_known, attends_out, attends_rose, attends_served, unless_four_served}
 
 verdict_status_low : (verdict : Verdict) → verdict_status verdict ≤ 1
 verdict_status_low (Permit line) = omega arith
@@ -41,6 +43,8 @@ decides_known doing name query (Err (Table fault)) old mid new status command do
 decides_known doing name query (Err (Rule fault)) old mid new status command does ends is = let ended = ends.0 in omega arith
 decides_known doing name query (Err (Outside which)) old mid new status command does ends is = let ended = ends.0 in omega arith
 decides_known doing name query (Err Memory) old mid new status command does ends is = let ended = ends.0 in omega arith
+decides_known doing name query (Err (Record user at)) old mid new status command does ends is = does
+decides_known doing name query (Err Limit) old mid new status command does ends is = does
 
 refused : (outcome : Result ℕ Fault) (status : ℕ) (mid new : Desk) → outcome ≡ Err Usage → Ends outcome status mid new → status ≡ 2
 refused outcome status mid new is ends = let P : Result ℕ Fault → Type 0 = λ o. Ends o status mid new in (subst P is ends).0
@@ -48,6 +52,7 @@ refused outcome status mid new is ends = let P : Result ℕ Fault → Type 0 = �
 usage_from : (name : List ℕ) (command : Option Command) (outcome : Result ℕ Fault) (old mid new : Desk) (status : ℕ) → Does name command outcome old mid → Ends outcome status mid new → status ≡ 2 → command ≡ None
 usage_from name None outcome old mid new status does ends is = refl
 usage_from name (Some (commands.Table query)) outcome old mid new status does ends is = absurd (decides_known (ShowsBy query) name query outcome old mid new status (shows_command query) does ends is)
+usage_from name (Some (commands.Authsrv visit)) outcome old mid new status does ends is = absurd (attends_known name visit outcome old mid new status does ends is)
 usage_from name (Some (commands.Netacl query)) outcome old mid new status does ends is = absurd (decides_known (DecidesBy query) name query outcome old mid new status (decides_command query) does ends is)
 
 usage_to : (name : List ℕ) (command : Option Command) (outcome : Result ℕ Fault) (old mid new : Desk) (status : ℕ) → command ≡ None → Does name command outcome old mid → Ends outcome status mid new → status ≡ 2
@@ -59,15 +64,6 @@ only_for_usage words status old new ran is = usage_from (table_named words) (com
 
 pub for_usage : (words : List (List ℕ)) (status : ℕ) (old new : Desk) → Ran words status old new → command_of words ≡ None → status ≡ 2
 for_usage words status old new ran none = usage_to (table_named words) (command_of words) ran.outcome old ran.middle new status none ran.does ran.ends
-
-all_some : {P : List ℕ → Type 0} (text : Option (List ℕ)) → ((bytes : List ℕ) → P bytes) → IfSome text P
-all_some None all = tt
-all_some (Some bytes) all = all bytes
-
--- a fact of every text is one of the text under the name
-of_any : {P : List ℕ → Type 0} (holds : Option (List (List ℕ × List ℕ))) (name : List ℕ) → ((text : List ℕ) → P text) → OfText holds name P
-of_any None name all = tt
-of_any (Some files) name all = all_some (held files name) all
 
 ruled_other : (other : ℕ → Type 0) (read : Result RuleBook Fault) (peer : Peer) (status : ℕ) → other status → IsRuled other read peer status
 ruled_other other (Ok rules) peer status h = inr h
@@ -89,11 +85,14 @@ ruled_decision doing name query (Err (Rule fault)) old mid new status command do
     of_text old.files.holds name (λ text is. ruled_fault (ruling text query.service) (Rule fault) query.peer status is ends.0) does.of_table
 ruled_decision doing name query (Err (Outside which)) old mid new status command does ends =
     of_any old.files.holds name (λ text. ruled_other Fails (ruling text query.service) query.peer status (inl ends.0))
+ruled_decision doing name query (Err (Record user at)) old mid new status command does ends = absurd does
+ruled_decision doing name query (Err Limit) old mid new status command does ends = absurd does
 ruled_decision doing name query (Err Memory) old mid new status command does ends =
     of_any old.files.holds name (λ text. ruled_other Fails (ruling text query.service) query.peer status (inr ends.0))
 
 ruled_command : (name : List ℕ) (command : Option Command) (outcome : Result ℕ Fault) (old mid new : Desk) (status : ℕ) → Does name command outcome old mid → Ends outcome status mid new → IsRuledBy Fails name command old status
 ruled_command name None outcome old mid new status does ends = tt
+ruled_command name (Some (commands.Authsrv visit)) outcome old mid new status does ends = attends_served name visit outcome old mid new status does ends
 ruled_command name (Some (commands.Netacl query)) outcome old mid new status does ends = ruled_decision (DecidesBy query) name query outcome old mid new status (decides_command query) does ends
 ruled_command name (Some (commands.Table query)) outcome old mid new status does ends = ruled_decision (ShowsBy query) name query outcome old mid new status (shows_command query) does ends
 
@@ -119,9 +118,10 @@ failed_rose : (does : Result ℕ Fault → Desk → Desk → RuleBook → Type 0
 failed_rose doing name query device.Table old mid new command does tells = let P : Cabinet → Type 0 = λ files. Rose old.files.missing files.missing ⊎ Rose old.files.read_faults files.read_faults in
     inl (subst P (sym tells.files) (files_rose old.files mid.files does.failed))
 failed_rose doing name query device.Output old mid new command does tells = let P : Drain → Type 0 = λ output. Rose old.output.faults output.faults in
-    inr (inl (subst P (sym tells.output) (command.output old mid does.rules does.told)))
+    inr (inl (inl (subst P (sym tells.output) (command.output old mid does.rules does.told))))
+failed_rose doing name query device.Records old mid new command does tells = absurd does
 failed_rose doing name query device.Log old mid new command does tells =
-    inr (inr (rose_on old.logs.faults mid.logs.faults new.logs.faults (command.log old mid does.rules does.told) (given_later tells.told _ mid.logs new.logs tells.logged)))
+    inr (inl (inr (rose_on old.logs.faults mid.logs.faults new.logs.faults (command.log old mid does.rules does.told) (given_later tells.told _ mid.logs new.logs tells.logged))))
 
 outside_decision : (does : Result ℕ Fault → Desk → Desk → RuleBook → Type 0) (name : List ℕ) (query : Query) (outcome : Result ℕ Fault) (old mid new : Desk) (status : ℕ) → IsCommand query does → ByTable does name query outcome old mid → Ends outcome status mid new → status ≡ 4 → SomeRose old new
 outside_decision doing name query (Ok n) old mid new status command does ends is =
@@ -133,9 +133,12 @@ outside_decision doing name query (Err (Table fault)) old mid new status command
 outside_decision doing name query (Err (Rule fault)) old mid new status command does ends is = let ended = ends.0 in absurd (omega arith)
 outside_decision doing name query (Err (Outside which)) old mid new status command does ends is = failed_rose doing name query which old mid new command does ends.1
 outside_decision doing name query (Err Memory) old mid new status command does ends is = let ended = ends.0 in absurd (omega arith)
+outside_decision doing name query (Err (Record user at)) old mid new status command does ends is = absurd does
+outside_decision doing name query (Err Limit) old mid new status command does ends is = absurd does
 
 outside_command : (name : List ℕ) (command : Option Command) (outcome : Result ℕ Fault) (old mid new : Desk) (status : ℕ) → Does name command outcome old mid → Ends outcome status mid new → status ≡ 4 → SomeRose old new
 outside_command name None outcome old mid new status does ends is = let two = refused outcome status mid new does.usage ends in absurd (omega arith)
+outside_command name (Some (commands.Authsrv visit)) outcome old mid new status does ends is = attends_rose name visit outcome old mid new status does ends is
 outside_command name (Some (commands.Netacl query)) outcome old mid new status does ends is = outside_decision (DecidesBy query) name query outcome old mid new status (decides_command query) does ends is
 outside_command name (Some (commands.Table query)) outcome old mid new status does ends is = outside_decision (ShowsBy query) name query outcome old mid new status (shows_command query) does ends is
 
@@ -154,6 +157,7 @@ unless_four (Err fault) peer status never (inr (inr five)) = inr five
 unless_four_by : (name : List ℕ) (command : Option Command) (old : Desk) (status : ℕ) → (status ≡ 4 → ⊥) → IsRuledBy Fails name command old status → IsRuledBy WantsMemory name command old status
 unless_four_by name None old status never h = tt
 unless_four_by name (Some (commands.Table query)) old status never h = of_text old.files.holds name (λ text. unless_four (ruling text query.service) query.peer status never) h
+unless_four_by name (Some (commands.Authsrv visit)) old status never h = of_text old.files.holds name (λ text. unless_four_served (said_in orders_of text) visit old.sitting.keeper status never) h
 unless_four_by name (Some (commands.Netacl query)) old status never h = of_text old.files.holds name (λ text. unless_four (ruling text query.service) query.peer status never) h
 
 pub complete : (words : List (List ℕ)) (status : ℕ) (old new : Desk) → Ran words status old new → (SomeRose old new → ⊥) → IsRuledBy WantsMemory (table_named words) (command_of words) old status
@@ -178,11 +182,15 @@ decided_out doing name query (Err (Rule fault)) old mid command does = out_in_al
 decided_out doing name query (Err (Outside device.Table)) old mid command does = failed_out old.files mid.files does.failed
 decided_out doing name query (Err (Outside device.Output)) old mid command does = out_of old mid (command.kept (Err (Outside device.Output)) old mid does.rules does.told)
 decided_out doing name query (Err (Outside device.Log)) old mid command does = out_of old mid (command.kept (Err (Outside device.Log)) old mid does.rules does.told)
+decided_out doing name query (Err (Outside device.Records)) old mid command does = absurd does
 decided_out doing name query (Err Memory) old mid command does = out_in_all old mid does
+decided_out doing name query (Err (Record user at)) old mid command does = absurd does
+decided_out doing name query (Err Limit) old mid command does = absurd does
 
 command_out : (name : List ℕ) (command : Option Command) (outcome : Result ℕ Fault) (old mid : Desk) → Does name command outcome old mid → mid.files.out ≡ old.files.out
 command_out name None outcome old mid does = out_in_all old mid does.is
 command_out name (Some (commands.Netacl query)) outcome old mid does = decided_out (DecidesBy query) name query outcome old mid (decides_command query) does
+command_out name (Some (commands.Authsrv visit)) outcome old mid does = attends_out name visit outcome old mid does
 command_out name (Some (commands.Table query)) outcome old mid does = decided_out (ShowsBy query) name query outcome old mid (shows_command query) does
 
 ended_out : (outcome : Result ℕ Fault) (status : ℕ) (mid new : Desk) → Ends outcome status mid new → new.files.out ≡ mid.files.out
@@ -192,3 +200,36 @@ ended_out (Err fault) status mid new ends = out_of mid new ends.1.files
 -- the run gave back each source that it got
 pub given_back : (words : List (List ℕ)) (status : ℕ) (old new : Desk) → Ran words status old new → new.files.out ≡ old.files.out
 given_back words status old new ran = ended_out ran.outcome status ran.middle new ran.ends ∙ command_out (table_named words) (command_of words) ran.outcome old ran.middle ran.does
+
+-- ---- the keeper is there
+
+decided_sitting : (does : Result ℕ Fault → Desk → Desk → RuleBook → Type 0) (name : List ℕ) (query : Query) (outcome : Result ℕ Fault) (old mid : Desk) → IsCommand query does → ByTable does name query outcome old mid → mid.sitting ≡ old.sitting
+decided_sitting doing name query (Ok n) old mid command does = command.sits (Ok n) old mid does.rules does.told
+decided_sitting doing name query (Err Usage) old mid command does = absurd does
+decided_sitting doing name query (Err (Table fault)) old mid command does = ap (λ (d : Desk). d.sitting) does.is
+decided_sitting doing name query (Err (Rule fault)) old mid command does = ap (λ (d : Desk). d.sitting) does.is
+decided_sitting doing name query (Err (Outside device.Table)) old mid command does = does.sitting
+decided_sitting doing name query (Err (Outside device.Output)) old mid command does = command.sits (Err (Outside device.Output)) old mid does.rules does.told
+decided_sitting doing name query (Err (Outside device.Log)) old mid command does = command.sits (Err (Outside device.Log)) old mid does.rules does.told
+decided_sitting doing name query (Err (Outside device.Records)) old mid command does = absurd does
+decided_sitting doing name query (Err Memory) old mid command does = ap (λ (d : Desk). d.sitting) does
+decided_sitting doing name query (Err (Record user at)) old mid command does = absurd does
+decided_sitting doing name query (Err Limit) old mid command does = absurd does
+
+keeper_by : (old mid : Desk) → mid.sitting ≡ old.sitting → IsSome old.sitting.keeper → IsSome mid.sitting.keeper
+keeper_by old mid is there = subst (λ (s : Sitting). IsSome s.keeper) (sym is) there
+
+command_keeper : (name : List ℕ) (command : Option Command) (outcome : Result ℕ Fault) (old mid : Desk) → Does name command outcome old mid → IsSome old.sitting.keeper → IsSome mid.sitting.keeper
+command_keeper name None outcome old mid does there = keeper_by old mid (ap (λ (d : Desk). d.sitting) does.is) there
+command_keeper name (Some (commands.Netacl query)) outcome old mid does there = keeper_by old mid (decided_sitting (DecidesBy query) name query outcome old mid (decides_command query) does) there
+command_keeper name (Some (commands.Table query)) outcome old mid does there = keeper_by old mid (decided_sitting (ShowsBy query) name query outcome old mid (shows_command query) does) there
+command_keeper name (Some (commands.Authsrv visit)) outcome old mid does there = attends_keeper name visit outcome old mid does there
+
+ended_sitting : (outcome : Result ℕ Fault) (status : ℕ) (mid new : Desk) → Ends outcome status mid new → new.sitting ≡ mid.sitting
+ended_sitting (Ok n) status mid new ends = ap (λ (d : Desk). d.sitting) ends.1
+ended_sitting (Err fault) status mid new ends = ends.1.sitting
+
+-- the keeper is there when the run ends
+pub keeper_back : (words : List (List ℕ)) (status : ℕ) (old new : Desk) → Ran words status old new → IsSome old.sitting.keeper → IsSome new.sitting.keeper
+keeper_back words status old new ran there =
+    keeper_by ran.middle new (ended_sitting ran.outcome status ran.middle new ran.ends) (command_keeper (table_named words) (command_of words) ran.outcome old ran.middle ran.does there)

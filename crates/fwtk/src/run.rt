@@ -118,6 +118,8 @@ pub fn run<T: Kit>(alloc: Global, words: &[Octets], world: &mut World<T>) -> u8
     ensures outside { result ≡ 4 → SomeRose world.old world.new }
     // Each source that the run got was given back: as many are out as before.
     ensures returned { world.new.files.out ≡ world.old.files.out }
+    // The keeper is there again.
+    ensures kept { IsSome world.new.sitting.keeper }
     // So where no count rose, the status is by the table's text, or there was no memory.
     ensures complete { ¬ (SomeRose world.old world.new) → IsRuledBy WantsMemory (table_named words.now) (command_of words.now) world.old result }
 {
