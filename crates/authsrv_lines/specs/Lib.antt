@@ -11,7 +11,9 @@ pub mod Distance
 pub mod Session
 pub mod Told
 pub mod Talk
+pub mod Course
 pub mod EntryLemmas
 pub mod TalkLemmas
 pub mod LineLemmas
 pub mod SaltLemmas
+pub mod CourseLemmas
