@@ -17,3 +17,4 @@ pub mod TalkLemmas
 pub mod LineLemmas
 pub mod SaltLemmas
 pub mod CourseLemmas
+pub mod OwnLemmas
