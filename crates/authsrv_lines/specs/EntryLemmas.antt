@@ -283,11 +283,16 @@ stand_all : (from : ℕ) (entries seen : List Entry) → AreAt from (places (len
 stand_all from entries seen stand =
     sym (entries_of_some entries) ∙ ap entries_in (sym (got_these from (places (length seen)) entries seen stand) ∙ got_all seen) ∙ entries_of_some seen
 
--- where a port's own entries are the whole history, that is what was asked of it and answered, but for what was refused,
--- at the moments at which it was asked
+-- where a port's own entries are the whole history, they are those that were made
+pub whole_entries : {Origin : Type 0} (numbers moments : List ℕ) (asks : List (Request × Option Reply)) (old new : Port Origin) → old.mine ≡ [] → new.mine ≡ places (length new.seen)
+    → (port : AtPort numbers moments asks old new) → (port.places ≡ places (length new.seen)) × (port.entries ≡ new.seen)
+whole_entries numbers moments asks old new none all port =
+    let own : port.places ≡ places (length new.seen) = sym (ap (λ z. z ++ port.places) none) ∙ sym port.mine ∙ all in
+    (own, stand_all (length old.seen) port.entries new.seen (subst (λ z. AreAt (length old.seen) z port.entries new.seen) own port.stand))
+
+-- so that is what was asked of it and answered, but for what was refused, at the moments at which it was asked
 pub whole_talk : {Origin : Type 0} (numbers moments : List ℕ) (asks : List (Request × Option Reply)) (old new : Port Origin) → old.mine ≡ [] → new.mine ≡ places (length new.seen)
     → AtPort numbers moments asks old new → (map said_of new.seen ≡ filter is_entered (answered asks)) × (map (λ (entry : Entry). entry.at) new.seen ≡ of_entered moments asks)
 whole_talk numbers moments asks old new none all port =
-    let own : port.places ≡ places (length new.seen) = sym (ap (λ z. z ++ port.places) none) ∙ sym port.mine ∙ all in
-    let whole = stand_all (length old.seen) port.entries new.seen (subst (λ z. AreAt (length old.seen) z port.entries new.seen) own port.stand) in
+    let whole = (whole_entries numbers moments asks old new none all port).1 in
     (ap (λ z. map said_of z) (sym whole) ∙ port.said, ap (λ z. map (λ (entry : Entry). entry.at) z) (sym whole) ∙ port.timed)

@@ -2,12 +2,15 @@ pub mod Acts
 pub mod CauseLemmas
 pub mod Causes
 pub mod Command
+pub mod Course
+pub mod CourseLemmas
 pub mod Dialogue
 pub mod Distance
 pub mod EntryLemmas
 pub mod Fault
 pub mod LineLemmas
 pub mod Number
+pub mod OwnLemmas
 pub mod Reply
 pub mod ReplyReading
 pub mod Request

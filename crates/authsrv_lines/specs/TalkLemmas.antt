@@ -154,14 +154,18 @@ module _ {Origin : Type 0} where
   entered_close None old new h = same_talk old new _ refl refl refl h
   entered_close (Some sid) old new h = entered_answer h.answer old new h.closes
 
-  -- a session
+  -- a session, up to the close that was owed
+  pub up_to_closing : (console : Bool) (old new : World Origin) (ending : Ending) (held : Held console old new ending)
+      → Entered (projection asked_in held.ran.steps ++ asked_last held.dialogue held.ran.left) old held.mid
+  up_to_closing console old new ending held =
+      entered_then (projection asked_in held.ran.steps) (asked_last held.dialogue held.ran.left) old held.ran.mid held.mid (ran_grew entered_grows held.ran) (entered_last held.dialogue held.ran.left held.ran.mid held.mid held.ran.comes)
+
+  -- and with it
   pub held_entered : (console : Bool) (old new : World Origin) (ending : Ending) (held : Held console old new ending) → Entered (asked_of held) old new
   held_entered console old new ending held =
-      let acts_done = projection asked_in held.ran.steps in
-      let last = asked_last held.dialogue held.ran.left in
+      let before = projection asked_in held.ran.steps ++ asked_last held.dialogue held.ran.left in
       let closing = asked_closing held.mid.opened held.mid new held.closed in
-      let up_to = entered_then acts_done last old held.ran.mid held.mid (ran_grew entered_grows held.ran) (entered_last held.dialogue held.ran.left held.ran.mid held.mid held.ran.comes) in
-      entered_then (acts_done ++ last) closing old held.mid new up_to (entered_close held.mid.opened held.mid new held.closed)
+      entered_then before closing old held.mid new (up_to_closing console old new ending held) (entered_close held.mid.opened held.mid new held.closed)
 
 module _ {Origin : Type 0} (console : Bool) (old new : World Origin) (ending : Ending) (held : Held console old new ending) where
   -- so it is after a session

@@ -1,9 +1,10 @@
 //! What holds of all replies and all lines, and of every session.
-ghost use Rattle.std.specs.Prelude.{◌≡◌, ◌||◌, List, [], ℕ, Bool, IsTrue, Option, Some, filter, length, map};
-ghost use Rattle.std.specs.List.{list_any};
+ghost use Rattle.std.specs.Prelude.{◌≡◌, ◌||◌, List, [], ℕ, Bool, IsTrue, Option, Some, None, filter, length, map};
+ghost use Rattle.std.specs.List.{AllByRecursion, list_any};
 ghost use Rattle.auth_events.specs.Port.{places};
 ghost use Rattle.fw_outside.specs.declared.ending.Ending.{Ending};
 ghost use Rattle.authsrv_lines.specs.Acts.{World};
+ghost use Rattle.authsrv_lines.specs.Course.{AreOfOne, Course};
 ghost use Rattle.authsrv_lines.specs.Session.{Held};
 ghost use Rattle.authsrv_lines.specs.Talk.{Adds, Entered, asked_of, is_entered, is_refused, said_of, salts_in, talk_of};
 ghost use Rattle.authsrv_lines.specs.Told.{Told};
@@ -36,4 +37,13 @@ pub fn the_talk_is_entered<Origin>()
 /// The salts that the dice gave in a session are those of the passwords that it asked to set, in their order.
 pub fn the_salts_are_thrown<Origin>()
     ensures { (console : Bool) (old new : World Origin) (ending : Ending) (held : Held console old new ending) → Adds (salts_in (asked_of held)) old.throws.told new.throws.told }
+{}
+
+/// A session that begins with none open first asks Open. Where that is answered `Opened` it asks Close once, last of all,
+/// and Open no more; else it asks nothing more. All its entries have one number, the place of the first; in a history that
+/// is all its own that is 0.
+pub fn a_session_is_closed<Origin>()
+    ensures course { (console : Bool) (old new : World Origin) (ending : Ending) (held : Held console old new ending) → old.opened ≡ None → Course console (asked_of held) }
+    ensures one { (console : Bool) (old new : World Origin) (ending : Ending) (held : Held console old new ending) → old.opened ≡ None → (entered : Entered (asked_of held) old new) → AreOfOne entered.port.places entered.port.entries }
+    ensures whole { (console : Bool) (old new : World Origin) (ending : Ending) (held : Held console old new ending) → old.opened ≡ None → old.port.mine ≡ [] → new.port.mine ≡ places (length new.port.seen) → AllByRecursion (λ entry. entry.sid ≡ 0) new.port.seen }
 {}

@@ -1,5 +1,5 @@
 -- What a whole run gives.
-use Rattle.std.specs.Prelude.{◌≡◌, List, [], ◌∷◌, ◌++◌, Result, Ok, Err}
+use Rattle.std.specs.Prelude.{◌≡◌, List, [], ◌∷◌, ◌++◌, refl, Result, Ok, Err}
 use Rattle.std.proofs.Common.{subst, sym, ap, ◌∙◌, append_assoc, append-nil}
 use Rattle.std.proofs.lemmas.List.Concat.{flat_map-append}
 use Rattle.fw_acts.specs.Acts.{Sig, Step, Row, Table}
@@ -51,22 +51,28 @@ part_front gives steps part rest step more is =
 -- what a call gave, however it ended
 pub ran_gave : {S : Sig} {A : Type 0} {gives : (act : S.Act) → S.Answer act → List A} {Grew : List A → S.World → S.World → Type 0} → Grows S gives Grew → Cuts S gives Grew → {P T : Type 0} {rows : Table S P} {r : Row S P} {at : T → Row S P} {old new : S.World} (result : Result T S.Stop) (ran : Ran rows r at old new result)
     → Gave rows gives Grew ran.steps ran.left old new
-ran_gave {gives = gives} {Grew = Grew} grows cuts {old = old} (Ok x) ran = record {
-  given = projection gives ran.steps;
-  grew = subst (λ world. Grew (projection gives ran.steps) old world) ran.comes.1 (ran_grew grows ran);
-  front = λ step more t run. (projection gives (step ∷ more), projection_joined gives ran.steps (step ∷ more));
-}
+ran_gave {gives = gives} {Grew = Grew} grows cuts {old = old} {new = new} (Ok x) ran =
+    let done = projection gives ran.steps in
+    record {
+      part = [];
+      grew = subst (λ given. Grew given old new) (sym (append-nil done)) (subst (λ world. Grew done old world) ran.comes.1 (ran_grew grows ran));
+      front = λ step more t run.
+          let rest = projection gives (step ∷ more) in
+          (rest, projection_joined gives ran.steps (step ∷ more) ∙ ap (λ given. given ++ rest) (sym (append-nil done)));
+      over = λ is. refl;
+    }
 ran_gave {S} {A} {gives = gives} {Grew = Grew} grows cuts {rows = rows} {old = old} {new = new} (Err stop) ran =
     let here = stopped rows ran.left stop ran.mid new ran.comes in
     let cut = cuts here.act stop ran.mid new here.why in
     record {
-      given = projection gives ran.steps ++ cut.part;
+      part = cut.part;
       grew = grows.both (projection gives ran.steps) cut.part old ran.mid new (ran_grew grows ran) cut.grew;
       front = λ step more t run.
           let same = next_first rows ran.left here.act step more t here.next run in
           let Front : S.Act → Type 0 = λ act. (answer : S.Answer act) → (rest : List A) × (gives act answer ≡ cut.part ++ rest) in
           let front = subst Front same cut.front step.answer in
           (front.0 ++ projection gives more, part_front gives ran.steps cut.part front.0 step more front.1);
+      over = λ is. absurd (subst (λ row. Next rows row here.act) is here.next);
     }
 
 -- a watch that adds to a list what each act gives has noted the projection

@@ -2,6 +2,7 @@
 use Rattle.std.specs.Prelude.{◌≡◌, List, [], ◌∷◌, ◌++◌}
 use Rattle.std.specs.List.{flat_map}
 use Rattle.fw_acts.specs.Acts.{Sig, Step, Row, Table}
+use Rattle.fw_acts.specs.Acts.Row.{Over}
 use Rattle.fw_acts.specs.Runs.{Run}
 
 -- what each of these acts with its answer gives, one after another
@@ -25,8 +26,10 @@ abbrev pub Cuts : (S : Sig) {A : Type 0} → ((act : S.Act) → S.Answer act →
 Cuts S gives Grew =
     (act : S.Act) (stop : S.Stop) (old new : S.World) → S.stops act stop old new → InPart S gives Grew act old new
 
--- all that was given, the last act's part too, is a front of what each run gives that goes on with that act
+-- what was given is what the acts give that were done, and then a part of what the next one gives: a front of what each run
+-- gives that goes on with that act; and where none is next, there is no such part
 pub record Gave {S : Sig} {P A : Type 0} (rows : Table S P) (gives : (act : S.Act) → S.Answer act → List A) (Grew : List A → S.World → S.World → Type 0) (steps : List (Step S)) (left : Row S P) (old new : S.World) : Type 0 where
-  pub given : List A
-  pub grew : Grew given old new
-  pub front : (step : Step S) (more : List (Step S)) (t : Row S P) → Run rows left (step ∷ more) t → (rest : List A) × (projection gives (steps ++ (step ∷ more)) ≡ given ++ rest)
+  pub part : List A
+  pub grew : Grew (projection gives steps ++ part) old new
+  pub front : (step : Step S) (more : List (Step S)) (t : Row S P) → Run rows left (step ∷ more) t → (rest : List A) × (projection gives (steps ++ (step ∷ more)) ≡ (projection gives steps ++ part) ++ rest)
+  pub over : left ≡ Over → part ≡ []
