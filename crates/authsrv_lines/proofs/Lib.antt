@@ -4,6 +4,5 @@ pub mod KeptLemmas
 pub mod NumberLemmas
 pub mod ReplyLemmas
 pub mod SpaceLemmas
-pub mod ToldLemmas
 pub mod TurnLemmas
 pub mod WordLemmas

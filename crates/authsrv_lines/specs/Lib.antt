@@ -19,4 +19,5 @@ pub mod Session
 pub mod Talk
 pub mod TalkLemmas
 pub mod Told
+pub mod ToldLemmas
 pub mod Words

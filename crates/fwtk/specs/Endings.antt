@@ -1,4 +1,4 @@
--- What the log and the client are told of how a session ended, and its status.
+-- How the end of a session is told.
 use Rattle.std.specs.Prelude.{ℕ, List, ◌++◌, Option, Some, None, codes}
 use Rattle.std.specs.Fmt.{decimal}
 use Rattle.std.specs.Option.{option_map}
@@ -9,7 +9,7 @@ use Rattle.fw_outside.specs.declared.peer.Peer.{Peer}
 use Rattle.gate_rules.specs.Service.{service_text}
 use Rattle.gate_rules.specs.declared.service.Service.{Service}
 
--- the word of an ending; a denial has its own line, and a log that failed is told nothing more
+-- the log's word for an ending; a denial was logged by its verdict, and a log that failed is told nothing
 abbrev pub ending_word : Ending → Option (List ℕ)
 ending_word Done = Some (codes "done")
 ending_word (Denied line) = None
@@ -23,13 +23,14 @@ ending_word Spent = Some (codes "spent")
 ending_word NoMemory = Some (codes "memory")
 
 -- `end SERVICE PEER WORD`
-abbrev pub ending_text : Service → Peer → List ℕ → List ℕ
-ending_text service peer word = codes "end " ++ service_text service ++ codes " " ++ peer_text peer ++ codes " " ++ word ++ codes "\n"
+abbrev pub end_text : Service → Peer → List ℕ → List ℕ
+end_text service peer word = codes "end " ++ service_text service ++ codes " " ++ peer_text peer ++ codes " " ++ word ++ codes "\n"
 
--- the log's line of an ending, where it has one
+-- the log's line of an ending
 abbrev pub ending_line : Service → Peer → Ending → Option (List ℕ)
-ending_line service peer ending = option_map (ending_text service peer) (ending_word ending)
+ending_line service peer ending = option_map (end_text service peer) (ending_word ending)
 
+-- the status of an ending
 abbrev pub ending_status : Ending → ℕ
 ending_status Done = 0
 ending_status (Denied line) = 1
@@ -42,6 +43,6 @@ ending_status NoRoute = 4
 ending_status Spent = 6
 ending_status NoMemory = 5
 
--- what a client is told whom the table denies
+-- the words to a client that a line denies: `denied line N`
 abbrev pub denied_text : ℕ → List ℕ
 denied_text line = codes "denied line " ++ decimal line ++ codes "\n"

@@ -8,7 +8,7 @@ use Rattle.gate_rules.specs.Why as rule
 use Rattle.fwtk.specs.declared.fault.Device.{Device}
 use Rattle.fwtk.specs.declared.fault.Device.TheVariants as device
 use Rattle.fwtk.specs.declared.fault.Fault.{Fault}
-use Rattle.fwtk.specs.declared.fault.Fault.TheVariants.{Usage, Table, Rule, Outside, Memory, Record, Limit}
+use Rattle.fwtk.specs.declared.fault.Fault.TheVariants.{Usage, Table, Rule, Record, Outside, Memory, Limit}
 
 abbrev pub device_text : Device → List ℕ
 device_text device.Table = codes "table"
@@ -26,14 +26,18 @@ table_text fault = line_text (unwrap_or (table.line_of fault) 0) (table.why_text
 abbrev pub rule_text : RuleFault → List ℕ
 rule_text fault = line_text fault.line (rule.why_text fault.why)
 
+-- whose record can't be read, and the place of its first bad byte
+abbrev pub record_text : List ℕ → ℕ → List ℕ
+record_text name at = name ++ codes " at " ++ decimal at
+
 -- the log's line of a fault
 abbrev pub fault_text : Fault → List ℕ
 fault_text Usage = codes "fault usage\n"
 fault_text (Table fault) = codes "fault table" ++ table_text fault ++ codes "\n"
 fault_text (Rule fault) = codes "fault rule" ++ rule_text fault ++ codes "\n"
+fault_text (Record name at) = codes "fault record " ++ record_text name at ++ codes "\n"
 fault_text (Outside which) = codes "fault outside " ++ device_text which ++ codes "\n"
 fault_text Memory = codes "fault memory\n"
-fault_text (Record name at) = codes "fault record\n"
 fault_text Limit = codes "fault limit\n"
 
 -- the status with which a fault ends the run
@@ -41,7 +45,7 @@ abbrev pub status_of : Fault → ℕ
 status_of Usage = 2
 status_of (Table fault) = 3
 status_of (Rule fault) = 3
+status_of (Record name at) = 3
 status_of (Outside which) = 4
 status_of Memory = 5
-status_of (Record name at) = 3
 status_of Limit = 6

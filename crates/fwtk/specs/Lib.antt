@@ -5,6 +5,8 @@ pub mod Endings
 pub mod Fault
 pub mod Finding
 pub mod Opening
+pub mod Places
+pub mod Replies
 pub mod Run
 pub mod Ruling
 pub mod Serving

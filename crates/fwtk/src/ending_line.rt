@@ -1,6 +1,7 @@
-//! How a session ended, for the log and for the program's status.
-ghost use Rattle.std.specs.Prelude.{◌≡◌, ◌≤◌, ◌++◌, length, Some, None, MatchOption};
-ghost use Rattle.fwtk.specs.Endings.{denied_text, ending_line, ending_status, ending_text, ending_word};
+//! How the end of a session is told.
+ghost use Rattle.std.specs.Prelude.{◌≡◌, ◌≤◌, length, IfSome, MatchOption, None, Some};
+ghost use Rattle.std.specs.Option.{option_copied};
+ghost use Rattle.fwtk.specs.Endings.{denied_text, end_text, ending_line, ending_status, ending_word};
 
 use crate::texts::{LogLine, append_peer, append_service};
 use arrayvec::ArrayVec;
@@ -8,24 +9,26 @@ use fw_outside::{Ending, Peer, append, append_u32};
 use gate_rules::Service;
 
 fn ending_word(ending: Ending) -> Option<&'static [u8]>
-    ensures { MatchOption result (λ word. (ending_word ending ≡ Some word.now) × (length word.now ≤ 7)) (ending_word ending ≡ None) }
+    ensures word { option_copied result ≡ ending_word ending }
+    ensures short { IfSome result (λ word. length word.now ≤ 7) }
 {
     match ending {
         Ending::Done => Some(b"done"),
+        Ending::Denied { .. } => None,
         Ending::ClientFault => Some(b"client"),
         Ending::ServerFault => Some(b"server"),
+        Ending::LogFault => None,
         Ending::AuthFault => Some(b"auth"),
         Ending::Idle => Some(b"idle"),
         Ending::NoRoute => Some(b"noroute"),
         Ending::Spent => Some(b"spent"),
         Ending::NoMemory => Some(b"memory"),
-        Ending::Denied { .. } | Ending::LogFault => None,
     }
 }
 
-fn ending_text(service: &Service, peer: &Peer, word: &[u8]) -> LogLine
+fn end_text(service: &Service, peer: &Peer, word: &[u8]) -> LogLine
     requires { length word.now ≤ 7 }
-    ensures { result.items ≡ ending_text service.now peer.now word.now }
+    ensures { result.items ≡ end_text service.now peer.now word.now }
 {
     let mut out = ArrayVec::new();
     append(&mut out, b"end ");
@@ -38,33 +41,35 @@ fn ending_text(service: &Service, peer: &Peer, word: &[u8]) -> LogLine
     out
 }
 
-/// The log's line of an ending: none where the client was denied, which has its own line, or where the log failed.
+/// The log's line of an ending. None for a denial, which was logged by its verdict, and where the log failed.
 pub fn ending_line(service: &Service, peer: &Peer, ending: Ending) -> Option<LogLine>
-    ensures { MatchOption result (λ line. ending_line service.now peer.now ending ≡ Some line.items) (ending_line service.now peer.now ending ≡ None) }
+    ensures { MatchOption result (ending_line service.now peer.now ending ≡ None) (λ line. ending_line service.now peer.now ending ≡ Some line.items) }
 {
-    let word = ending_word(ending)?;
-    Some(ending_text(service, peer, word))
+    match ending_word(ending) {
+        Some(word) => Some(end_text(service, peer, word)),
+        None => None,
+    }
 }
 
-/// The status with which a run ends after a session that ended so.
+/// The status of an ending.
 pub fn ending_status(ending: Ending) -> u8
     ensures { result ≡ ending_status ending }
 {
     match ending {
         Ending::Done => 0,
         Ending::Denied { .. } => 1,
-        Ending::ClientFault
-        | Ending::ServerFault
-        | Ending::LogFault
-        | Ending::AuthFault
-        | Ending::Idle
-        | Ending::NoRoute => 4,
+        Ending::ClientFault => 4,
+        Ending::ServerFault => 4,
+        Ending::LogFault => 4,
+        Ending::AuthFault => 4,
+        Ending::Idle => 4,
+        Ending::NoRoute => 4,
         Ending::Spent => 6,
         Ending::NoMemory => 5,
     }
 }
 
-/// What a client is told whom the table denies.
+/// The words to a client that the line of this number denies; 0 where no line fits.
 pub fn denied_line(line: u32) -> LogLine
     ensures { result.items ≡ denied_text line }
 {

@@ -1,11 +1,12 @@
 ghost use Rattle.std.specs.Prelude.{◌≡◌, ◌+◌, ◌≤◌, ◌++◌, length, codes, unwrap_or};
+ghost use Rattle.std.specs.Fmt.{decimal};
 ghost use Rattle.arrayvec.specs.ArrayVec.{array_vec_len};
 ghost use Rattle.fwtk.specs.declared.fault.Fault.TheVariants.{Memory};
-ghost use Rattle.fwtk.specs.Fault.{device_text, fault_text, line_text, status_of};
+ghost use Rattle.fwtk.specs.Fault.{device_text, fault_text, line_text, record_text, status_of};
 
 use crate::texts::LogLine;
 use arrayvec::ArrayVec;
-use fw_outside::{Name, NoMemory, append, append_u32};
+use fw_outside::{Name, NoMemory, append, append_decimal, append_u32};
 use gate_rules::RuleFault;
 use netperm_table::TableFault;
 use std::alloc::AllocFailed;
@@ -19,7 +20,7 @@ pub enum Device {
     Output,
     /// The log.
     Log,
-    /// The keeper of the users' records.
+    /// The keeper of the records.
     Records,
 }
 
@@ -32,13 +33,13 @@ pub enum Fault {
     Table(TableFault),
     /// A line of the service can't be read as a rule.
     Rule(RuleFault),
+    /// The record of this name can't be read: `at` is the place of its first bad byte.
+    Record { name: Name, at: usize },
     /// A device failed.
     Outside(Device),
     /// There was no memory.
     Memory,
-    /// A record can't be read.
-    Record { name: Name, at: usize },
-    /// A request was answered that the history is full.
+    /// A reply said that the history is full.
     Limit,
 }
 
@@ -66,6 +67,25 @@ fn append_line(out: &mut LogLine, line: u32, why: &[u8])
     append(out, why);
 }
 
+fn append_usize(out: &mut LogLine, number: usize)
+    requires { array_vec_len out.old ≤ 480 }
+    ensures items { out.new.items ≡ out.old.items ++ decimal number }
+    ensures room { array_vec_len out.new ≤ array_vec_len out.old + 20 }
+{
+    append_decimal(out, number as u64);
+}
+
+// Appends whose record can't be read, and the place of its first bad byte.
+fn append_record(out: &mut LogLine, name: &Name, at: usize)
+    requires { array_vec_len out.old ≤ 400 }
+    ensures items { out.new.items ≡ out.old.items ++ record_text name.now at }
+    ensures room { array_vec_len out.new ≤ array_vec_len out.old + 56 }
+{
+    append(out, name.text());
+    append(out, b" at ");
+    append_usize(out, at);
+}
+
 impl Fault {
     /// The status with which the run ends.
     pub fn status(&self) -> u8
@@ -73,10 +93,9 @@ impl Fault {
     {
         match self {
             Fault::Usage => 2,
-            Fault::Table(_) | Fault::Rule(_) => 3,
+            Fault::Table(_) | Fault::Rule(_) | Fault::Record { .. } => 3,
             Fault::Outside(_) => 4,
             Fault::Memory => 5,
-            Fault::Record { .. } => 3,
             Fault::Limit => 6,
         }
     }
@@ -97,12 +116,15 @@ impl Fault {
                 append(&mut out, b"rule");
                 append_line(&mut out, fault.line, fault.why.text());
             }
+            Fault::Record { name, at } => {
+                append(&mut out, b"record ");
+                append_record(&mut out, name, *at);
+            }
             Fault::Outside(device) => {
                 append(&mut out, b"outside ");
                 append(&mut out, device_text(*device));
             }
             Fault::Memory => append(&mut out, b"memory"),
-            Fault::Record { .. } => append(&mut out, b"record"),
             Fault::Limit => append(&mut out, b"limit"),
         }
         append(&mut out, b"\n");

@@ -23,6 +23,7 @@ mod fault;
 mod finding;
 mod kit;
 mod orders;
+mod place_names;
 mod process;
 mod run;
 mod sheet;
@@ -36,10 +37,11 @@ pub use run::run;
 pub use texts::LogLine;
 pub use conn::conn;
 pub use ending_line::{denied_line, ending_line, ending_status};
-pub use words::{Command, Query, Visit, read_command};
+pub use place_names::Places;
+pub use words::{Command, Query, Visit, places, read_command, table_named};
 
 const HELP: &[u8] =
-    b"usage: fwtk [-t FILE] netacl DAEMON ADDR [NAME]\n       fwtk [-t FILE] table SERVICE ADDR [NAME]\n";
+    b"usage: fwtk [-t FILE] netacl DAEMON ADDR [NAME]\n       fwtk [-t FILE] table SERVICE ADDR [NAME]\n       fwtk [-t FILE] [-r FILE] authsrv [-console] ADDR [NAME]\n";
 
 const VERSION: &[u8] = b"fwtk 2.1\n";
 
@@ -93,7 +95,7 @@ fn serve(rt: HostRuntime) -> Result<u8, Fault> {
         logs: Writing::new(rt.stderr()),
         clock: SystemClock::new(rt),
         dice,
-        keeper: Some(Records::new(rt, b"authdb")?),
+        keeper: Some(Records::new(rt, places(&words).db)?),
     };
     Ok(run(rt.alloc(), &words, &mut world))
 }
@@ -107,3 +109,5 @@ fn main(rt: HostRuntime) -> ExitCode {
 
 #[cfg(test)]
 mod tests;
+#[cfg(test)]
+mod words_tests;

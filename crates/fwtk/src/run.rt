@@ -1,6 +1,7 @@
 ghost use Rattle.std.specs.Prelude.{◌≡◌, ◌↔◌, IsSome};
 ghost use Rattle.fwtk.specs.Fault.{fault_text};
 ghost use Rattle.fwtk.specs.Finding.{Finds};
+ghost use Rattle.fwtk.specs.Replies.{Replies};
 ghost use Rattle.fwtk.specs.Run.{Does, Ends, Ran, Tells};
 ghost use Rattle.fwtk.specs.Deciding.{ByTable, DecidesBy, ShowsBy};
 ghost use Rattle.fwtk.specs.Status.{Fails, IsRuledBy, SomeRose, WantsMemory};
@@ -120,6 +121,9 @@ pub fn run<T: Kit>(alloc: Global, words: &[Octets], world: &mut World<T>) -> u8
     ensures returned { world.new.files.out ≡ world.old.files.out }
     // The keeper is there again.
     ensures kept { IsSome world.new.sitting.keeper }
+    // A client of `authsrv` is told the replies of a legal history of the records that the keeper has, or that it is denied, or
+    // nothing.
+    ensures replies { Replies (table_named words.now) (command_of words.now) world.old world.new }
     // So where no count rose, the status is by the table's text, or there was no memory.
     ensures complete { ¬ (SomeRose world.old world.new) → IsRuledBy WantsMemory (table_named words.now) (command_of words.now) world.old result }
 {

@@ -1,9 +1,11 @@
-ghost use Rattle.std.specs.Prelude.{◌≡◌};
-ghost use Rattle.std.specs.Option.{option_map};
+ghost use Rattle.std.specs.Prelude.{◌≡◌, is_some};
+ghost use Rattle.std.specs.Option.{option_copied, option_map};
 ghost use Rattle.std.specs.Str.{bytes_eq};
 ghost use Rattle.gate_rules.specs.Label.{label_of};
-ghost use Rattle.fwtk.specs.Words.{after_options, command_in, command_of, name_in, names_table, peer_of, query_of, table_named};
+ghost use Rattle.fwtk.specs.Places.{places_of};
+ghost use Rattle.fwtk.specs.Words.{after_options, any_twice, command_in, command_of, is_option, is_option_name, name_in, named, netacl_in, peer_by, peer_in, query_of, stands, table_in, table_named, visit_in, visit_of, word_after};
 
+use crate::Places;
 use fw_outside::{HostName, Octets, Peer, read_quad};
 use gate_rules::{Label, Service};
 
@@ -14,9 +16,10 @@ pub struct Query {
     pub peer: Peer,
 }
 
-/// Who comes to the authentication server, at the console or from outside.
+/// Who speaks to the service that knows the users.
 #[derive(Drop)]
 pub struct Visit {
+    /// Whether the words are of the console, and not of a program.
     pub console: bool,
     pub peer: Peer,
 }
@@ -28,7 +31,7 @@ pub enum Command {
     Netacl(Query),
     /// `table SERVICE ADDR [NAME]`: print what the table decides and sets.
     Table(Query),
-    /// `authsrv [-console] ADDR [NAME]`: hold a session of the authentication server.
+    /// `authsrv [-console] ADDR [NAME]`: answer a peer's questions about users.
     Authsrv(Visit),
 }
 
@@ -40,34 +43,71 @@ fn is_word(word: &Octets, text: &[u8]) -> bool
     word.bytes() == text
 }
 
-fn names_table(words: &[Octets]) -> bool
-    ensures { result ≡ names_table words.now }
+fn is_option_name(word: &Octets) -> bool
+    ensures { result ≡ is_option_name word.now }
 {
-    match words {
-        [option, file, ..] => is_word(option, b"-t") && !file.bytes().is_empty(),
-        _ => false,
+    is_word(word, b"-t") || is_word(word, b"-r")
+}
+
+fn is_option(option: &Octets, word: &Octets) -> bool
+    ensures { result ≡ is_option option.now word.now }
+{
+    is_option_name(option) && !word.bytes().is_empty()
+}
+
+fn word_after<'a>(name: &[u8], mut words: &'a [Octets]) -> Option<&'a [u8]>
+    ensures { option_copied result ≡ word_after name.now words.entry.now }
+{
+    while let [option, word, rest @ ..] = words
+        && is_option(option, word)
+    {
+        if is_word(option, name) {
+            return Some(word.bytes());
+        }
+        words = rest;
+    }
+    None
+}
+
+#[tactic(auto, unfolding(crate::specs::Words::stands))]
+fn is_named(name: &[u8], words: &[Octets]) -> bool
+    ensures { result ≡ stands name.now words.now }
+{
+    match word_after(name, words) {
+        Some(_) => true,
+        None => false,
     }
 }
 
-/// The name of the table: the word after `-t`, or the place where it stands when no word says so.
-pub fn table_named(words: &[Octets]) -> &[u8]
-    ensures { result.now ≡ table_named words.entry.now }
+fn stands(option: &Octets, words: &[Octets]) -> bool
+    ensures { result ≡ stands option.now words.now }
 {
-    if names_table(words) {
-        words[1].bytes()
-    } else {
-        DEFAULT_TABLE
-    }
+    is_named(option.bytes(), words)
 }
 
-fn after_options(words: &[Octets]) -> &[Octets]
+fn any_twice(mut words: &[Octets]) -> bool
+    ensures { result ≡ any_twice words.now }
+{
+    while let [option, word, rest @ ..] = words
+        && is_option(option, word)
+    {
+        if stands(option, rest) {
+            return true;
+        }
+        words = rest;
+    }
+    false
+}
+
+fn after_options(mut words: &[Octets]) -> &[Octets]
     ensures { result.now ≡ after_options words.entry.now }
 {
-    if names_table(words) {
-        &words[2..]
-    } else {
-        words
+    while let [option, word, rest @ ..] = words
+        && is_option(option, word)
+    {
+        words = rest;
     }
+    words
 }
 
 fn name_in(names: &[Octets]) -> Option<Option<HostName>>
@@ -80,18 +120,27 @@ fn name_in(names: &[Octets]) -> Option<Option<HostName>>
     }
 }
 
-fn peer(addr: &Octets, names: &[Octets]) -> Option<Peer>
-    ensures { result ≡ peer_of addr.now names.now }
+fn peer_by(addr: Option<[u8; 4]>, name: Option<Option<HostName>>) -> Option<Peer>
+    ensures { result ≡ peer_by addr name }
 {
-    let addr = read_quad(addr.bytes())?;
-    let name = name_in(names)?;
+    let addr = addr?;
+    let name = name?;
     Some(Peer {
         addr: Some(addr),
         name,
     })
 }
 
-fn query_for(service: Option<Service>, peer: Option<Peer>) -> Option<Query>
+fn peer_in(words: &[Octets]) -> Option<Peer>
+    ensures { result ≡ peer_in words.now }
+{
+    match words {
+        [addr, names @ ..] => peer_by(read_quad(addr.bytes()), name_in(names)),
+        [] => None,
+    }
+}
+
+fn query_of(service: Option<Service>, peer: Option<Peer>) -> Option<Query>
     ensures { result ≡ query_of service peer }
 {
     let service = service?;
@@ -105,11 +154,42 @@ fn daemon(label: &Octets) -> Option<Service>
     Label::read(label.bytes()).map(Service::Netacl)
 }
 
-fn visit(words: &[Octets]) -> Option<Visit> {
+fn netacl_in(words: &[Octets]) -> Option<Query>
+    ensures { result ≡ netacl_in words.now }
+{
     match words {
-        [first, addr, names @ ..] if is_word(first, b"-console") => Some(Visit { console: true, peer: peer(addr, names)? }),
-        [addr, names @ ..] => Some(Visit { console: false, peer: peer(addr, names)? }),
-        _ => None,
+        [label, words @ ..] => query_of(daemon(label), peer_in(words)),
+        [] => None,
+    }
+}
+
+fn table_in(words: &[Octets]) -> Option<Query>
+    ensures { result ≡ table_in words.now }
+{
+    match words {
+        [service, words @ ..] => query_of(Service::read(service.bytes()), peer_in(words)),
+        [] => None,
+    }
+}
+
+fn visit_of(console: bool, peer: Option<Peer>) -> Option<Visit>
+    ensures { result ≡ visit_of console peer }
+{
+    let peer = peer?;
+    Some(Visit { console, peer })
+}
+
+fn visit_in(words: &[Octets]) -> Option<Visit>
+    ensures { result ≡ visit_in words.now }
+{
+    match words {
+        [word, peer @ ..] => {
+            if is_word(word, b"-console") {
+                return visit_of(true, peer_in(peer));
+            }
+            visit_of(false, peer_in(words))
+        }
+        [] => None,
     }
 }
 
@@ -117,25 +197,68 @@ fn command_in(words: &[Octets]) -> Option<Command>
     ensures { result ≡ command_in words.now }
 {
     match words {
-        [name, rest @ ..] if is_word(name, b"authsrv") => visit(rest).map(Command::Authsrv),
-        [name, what, addr, names @ ..] => {
+        [name, words @ ..] => {
             if is_word(name, b"netacl") {
-                return query_for(daemon(what), peer(addr, names)).map(Command::Netacl);
+                return netacl_in(words).map(Command::Netacl);
             }
             if is_word(name, b"table") {
-                return query_for(Service::read(what.bytes()), peer(addr, names)).map(
-                    Command::Table,
-                );
+                return table_in(words).map(Command::Table);
+            }
+            if is_word(name, b"authsrv") {
+                return visit_in(words).map(Command::Authsrv);
             }
             None
         }
-        _ => None,
+        [] => None,
     }
 }
 
 /// The command that the words are, or nothing where they are none.
+#[tactic(auto, unfolding(crate::specs::Words::command_of))]
 pub fn read_command(words: &[Octets]) -> Option<Command>
     ensures { result ≡ command_of words.now }
 {
+    if any_twice(words) {
+        return None;
+    }
     command_in(after_options(words))
+}
+
+fn is_command(words: &[Octets]) -> bool
+    ensures { result ≡ is_some (command_of words.now) }
+{
+    match read_command(words) {
+        Some(_) => true,
+        None => false,
+    }
+}
+
+/// The word after an option of a command. Another text where it isn't there, and for words that are no command.
+#[tactic(auto, unfolding(crate::specs::Words::named))]
+fn named<'a>(option: &[u8], other: &'a [u8], words: &'a [Octets]) -> &'a [u8]
+    ensures { result.now ≡ named option.now other.entry.now words.entry.now }
+{
+    if !is_command(words) {
+        return other;
+    }
+    match word_after(option, words) {
+        Some(word) => word,
+        None => other,
+    }
+}
+
+/// The name of the table: the word after `-t`, or the place where it stands when no word says so.
+pub fn table_named(words: &[Octets]) -> &[u8]
+    ensures { result.now ≡ table_named words.entry.now }
+{
+    named(b"-t", DEFAULT_TABLE, words)
+}
+
+/// What the words name: the word after the option, or a name of its own where no word says so.
+pub fn places(words: &[Octets]) -> Places<'_>
+    ensures { result ≡ places_of words.entry.now }
+{
+    Places {
+        db: named(b"-r", b"authdb", words),
+    }
 }

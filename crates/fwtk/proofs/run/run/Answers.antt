@@ -1,4 +1,5 @@
 use Rattle.fwtk.specs.Run.{Ran}
+use Rattle.fwtk.proofs.RepliesLemmas.{replies}
 use Rattle.fwtk.proofs.StatusLemmas.{complete, for_usage, given_back, keeper_back, only_for_usage, outside, ruled}
 use Rattle.fwtk.proofs.run.run.Goals as goal
 
@@ -11,6 +12,7 @@ returns g c =
       ruled = ruled c.args.words.now c.end.result c.args.world.now c.end.new.world ran;
       complete = complete c.args.words.now c.end.result c.args.world.now c.end.new.world ran;
       returned = given_back c.args.words.now c.end.result c.args.world.now c.end.new.world ran;
+      replies = replies c.args.words.now c.end.result c.args.world.now c.end.new.world ran;
       kept = keeper_back c.args.words.now c.end.result c.args.world.now c.end.new.world ran c.requires;
       outside = outside c.args.words.now c.end.result c.args.world.now c.end.new.world ran;
     }

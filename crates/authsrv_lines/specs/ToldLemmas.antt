@@ -54,7 +54,7 @@ module _ {Origin : Type 0} where
   grows = record { none = λ world. by_nothing world.outlet.given; both = grew_both; act = grew_act }
 
   -- what an act at which the session stopped has given
-  pub record Parts (act : Act) (old new : World Origin) : Type 0 where
+  record Parts (act : Act) (old new : World Origin) : Type 0 where
     pub part : List ℕ
     pub is_part : PartOfAct act part
     pub grew : GrewBy part old new
@@ -86,7 +86,7 @@ module _ {Origin : Type 0} where
   cuts (Say text) NoMemory old new h = absurd h
 
   -- and so has what stopped with a row left
-  pub record LeftParts (left : Row (acts Origin) Place) (old new : World Origin) : Type 0 where
+  record LeftParts (left : Row (acts Origin) Place) (old new : World Origin) : Type 0 where
     pub part : List ℕ
     pub is_part : PartOf left part
     pub grew : GrewBy part old new
@@ -96,7 +96,7 @@ module _ {Origin : Type 0} where
   cut_row (At place) cause old new h = let cut = cuts (act_at place) cause old new h in record { part = cut.part; is_part = cut.is_part; grew = cut.grew }
   cut_row Over cause old new h = absurd h
 
-  pub record Given (dialogue : Result (Unit {0}) Cause) (left : Row (acts Origin) Place) (texts : List ℕ) (old new : World Origin) : Type 0 where
+  record Given (dialogue : Result (Unit {0}) Cause) (left : Row (acts Origin) Place) (texts : List ℕ) (old new : World Origin) : Type 0 where
     pub part : List ℕ
     pub is_part : PartAt dialogue left part
     pub grew : GrewBy (texts ++ part) old new
