@@ -1,11 +1,12 @@
 -- What a client's ending says.
-use Rattle.std.proofs.Common.{◌≡◌, refl, sym, subst, ap, ℕ, List, inl, inr, Bool, true, false}
+use Rattle.std.proofs.Common.{◌≡◌, ◌∙◌, refl, sym, subst, ap, ℕ, List, inl, inr, Bool, true, false}
 use Rattle.std.specs.Prelude.{Option, Some, None, Result, Ok, Err}
 use Rattle.authsrv_lines.specs.Causes.{Caused}
-use Rattle.authsrv_lines.specs.CauseLemmas.{session_caused}
-use Rattle.authsrv_lines.specs.Session.{Devices}
+use Rattle.authsrv_lines.specs.CauseLemmas.{session_caused, session_keeps}
+use Rattle.authsrv_lines.specs.Session.{Devices, Session}
 use Rattle.fw_outside.specs.Counts.{Rose}
 use Rattle.fw_outside.specs.Drain.{Cut, Drain, Gives}
+use Rattle.fw_outside.specs.Spring.{Spring, waiting}
 use Rattle.fw_outside.specs.declared.ending.Ending.{Ending}
 use Rattle.fw_outside.specs.declared.ending.Ending.TheVariants.{Done, Denied, ClientFault, ServerFault, LogFault, AuthFault, Idle, NoRoute, Spent, NoMemory}
 use Rattle.fw_outside.specs.declared.failed.Failed.{Failed}
@@ -15,7 +16,9 @@ use Rattle.gate_rules.specs.Verdict.{verdict_of}
 use Rattle.gate_rules.specs.declared.service.Service.{Service}
 use Rattle.gate_rules.specs.declared.verdict.Verdict.{Verdict}
 use Rattle.gate_rules.specs.declared.verdict.Verdict.TheVariants.{Permit, Deny}
-use Rattle.fwtk.specs.Conn.{AfterLine, Causes, Conn, Ended, IsRefused, Meeting, Treated, patient, timeout_of}
+use Rattle.fwtk.specs.Conn.{AfterLine, Causes, Conn, Ended, IsRefused, Meeting, NotedIf, Served, Treated, patient, timeout_of}
+use Rattle.fwtk.specs.Endings.{ending_line}
+use Rattle.fwtk.specs.Texts.{decision_text}
 use Rattle.fwtk.proofs.CommandLemmas.{cut_rose}
 
 module _ {Origin : Type 0} where
@@ -47,6 +50,27 @@ module _ {Origin : Type 0} where
       subst (λ (e : Ending). Causes verdict e (meets devices before) new) (sym h.ends)
       (subst (λ (m : Meeting Origin). Rose before.faults m.logs.faults) (sym h.is) (cut_rose text before logs gives))
 
+  -- a client was served, over a source that waits as the table has it
+  pub served_from : {service : Service} {rules : RuleBook} {peer : Peer} {ending : Ending} {old new : Meeting Origin} {inlet : Spring} {seconds : ℕ}
+      → seconds ≡ timeout_of rules → inlet ≡ waiting old.devices.inlet seconds → Session false (record (old.devices) { inlet = inlet }) new.devices ending
+      → NotedIf (ending_line service peer ending) old.logs new.logs → Served service rules peer ending old new
+  served_from {rules = rules} {ending = ending} {old = old} {new = new} {inlet = inlet} {seconds = seconds} seconds_is waits session noted = record {
+    session = subst (λ (s : Spring). Session false (record (old.devices) { inlet = s }) new.devices ending) (waits ∙ ap (waiting old.devices.inlet) seconds_is) session;
+    noted = noted;
+  }
+
+  -- from the log's line to what follows it
+  pub conn_from : {service : Service} {rules : RuleBook} {peer : Peer} {old new : Meeting Origin} {ending : Ending} {verdict : Verdict} {line piece : List ℕ} {logging : Result (Unit {0}) Failed} (logs : Drain)
+      → verdict ≡ verdict_of rules peer → line ≡ decision_text verdict service peer → piece ≡ line → Gives logging piece old.logs logs
+      → AfterLine logging verdict service rules peer ending (record old { logs = logs }) new → Conn service rules peer old new ending
+  conn_from {service} {rules} {peer} {old} {new} {ending} {verdict} {line} {piece} {logging} logs verdict_is line_is piece_is gives rest = record {
+    logging = logging;
+    logs = logs;
+    logged = subst (λ (v : Verdict). Gives logging (decision_text v service peer) old.logs logs) verdict_is
+        (subst (λ (text : List ℕ). Gives logging text old.logs logs) (piece_is ∙ line_is) gives);
+    rest = subst (λ (v : Verdict). AfterLine logging v service rules peer ending (record old { logs = logs }) new) verdict_is rest;
+  }
+
   -- each ending has its cause
   pub conn_caused : (service : Service) (rules : RuleBook) (peer : Peer) (old new : Meeting Origin) (ending : Ending) → Conn service rules peer old new ending → Causes (verdict_of rules peer) ending old new
   conn_caused service rules peer old new ending conn =
@@ -64,3 +88,19 @@ module _ {Origin : Type 0} where
   -- so it is at the console
   pub ended_caused : (service : Service) (peer : Peer) (ending : Ending) (old new : Meeting Origin) → Ended true service peer ending old new → Caused ending old.devices new.devices
   ended_caused service peer ending old new h = session_caused true old.devices new.devices ending h.session
+
+  -- ---- what the port's answers stand on stays
+
+  after_origin : (logging : Result (Unit {0}) Failed) (verdict : Verdict) (service : Service) (rules : RuleBook) (peer : Peer) (ending : Ending) (old new : Meeting Origin)
+      → AfterLine logging verdict service rules peer ending old new → new.devices.port.origin ≡ old.devices.port.origin
+  after_origin (Err failed) verdict service rules peer ending old new h = ap (λ (m : Meeting Origin). m.devices.port.origin) h.is
+  after_origin (Ok done) (Deny line) service rules peer ending old new h = ap (λ (m : Meeting Origin). m.devices.port.origin) h.is
+  after_origin (Ok done) (Permit line) service rules peer ending old new h =
+      (session_keeps false (patient (timeout_of rules) old.devices) new.devices ending h.session).origin
+
+  pub conn_origin : (service : Service) (rules : RuleBook) (peer : Peer) (old new : Meeting Origin) (ending : Ending) → Conn service rules peer old new ending → new.devices.port.origin ≡ old.devices.port.origin
+  conn_origin service rules peer old new ending conn =
+      after_origin conn.logging (verdict_of rules peer) service rules peer ending (record old { logs = conn.logs }) new conn.rest
+
+  pub ended_origin : (service : Service) (peer : Peer) (ending : Ending) (old new : Meeting Origin) → Ended true service peer ending old new → new.devices.port.origin ≡ old.devices.port.origin
+  ended_origin service peer ending old new h = (session_keeps true old.devices new.devices ending h.session).origin

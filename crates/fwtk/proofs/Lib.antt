@@ -6,3 +6,4 @@ pub mod RepliesLemmas
 pub mod RunLemmas
 pub mod ServingLemmas
 pub mod StatusLemmas
+pub mod VisitLemmas

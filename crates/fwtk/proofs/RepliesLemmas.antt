@@ -1,5 +1,5 @@
 -- What a client of the authentication server was told.
-use Rattle.std.proofs.Common.{◌≡◌, refl, sym, ◌∙◌, ap, subst, inl, inr, ℕ, List, [], Bool, true, false}
+use Rattle.std.proofs.Common.{◌≡◌, ◌⊎◌, refl, sym, ◌∙◌, ap, subst, inl, inr, ℕ, List, [], Bool, true, false}
 use Rattle.std.specs.Prelude.{length, Option, Some, None, Result, Ok, Err, IfSome}
 use Rattle.auth_events.specs.Port.{Port, places}
 use Rattle.auth_machine.specs.Book.{BookView}

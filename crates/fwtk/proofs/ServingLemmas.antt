@@ -21,7 +21,7 @@ use Rattle.fwtk.specs.Endings.{ending_status}
 use Rattle.fwtk.specs.Fault.{fault_text}
 use Rattle.fwtk.specs.Ruling.{said_in}
 use Rattle.fwtk.specs.Run.{Ends, Tells}
-use Rattle.fwtk.specs.Serving.{Attends, Disordered, Follows, Held, Visits, meeting, orders_of, outcome_of}
+use Rattle.fwtk.specs.Serving.{Attends, Follows, Held, Visits, book_at_first, meeting, most_entries, orders_of, outcome_of}
 use Rattle.fwtk.specs.Status.{Fails, HasBad, IsAnswered, IsHeld, IsReadable, IsServed, IsServedBy, IsServedFor, KeeperRose, SomeRose, WantsMemory}
 use Rattle.fwtk.specs.declared.fault.Device.TheVariants as device
 use Rattle.fwtk.specs.declared.fault.Fault.{Fault}
@@ -176,28 +176,28 @@ limited false (Deny line) ending is (inr (inr h)) = let zero_is : ending_status 
 abbrev Served : Visit → Desk → ℕ → Orders → Type 0
 Served visit old status orders = IfSome old.sitting.keeper (λ vault. IsServed orders visit vault status ⊎ Fails status)
 
-with_keeper : (keeper : Option Vault) (vault : Vault) {P : Vault → Type 0} → keeper ≡ Some vault → P vault → IfSome keeper P
-with_keeper keeper vault {P} is h = subst (λ (k : Option Vault). IfSome k P) (sym is) h
+with_keeper : (keeper : Option Vault) (vault : Vault) (P : Vault → Type 0) → keeper ≡ Some vault → P vault → IfSome keeper P
+with_keeper keeper vault P is h = subst (λ (k : Option Vault). IfSome k P) (sym is) h
 
 went_served : (orders : Orders) (visit : Visit) (vault : Vault) (status : ℕ) → IsReadable vault → Went Fails visit.console (verdict_of orders.rules visit.peer) status → IsServed orders visit vault status ⊎ Fails status
 went_served orders visit vault status readable (inl answered) = inl (inr (readable, answered))
 went_served orders visit vault status readable (inr fails) = inr fails
 
-any_other : (keeper : Option Vault) {P : Vault → Type 0} (other : Type 0) → other → IfSome keeper (λ vault. P vault ⊎ other)
-any_other None other h = tt
-any_other (Some vault) other h = inr h
+any_other : (keeper : Option Vault) (P : Vault → Type 0) (other : Type 0) → other → IfSome keeper (λ vault. P vault ⊎ other)
+any_other None P other h = tt
+any_other (Some vault) P other h = inr h
 
 held_served : (visit : Visit) (orders : Orders) (n : ℕ) (old mid : Desk) → Held visit orders (Ok n) old mid → Served visit old n orders
 held_served visit orders n old mid held =
     let is : n ≡ ending_status held.ending = outcome_status held.book.refused held.ending n held.outcome_is in
-    with_keeper old.sitting.keeper held.before held.keeper
+    with_keeper old.sitting.keeper held.before (λ vault. IsServed orders visit vault n ⊎ Fails n) held.keeper
     (went_served orders visit held.before n (record { records = held.origin.records; read = held.records })
     (subst (λ (m : ℕ). Went Fails visit.console (verdict_of orders.rules visit.peer) m) (sym is) (visit_went visit.console orders.rules visit.peer _ _ held.ending held.visits)))
 
 limit_served : (visit : Visit) (orders : Orders) (old mid : Desk) → Held visit orders (Err Limit) old mid → Served visit old 6 orders
 limit_served visit orders old mid held =
     let done : held.ending ≡ Done = limit_done held.book.refused held.ending held.outcome_is in
-    with_keeper old.sitting.keeper held.before held.keeper
+    with_keeper old.sitting.keeper held.before (λ vault. IsServed orders visit vault 6 ⊎ Fails 6) held.keeper
     (inl (inr (record { records = held.origin.records; read = held.records },
     limited visit.console (verdict_of orders.rules visit.peer) held.ending done (visit_went visit.console orders.rules visit.peer _ _ held.ending held.visits))))
 
@@ -208,7 +208,7 @@ served_fault : (said : Result Orders Fault) (fault : Fault) (visit : Visit) (old
 served_fault said fault visit old status is h = subst (λ (s : Result Orders Fault). IsServedBy Fails s visit old.sitting.keeper status) (sym is) (inl h)
 
 served_other : (said : Result Orders Fault) (visit : Visit) (old : Desk) (status : ℕ) → Fails status → IsServedBy Fails said visit old.sitting.keeper status
-served_other (Ok orders) visit old status h = any_other old.sitting.keeper (Fails status) h
+served_other (Ok orders) visit old status h = any_other old.sitting.keeper (λ vault. IsServed orders visit vault status) (Fails status) h
 served_other (Err fault) visit old status h = inr h
 
 follows_served : (name : List ℕ) (visit : Visit) (outcome : Result ℕ Fault) (old mid : Desk) (status : ℕ) → (follows : Follows name visit outcome old mid) → Served visit old status follows.orders → IsServedFor Fails name visit old status
@@ -223,7 +223,7 @@ attends_served name visit (Err Limit) old mid new status does ends =
 attends_served name visit (Err (Record user at)) old mid new status does ends =
     let bad = does.proceeds in
     follows_served name visit (Err (Record user at)) old mid status does
-    (with_keeper old.sitting.keeper bad.before bad.keeper (inl (inl (ends.0, record { user = user; at = at; bad = bad.bad }))))
+    (with_keeper old.sitting.keeper bad.before (λ vault. IsServed does.orders visit vault status ⊎ Fails status) bad.keeper (inl (inl (ends.0, record { user = user; at = at; bad = bad.bad }))))
 attends_served name visit (Err (Outside device.Records)) old mid new status does ends =
     of_any old.files.holds name (λ text. served_other (said_in orders_of text) visit old status (inl ends.0))
 attends_served name visit (Err (Outside device.Table)) old mid new status does ends =
@@ -307,7 +307,7 @@ pub attends_rose : (name : List ℕ) (visit : Visit) (outcome : Result ℕ Fault
 attends_rose name visit (Ok n) old mid new status does ends is =
     let held = does.proceeds in
     let four : ending_status held.ending ≡ 4 = sym (outcome_status held.book.refused held.ending n held.outcome_is) ∙ sym ends.0 ∙ is in
-    subst (λ (d : Desk). SomeRose old d) (sym ends.1) (visit_rose visit.console does.orders.rules visit.peer old mid _ held.book held.ending held.visits four)
+    subst (λ (d : Desk). SomeRose old d) (sym ends.1) (visit_rose visit.console does.orders.rules visit.peer old mid (book_at_first held.origin most_entries held.before) held.book held.ending held.visits four)
 attends_rose name visit (Err Usage) old mid new status does ends is = absurd does
 attends_rose name visit (Err (Table fault)) old mid new status does ends is = let ended = ends.0 in absurd (omega arith)
 attends_rose name visit (Err (Rule fault)) old mid new status does ends is = let ended = ends.0 in absurd (omega arith)
@@ -349,7 +349,7 @@ there : (old new : Option Vault) → new ≡ old → IsSome old → IsSome new
 there old new is h = subst (λ (k : Option Vault). IsSome k) (sym is) h
 
 some_there : (new : Option Vault) (vault : Vault) → new ≡ Some vault → IsSome new
-some_there new vault is = subst (λ (k : Option Vault). IsSome k) (sym is) tt
+some_there new vault is = subst (λ (k : Option Vault). IsSome k) (sym is) some
 
 pub attends_keeper : (name : List ℕ) (visit : Visit) (outcome : Result ℕ Fault) (old mid : Desk) → Attends name visit outcome old mid → IsSome old.sitting.keeper → IsSome mid.sitting.keeper
 attends_keeper name visit (Ok n) old mid does before = some_there mid.sitting.keeper does.proceeds.book.vault does.proceeds.kept

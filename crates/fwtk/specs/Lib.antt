@@ -4,13 +4,13 @@ pub mod Desk
 pub mod Endings
 pub mod Fault
 pub mod Finding
-pub mod Opening
 pub mod Places
 pub mod Replies
-pub mod Run
 pub mod Ruling
+pub mod Run
 pub mod Serving
 pub mod Sheet
 pub mod Status
 pub mod Texts
+pub mod Visiting
 pub mod Words

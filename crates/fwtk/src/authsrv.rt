@@ -1,9 +1,9 @@
 //! The command `authsrv`: the table and the records are read, a client is served, and the records are given back.
-ghost use Rattle.std.specs.Prelude.{◌≡◌, IsSome, IfOk, IfErr, Ok};
+ghost use Rattle.std.specs.Prelude.{◌≡◌, IsSome, IfOk, IfErr, Ok, true};
 ghost use Rattle.fwtk.specs.Conn.{Ended};
 ghost use Rattle.fwtk.specs.Finding.{Finds, ReadsLines};
-ghost use Rattle.fwtk.specs.Opening.{Opened, fault_of};
 ghost use Rattle.fwtk.specs.Ruling.{said_in};
+ghost use Rattle.fwtk.specs.Visiting.{GivesBack, HoldsOver, Opened, fault_of};
 ghost use Rattle.fwtk.specs.Serving.{Attends, IsFaultOf, Proceeds, Unopened, Visits, meeting, orders_of, outcome_of};
 ghost use Rattle.gate_rules.specs.declared.service.Service.TheVariants.{Authsrv};
 
@@ -49,6 +49,16 @@ fn read_orders<F: Files>(alloc: Global, files: &mut F, name: &[u8]) -> Result<Or
         Ok(table) => orders_of(alloc, &table),
         Err(fault) => Err(fault),
     }
+}
+
+// The same, which only the files are asked for.
+fn orders_for<T: Kit>(alloc: Global, name: &[u8], world: &mut World<T>) -> Result<Orders, Fault>
+    ensures found { Finds (said_in orders_of) name.now result world.old.files world.new.files }
+    ensures output { world.new.output ≡ world.old.output }
+    ensures logs { world.new.logs ≡ world.old.logs }
+    ensures sitting { world.new.sitting ≡ world.old.sitting }
+{
+    read_orders(alloc, &mut world.files, name)
 }
 
 fn fault_of(fault: OpenFault) -> Fault
@@ -141,7 +151,31 @@ fn outcome_of(refused: bool, ending: Ending) -> Result<u8, Fault>
     Ok(ending_status(ending))
 }
 
-// Holds the visit over the records that the keeper has, and gives the keeper back.
+// Ends the book, whose keeper is there again.
+fn give_back<T: Kit>(book: Book<T::Keeper>, world: &mut World<T>)
+    ensures { GivesBack book world.old world.new }
+{
+    let (keeper, _history) = book.close();
+    world.keeper = Some(keeper);
+}
+
+// Holds the visit over this book, and gives its keeper back.
+fn hold_over<T: Kit>(
+    rules: &Rules,
+    visit: &Visit,
+    book: Book<T::Keeper>,
+    world: &mut World<T>,
+) -> Result<u8, Fault>
+    ensures { HoldsOver visit.now rules.now book result world.old world.new }
+{
+    let mut book = book;
+    let ending = hold(rules, visit, &mut book, world);
+    let refused = book.refused();
+    give_back(book, world);
+    outcome_of(refused, ending)
+}
+
+// Holds the visit over the records that the keeper has.
 fn visit_with<T: Kit>(
     alloc: Global,
     orders: Orders,
@@ -152,12 +186,10 @@ fn visit_with<T: Kit>(
     ensures { Proceeds visit.now orders result world.old world.new }
 {
     let Orders { rules, policy } = orders;
-    let mut book = open_book(alloc, world, policy)?;
-    let ending = hold(&rules, visit, &mut book, world);
-    let refused = book.refused();
-    let (keeper, _history) = book.close();
-    world.keeper = Some(keeper);
-    outcome_of(refused, ending)
+    match open_book(alloc, world, policy) {
+        Ok(book) => hold_over(&rules, visit, book, world),
+        Err(fault) => Err(fault),
+    }
 }
 
 /// A client of the authentication server, or a session at its console.
@@ -170,6 +202,8 @@ pub(crate) fn attend<T: Kit>(
     requires keeper { IsSome world.old.sitting.keeper }
     ensures { Attends name.now visit.now result world.old world.new }
 {
-    let orders = read_orders(alloc, &mut world.files, name)?;
-    visit_with(alloc, orders, visit, world)
+    match orders_for(alloc, name, world) {
+        Ok(orders) => visit_with(alloc, orders, visit, world),
+        Err(fault) => Err(fault),
+    }
 }

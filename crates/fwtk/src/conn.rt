@@ -1,6 +1,7 @@
 //! One client of a service: the verdict, the session, and how it ended.
 ghost use Rattle.std.specs.Prelude.{◌≡◌};
-ghost use Rattle.fwtk.specs.Conn.{Conn, Noted, NotedIf, seconds_by, timeout_of};
+ghost use Rattle.fwtk.specs.Conn.{Causes, Conn, IsRefused, Noted, NotedIf, Treated, seconds_by, timeout_of};
+ghost use Rattle.gate_rules.specs.Verdict.{verdict_of};
 ghost use Rattle.fwtk.specs.Endings.{denied_text, ending_line};
 ghost use Rattle.gate_rules.specs.declared.service.Service.TheVariants.{Authsrv};
 
@@ -44,8 +45,43 @@ fn deny<K: Sink>(line: u32, to: &mut K)
     let _ = to.give(denied_line(line).as_slice());
 }
 
+// A client whose verdict was logged: it is told that it is denied, or served.
+fn treat<P: AuthPort, S: Source, K: Sink, G: Sink, C: Clock, R: Dice>(
+    verdict: Verdict,
+    service: &Service,
+    rules: &Rules,
+    peer: &Peer,
+    port: &mut P,
+    from: &mut S,
+    to: &mut K,
+    logs: &mut G,
+    clock: &mut C,
+    dice: &mut R,
+) -> Ending
+    ensures { Treated verdict service.now rules.now peer.now result
+        (record { devices = record { inlet = S.spring from.old; outlet = K.drain to.old; port = P.port port.old; hours = C.hours clock.old; throws = R.throws dice.old }; logs = G.drain logs.old })
+        (record { devices = record { inlet = S.spring from.new; outlet = K.drain to.new; port = P.port port.new; hours = C.hours clock.new; throws = R.throws dice.new }; logs = G.drain logs.new }) }
+{
+    match verdict {
+        Verdict::Deny { line } => {
+            deny(line, to);
+            Ending::Denied { line }
+        }
+        Verdict::Permit { .. } => {
+            from.patience(timeout_of(rules));
+            let ending = authsrv_session(false, port, from, to, clock, dice);
+            note_ending(service, peer, ending, logs);
+            ending
+        }
+    }
+}
+
 /// One client of the service `authsrv`: the verdict is logged, and then the client is told that it is denied, or its session
 /// is held and its ending logged.
+///
+/// The answer is `Denied` where the rules deny the peer and that was logged, whether the client could be told or not; it is
+/// `LogFault` where the log failed within the verdict's line, and then nothing else was done. Any other answer is the
+/// session's. The line of an ending may fail, and that changes no answer.
 pub fn conn<P: AuthPort, S: Source, K: Sink, G: Sink, C: Clock, R: Dice>(
     service: &Service,
     rules: &Rules,
@@ -58,26 +94,24 @@ pub fn conn<P: AuthPort, S: Source, K: Sink, G: Sink, C: Clock, R: Dice>(
     dice: &mut R,
 ) -> Ending
     requires service { service.now ≡ Authsrv }
-    ensures { Conn service.now rules.now peer.now
+    // What was done to each device, and the ending.
+    ensures conn { Conn service.now rules.now peer.now
         (record { devices = record { inlet = S.spring from.old; outlet = K.drain to.old; port = P.port port.old; hours = C.hours clock.old; throws = R.throws dice.old }; logs = G.drain logs.old })
         (record { devices = record { inlet = S.spring from.new; outlet = K.drain to.new; port = P.port port.new; hours = C.hours clock.new; throws = R.throws dice.new }; logs = G.drain logs.new })
         result }
+    // Each ending has its cause: the verdict, or the count of a device that rose.
+    ensures caused { Causes (verdict_of rules.now peer.now) result
+        (record { devices = record { inlet = S.spring from.old; outlet = K.drain to.old; port = P.port port.old; hours = C.hours clock.old; throws = R.throws dice.old }; logs = G.drain logs.old })
+        (record { devices = record { inlet = S.spring from.new; outlet = K.drain to.new; port = P.port port.new; hours = C.hours clock.new; throws = R.throws dice.new }; logs = G.drain logs.new }) }
+    // A peer whom the rules deny is denied, unless the log failed.
+    ensures refused { IsRefused (verdict_of rules.now peer.now) result }
 {
     let verdict = verdict_of(rules, peer);
     let line = decision_line(verdict, service, peer);
-    if logs.give(line.as_slice()).is_err() {
-        return Ending::LogFault;
-    }
-    match verdict {
-        Verdict::Deny { line } => {
-            deny(line, to);
-            Ending::Denied { line }
-        }
-        Verdict::Permit { .. } => {
-            from.patience(timeout_of(rules));
-            let ending = authsrv_session(false, port, from, to, clock, dice);
-            note_ending(service, peer, ending, logs);
-            ending
-        }
+    match logs.give(line.as_slice()) {
+        Ok(()) => treat(
+            verdict, service, rules, peer, port, from, to, logs, clock, dice,
+        ),
+        Err(_) => Ending::LogFault,
     }
 }
