@@ -225,6 +225,6 @@ module _ {Origin : Type 0} where
       let leaves = run_leaves rows (watch Origin console) (rows_sound Origin console) (session_row console) held.ran.left [] steps (session_sound Origin console) held.ran.run in
       let same : noted ≡ asks = history_projection asked_in (watch Origin console) (λ n. n) (λ n act answer. refl) [] steps in
       let sound : IsSound console (asks ++ last) =
-          subst (λ z. IsSound console (z ++ last)) same (last_sound Origin console held.dialogue held.ran.left held.ran.mid held.mid noted held.ran.comes leaves) in
+      subst (λ z. IsSound console (z ++ last)) same (last_sound Origin console held.dialogue held.ran.left held.ran.mid held.mid noted held.ran.comes leaves) in
       let opened : held.mid.opened ≡ opened_after None (asks ++ last) = subst (λ z. held.mid.opened ≡ opened_after z (asks ++ last)) none (up_to_closing console old new ending held).opened in
       closing_sound Origin console held.mid.opened held.mid new held.closed (asks ++ last) sound opened

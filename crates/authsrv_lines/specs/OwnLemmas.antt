@@ -95,7 +95,7 @@ closed_of_one sid (ask ∷ between) last their entries all are said =
     let asks = between ++ (requests.Close, last) ∷ [] in
     let stays = stays_open ask.0 ask.1 (Some sid) all.0 in
     ask_of_one sid ask.0 (λ place. own_number ask.0 place sid all.0) (of_entered (numbers_told (Some sid) asks) asks) asks (λ more others a s. closed_of_one sid between last more others all.1 a s) ask.1 their entries
-      (subst (λ opened. AreOf (if_entered ask.1 sid ++ of_entered (numbers_told opened asks) asks) their entries) stays are) said
+    (subst (λ opened. AreOf (if_entered ask.1 sid ++ of_entered (numbers_told opened asks) asks) their entries) stays are) said
 
 module _ (console : Bool) where
   abbrev Opening : Option Reply → List (Request × Option Reply)
@@ -133,8 +133,8 @@ module _ (console : Bool) where
       let head = head_asked (requests.Open console) (replies.Opened sid) entry entries (filter is_entered (answered rest)) said in
       let fits : Fits (requests.Open console) place (replies.Opened sid) = subst (λ r. Fits r place (replies.Opened sid)) head.0 (subst (λ r. Fits entry.request place r) head.1 are.1) in
       let later = closed_of_one sid follows.between follows.last their entries follows.are_between
-          (subst (λ z. AreOf (of_entered (numbers_told (Some sid) z) z) their entries) follows.is are.2)
-          (subst (λ z. map said_of entries ≡ filter is_entered (answered z)) follows.is (ap (λ z. drop 1 z) said)) in
+      (subst (λ z. AreOf (of_entered (numbers_told (Some sid) z) z) their entries) follows.is are.2)
+      (subst (λ z. map said_of entries ≡ filter is_entered (answered z)) follows.is (ap (λ z. drop 1 z) said)) in
       (are.0 ∙ ap (λ r. session_at r place 0) head.0, subst (λ n. AllByRecursion (IsOf n) entries) fits later)
   course_of_one (Some replies.Password) rest their entries follows are said = opening_of_one (Some replies.Password) rest their entries follows are said
   course_of_one (Some (replies.Challenge number word_seed)) rest their entries follows are said = opening_of_one (Some (replies.Challenge number word_seed)) rest their entries follows are said
@@ -152,7 +152,7 @@ module _ {Origin : Type 0} (console : Bool) (old new : World Origin) (ending : E
   pub held_one : (entered : Entered (asked_of held) old new) → AreOfOne entered.port.places entered.port.entries
   held_one entered =
       asked_of_one console (asked_of held) entered.port.places entered.port.entries (held_course console old new ending held none)
-        (subst (λ opened. AreOf (of_entered (numbers_told opened (asked_of held)) (asked_of held)) entered.port.places entered.port.entries) none entered.port.numbered) entered.port.said
+      (subst (λ opened. AreOf (of_entered (numbers_told opened (asked_of held)) (asked_of held)) entered.port.places entered.port.entries) none entered.port.numbered) entered.port.said
 
   -- so where they are the whole history, its number is 0
   pub held_one_whole : old.port.mine ≡ [] → new.port.mine ≡ places (length new.port.seen) → AllByRecursion (λ entry. entry.sid ≡ 0) new.port.seen

@@ -230,9 +230,9 @@ module _ {Origin : Type 0} where
       let used : noted.1 ≡ projection used_in steps = history_projection used_in (watch Origin) (λ n. n.1) (λ n act answer. refl) ([], []) steps in
       let owed : noted.0 ≡ noted.1 ++ salts_in last = last_owed Origin held.dialogue held.ran.left held.ran.mid held.mid noted held.ran.comes leaves in
       let whole : salts_in ((asks ++ last) ++ closing) ≡ salts_in asks ++ salts_in last =
-          salts_both (asks ++ last) closing ∙ ap (λ z. salts_in (asks ++ last) ++ z) (no_salt_closing Origin held.mid.opened held.mid new held.closed) ∙ append-nil (salts_in (asks ++ last)) ∙ salts_both asks last in
+      salts_both (asks ++ last) closing ∙ ap (λ z. salts_in (asks ++ last) ++ z) (no_salt_closing Origin held.mid.opened held.mid new held.closed) ∙ append-nil (salts_in (asks ++ last)) ∙ salts_both asks last in
       let same : thrown ≡ salts_in ((asks ++ last) ++ closing) =
-          sym threw ∙ owed ∙ ap (λ z. z ++ salts_in last) (used ∙ used_salts Origin steps) ∙ sym whole in
+      sym threw ∙ owed ∙ ap (λ z. z ++ salts_in last) (used ∙ used_salts Origin steps) ∙ sym whole in
       let stays : new.throws ≡ held.ran.mid.throws =
-          throws_close held.mid.opened held.mid new held.closed ∙ throws_last held.dialogue held.ran.left held.ran.mid held.mid held.ran.comes in
+      throws_close held.mid.opened held.mid new held.closed ∙ throws_last held.dialogue held.ran.left held.ran.mid held.mid held.ran.comes in
       subst (λ z. Adds z old.throws.told new.throws.told) same (subst (λ (t : Throws). Adds thrown old.throws.told t.told) (sym stays) (ran_grew threw_grows held.ran))
