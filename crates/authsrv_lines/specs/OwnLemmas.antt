@@ -1,46 +1,22 @@
 -- The entries of a session are all its own.
-use Rattle.std.proofs.Common.{◌≡◌, refl, sym, ap, subst, ◌∙◌, ℕ, zero, suc, Bool, true, false, not, cond, List, [], ◌∷◌, ◌++◌, drop, filter, get_or, length, map, Option, Some, None, Result, Ok, Err, inl, inr, ◌⊎◌, append_assoc, append-nil}
-use Rattle.std.specs.Prelude.{codes, if◌then◌else◌}
+use Rattle.std.proofs.Common.{◌≡◌, refl, ap, subst, ◌∙◌, ℕ, zero, suc, Bool, true, false, not, cond, List, [], ◌∷◌, ◌++◌, drop, filter, get_or, length, map, Option, Some, None}
+use Rattle.std.specs.Prelude.{if◌then◌else◌}
 use Rattle.std.specs.List.{AllByRecursion}
-use Rattle.std.proofs.lemmas.Option.{none-some, same_Some}
-use mathlib.Core.Bool.{true≢false}
 use Rattle.auth_events.specs.Fits.{Fits}
-use Rattle.auth_events.specs.Port.{Port, places, session_at}
+use Rattle.auth_events.specs.Port.{places, session_at}
 use Rattle.auth_events.specs.declared.entry.Entry.{Entry}
 use Rattle.auth_events.specs.declared.reply.Reply.{Reply}
 use Rattle.auth_events.specs.declared.reply.Reply.TheVariants as replies
 use Rattle.auth_events.specs.declared.request.Request.{Request}
 use Rattle.auth_events.specs.declared.request.Request.TheVariants as requests
-use Rattle.fw_acts.specs.Acts.{Row}
-use Rattle.fw_acts.specs.Acts.Row.{Do, At, Over}
-use Rattle.fw_acts.specs.Histories.{Keeps, Leaves, Watch, history}
-use Rattle.fw_acts.specs.HistoryLemmas.{run_leaves}
-use Rattle.fw_acts.specs.Projections.{projection}
-use Rattle.fw_acts.specs.ProjectionLemmas.{history_projection}
-use Rattle.fw_acts.specs.Ran.{Comes}
 use Rattle.fw_outside.specs.declared.ending.Ending.{Ending}
-use Rattle.fw_outside.specs.declared.heard.Heard.{Heard}
-use Rattle.fw_outside.specs.declared.heard.Heard.TheVariants.{Line, TooLong, Stopped}
-use Rattle.authsrv_lines.specs.Acts.{Act, Answer, World, acts}
-use Rattle.authsrv_lines.specs.Acts.Act.{Hear, Salt, Ask, Say}
-use Rattle.authsrv_lines.specs.Course.{AreBetween, AreOfOne, Course, Follows, IsClosed, is_between}
+use Rattle.authsrv_lines.specs.Acts.{World}
+use Rattle.authsrv_lines.specs.Course.{AreBetween, AreOfOne, Course, Follows, is_between}
 use Rattle.authsrv_lines.specs.CourseLemmas.{clash, held_course, stays_open}
-use Rattle.authsrv_lines.specs.Dialogue.{act_at, ask_row, heard_row, is_no_such, leads, line_row, listed_by, listed_row, opened_place, opened_row, row_at, rows, say, session_row, shown_name}
 use Rattle.authsrv_lines.specs.EntryLemmas.{whole_entries}
-use Rattle.authsrv_lines.specs.Fault.{fault_text}
-use Rattle.authsrv_lines.specs.LineLemmas.{AsksPlain, line_plain}
-use Rattle.authsrv_lines.specs.Reply.{reply_line}
-use Rattle.authsrv_lines.specs.Request.{request_of}
-use Rattle.authsrv_lines.specs.Session.{Closes, Held}
-use Rattle.authsrv_lines.specs.Talk.{AreOf, AtPort, Entered, answered, asked_closing, asked_in, asked_last, asked_of, if_entered, is_entered, is_plain, numbers_told, of_entered, opened_after, opened_then, reply_of, said_of, says_full, unanswered}
-use Rattle.authsrv_lines.specs.TalkLemmas.{held_entered, opened_both, up_to_closing}
-use Rattle.authsrv_lines.specs.declared.cause.Cause.{Cause}
-use Rattle.authsrv_lines.specs.declared.place.Place.{Place}
-use Rattle.authsrv_lines.specs.declared.place.Place.TheVariants.{Waiting, Listing}
-use Rattle.authsrv_lines.specs.declared.wire.Wire.{Wire}
-use Rattle.authsrv_lines.specs.declared.wire.Wire.TheVariants as wires
-use Rattle.authsrv_lines.specs.declared.wire.WireFault.{WireFault}
-use Rattle.authsrv_lines.specs.declared.wire.WireFault.TheVariants.{LongLine}
+use Rattle.authsrv_lines.specs.Session.{Held}
+use Rattle.authsrv_lines.specs.Talk.{AreOf, Entered, answered, asked_of, if_entered, is_entered, numbers_told, of_entered, said_of, says_full}
+use Rattle.authsrv_lines.specs.TalkLemmas.{held_entered}
 
 -- ---- the first place
 

@@ -8,6 +8,7 @@
 //!
 //! [`authsrv_session`] is a whole session, from a client's bytes to replies. Its contract is the run of its rows, which
 //! stand in `specs/Dialogue.antt` as the dialogue does, then the Close that is owed, then the ending by its cause.
+//! [`laws`] says what that comes to at the client, the port, the clock and the dice.
 #![tactic(auto)]
 
 mod cause;
