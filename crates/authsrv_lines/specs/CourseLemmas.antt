@@ -1,12 +1,8 @@
 -- A session is opened first and closed last.
-use Rattle.std.proofs.Common.{◌≡◌, refl, sym, ap, subst, ◌∙◌, ℕ, zero, suc, Bool, true, false, not, cond, List, [], ◌∷◌, ◌++◌, drop, filter, get_or, length, map, Option, Some, None, Result, Ok, Err, inl, inr, ◌⊎◌, append_assoc, append-nil}
+use Rattle.std.proofs.Common.{◌≡◌, refl, sym, ap, subst, ◌∙◌, ℕ, Bool, true, false, List, [], ◌∷◌, ◌++◌, Option, Some, None, Result, Ok, Err, inl, inr, ◌⊎◌, append-nil}
 use Rattle.std.specs.Prelude.{codes, if◌then◌else◌}
-use Rattle.std.specs.List.{AllByRecursion}
-use Rattle.std.proofs.lemmas.Option.{none-some, same_Some}
+use Rattle.std.proofs.lemmas.Option.{none-some}
 use mathlib.Core.Bool.{true≢false}
-use Rattle.auth_events.specs.Fits.{Fits}
-use Rattle.auth_events.specs.Port.{Port, places, session_at}
-use Rattle.auth_events.specs.declared.entry.Entry.{Entry}
 use Rattle.auth_events.specs.declared.reply.Reply.{Reply}
 use Rattle.auth_events.specs.declared.reply.Reply.TheVariants as replies
 use Rattle.auth_events.specs.declared.request.Request.{Request}
@@ -21,18 +17,17 @@ use Rattle.fw_acts.specs.Ran.{Comes}
 use Rattle.fw_outside.specs.declared.ending.Ending.{Ending}
 use Rattle.fw_outside.specs.declared.heard.Heard.{Heard}
 use Rattle.fw_outside.specs.declared.heard.Heard.TheVariants.{Line, TooLong, Stopped}
-use Rattle.authsrv_lines.specs.Acts.{Act, Answer, World, acts}
-use Rattle.authsrv_lines.specs.Acts.Act.{Hear, Salt, Ask, Say}
-use Rattle.authsrv_lines.specs.Course.{AreBetween, AreOfOne, Course, Follows, IsClosed, is_between}
-use Rattle.authsrv_lines.specs.Dialogue.{act_at, ask_row, heard_row, is_no_such, leads, line_row, listed_by, listed_row, opened_place, opened_row, row_at, rows, say, session_row, shown_name}
-use Rattle.authsrv_lines.specs.EntryLemmas.{whole_entries}
+use Rattle.authsrv_lines.specs.Acts.{World, acts}
+use Rattle.authsrv_lines.specs.Acts.Act.{Ask}
+use Rattle.authsrv_lines.specs.Course.{AreBetween, Course, Follows, IsClosed, is_between}
+use Rattle.authsrv_lines.specs.Dialogue.{ask_row, heard_row, is_no_such, line_row, listed_by, listed_row, opened_row, rows, say, session_row, shown_name}
 use Rattle.authsrv_lines.specs.Fault.{fault_text}
 use Rattle.authsrv_lines.specs.LineLemmas.{AsksPlain, line_plain}
 use Rattle.authsrv_lines.specs.Reply.{reply_line}
 use Rattle.authsrv_lines.specs.Request.{request_of}
 use Rattle.authsrv_lines.specs.Session.{Closes, Held}
-use Rattle.authsrv_lines.specs.Talk.{AreOf, AtPort, Entered, answered, asked_closing, asked_in, asked_last, asked_of, if_entered, is_entered, is_plain, numbers_told, of_entered, opened_after, opened_then, reply_of, said_of, says_full, unanswered}
-use Rattle.authsrv_lines.specs.TalkLemmas.{held_entered, opened_both, up_to_closing}
+use Rattle.authsrv_lines.specs.Talk.{asked_closing, asked_in, asked_last, asked_of, is_plain, opened_after, opened_then, reply_of, unanswered}
+use Rattle.authsrv_lines.specs.TalkLemmas.{opened_both, up_to_closing}
 use Rattle.authsrv_lines.specs.declared.cause.Cause.{Cause}
 use Rattle.authsrv_lines.specs.declared.place.Place.{Place}
 use Rattle.authsrv_lines.specs.declared.place.Place.TheVariants.{Waiting, Listing}
@@ -225,6 +220,6 @@ module _ {Origin : Type 0} where
       let leaves = run_leaves rows (watch Origin console) (rows_sound Origin console) (session_row console) held.ran.left [] steps (session_sound Origin console) held.ran.run in
       let same : noted ≡ asks = history_projection asked_in (watch Origin console) (λ n. n) (λ n act answer. refl) [] steps in
       let sound : IsSound console (asks ++ last) =
-          subst (λ z. IsSound console (z ++ last)) same (last_sound Origin console held.dialogue held.ran.left held.ran.mid held.mid noted held.ran.comes leaves) in
+      subst (λ z. IsSound console (z ++ last)) same (last_sound Origin console held.dialogue held.ran.left held.ran.mid held.mid noted held.ran.comes leaves) in
       let opened : held.mid.opened ≡ opened_after None (asks ++ last) = subst (λ z. held.mid.opened ≡ opened_after z (asks ++ last)) none (up_to_closing console old new ending held).opened in
       closing_sound Origin console held.mid.opened held.mid new held.closed (asks ++ last) sound opened

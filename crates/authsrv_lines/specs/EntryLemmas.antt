@@ -1,13 +1,12 @@
 -- What asking comes to at a port.
-use Rattle.std.proofs.Common.{arith, ◌≡◌, refl, sym, ap, subst, ◌∙◌, ℕ, zero, suc, ◌+◌, ◌<◌, ◌≤◌, ◌||◌, Bool, true, false, not, cond, List, [], ◌∷◌, ◌++◌, filter, length, map, Option, Some, None, Result, Ok, Err, append_assoc, append-nil}
+use Rattle.std.proofs.Common.{arith, ◌≡◌, refl, sym, ap, subst, ◌∙◌, ℕ, zero, suc, ◌+◌, ◌<◌, ◌≤◌, ◌||◌, Bool, true, false, List, [], ◌∷◌, ◌++◌, filter, length, map, Option, Some, None, Err, append_assoc, append-nil}
 use Rattle.std.specs.Prelude.{slice_get}
-use Rattle.std.specs.List.{filter_map, list_any}
+use Rattle.std.specs.List.{list_any}
 use Rattle.std.proofs.lemmas.List.{length-append, map-append}
 use Rattle.std.proofs.lemmas.List.Elements.{filter-append, filter_map-append}
 use Rattle.std.proofs.lemmas.List.Folds.{list_any-append}
-use Rattle.std.proofs.lemmas.Option.{none-some, same_Some, slice_get_within}
-use Rattle.auth_events.specs.Port.{Asks, Breaks, Enters, IsFull, Lacks, Port, Replies, Strays, places, session_at}
-use Rattle.auth_events.specs.declared.denial.Denial.{Denial}
+use Rattle.std.proofs.lemmas.Option.{none-some, slice_get_within}
+use Rattle.auth_events.specs.Port.{Asks, Enters, IsFull, Port, Replies, places, session_at}
 use Rattle.auth_events.specs.declared.denial.Denial.TheVariants as denials
 use Rattle.auth_events.specs.declared.entry.Entry.{Entry}
 use Rattle.auth_events.specs.declared.port.PortFault.{PortFault}
@@ -15,26 +14,8 @@ use Rattle.auth_events.specs.declared.port.PortFault.TheVariants as faults
 use Rattle.auth_events.specs.declared.reply.Reply.{Reply}
 use Rattle.auth_events.specs.declared.reply.Reply.TheVariants as replies
 use Rattle.auth_events.specs.declared.request.Request.{Request}
-use Rattle.auth_events.specs.declared.request.Request.TheVariants as requests
-use Rattle.fw_acts.specs.Acts.{Row}
-use Rattle.fw_acts.specs.Acts.Row.{Do, At, Over}
-use Rattle.fw_acts.specs.Projections.{Grows, projection}
-use Rattle.fw_acts.specs.ProjectionLemmas.{ran_grew}
-use Rattle.fw_acts.specs.Ran.{Comes, StopsAt}
-use Rattle.fw_outside.specs.Hours.{Hours}
 use Rattle.fw_outside.specs.Telling.{AddsOne, grown}
-use Rattle.fw_outside.specs.declared.ending.Ending.{Ending}
-use Rattle.fw_outside.specs.declared.heard.Heard.{Heard}
-use Rattle.fw_outside.specs.declared.heard.Heard.TheVariants.{Line, TooLong, Stopped}
-use Rattle.fw_outside.specs.declared.heard.Stop.TheVariants as stops
-use Rattle.authsrv_lines.specs.Acts.{Act, Answer, Asking, Does, Failing, HearsLine, Stops, World, acts, number_told}
-use Rattle.authsrv_lines.specs.Acts.Act.{Hear, Salt, Ask, Say}
-use Rattle.authsrv_lines.specs.Dialogue.{act_at, rows}
-use Rattle.authsrv_lines.specs.Session.{Closes, ClosesSo, Held}
-use Rattle.authsrv_lines.specs.Talk.{Adds, AreAt, AreOf, AtPort, if_entered, of_entered, Entered, answered, asked_closing, asked_in, asked_last, asked_of, is_entered, is_refused, replied, reply_of, said_of, says_full, talk_of, unanswered, unanswered_at}
-use Rattle.authsrv_lines.specs.declared.cause.Cause.{Cause}
-use Rattle.authsrv_lines.specs.declared.cause.Cause.TheVariants.{ClientFault, Idle, Spent, AuthFault, NoMemory}
-use Rattle.authsrv_lines.specs.declared.place.Place.{Place}
+use Rattle.authsrv_lines.specs.Talk.{Adds, AreAt, AreOf, AtPort, if_entered, of_entered, answered, is_entered, is_refused, replied, said_of, says_full}
 
 -- ---- lists
 

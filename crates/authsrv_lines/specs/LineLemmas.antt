@@ -1,15 +1,12 @@
 -- What a line can ask for.
 use Rattle.std.proofs.Common.{◌≡◌, refl, ℕ, nat_lt, Bool, true, false, cond, List, [], ◌∷◌, length, Option, Some, None, Result, Ok, Err}
 use Rattle.std.specs.Prelude.{unwrap_or}
-use Rattle.md5.specs.Md5.{md5}
 use Rattle.fw_outside.specs.Host.{host_of}
 use Rattle.fw_outside.specs.Name.{name_of}
 use Rattle.fw_outside.specs.declared.host.Host.{Host}
 use Rattle.auth_records.specs.Texts.{long_name_of, seed_of}
 use Rattle.auth_records.specs.declared.record.Proto.{Proto}
 use Rattle.auth_events.specs.declared.request.OpService.{OpService}
-use Rattle.auth_events.specs.declared.request.Request.{Request}
-use Rattle.auth_events.specs.declared.request.Request.TheVariants as requests
 use Rattle.otp_md5.specs.Hexadecimal.{read_of}
 use Rattle.authsrv_lines.specs.Command.{command_of, named_request}
 use Rattle.authsrv_lines.specs.Request.{about, adduser, adduser_of, alone, asked, by_command, by_words, count_of, group_none, group_of, group_some, grouped, named_of, operation, operation_of, otp, otp_of, password, password_of, proto_named, proto_of, proto_set, request_of, response_of, service_named}

@@ -1,46 +1,22 @@
 -- The entries of a session are all its own.
-use Rattle.std.proofs.Common.{◌≡◌, refl, sym, ap, subst, ◌∙◌, ℕ, zero, suc, Bool, true, false, not, cond, List, [], ◌∷◌, ◌++◌, drop, filter, get_or, length, map, Option, Some, None, Result, Ok, Err, inl, inr, ◌⊎◌, append_assoc, append-nil}
-use Rattle.std.specs.Prelude.{codes, if◌then◌else◌}
+use Rattle.std.proofs.Common.{◌≡◌, refl, ap, subst, ◌∙◌, ℕ, zero, suc, Bool, true, false, not, cond, List, [], ◌∷◌, ◌++◌, drop, filter, get_or, length, map, Option, Some, None}
+use Rattle.std.specs.Prelude.{if◌then◌else◌}
 use Rattle.std.specs.List.{AllByRecursion}
-use Rattle.std.proofs.lemmas.Option.{none-some, same_Some}
-use mathlib.Core.Bool.{true≢false}
 use Rattle.auth_events.specs.Fits.{Fits}
-use Rattle.auth_events.specs.Port.{Port, places, session_at}
+use Rattle.auth_events.specs.Port.{places, session_at}
 use Rattle.auth_events.specs.declared.entry.Entry.{Entry}
 use Rattle.auth_events.specs.declared.reply.Reply.{Reply}
 use Rattle.auth_events.specs.declared.reply.Reply.TheVariants as replies
 use Rattle.auth_events.specs.declared.request.Request.{Request}
 use Rattle.auth_events.specs.declared.request.Request.TheVariants as requests
-use Rattle.fw_acts.specs.Acts.{Row}
-use Rattle.fw_acts.specs.Acts.Row.{Do, At, Over}
-use Rattle.fw_acts.specs.Histories.{Keeps, Leaves, Watch, history}
-use Rattle.fw_acts.specs.HistoryLemmas.{run_leaves}
-use Rattle.fw_acts.specs.Projections.{projection}
-use Rattle.fw_acts.specs.ProjectionLemmas.{history_projection}
-use Rattle.fw_acts.specs.Ran.{Comes}
 use Rattle.fw_outside.specs.declared.ending.Ending.{Ending}
-use Rattle.fw_outside.specs.declared.heard.Heard.{Heard}
-use Rattle.fw_outside.specs.declared.heard.Heard.TheVariants.{Line, TooLong, Stopped}
-use Rattle.authsrv_lines.specs.Acts.{Act, Answer, World, acts}
-use Rattle.authsrv_lines.specs.Acts.Act.{Hear, Salt, Ask, Say}
-use Rattle.authsrv_lines.specs.Course.{AreBetween, AreOfOne, Course, Follows, IsClosed, is_between}
+use Rattle.authsrv_lines.specs.Acts.{World}
+use Rattle.authsrv_lines.specs.Course.{AreBetween, AreOfOne, Course, Follows, is_between}
 use Rattle.authsrv_lines.specs.CourseLemmas.{clash, held_course, stays_open}
-use Rattle.authsrv_lines.specs.Dialogue.{act_at, ask_row, heard_row, is_no_such, leads, line_row, listed_by, listed_row, opened_place, opened_row, row_at, rows, say, session_row, shown_name}
 use Rattle.authsrv_lines.specs.EntryLemmas.{whole_entries}
-use Rattle.authsrv_lines.specs.Fault.{fault_text}
-use Rattle.authsrv_lines.specs.LineLemmas.{AsksPlain, line_plain}
-use Rattle.authsrv_lines.specs.Reply.{reply_line}
-use Rattle.authsrv_lines.specs.Request.{request_of}
-use Rattle.authsrv_lines.specs.Session.{Closes, Held}
-use Rattle.authsrv_lines.specs.Talk.{AreOf, AtPort, Entered, answered, asked_closing, asked_in, asked_last, asked_of, if_entered, is_entered, is_plain, numbers_told, of_entered, opened_after, opened_then, reply_of, said_of, says_full, unanswered}
-use Rattle.authsrv_lines.specs.TalkLemmas.{held_entered, opened_both, up_to_closing}
-use Rattle.authsrv_lines.specs.declared.cause.Cause.{Cause}
-use Rattle.authsrv_lines.specs.declared.place.Place.{Place}
-use Rattle.authsrv_lines.specs.declared.place.Place.TheVariants.{Waiting, Listing}
-use Rattle.authsrv_lines.specs.declared.wire.Wire.{Wire}
-use Rattle.authsrv_lines.specs.declared.wire.Wire.TheVariants as wires
-use Rattle.authsrv_lines.specs.declared.wire.WireFault.{WireFault}
-use Rattle.authsrv_lines.specs.declared.wire.WireFault.TheVariants.{LongLine}
+use Rattle.authsrv_lines.specs.Session.{Held}
+use Rattle.authsrv_lines.specs.Talk.{AreOf, Entered, answered, asked_of, if_entered, is_entered, numbers_told, of_entered, said_of, says_full}
+use Rattle.authsrv_lines.specs.TalkLemmas.{held_entered}
 
 -- ---- the first place
 
@@ -95,7 +71,7 @@ closed_of_one sid (ask ∷ between) last their entries all are said =
     let asks = between ++ (requests.Close, last) ∷ [] in
     let stays = stays_open ask.0 ask.1 (Some sid) all.0 in
     ask_of_one sid ask.0 (λ place. own_number ask.0 place sid all.0) (of_entered (numbers_told (Some sid) asks) asks) asks (λ more others a s. closed_of_one sid between last more others all.1 a s) ask.1 their entries
-      (subst (λ opened. AreOf (if_entered ask.1 sid ++ of_entered (numbers_told opened asks) asks) their entries) stays are) said
+    (subst (λ opened. AreOf (if_entered ask.1 sid ++ of_entered (numbers_told opened asks) asks) their entries) stays are) said
 
 module _ (console : Bool) where
   abbrev Opening : Option Reply → List (Request × Option Reply)
@@ -133,8 +109,8 @@ module _ (console : Bool) where
       let head = head_asked (requests.Open console) (replies.Opened sid) entry entries (filter is_entered (answered rest)) said in
       let fits : Fits (requests.Open console) place (replies.Opened sid) = subst (λ r. Fits r place (replies.Opened sid)) head.0 (subst (λ r. Fits entry.request place r) head.1 are.1) in
       let later = closed_of_one sid follows.between follows.last their entries follows.are_between
-          (subst (λ z. AreOf (of_entered (numbers_told (Some sid) z) z) their entries) follows.is are.2)
-          (subst (λ z. map said_of entries ≡ filter is_entered (answered z)) follows.is (ap (λ z. drop 1 z) said)) in
+      (subst (λ z. AreOf (of_entered (numbers_told (Some sid) z) z) their entries) follows.is are.2)
+      (subst (λ z. map said_of entries ≡ filter is_entered (answered z)) follows.is (ap (λ z. drop 1 z) said)) in
       (are.0 ∙ ap (λ r. session_at r place 0) head.0, subst (λ n. AllByRecursion (IsOf n) entries) fits later)
   course_of_one (Some replies.Password) rest their entries follows are said = opening_of_one (Some replies.Password) rest their entries follows are said
   course_of_one (Some (replies.Challenge number word_seed)) rest their entries follows are said = opening_of_one (Some (replies.Challenge number word_seed)) rest their entries follows are said
@@ -152,7 +128,7 @@ module _ {Origin : Type 0} (console : Bool) (old new : World Origin) (ending : E
   pub held_one : (entered : Entered (asked_of held) old new) → AreOfOne entered.port.places entered.port.entries
   held_one entered =
       asked_of_one console (asked_of held) entered.port.places entered.port.entries (held_course console old new ending held none)
-        (subst (λ opened. AreOf (of_entered (numbers_told opened (asked_of held)) (asked_of held)) entered.port.places entered.port.entries) none entered.port.numbered) entered.port.said
+      (subst (λ opened. AreOf (of_entered (numbers_told opened (asked_of held)) (asked_of held)) entered.port.places entered.port.entries) none entered.port.numbered) entered.port.said
 
   -- so where they are the whole history, its number is 0
   pub held_one_whole : old.port.mine ≡ [] → new.port.mine ≡ places (length new.port.seen) → AllByRecursion (λ entry. entry.sid ≡ 0) new.port.seen

@@ -20,13 +20,13 @@ use Rattle.fw_outside.specs.declared.heard.Heard.TheVariants.{Line, TooLong, Sto
 use Rattle.fw_outside.specs.declared.heard.Stop.TheVariants as stops
 use Rattle.authsrv_lines.specs.Acts.{Act, Answer, Does, HearsLine, Stops, World, acts}
 use Rattle.authsrv_lines.specs.Acts.Act.{Hear, Salt, Ask, Say}
-use Rattle.authsrv_lines.specs.Dialogue.{act_at, ask_row, heard_row, is_no_such, leads, line_row, listed_by, listed_row, opened_place, opened_row, row_at, rows, say, session_row, shown_name}
+use Rattle.authsrv_lines.specs.Dialogue.{act_at, ask_row, heard_row, is_no_such, leads, line_row, listed_by, listed_row, opened_place, opened_row, rows, say, session_row, shown_name}
 use Rattle.authsrv_lines.specs.Fault.{fault_text}
 use Rattle.authsrv_lines.specs.LineLemmas.{AsksPlain, line_plain}
 use Rattle.authsrv_lines.specs.Reply.{reply_line}
 use Rattle.authsrv_lines.specs.Request.{request_of}
 use Rattle.authsrv_lines.specs.Session.{Closes, ClosesSo, Held}
-use Rattle.authsrv_lines.specs.Talk.{Adds, asked_closing, asked_in, asked_last, asked_of, is_plain, salt_of, salts_in, unanswered, unanswered_at}
+use Rattle.authsrv_lines.specs.Talk.{Adds, asked_closing, asked_in, asked_last, asked_of, is_plain, salt_of, salts_in, unanswered}
 use Rattle.authsrv_lines.specs.EntryLemmas.{adds_both, adds_none, adds_one}
 use Rattle.authsrv_lines.specs.declared.cause.Cause.{Cause}
 use Rattle.authsrv_lines.specs.declared.cause.Cause.TheVariants.{ClientFault, Idle, Spent, AuthFault, NoMemory}
@@ -119,7 +119,7 @@ module _ {Origin : Type 0} where
 
 -- ---- each salt is asked with at once
 
--- the salts thrown and those asked with, of which no more were thrown than asked with but where the next act asks with it
+-- the salts that were thrown, and those that were asked with: each is asked with in the act that follows its throw
 abbrev Noted : Type 0
 Noted = List (List ℕ) × List (List ℕ)
 
@@ -230,9 +230,9 @@ module _ {Origin : Type 0} where
       let used : noted.1 ≡ projection used_in steps = history_projection used_in (watch Origin) (λ n. n.1) (λ n act answer. refl) ([], []) steps in
       let owed : noted.0 ≡ noted.1 ++ salts_in last = last_owed Origin held.dialogue held.ran.left held.ran.mid held.mid noted held.ran.comes leaves in
       let whole : salts_in ((asks ++ last) ++ closing) ≡ salts_in asks ++ salts_in last =
-          salts_both (asks ++ last) closing ∙ ap (λ z. salts_in (asks ++ last) ++ z) (no_salt_closing Origin held.mid.opened held.mid new held.closed) ∙ append-nil (salts_in (asks ++ last)) ∙ salts_both asks last in
+      salts_both (asks ++ last) closing ∙ ap (λ z. salts_in (asks ++ last) ++ z) (no_salt_closing Origin held.mid.opened held.mid new held.closed) ∙ append-nil (salts_in (asks ++ last)) ∙ salts_both asks last in
       let same : thrown ≡ salts_in ((asks ++ last) ++ closing) =
-          sym threw ∙ owed ∙ ap (λ z. z ++ salts_in last) (used ∙ used_salts Origin steps) ∙ sym whole in
+      sym threw ∙ owed ∙ ap (λ z. z ++ salts_in last) (used ∙ used_salts Origin steps) ∙ sym whole in
       let stays : new.throws ≡ held.ran.mid.throws =
-          throws_close held.mid.opened held.mid new held.closed ∙ throws_last held.dialogue held.ran.left held.ran.mid held.mid held.ran.comes in
+      throws_close held.mid.opened held.mid new held.closed ∙ throws_last held.dialogue held.ran.left held.ran.mid held.mid held.ran.comes in
       subst (λ z. Adds z old.throws.told new.throws.told) same (subst (λ (t : Throws). Adds thrown old.throws.told t.told) (sym stays) (ran_grew threw_grows held.ran))

@@ -1,19 +1,11 @@
 -- What a session asked came to this at the port and the clock.
-use Rattle.std.proofs.Common.{arith, ◌≡◌, refl, sym, ap, subst, ◌∙◌, ℕ, zero, suc, ◌+◌, ◌<◌, ◌≤◌, ◌||◌, Bool, true, false, not, cond, List, [], ◌∷◌, ◌++◌, filter, length, map, Option, Some, None, Result, Ok, Err, append_assoc, append-nil}
-use Rattle.std.specs.Prelude.{slice_get}
-use Rattle.std.specs.List.{filter_map, list_any}
-use Rattle.std.proofs.lemmas.List.{length-append, map-append}
-use Rattle.std.proofs.lemmas.List.Elements.{filter-append, filter_map-append}
-use Rattle.std.proofs.lemmas.List.Folds.{list_any-append}
-use Rattle.std.proofs.lemmas.Option.{none-some, same_Some, slice_get_within}
-use Rattle.auth_events.specs.Port.{Asks, Breaks, Enters, IsFull, Lacks, Port, Replies, Strays, places, session_at}
-use Rattle.auth_events.specs.declared.denial.Denial.{Denial}
-use Rattle.auth_events.specs.declared.denial.Denial.TheVariants as denials
-use Rattle.auth_events.specs.declared.entry.Entry.{Entry}
+use Rattle.std.proofs.Common.{◌≡◌, refl, sym, ap, subst, ◌∙◌, ℕ, suc, ◌+◌, ◌||◌, Bool, List, [], ◌∷◌, ◌++◌, filter, length, map, Option, Some, None, Result, Ok, Err}
+use Rattle.std.specs.List.{list_any}
+use Rattle.std.proofs.lemmas.List.{length-append}
+use Rattle.auth_events.specs.Port.{Port, places}
 use Rattle.auth_events.specs.declared.port.PortFault.{PortFault}
 use Rattle.auth_events.specs.declared.port.PortFault.TheVariants as faults
 use Rattle.auth_events.specs.declared.reply.Reply.{Reply}
-use Rattle.auth_events.specs.declared.reply.Reply.TheVariants as replies
 use Rattle.auth_events.specs.declared.request.Request.{Request}
 use Rattle.auth_events.specs.declared.request.Request.TheVariants as requests
 use Rattle.fw_acts.specs.Acts.{Row}
@@ -22,7 +14,6 @@ use Rattle.fw_acts.specs.Projections.{Grows, projection}
 use Rattle.fw_acts.specs.ProjectionLemmas.{ran_grew}
 use Rattle.fw_acts.specs.Ran.{Comes, StopsAt}
 use Rattle.fw_outside.specs.Hours.{Hours}
-use Rattle.fw_outside.specs.Telling.{AddsOne, grown}
 use Rattle.fw_outside.specs.declared.ending.Ending.{Ending}
 use Rattle.fw_outside.specs.declared.heard.Heard.{Heard}
 use Rattle.fw_outside.specs.declared.heard.Heard.TheVariants.{Line, TooLong, Stopped}
@@ -32,7 +23,7 @@ use Rattle.authsrv_lines.specs.Acts.Act.{Hear, Salt, Ask, Say}
 use Rattle.authsrv_lines.specs.Dialogue.{act_at, rows}
 use Rattle.authsrv_lines.specs.EntryLemmas.{adds_both, adds_none, adds_one, at_both, at_no_reply, at_none, at_reply, whole_talk}
 use Rattle.authsrv_lines.specs.Session.{Closes, ClosesSo, Held}
-use Rattle.authsrv_lines.specs.Talk.{Adds, AreAt, AtPort, Entered, answered, asked_closing, asked_in, asked_last, asked_of, is_entered, is_refused, replied, reply_of, said_of, says_full, talk_of, unanswered, unanswered_at, numbers_told, opened_after, opened_then}
+use Rattle.authsrv_lines.specs.Talk.{Adds, AtPort, Entered, asked_closing, asked_in, asked_last, asked_of, is_entered, is_refused, reply_of, said_of, talk_of, unanswered, unanswered_at, numbers_told, opened_after, opened_then}
 use Rattle.authsrv_lines.specs.declared.cause.Cause.{Cause}
 use Rattle.authsrv_lines.specs.declared.cause.Cause.TheVariants.{ClientFault, Idle, Spent, AuthFault, NoMemory}
 use Rattle.authsrv_lines.specs.declared.place.Place.{Place}

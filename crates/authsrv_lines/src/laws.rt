@@ -25,23 +25,24 @@ pub fn the_client_is_told<Origin>()
     ensures { (console : Bool) (old new : World Origin) (ending : Ending) (held : Held console old new ending) → Told console old new ending held }
 {}
 
-/// A session asked each request at a moment of the clock, and what was answered stands in the port's history as it was
-/// asked and answered, but for what was refused because no more entries fit; of that the port says that it was refused. A
-/// port whose own entries are the whole history has nothing else in it.
+/// A session asked each request for the session that was open, at a moment of the clock. What was answered stands in the
+/// port's history as it was asked and answered, behind all that was seen before, but for what was refused because no more
+/// entries fit (`entered`). The port says that it refused where it said so before or where one was so refused (`refused`).
+/// Where these entries are the whole history, nothing else is in it (`whole`).
 pub fn the_talk_is_entered<Origin>()
     ensures entered { (console : Bool) (old new : World Origin) (ending : Ending) (held : Held console old new ending) → Entered (asked_of held) old new }
     ensures refused { (console : Bool) (old new : World Origin) (ending : Ending) (held : Held console old new ending) → new.port.refused ≡ (old.port.refused || list_any is_refused (talk_of held)) }
     ensures whole { (console : Bool) (old new : World Origin) (ending : Ending) (held : Held console old new ending) → old.port.mine ≡ [] → new.port.mine ≡ places (length new.port.seen) → map said_of new.port.seen ≡ filter is_entered (talk_of held) }
 {}
 
-/// The salts that the dice gave in a session are those of the passwords that it asked to set, in their order.
+/// The salts that the dice gave in a session are those of the new passwords that it asked for, in order.
 pub fn the_salts_are_thrown<Origin>()
     ensures { (console : Bool) (old new : World Origin) (ending : Ending) (held : Held console old new ending) → Adds (salts_in (asked_of held)) old.throws.told new.throws.told }
 {}
 
-/// A session that begins with none open first asks Open. Where that is answered `Opened` it asks Close once, last of all,
-/// and Open no more; else it asks nothing more. All its entries have one number, the place of the first; in a history that
-/// is all its own that is 0.
+/// A session that begins with none open first asks Open. Where that is answered `Opened` it asks Close once, as the last,
+/// and Open not again; else it asks nothing more (`course`). All its entries have one number, the place of the first of
+/// them (`one`), which is 0 where they are the whole history (`whole`).
 pub fn a_session_is_closed<Origin>()
     ensures course { (console : Bool) (old new : World Origin) (ending : Ending) (held : Held console old new ending) → old.opened ≡ None → Course console (asked_of held) }
     ensures one { (console : Bool) (old new : World Origin) (ending : Ending) (held : Held console old new ending) → old.opened ≡ None → (entered : Entered (asked_of held) old new) → AreOfOne entered.port.places entered.port.entries }

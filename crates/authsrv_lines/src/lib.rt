@@ -10,6 +10,7 @@
 //! stand in `specs/Dialogue.antt` as the dialogue does, then the Close that is owed, then the ending by its cause.
 //! Its clause `caused` says of each ending what the devices have counted (`specs/Causes.antt`), and `keeps` that no count
 //! falls.
+//! [`laws`] says what that comes to at the client, the port, the clock and the dice.
 #![tactic(auto)]
 
 mod cause;

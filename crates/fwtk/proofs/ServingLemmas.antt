@@ -349,7 +349,7 @@ there : (old new : Option Vault) → new ≡ old → IsSome old → IsSome new
 there old new is h = subst (λ (k : Option Vault). IsSome k) (sym is) h
 
 some_there : (new : Option Vault) (vault : Vault) → new ≡ Some vault → IsSome new
-some_there new vault is = subst (λ (k : Option Vault). IsSome k) (sym is) some
+some_there new vault is = subst (λ (k : Option Vault). IsSome k) (sym is) refl
 
 pub attends_keeper : (name : List ℕ) (visit : Visit) (outcome : Result ℕ Fault) (old mid : Desk) → Attends name visit outcome old mid → IsSome old.sitting.keeper → IsSome mid.sitting.keeper
 attends_keeper name visit (Ok n) old mid does before = some_there mid.sitting.keeper does.proceeds.book.vault does.proceeds.kept
