@@ -10,3 +10,5 @@ pub mod Dialogue
 pub mod Distance
 pub mod Session
 pub mod Told
+pub mod Causes
+pub mod CauseLemmas

@@ -2,6 +2,7 @@
 ghost use Rattle.std.specs.Prelude.{◌≡◌, ◌<◌, [], Some, None, IfOk, IfSome};
 ghost use Rattle.fw_acts.specs.Acts.Row.{At, Over};
 ghost use Rattle.fw_acts.specs.Ran.{Ran};
+ghost use Rattle.authsrv_lines.specs.Causes.{Caused, SessionKeeps};
 ghost use Rattle.authsrv_lines.specs.Dialogue.{leads, rows, session_row};
 ghost use Rattle.authsrv_lines.specs.Distance.{IsPlace, distance};
 ghost use Rattle.authsrv_lines.specs.Session.{Closes, Closing, Held, Session, ending_by, ending_of, most_taken};
@@ -132,7 +133,8 @@ fn at_desk<'p, 's, 'k, 'c, 'r, P: AuthPort, S: Source, K: Sink, C: Clock, R: Dic
 /// The salts of new passwords come from the dice. It takes at most 2^40 bytes from the client.
 ///
 /// The answer is `Done` after `quit`, at the end of what the client says, or where the port denied to open a session; else
-/// why the session stopped. Then Close is asked of a session that is open and wasn't asked to close.
+/// why the session stopped, which the device that failed has counted. Then Close is asked of a session that is open and
+/// wasn't asked to close.
 pub fn authsrv_session<P: AuthPort, S: Source, K: Sink, C: Clock, R: Dice>(
     console: bool,
     port: &mut P,
@@ -141,10 +143,16 @@ pub fn authsrv_session<P: AuthPort, S: Source, K: Sink, C: Clock, R: Dice>(
     clock: &mut C,
     dice: &mut R,
 ) -> Ending
-    ensures { Session console
+    ensures session { Session console
         (record { inlet = S.spring from.old; outlet = K.drain to.old; port = P.port port.old; hours = C.hours clock.old; throws = R.throws dice.old })
         (record { inlet = S.spring from.new; outlet = K.drain to.new; port = P.port port.new; hours = C.hours clock.new; throws = R.throws dice.new })
         result }
+    ensures keeps { SessionKeeps
+        (record { inlet = S.spring from.old; outlet = K.drain to.old; port = P.port port.old; hours = C.hours clock.old; throws = R.throws dice.old })
+        (record { inlet = S.spring from.new; outlet = K.drain to.new; port = P.port port.new; hours = C.hours clock.new; throws = R.throws dice.new }) }
+    ensures caused { Caused result
+        (record { inlet = S.spring from.old; outlet = K.drain to.old; port = P.port port.old; hours = C.hours clock.old; throws = R.throws dice.old })
+        (record { inlet = S.spring from.new; outlet = K.drain to.new; port = P.port port.new; hours = C.hours clock.new; throws = R.throws dice.new }) }
 {
     let mut desk = Desk {
         port,

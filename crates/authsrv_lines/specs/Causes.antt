@@ -1,0 +1,40 @@
+-- What a session keeps of the devices that it is lent, and by what each ending is caused.
+use Rattle.std.specs.Prelude.{◌≡◌, ℕ, ◌≤◌, ◌⊎◌, List, length}
+use Rattle.fw_outside.specs.Counts.{Rose}
+use Rattle.fw_outside.specs.Spring.{Spring}
+use Rattle.fw_outside.specs.Telling.{grown}
+use Rattle.fw_outside.specs.declared.ending.Ending.{Ending}
+use Rattle.fw_outside.specs.declared.ending.Ending.TheVariants.{Done, Denied, ClientFault, ServerFault, LogFault, AuthFault, Idle, NoRoute, Spent, NoMemory}
+use Rattle.authsrv_lines.specs.Session.{Devices, most_taken}
+
+-- No count falls. How long the source waits stays, as do whether the sink was told the end, and whose history the port's is.
+pub record SessionKeeps {Origin : Type 0} (old new : Devices Origin) : Type 0 where
+  pub faults : old.inlet.faults ≤ new.inlet.faults
+  pub idles : old.inlet.idles ≤ new.inlet.idles
+  pub drops : old.outlet.faults ≤ new.outlet.faults
+  pub breaks : old.port.faults ≤ new.port.faults
+  pub strays : old.port.odd ≤ new.port.odd
+  pub waits : new.inlet.waits ≡ old.inlet.waits
+  pub shut : new.outlet.shut ≡ old.outlet.shut
+  pub origin : new.port.origin ≡ old.port.origin
+  pub home : new.port.home ≡ old.port.home
+
+-- as many bytes were taken as may be, where the source tells them
+pub record TookAll (old new : Spring) : Type 0 where
+  pub bytes : List ℕ
+  pub all : length bytes ≡ most_taken
+  pub took : new.taken ≡ grown old.taken bytes
+
+-- The client's source or sink failed; nothing came in time; all that may be was taken; the port failed, or something strange
+-- came from it. No session of `authsrv` ends by a server, a log or a table, and what caused the other endings isn't counted.
+abbrev pub Caused : {Origin : Type 0} → Ending → Devices Origin → Devices Origin → Type 0
+Caused ClientFault old new = Rose old.inlet.faults new.inlet.faults ⊎ Rose old.outlet.faults new.outlet.faults
+Caused Idle old new = Rose old.inlet.idles new.inlet.idles
+Caused Spent old new = TookAll old.inlet new.inlet
+Caused AuthFault old new = Rose old.port.faults new.port.faults ⊎ Rose old.port.odd new.port.odd
+Caused (Denied line) old new = ⊥
+Caused ServerFault old new = ⊥
+Caused LogFault old new = ⊥
+Caused NoRoute old new = ⊥
+Caused Done old new = Unit {0}
+Caused NoMemory old new = Unit {0}
