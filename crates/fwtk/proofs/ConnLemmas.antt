@@ -16,7 +16,7 @@ use Rattle.gate_rules.specs.Verdict.{verdict_of}
 use Rattle.gate_rules.specs.declared.service.Service.{Service}
 use Rattle.gate_rules.specs.declared.verdict.Verdict.{Verdict}
 use Rattle.gate_rules.specs.declared.verdict.Verdict.TheVariants.{Permit, Deny}
-use Rattle.fwtk.specs.Conn.{AfterLine, Causes, Conn, Ended, IsRefused, Meeting, NotedIf, Served, Treated, patient, timeout_of}
+use Rattle.fwtk.specs.Conn.{AfterLine, Causes, Conn, Ended, IsRefused, Meeting, NotedIf, Refused, Served, Treated, patient, timeout_of}
 use Rattle.fwtk.specs.Endings.{ending_line}
 use Rattle.fwtk.specs.Texts.{decision_text}
 use Rattle.fwtk.proofs.CommandLemmas.{cut_rose}
@@ -50,20 +50,26 @@ module _ {Origin : Type 0} where
       subst (λ (e : Ending). Causes verdict e (meets devices before) new) (sym h.ends)
       (subst (λ (m : Meeting Origin). Rose before.faults m.logs.faults) (sym h.is) (cut_rose text before logs gives))
 
+  pub treated_deny : (verdict : Verdict) (line : ℕ) (service : Service) (rules : RuleBook) (peer : Peer) (ending : Ending) (old new : Meeting Origin) → verdict ≡ Deny line → Refused line ending old new → Treated verdict service rules peer ending old new
+  treated_deny verdict line service rules peer ending old new is h = subst (λ (v : Verdict). Treated v service rules peer ending old new) (sym is) h
+
+  pub treated_permit : (verdict : Verdict) (line : ℕ) (service : Service) (rules : RuleBook) (peer : Peer) (ending : Ending) (old new : Meeting Origin) → verdict ≡ Permit line → Served service rules peer ending old new → Treated verdict service rules peer ending old new
+  treated_permit verdict line service rules peer ending old new is h = subst (λ (v : Verdict). Treated v service rules peer ending old new) (sym is) h
+
   -- a client was served, over a source that waits as the table has it
-  pub served_from : {service : Service} {rules : RuleBook} {peer : Peer} {ending : Ending} {old new : Meeting Origin} {inlet : Spring} {seconds : ℕ}
+  pub served_from : (service : Service) (rules : RuleBook) (peer : Peer) (ending : Ending) (old new : Meeting Origin) (inlet : Spring) (seconds : ℕ)
       → seconds ≡ timeout_of rules → inlet ≡ waiting old.devices.inlet seconds → Session false (record (old.devices) { inlet = inlet }) new.devices ending
       → NotedIf (ending_line service peer ending) old.logs new.logs → Served service rules peer ending old new
-  served_from {rules = rules} {ending = ending} {old = old} {new = new} {inlet = inlet} {seconds = seconds} seconds_is waits session noted = record {
+  served_from service rules peer ending old new inlet seconds seconds_is waits session noted = record {
     session = subst (λ (s : Spring). Session false (record (old.devices) { inlet = s }) new.devices ending) (waits ∙ ap (waiting old.devices.inlet) seconds_is) session;
     noted = noted;
   }
 
   -- from the log's line to what follows it
-  pub conn_from : {service : Service} {rules : RuleBook} {peer : Peer} {old new : Meeting Origin} {ending : Ending} {verdict : Verdict} {line piece : List ℕ} {logging : Result (Unit {0}) Failed} (logs : Drain)
+  pub conn_from : (service : Service) (rules : RuleBook) (peer : Peer) (old new : Meeting Origin) (ending : Ending) (verdict : Verdict) (line piece : List ℕ) (logging : Result (Unit {0}) Failed) (logs : Drain)
       → verdict ≡ verdict_of rules peer → line ≡ decision_text verdict service peer → piece ≡ line → Gives logging piece old.logs logs
       → AfterLine logging verdict service rules peer ending (record old { logs = logs }) new → Conn service rules peer old new ending
-  conn_from {service} {rules} {peer} {old} {new} {ending} {verdict} {line} {piece} {logging} logs verdict_is line_is piece_is gives rest = record {
+  conn_from service rules peer old new ending verdict line piece logging logs verdict_is line_is piece_is gives rest = record {
     logging = logging;
     logs = logs;
     logged = subst (λ (v : Verdict). Gives logging (decision_text v service peer) old.logs logs) verdict_is

@@ -29,10 +29,10 @@ with_keeper_back visit rules first book ending old mid new keeper is h =
     subst (λ (d : Desk). Visits visit.console rules visit.peer (meeting old first) (meeting d book) ending) (sym is) h
 
 -- the visit was held, and then the keeper given back
-pub held_over : {visit : Visit} {rules : RuleBook} {first book : BookView} {ending : Ending} {outcome : Result ℕ Fault} {refused : Bool} {old mid new : Desk}
+pub held_over : (visit : Visit) (rules : RuleBook) (first book : BookView) (ending : Ending) (outcome : Result ℕ Fault) (refused : Bool) (old mid new : Desk)
     → Visits visit.console rules visit.peer (meeting old first) (meeting mid book) ending → mid.files ≡ old.files
     → refused ≡ book.refused → GivesBack book mid new → outcome ≡ outcome_of refused ending → HoldsOver visit rules first outcome old new
-held_over {visit} {rules} {first} {book} {ending} {outcome} {refused} {old} {mid} {new} visits files refused_is back outcome_is = record {
+held_over visit rules first book ending outcome refused old mid new visits files refused_is back outcome_is = record {
   book = book;
   ending = ending;
   visits = with_keeper_back visit rules first book ending old mid new (Some book.vault) back.is visits;
@@ -87,9 +87,9 @@ from_old : (visit : Visit) (rules : RuleBook) (first last : BookView) (ending : 
 from_old visit rules first last ending old mid new keeper is h =
     subst (λ (d : Desk). Visits visit.console rules visit.peer (meeting d first) (meeting new last) ending) is h
 
-pub proceeds : {visit : Visit} {orders : Orders} {first : BookView} {outcome : Result ℕ Fault} {old mid new : Desk}
+pub proceeds : (visit : Visit) (orders : Orders) (first : BookView) (outcome : Result ℕ Fault) (old mid new : Desk)
     → Opened orders.policy first old mid → HoldsOver visit orders.rules first outcome mid new → Proceeds visit orders outcome old new
-proceeds {visit} {orders} {first} {outcome} {old} {mid} {new} opened over =
+proceeds visit orders first outcome old mid new opened over =
     let origin : over.book.origin ≡ first.origin = visits_origin visit.console orders.rules visit.peer mid new first over.book over.ending over.visits in
     proceeds_so visit orders over.book.refused over.ending outcome old new over.outcome_is (record {
       before = first.vault;

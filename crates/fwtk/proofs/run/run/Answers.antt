@@ -13,6 +13,6 @@ returns g c =
       complete = complete c.args.words.now c.end.result c.args.world.now c.end.new.world ran;
       returned = given_back c.args.words.now c.end.result c.args.world.now c.end.new.world ran;
       replies = replies c.args.words.now c.end.result c.args.world.now c.end.new.world ran;
-      kept = keeper_back c.args.words.now c.end.result c.args.world.now c.end.new.world ran c.requires;
+      kept = keeper_back c.args.words.now c.end.result c.args.world.now c.end.new.world ran c.requires.keeper;
       outside = outside c.args.words.now c.end.result c.args.world.now c.end.new.world ran;
     }
