@@ -3,10 +3,6 @@
 #![tactic(auto)]
 
 #[cfg(test)]
-mod cut_tests;
-#[cfg(test)]
-mod kept_rows;
-#[cfg(test)]
 mod lockout_rows;
 #[cfg(test)]
 mod long_rows;
@@ -21,12 +17,6 @@ mod short_tests;
 #[cfg(test)]
 mod stage;
 #[cfg(test)]
-mod talk_rows;
-#[cfg(test)]
-mod talk_stage;
-#[cfg(test)]
 mod talk_tests;
 #[cfg(test)]
 mod users;
-#[cfg(test)]
-mod wizard_rows;

@@ -3,7 +3,7 @@
 use crate::stage::Scene;
 use crate::users::{ANN, MJR, OTP1, ROOT, STAFF};
 
-pub(crate) const OPERATIONS: &str =
+const OPERATIONS: &str =
     "authsrv: permit-operation user mjr tn-gw *.tis.com\nauthsrv: deny-operation group staff * 10.*\n";
 
 /// An unknown user is asked for a password that is never right.

@@ -108,6 +108,26 @@ fn main(rt: HostRuntime) -> ExitCode {
 }
 
 #[cfg(test)]
+mod session_client_tests;
+#[cfg(test)]
+mod session_close_tests;
+#[cfg(test)]
+mod session_log_tests;
+#[cfg(test)]
+mod session_refusal_rows;
+#[cfg(test)]
+mod session_refusal_tests;
+#[cfg(test)]
+mod session_rows;
+#[cfg(test)]
+mod session_stage;
+#[cfg(test)]
+mod session_tests;
+#[cfg(test)]
+mod session_told;
+#[cfg(test)]
+mod session_wizard_rows;
+#[cfg(test)]
 mod tests;
 #[cfg(test)]
 mod words_tests;

@@ -12,7 +12,7 @@ use std::process::Abort;
 use std::test::Fail;
 
 #[derive(Drop)]
-struct Memory;
+pub(crate) struct Memory;
 
 impl Kit for Memory {
     type Files = MemFiles;
@@ -48,7 +48,7 @@ fn none_failing() -> Failing {
     }
 }
 
-fn files_with(
+pub(crate) fn files_with(
     alloc: Global,
     table: &[u8],
     piece: usize,

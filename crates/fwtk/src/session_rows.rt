@@ -1,21 +1,48 @@
-//! Whole sessions: logins, lines that ask for nothing, and ends.
+//! Runs of `authsrv`: logins, lines that ask for nothing, and ends.
 
-use crate::talk_stage::{LONG_LINE, Talk};
-use crate::users::{MJR, OTP1};
+use crate::session_stage::{LONG_LINE, Talk};
+
+const MJR: &[&str] = &[
+    "adduser mjr Marcus",
+    "proto mjr plain",
+    "password mjr secret",
+    "enable mjr",
+];
+
+const OTP1: &[&str] = &[
+    "adduser otp1",
+    "proto otp1 otp",
+    "otp otp1 1 test 7965E05436F5029F",
+    "enable otp1",
+];
+
+/// The log's lines of a session that is done.
+const DONE: &[&str] = &[
+    "permit authsrv unknown/10.0.0.5 line 1",
+    "end authsrv unknown/10.0.0.5 done",
+];
 
 /// A user logs in.
 pub(crate) const LOGIN: Talk = Talk {
-    console: false,
+    name: "login",
+    words: "authsrv 10.0.0.5",
     table: "authsrv: permit-hosts *\n",
-    users: &[MJR],
-    limit: 100,
+    before: &[MJR],
+    stored: &[],
+    unkept: &[],
+    puts: 0,
     moments: &[100, 101, 102, 103],
     said: &["authenticate mjr", "response secret", "quit"],
     given: &["authsrv ready", "password", "ok", "ok"],
+    log: DONE,
+    status: 0,
 };
 
-/// The keeper fails at its first put. The client ends without `quit`.
+/// The keeper's first put fails. The client ends without `quit`.
 pub(crate) const FIRST_PUT: Talk = Talk {
+    name: "first put",
+    unkept: &[1],
+    puts: 1,
     moments: &[100, 101, 102, 103, 104],
     said: &["authenticate mjr", "response x", "response secret"],
     given: &["authsrv ready", "password", "denied not kept", "ok"],
@@ -24,6 +51,7 @@ pub(crate) const FIRST_PUT: Talk = Talk {
 
 /// Lines that ask for nothing.
 pub(crate) const FAULTS: Talk = Talk {
+    name: "faults",
     moments: &[100, 101],
     said: &[
         LONG_LINE,
@@ -45,6 +73,7 @@ pub(crate) const FAULTS: Talk = Talk {
 
 /// After a line that is too long the next one is read.
 pub(crate) const AFTER_LONG: Talk = Talk {
+    name: "after a long line",
     said: &[
         LONG_LINE,
         "authenticate mjr",
@@ -65,6 +94,7 @@ pub(crate) const AFTER_LONG: Talk = Talk {
 
 /// What comes after `quit` is no line.
 pub(crate) const AFTER_QUIT: Talk = Talk {
+    name: "after quit",
     moments: &[100, 101],
     said: &["quit", "bogus", "authenticate mjr"],
     given: &["authsrv ready", "ok"],
@@ -73,15 +103,30 @@ pub(crate) const AFTER_QUIT: Talk = Talk {
 
 /// The client says nothing.
 pub(crate) const SILENT: Talk = Talk {
+    name: "silent",
     moments: &[100, 101],
     said: &[],
     given: &["authsrv ready"],
     ..LOGIN
 };
 
+/// The client has a name.
+pub(crate) const NAMED: Talk = Talk {
+    name: "a named client",
+    words: "authsrv 10.0.0.5 Relay.TIS.com",
+    table: "authsrv: permit-hosts *.tis.com\n",
+    log: &[
+        "permit authsrv relay.tis.com/10.0.0.5 line 1",
+        "end authsrv relay.tis.com/10.0.0.5 done",
+    ],
+    ..LOGIN
+};
+
 /// Five wrong responses lock the user for 1,200 seconds.
 pub(crate) const LOCKOUT: Talk = Talk {
-    table: "authsrv: badsleep 1200\n",
+    name: "lockout",
+    table: "authsrv: permit-hosts *\nauthsrv: badsleep 1200\n",
+    puts: 6,
     moments: &[
         100, 101, 101, 102, 102, 103, 103, 104, 104, 105, 105, 1304, 1305, 1305, 1306,
     ],
@@ -123,7 +168,9 @@ pub(crate) const LOCKOUT: Talk = Talk {
 
 /// The last one-time password.
 pub(crate) const WORD: Talk = Talk {
-    users: &[OTP1],
+    name: "the last one-time password",
+    before: &[OTP1],
+    puts: 1,
     moments: &[100, 101, 102, 103, 104],
     said: &[
         "authenticate otp1",
@@ -139,9 +186,12 @@ pub(crate) const WORD: Talk = Talk {
     ..LOGIN
 };
 
-/// The keeper fails at its first put, and the one-time password isn't used.
+/// The keeper's first put fails, and the one-time password isn't used.
 pub(crate) const FIRST_WORD: Talk = Talk {
-    users: &[OTP1],
+    name: "a one-time password that isn't kept",
+    before: &[OTP1],
+    unkept: &[1],
+    puts: 2,
     moments: &[100, 101, 102, 103, 104, 105],
     said: &[
         "authenticate otp1",
@@ -161,43 +211,85 @@ pub(crate) const FIRST_WORD: Talk = Talk {
 
 /// A challenge is asked for, and the session ends.
 pub(crate) const CHALLENGE: Talk = Talk {
-    users: &[OTP1],
-    moments: &[100, 200, 240],
+    name: "a challenge",
+    before: &[OTP1],
+    moments: &[100, 200, 200],
     said: &["authenticate otp1", "quit"],
     given: &["authsrv ready", "challenge otp-md5 0 test", "ok"],
     ..LOGIN
 };
 
-/// A challenge is asked for while another session has it, and once it is free.
-pub(crate) const BUSY: Talk = Talk {
-    users: &[OTP1],
-    moments: &[210, 230, 260],
-    said: &["authenticate otp1", "authenticate otp1"],
-    given: &[
-        "authsrv ready",
-        "denied busy 0 until 260",
-        "challenge otp-md5 0 test",
+/// One second after that, a challenge is asked for again.
+pub(crate) const AGAIN: Talk = Talk {
+    name: "the next challenge",
+    moments: &[201, 201, 201],
+    ..CHALLENGE
+};
+
+/// Five wrong responses, and the end.
+const LOCKED: Talk = Talk {
+    name: "five wrong responses",
+    moments: &[100, 101, 101, 102, 102, 103, 103, 104, 104, 105, 105, 106],
+    said: &[
+        "authenticate mjr",
+        "response x",
+        "authenticate mjr",
+        "response x",
+        "authenticate mjr",
+        "response x",
+        "authenticate mjr",
+        "response x",
+        "authenticate mjr",
+        "response x",
     ],
-    ..LOGIN
-};
-
-/// The book is full before the session.
-pub(crate) const NO_ROOM: Talk = Talk {
-    limit: 0,
-    moments: &[],
-    given: &["denied full 0"],
-    ..LOGIN
-};
-
-/// The book becomes full in the session.
-pub(crate) const FULL: Talk = Talk {
-    limit: 2,
-    moments: &[100, 101],
     given: &[
         "authsrv ready",
         "password",
-        "denied full 2",
-        "denied full 2",
+        "denied wrong response",
+        "password",
+        "denied wrong response",
+        "password",
+        "denied wrong response",
+        "password",
+        "denied wrong response",
+        "password",
+        "denied wrong response",
     ],
-    ..LOGIN
+    ..LOCKOUT
 };
+
+/// After that the user sleeps.
+const SLEEPING: Talk = Talk {
+    name: "the user sleeps",
+    moments: &[1303, 1304, 1305, 1306, 1307],
+    said: &[
+        "authenticate mjr",
+        "authenticate mjr",
+        "response secret",
+        "quit",
+    ],
+    given: &[
+        "authsrv ready",
+        "denied sleeping until 1305",
+        "password",
+        "ok",
+        "ok",
+    ],
+    ..LOCKOUT
+};
+
+/// After the last one-time password none is left.
+const NO_WORD: Talk = Talk {
+    name: "no one-time password is left",
+    moments: &[200, 201, 202],
+    said: &["authenticate otp1", "quit"],
+    given: &["authsrv ready", "denied no passwords left", "ok"],
+    ..WORD
+};
+
+/// Runs, each with the next one over the same records.
+pub(crate) const PAIRS: &[(Talk, Talk)] = &[
+    (CHALLENGE, AGAIN),
+    (LOCKED, SLEEPING),
+    (WORD, NO_WORD),
+];
