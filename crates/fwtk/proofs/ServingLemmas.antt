@@ -198,8 +198,10 @@ limit_served : (visit : Visit) (orders : Orders) (old mid : Desk) → Held visit
 limit_served visit orders old mid held =
     let done : held.ending ≡ Done = limit_done held.book.refused held.ending held.outcome_is in
     with_keeper old.sitting.keeper held.before (λ vault. IsServed orders visit vault 6 ⊎ Fails 6) held.keeper
-    (inl (inr (record { records = held.origin.records; read = held.records },
-    limited visit.console (verdict_of orders.rules visit.peer) held.ending done (visit_went visit.console orders.rules visit.peer _ _ held.ending held.visits))))
+    (inl (inr (
+      record { records = held.origin.records; read = held.records },
+      limited visit.console (verdict_of orders.rules visit.peer) held.ending done (visit_went visit.console orders.rules visit.peer _ _ held.ending held.visits),
+    )))
 
 served_ok : (said : Result Orders Fault) (orders : Orders) (visit : Visit) (old : Desk) (status : ℕ) → said ≡ Ok orders → Served visit old status orders → IsServedBy Fails said visit old.sitting.keeper status
 served_ok said orders visit old status is h = subst (λ (s : Result Orders Fault). IsServedBy Fails s visit old.sitting.keeper status) (sym is) h

@@ -94,11 +94,7 @@ fn open_book<T: Kit>(
 }
 
 // A session at the console, and then its ending's line.
-fn hold_at_console<T: Kit>(
-    peer: &Peer,
-    book: &mut Book<T::Keeper>,
-    world: &mut World<T>,
-) -> Ending
+fn hold_at_console<T: Kit>(peer: &Peer, book: &mut Book<T::Keeper>, world: &mut World<T>) -> Ending
     ensures ended { Ended true Authsrv peer.now result (meeting world.old book.old) (meeting world.new book.new) }
     ensures files { world.new.files ≡ world.old.files }
     ensures keeper { world.new.sitting.keeper ≡ world.old.sitting.keeper }

@@ -20,7 +20,11 @@ fn fault_of(fault: TableFault) -> Fault
     }
 }
 
-pub(crate) fn read_table<F: Files>(alloc: Global, files: &mut F, name: &[u8]) -> Result<Table, Fault>
+pub(crate) fn read_table<F: Files>(
+    alloc: Global,
+    files: &mut F,
+    name: &[u8],
+) -> Result<Table, Fault>
     ensures { ReadsTable name.now result (F.cabinet files.old) (F.cabinet files.new) }
 {
     let Some(mut source) = files.source(name) else {

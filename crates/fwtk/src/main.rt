@@ -30,14 +30,14 @@ mod sheet;
 mod texts;
 mod words;
 
+pub use conn::conn;
+pub use ending_line::{denied_line, ending_line, ending_status};
 pub use fault::{Device, Fault};
 pub use kit::{Kit, World};
 pub use orders::Orders;
+pub use place_names::Places;
 pub use run::run;
 pub use texts::LogLine;
-pub use conn::conn;
-pub use ending_line::{denied_line, ending_line, ending_status};
-pub use place_names::Places;
 pub use words::{Command, Query, Visit, places, read_command, table_named};
 
 const HELP: &[u8] =
