@@ -1,0 +1,6 @@
+pub mod Entries
+pub mod Moving
+pub mod Records
+pub mod Salts
+pub mod Seconds
+pub mod Statements

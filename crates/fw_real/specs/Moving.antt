@@ -1,0 +1,28 @@
+-- The bytes that a reader has left and a writer holds, where those are known.
+use Rattle.std.specs.Prelude.{ℕ, List, [], take, Option, None, Result, Ok, Err}
+use Rattle.std.specs.Io.KnownBytes.{Appends, Consumes, IsAtEnd, Keeps}
+use Rattle.fw_outside.specs.Drain.{Drain}
+use Rattle.fw_outside.specs.Spring.{Spring}
+use Rattle.fw_outside.specs.declared.source.Got.{Got}
+use Rattle.fw_outside.specs.declared.source.Got.TheVariants.{Bytes, End, Idle}
+use Rattle.fw_outside.specs.declared.failed.Failed.{Failed}
+
+-- a source that tells nothing
+abbrev pub untold : ℕ → ℕ → Spring
+untold faults waits = record { taken = None; left = None; faults = faults; idles = 0; waits = waits }
+
+-- a sink that tells nothing
+abbrev pub unseen : ℕ → Drain
+unseen faults = record { given = None; shut = None; faults = faults }
+
+-- a take hands on the next bytes of the reader, its end, or its failure, at which it loses nothing
+abbrev pub HandsOn : Result Got Failed → List ℕ → Option (List ℕ) → Option (List ℕ) → Type 0
+HandsOn (Ok (Bytes n)) buf old new = Consumes old new (take n buf)
+HandsOn (Ok End) buf old new = Consumes old new [] × IsAtEnd new
+HandsOn (Ok Idle) buf old new = ⊥
+HandsOn (Err _) buf old new = Keeps old new
+
+-- a gift that is answered with Ok stands whole at the writer's end
+abbrev pub Writes : Result (Unit {0}) Failed → List ℕ → Option (List ℕ) → Option (List ℕ) → Type 0
+Writes (Ok _) piece old new = Appends old new piece
+Writes (Err _) piece old new = Unit {0}

@@ -1,0 +1,35 @@
+-- Records in a file.
+use Rattle.std.specs.Prelude.{◌≡◌, ℕ, List, [], Option, Some, None, MatchOption, Ok}
+use Rattle.sqlite.specs.Files.{file_state, IsOpened}
+use Rattle.sqlite.specs.State.{State, HasCleanDisk, Executes}
+use Rattle.fw_outside.specs.Counts.{counted}
+use Rattle.fw_outside.specs.Vault.{Vault}
+use Rattle.fw_outside.specs.declared.keep_fault.KeepFault.{KeepFault}
+use Rattle.fw_outside.specs.declared.keep_fault.KeepFault.TheVariants.{Failed, NoMemory}
+use Rattle.fw_real.specs.Statements.{table_text}
+use Rattle.fw_real.specs.declared.database.Database.{Database}
+
+-- a keeper that tells nothing
+abbrev pub untold : ℕ → Vault
+untold faults = record { table = None; faults = faults }
+
+-- the count after a refusal: want of memory is no failure
+abbrev pub after_fault : KeepFault → ℕ → ℕ
+after_fault Failed faults = counted faults
+after_fault NoMemory faults = faults
+
+-- what an open database shows
+abbrev pub shown_by : Database → State
+shown_by database = file_state database.connection
+
+-- the table was made in a file that was opened, where it wasn't there
+abbrev pub IsOpen : Database → Type 0
+IsOpen database = HasCleanDisk (shown_by database) → (first : Database) × IsOpened first.connection × (count : ℕ) × Executes table_text [] (shown_by first) (shown_by database) (Ok count)
+
+-- this was done in the database that was open, or in one that was opened for it, and it is open now
+pub record Did (what : State → State → Type 0) (old new : Option Database) : Type 0 where
+  pub before : Database
+  pub after : Database
+  pub was : MatchOption old (IsOpen before) (λ database. before ≡ database)
+  pub is : new ≡ Some after
+  pub did : HasCleanDisk (shown_by after) → what (shown_by before) (shown_by after)

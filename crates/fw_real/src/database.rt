@@ -1,0 +1,101 @@
+//! The file of the records, while it is open.
+ghost use Rattle.std.specs.Prelude.{◌∷◌, [], IfOk, IfErr};
+ghost use Rattle.sqlite.specs.Files.{IsOpened};
+ghost use Rattle.sqlite.specs.State.{HasCleanDisk};
+ghost use Rattle.sqlite.specs.declared.types.Value.TheVariants.{Text, Blob};
+ghost use Rattle.fw_outside.specs.Keyed.{Ascends};
+ghost use Rattle.fw_outside.specs.Vault.{name_of};
+ghost use Rattle.fw_real.specs.Records.{IsOpen, shown_by};
+ghost use Rattle.fw_real.specs.Statements.{FailsToLoad, Loads, Runs, drop_text, put_text, table_text};
+
+use crate::statements::{self, fault_of};
+use fw_outside::{KeepFault, Name, Octets};
+use sqlite::{Connection, File, FileStore};
+use std::alloc::Global;
+use std::fs::OpenOptions;
+use std::io::{self, ErrorKind};
+use std::os::unix::fs::OpenOptionsExt;
+use std::str;
+
+/// An open file of records.
+pub(crate) struct Database {
+    connection: Connection<FileStore<File>>,
+}
+
+/// Closes the file: what its log holds is copied into it.
+impl Drop for Database {
+    fn drop(self) {
+        let Database { connection } = self;
+        let _ = connection.close();
+    }
+}
+
+// Makes an empty file that only its owner may read and write, where there is none of this path.
+fn make_private(system: &HostRuntime, path: &str) -> io::Result<()> {
+    let made = OpenOptions::new()
+        .write(true)
+        .create_new(true)
+        .mode(0o600)
+        .open(system, path);
+    match made {
+        Ok(_) => Ok(()),
+        Err(error) if error.kind() == ErrorKind::AlreadyExists => Ok(()),
+        Err(error) => Err(error),
+    }
+}
+
+fn connect(system: &HostRuntime, path: &str) -> Result<Database, KeepFault>
+    ensures { IfOk result (λ database. HasCleanDisk (shown_by database) → IsOpened database.connection) }
+{
+    match Connection::open(system, path) {
+        Ok(connection) => Ok(Database { connection }),
+        Err(error) => Err(fault_of(error)),
+    }
+}
+
+impl Database {
+    /// The database at the path, with the table of the records. Both are made where they are missing.
+    pub(crate) fn open(system: &HostRuntime, path: &[u8]) -> Result<Database, KeepFault>
+        ensures { IfOk result IsOpen }
+    {
+        let Ok(path) = str::from_utf8(path) else {
+            return Err(KeepFault::Failed);
+        };
+        if make_private(system, path).is_err() {
+            return Err(KeepFault::Failed);
+        }
+        let mut database = connect(system, path)?;
+        database.make_table()?;
+        Ok(database)
+    }
+
+    // Makes the table where there is none of its name.
+    fn make_table(&mut self) -> Result<(), KeepFault>
+        ensures { HasCleanDisk (shown_by self.new) → Runs table_text [] (shown_by self.old) (shown_by self.new) result }
+    {
+        statements::make_table(&mut self.connection)
+    }
+
+    /// Keeps the bytes under the name, in place of those that stood there. They are committed where it answers Ok.
+    pub(crate) fn put(&mut self, name: &Name, bytes: &[u8]) -> Result<(), KeepFault>
+        ensures { HasCleanDisk (shown_by self.new) → Runs put_text (Text name.now ∷ Blob bytes.now ∷ []) (shown_by self.old) (shown_by self.new) result }
+    {
+        statements::put(&mut self.connection, name, bytes)
+    }
+
+    /// Keeps nothing under the name.
+    pub(crate) fn drop_name(&mut self, name: &Name) -> Result<(), KeepFault>
+        ensures { HasCleanDisk (shown_by self.new) → Runs drop_text (Text name.now ∷ []) (shown_by self.old) (shown_by self.new) result }
+    {
+        statements::drop_name(&mut self.connection, name)
+    }
+
+    /// All names with their bytes, in the order of the names.
+    pub(crate) fn load(&mut self, alloc: Global) -> Result<Vec<(Name, Octets)>, KeepFault>
+        ensures ordered { IfOk result (λ loaded. Ascends name_of loaded.items) }
+        ensures loaded { HasCleanDisk (shown_by self.new) → IfOk result (λ loaded. Loads (shown_by self.old) (shown_by self.new) loaded.items) }
+        ensures refused { HasCleanDisk (shown_by self.new) → IfErr result (FailsToLoad (shown_by self.old) (shown_by self.new)) }
+    {
+        statements::load(alloc, &mut self.connection)
+    }
+}

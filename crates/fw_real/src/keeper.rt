@@ -1,0 +1,131 @@
+ghost use Rattle.std.specs.Prelude.{◌≡◌, ◌∷◌, [], Some, None, Ok, IfOk, IfErr, OnOk, MatchOption};
+ghost use Rattle.fw_outside.specs.Counts.{counted};
+ghost use Rattle.fw_outside.specs.Keyed.{Ascends};
+ghost use Rattle.fw_outside.specs.Vault.{AreLoaded, Refuses, Sets, name_of};
+ghost use Rattle.sqlite.specs.declared.types.Value.TheVariants.{Text, Blob};
+ghost use Rattle.fw_real.specs.Records.{Did, IsOpen, after_fault, untold};
+ghost use Rattle.fw_real.specs.Statements.{Loads, Runs, drop_text, put_text};
+
+use crate::database::Database;
+use fw_outside::{KeepFault, Keeper, Name, NoMemory, Octets};
+
+/// Records in a file, which is a database of SQLite with the table `user (name TEXT PRIMARY KEY NOT NULL, record BLOB NOT NULL)`.
+#[derive(Drop)]
+pub struct Records {
+    system: HostRuntime,
+    path: Octets,
+    database: Option<Database>,
+    faults: u64,
+}
+
+impl Records {
+    /// The records in the file at this path, which is opened, or made, at the first call.
+    pub fn new(system: HostRuntime, path: &[u8]) -> Result<Records, NoMemory>
+        ensures path { IfOk result (λ records. records.path ≡ path.now) }
+        ensures closed { IfOk result (λ records. records.database ≡ None) }
+        ensures faults { IfOk result (λ records. records.faults ≡ 0) }
+    {
+        Ok(Records {
+            system,
+            path: Octets::copy(system.alloc(), path)?,
+            database: None,
+            faults: 0,
+        })
+    }
+
+    // The open database, which is taken out, or the file opened.
+    fn take_open(&mut self) -> Result<Database, KeepFault>
+        ensures open { IfOk result (λ database. MatchOption self.old.database (IsOpen database) (λ old. database ≡ old)) }
+        ensures faults { self.new.faults ≡ self.old.faults }
+        ensures path { self.new.path ≡ self.old.path }
+    {
+        match self.database.take() {
+            Some(database) => Ok(database),
+            None => Database::open(&self.system, self.path.bytes()),
+        }
+    }
+
+    fn put_in_file(&mut self, name: &Name, bytes: &[u8]) -> Result<(), KeepFault>
+        ensures did { OnOk result (Did (λ old new. Runs put_text (Text name.now ∷ Blob bytes.now ∷ []) old new (Ok (record {}))) self.old.database self.new.database) }
+        ensures faults { self.new.faults ≡ self.old.faults }
+        ensures path { self.new.path ≡ self.old.path }
+    {
+        let mut database = self.take_open()?;
+        database.put(name, bytes)?;
+        self.database = Some(database);
+        Ok(())
+    }
+
+    fn drop_in_file(&mut self, name: &Name) -> Result<(), KeepFault>
+        ensures did { OnOk result (Did (λ old new. Runs drop_text (Text name.now ∷ []) old new (Ok (record {}))) self.old.database self.new.database) }
+        ensures faults { self.new.faults ≡ self.old.faults }
+        ensures path { self.new.path ≡ self.old.path }
+    {
+        let mut database = self.take_open()?;
+        database.drop_name(name)?;
+        self.database = Some(database);
+        Ok(())
+    }
+
+    fn load_from_file(&mut self) -> Result<Vec<(Name, Octets)>, KeepFault>
+        ensures ordered { IfOk result (λ loaded. Ascends name_of loaded.items) }
+        ensures did { IfOk result (λ loaded. Did (λ old new. Loads old new loaded.items) self.old.database self.new.database) }
+        ensures faults { self.new.faults ≡ self.old.faults }
+        ensures path { self.new.path ≡ self.old.path }
+    {
+        let mut database = self.take_open()?;
+        let loaded = database.load(self.system.alloc())?;
+        self.database = Some(database);
+        Ok(loaded)
+    }
+
+    // Counts a failure; want of memory isn't one.
+    fn count(&mut self, fault: KeepFault) -> KeepFault
+        ensures answer { result ≡ fault }
+        ensures refuses { Refuses fault (untold self.old.faults) (untold self.new.faults) }
+        ensures is { self.new ≡ record self.old { faults = after_fault fault self.old.faults } }
+    {
+        if fault == KeepFault::Failed {
+            self.faults = self.faults.saturating_add(1);
+        }
+        fault
+    }
+}
+
+impl Keeper for Records {
+    ghost vault = { λ r. untold r.faults };
+
+    fn put(&mut self, name: &Name, bytes: &[u8]) -> Result<(), KeepFault>
+        ensures sets { Sets result name.now (Some bytes.now) (untold self.old.faults) (untold self.new.faults) }
+        ensures did { OnOk result (Did (λ old new. Runs put_text (Text name.now ∷ Blob bytes.now ∷ []) old new (Ok (record {}))) self.old.database self.new.database) }
+        ensures path { self.new.path ≡ self.old.path }
+    {
+        match self.put_in_file(name, bytes) {
+            Ok(()) => Ok(()),
+            Err(fault) => Err(self.count(fault)),
+        }
+    }
+
+    fn drop_name(&mut self, name: &Name) -> Result<(), KeepFault>
+        ensures sets { Sets result name.now None (untold self.old.faults) (untold self.new.faults) }
+        ensures did { OnOk result (Did (λ old new. Runs drop_text (Text name.now ∷ []) old new (Ok (record {}))) self.old.database self.new.database) }
+        ensures path { self.new.path ≡ self.old.path }
+    {
+        match self.drop_in_file(name) {
+            Ok(()) => Ok(()),
+            Err(fault) => Err(self.count(fault)),
+        }
+    }
+
+    fn load(&mut self) -> Result<Vec<(Name, Octets)>, KeepFault>
+        ensures loaded { IfOk result (λ loaded. AreLoaded loaded.items (untold self.old.faults) (untold self.new.faults)) }
+        ensures refused { IfErr result (λ fault. Refuses fault (untold self.old.faults) (untold self.new.faults)) }
+        ensures did { IfOk result (λ loaded. Did (λ old new. Loads old new loaded.items) self.old.database self.new.database) }
+        ensures path { self.new.path ≡ self.old.path }
+    {
+        match self.load_from_file() {
+            Ok(loaded) => Ok(loaded),
+            Err(fault) => Err(self.count(fault)),
+        }
+    }
+}

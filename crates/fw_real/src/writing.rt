@@ -1,0 +1,57 @@
+ghost use Rattle.std.specs.Prelude.{◌≡◌};
+ghost use Rattle.std.specs.Io.KnownBytes.{Keeps};
+ghost use Rattle.fw_outside.specs.Counts.{Rose, counted};
+ghost use Rattle.fw_outside.specs.Drain.{Gives, Ends};
+ghost use Rattle.fw_real.specs.Moving.{Writes, unseen};
+
+use fw_outside::{Failed, Sink};
+use std::io::Write;
+
+/// Bytes that are written: to standard output, to standard error, or to a file.
+#[derive(Drop)]
+pub struct Writing<W: Write> {
+    to: W,
+    faults: u64,
+}
+
+impl<W: Write> Writing<W> {
+    /// The bytes that are written to there. Nothing is counted yet.
+    pub fn new(to: W) -> Writing<W>
+        ensures to { result.to ≡ to }
+        ensures faults { result.faults ≡ 0 }
+    {
+        Writing { to, faults: 0 }
+    }
+
+    fn fail(&mut self) -> Failed
+        ensures rose { Rose self.old.faults self.new.faults }
+        ensures is { self.new ≡ record self.old { faults = counted self.old.faults } }
+    {
+        self.faults = self.faults.saturating_add(1);
+        Failed
+    }
+}
+
+impl<W: Write + Drop> Sink for Writing<W> {
+    ghost drain = { λ s. unseen s.faults };
+
+    fn give(&mut self, piece: &[u8]) -> Result<(), Failed>
+        ensures gives { Gives result piece.now (unseen self.old.faults) (unseen self.new.faults) }
+        ensures bytes { Writes result piece.now (W.contents self.old.to) (W.contents self.new.to) }
+    {
+        match self.to.write_all(piece) {
+            Ok(()) => Ok(()),
+            Err(_) => Err(self.fail()),
+        }
+    }
+
+    fn end(&mut self) -> Result<(), Failed>
+        ensures ends { Ends result (unseen self.old.faults) (unseen self.new.faults) }
+        ensures bytes { Keeps (W.contents self.old.to) (W.contents self.new.to) }
+    {
+        match self.to.flush() {
+            Ok(()) => Ok(()),
+            Err(_) => Err(self.fail()),
+        }
+    }
+}
