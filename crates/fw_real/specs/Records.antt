@@ -22,9 +22,15 @@ after_fault NoMemory faults = faults
 abbrev pub shown_by : Database → State
 shown_by database = file_state database.connection
 
--- the table was made in a file that was opened, where it wasn't there
+-- the table was made, where it wasn't there, in a file that had been opened
+pub record IsReady (database : Database) : Type 0 where
+  pub first : Database
+  pub count : ℕ
+  pub opened : IsOpened first.connection
+  pub made : Executes table_text [] (shown_by first) (shown_by database) (Ok count)
+
 abbrev pub IsOpen : Database → Type 0
-IsOpen database = HasCleanDisk (shown_by database) → (first : Database) × IsOpened first.connection × (count : ℕ) × Executes table_text [] (shown_by first) (shown_by database) (Ok count)
+IsOpen database = HasCleanDisk (shown_by database) → IsReady database
 
 -- this was done in the database that was open, or in one that was opened for it, and it is open now
 pub record Did (what : State → State → Type 0) (old new : Option Database) : Type 0 where

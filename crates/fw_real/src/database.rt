@@ -71,7 +71,8 @@ impl Database {
 
     // Makes the table where there is none of its name.
     fn make_table(&mut self) -> Result<(), KeepFault>
-        ensures { HasCleanDisk (shown_by self.new) → Runs table_text [] (shown_by self.old) (shown_by self.new) result }
+        ensures clean { HasCleanDisk (shown_by self.new) → HasCleanDisk (shown_by self.old) }
+        ensures runs { HasCleanDisk (shown_by self.new) → Runs table_text [] (shown_by self.old) (shown_by self.new) result }
     {
         statements::make_table(&mut self.connection)
     }

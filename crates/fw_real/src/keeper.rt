@@ -129,3 +129,6 @@ impl Keeper for Records {
         }
     }
 }
+
+#[cfg(test)]
+mod tests;

@@ -26,6 +26,4 @@ pub use reading::Reading;
 pub use writing::Writing;
 
 #[cfg(test)]
-mod keeper_tests;
-#[cfg(test)]
 mod tests;

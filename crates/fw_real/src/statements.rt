@@ -40,7 +40,8 @@ fn run<S: Alter>(
     text: &str,
     values: &[ValueRef<'_>],
 ) -> Result<(), KeepFault>
-    ensures { HasCleanDisk (state S.Store database.new) → Runs text.now (bound values.now) (state S.Store database.old) (state S.Store database.new) result }
+    ensures clean { HasCleanDisk (state S.Store database.new) → HasCleanDisk (state S.Store database.old) }
+    ensures runs { HasCleanDisk (state S.Store database.new) → Runs text.now (bound values.now) (state S.Store database.old) (state S.Store database.new) result }
 {
     match database.execute(text, values) {
         Ok(_) => Ok(()),
@@ -50,7 +51,8 @@ fn run<S: Alter>(
 
 /// Makes the table where there is none of its name.
 pub(crate) fn make_table<S: Alter>(database: &mut Connection<S>) -> Result<(), KeepFault>
-    ensures { HasCleanDisk (state S.Store database.new) → Runs table_text [] (state S.Store database.old) (state S.Store database.new) result }
+    ensures clean { HasCleanDisk (state S.Store database.new) → HasCleanDisk (state S.Store database.old) }
+    ensures runs { HasCleanDisk (state S.Store database.new) → Runs table_text [] (state S.Store database.old) (state S.Store database.new) result }
 {
     run(database, TABLE, &[])
 }

@@ -1,0 +1,139 @@
+use super::Records;
+use fw_outside::{KeepFault, Keeper, Name, Octets};
+use sqlite::Connection;
+use std::fs;
+use std::os::unix::fs::MetadataExt;
+use std::test::Fail;
+
+fn put(records: &mut Records, name: &[u8], bytes: &[u8]) -> Result<(), KeepFault> {
+    match Name::read(name) {
+        Some(name) => records.put(&name, bytes),
+        None => Ok(()),
+    }
+}
+
+fn drop_name(records: &mut Records, name: &[u8]) -> Result<(), KeepFault> {
+    match Name::read(name) {
+        Some(name) => records.drop_name(&name),
+        None => Err(KeepFault::Failed),
+    }
+}
+
+fn is_entry(entry: &(Name, Octets), name: &[u8], bytes: &[u8]) -> bool {
+    entry.0.text() == name && entry.1.bytes() == bytes
+}
+
+#[test]
+fn records_survive(rt: HostRuntime) -> Result<(), Fail> {
+    let _ = fs::remove_dir_all(&rt, "fw_real_kept");
+    fs::create_dir(&rt, "fw_real_kept")?;
+    let mut records = Records::new(rt, b"fw_real_kept/users")?;
+    assert!(rt; fs::metadata(&rt, "fw_real_kept/users").is_err());
+    for (name, bytes) in [
+        (b"mjr".as_slice(), b"\0old".as_slice()),
+        (b"ann", b""),
+        (b"Bob", b"\xff"),
+        (b"gone", b"g"),
+        (b"mjr", b"\0new\xfe"),
+    ] {
+        assert_eq!(rt; put(&mut records, name, bytes), Ok(()));
+    }
+    assert_eq!(rt; drop_name(&mut records, b"gone"), Ok(()));
+    assert_eq!(rt; drop_name(&mut records, b"nobody"), Ok(()));
+    assert_eq!(rt; records.faults, 0);
+    drop(records);
+    assert_eq!(rt;
+        fs::metadata(&rt, "fw_real_kept/users")?.mode() & 0o777,
+        0o600
+    );
+    let mut again = Records::new(rt, b"fw_real_kept/users")?;
+    let Ok(loaded) = again.load() else {
+        return Err("not loaded".into());
+    };
+    let [bob, ann, mjr] = loaded.as_slice() else {
+        return Err("not three".into());
+    };
+    assert!(rt; is_entry(bob, b"Bob", b"\xff"));
+    assert!(rt; is_entry(ann, b"ann", b""));
+    assert!(rt; is_entry(mjr, b"mjr", b"\0new\xfe"));
+    drop(again);
+    fs::remove_dir_all(&rt, "fw_real_kept")?;
+    Ok(())
+}
+
+// Whether each call is refused and counted.
+fn is_refused(rt: HostRuntime, path: &[u8]) -> bool {
+    let Ok(mut records) = Records::new(rt, path) else {
+        return false;
+    };
+    let refusals = [
+        records.load().map(|_| ()),
+        put(&mut records, b"mjr", b""),
+        drop_name(&mut records, b"mjr"),
+    ];
+    records.faults == 3
+        && refusals
+            .iter()
+            .all(|refusal| *refusal == Err(KeepFault::Failed))
+}
+
+// Makes a database of other rows.
+fn make(rt: &HostRuntime, path: &str, text: &str) -> Result<(), sqlite::Error> {
+    let mut connection = Connection::open(rt, path)?;
+    connection.execute_batch(text)?;
+    connection.close()
+}
+
+#[test]
+fn other_files_are_refused_and_left(rt: HostRuntime) -> Result<(), Fail> {
+    let _ = fs::remove_dir_all(&rt, "fw_real_other");
+    fs::create_dir(&rt, "fw_real_other")?;
+    fs::write(&rt, "fw_real_other/text", b"mjr:password\n".as_slice())?;
+    assert!(rt; is_refused(rt, b"fw_real_other/text"));
+    assert!(rt; fs::read(&rt, "fw_real_other/text")?.as_slice() == b"mjr:password\n".as_slice());
+    let mut records = Records::new(rt, b"fw_real_other/damaged")?;
+    assert_eq!(rt; put(&mut records, b"mjr", b"word"), Ok(()));
+    drop(records);
+    let mut bytes = fs::read(&rt, "fw_real_other/damaged")?;
+    assert!(rt; bytes.len() > 4096);
+    bytes[4096] = 0;
+    fs::write(&rt, "fw_real_other/damaged", bytes.as_slice())?;
+    assert!(rt; is_refused(rt, b"fw_real_other/damaged"));
+    assert!(rt; fs::read(&rt, "fw_real_other/damaged")?.as_slice() == bytes.as_slice());
+    for path in [
+        b"fw_real_other/none/users".as_slice(),
+        b"fw_real_other",
+        b"\xff",
+    ] {
+        assert!(rt; is_refused(rt, path));
+    }
+    fs::remove_dir_all(&rt, "fw_real_other")?;
+    Ok(())
+}
+
+#[test]
+fn rows_of_another_form_are_refused(rt: HostRuntime) -> Result<(), Fail> {
+    let _ = fs::remove_dir_all(&rt, "fw_real_rows");
+    fs::create_dir(&rt, "fw_real_rows")?;
+    for text in [
+        "CREATE TABLE user (name TEXT PRIMARY KEY, record BLOB); INSERT INTO user VALUES ('mjr', x'00'), ('a b', x'01')",
+        "CREATE TABLE user (name TEXT PRIMARY KEY, record BLOB); INSERT INTO user VALUES ('mjr', 'text')",
+        "CREATE TABLE user (name TEXT PRIMARY KEY, record BLOB); INSERT INTO user VALUES (NULL, x'00')",
+        "CREATE TABLE user (name TEXT PRIMARY KEY, record BLOB, more); INSERT INTO user VALUES ('mjr', x'00', 1)",
+        "CREATE TABLE user (name TEXT COLLATE NOCASE PRIMARY KEY, record BLOB); INSERT INTO user VALUES ('ann', x'00'), ('Bob', x'01')",
+        "CREATE TABLE user (name TEXT, record BLOB); INSERT INTO user VALUES ('ann', x'00'), ('ann', x'01')",
+    ] {
+        let _ = fs::remove_file(&rt, "fw_real_rows/users");
+        let _ = fs::remove_file(&rt, "fw_real_rows/users-wal");
+        make(&rt, "fw_real_rows/users", text)?;
+        let mut records = Records::new(rt, b"fw_real_rows/users")?;
+        assert_eq!(rt;
+            records.load().map(|_| ()),
+            Err(KeepFault::Failed),
+            "{text}"
+        );
+        assert_eq!(rt; records.faults, 1);
+    }
+    fs::remove_dir_all(&rt, "fw_real_rows")?;
+    Ok(())
+}
