@@ -1,4 +1,4 @@
-ghost use Rattle.std.specs.Prelude.{◌≡◌, [], None};
+ghost use Rattle.std.specs.Prelude.{◌≡◌, [], None, false};
 ghost use Rattle.fw_outside.specs.Counts.{Rose};
 
 use super::*;
@@ -15,7 +15,7 @@ struct Down {
 impl AuthPort for Down {
     type Origin = u8;
 
-    ghost port = { λ down. record { seen = []; mine = []; full = None; faults = down.faults; odd = 0; origin = 7; home = [] } };
+    ghost port = { λ down. record { seen = []; mine = []; full = None; refused = false; faults = down.faults; odd = 0; origin = 7; home = [] } };
 
     fn ask(&mut self, _sid: u64, _at: u64, _request: Request) -> Result<Reply, PortFault> {
         self.faults = self.faults.saturating_add(1);

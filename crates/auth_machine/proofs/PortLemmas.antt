@@ -18,7 +18,7 @@ use Rattle.auth_machine.specs.Answers.{full_of}
 use Rattle.auth_machine.specs.Book.{Asked, BookView, Enters, IsFull, Replies, refused_after, refused_by}
 use Rattle.auth_machine.specs.History.{IsLegal, Origin, after}
 use Rattle.auth_machine.specs.Policy.{PolicyView}
-use Rattle.auth_machine.specs.Port.{full_at, port_of}
+use Rattle.auth_machine.specs.Port.{Ground, full_at, port_of}
 use Rattle.auth_machine.specs.State.{State}
 use Rattle.auth_machine.specs.Step.{answer, is_refused, proposed}
 
@@ -31,7 +31,7 @@ some_clash {A} {n} same = clash (sym (ap is_there same))
     is_there None = false
     is_there (Some m) = true
 
-entered : {sid at : ℕ} {request : Request} {old new : Port Origin} (reply : Reply) → full_of reply ≡ None → ports.Enters sid at request reply old new → ports.Replies sid at request reply old new
+entered : {sid at : ℕ} {request : Request} {old new : Port Ground} (reply : Reply) → full_of reply ≡ None → ports.Enters sid at request reply old new → ports.Replies sid at request reply old new
 entered (replies.Opened sid) not_full h = h
 entered replies.Password not_full h = h
 entered (replies.Challenge n word_seed) not_full h = h
@@ -57,7 +57,7 @@ abbrev told_of : Option ℕ → ℕ
 told_of None = 0
 told_of (Some n) = n
 
-refused : (sid at : ℕ) (request : Request) {told : ℕ} {old new : Port Origin} (reply : Reply) → full_of reply ≡ Some told → ports.IsFull told old new → ports.Replies sid at request reply old new
+refused : (sid at : ℕ) (request : Request) {told : ℕ} {old new : Port Ground} (reply : Reply) → full_of reply ≡ Some told → ports.IsFull told old new → ports.Replies sid at request reply old new
 refused sid at request (replies.Opened number) full h = some_clash (sym full)
 refused sid at request replies.Password full h = some_clash (sym full)
 refused sid at request (replies.Challenge n word_seed) full h = some_clash (sym full)
@@ -92,14 +92,20 @@ fits_last origin h entry legal =
 
 -- ---- the port
 
-abbrev made : List Entry → List ℕ → Option ℕ → Bool → Origin → Port Origin
+abbrev made : List Entry → List ℕ → Option ℕ → Bool → Ground → Port Ground
 made seen mine full refused origin = record { seen = seen; mine = mine; full = full; refused = refused; faults = 0; odd = 0; origin = origin; home = [] }
 
-same_port : (seen more : List Entry) (mine others : List ℕ) (full told : Option ℕ) (refused known : Bool) (origin other : Origin) → seen ≡ more → mine ≡ others → full ≡ told → refused ≡ known → origin ≡ other
+same_port : (seen more : List Entry) (mine others : List ℕ) (full told : Option ℕ) (refused known : Bool) (origin other : Ground) → seen ≡ more → mine ≡ others → full ≡ told → refused ≡ known → origin ≡ other
     → made seen mine full refused origin ≡ made more others told known other
 same_port seen more mine others full told refused known origin other a b c d e =
     ap (λ (x : List Entry). made x mine full refused origin) a ∙ ap (λ (x : List ℕ). made more x full refused origin) b ∙ ap (λ (x : Option ℕ). made more others x refused origin) c
-    ∙ ap (λ (x : Bool). made more others told x origin) d ∙ ap (λ (x : Origin). made more others told known x) e
+    ∙ ap (λ (x : Bool). made more others told x origin) d ∙ ap (λ (x : Ground). made more others told known x) e
+
+abbrev ground : BookView → Ground
+ground book = (book.origin, book.limit)
+
+same_ground : (new old : BookView) → new.limit ≡ old.limit → new.origin ≡ old.origin → ground new ≡ ground old
+same_ground new old limit origin = cc
 
 nothing_more : (h : List Entry) → h ++ [] ≡ h
 nothing_more h = search rules
@@ -145,7 +151,7 @@ port_entered sid at request reply old new limit origin refused enters legal =
       is = same_port _ _ _ _ _ _ _ _ _ _
           (enters.is ∙ ap (λ (h : List Entry). h ++ entry ∷ []) (sym same))
           (ap (λ (h : List Entry). places (length h)) enters.is ∙ next_place old.history entry)
-          refl refused origin;
+          refl refused (same_ground new old limit origin);
     }
 
 port_full : (told : ℕ) (old new : BookView) → new.limit ≡ old.limit → new.origin ≡ old.origin → new.refused ≡ true → IsFull told old.limit old.history new.history → ports.IsFull told (port_of old) (port_of new)
@@ -157,7 +163,7 @@ port_full told old new limit origin refused full =
       is = same_port _ _ _ _ _ _ _ _ _ _
           (full.is ∙ sym (nothing_more old.history))
           (ap (λ (h : List Entry). places (length h)) full.is)
-          (ap (λ (n : ℕ). full_at n new.history) limit ∙ ap (full_at old.limit) full.is ∙ at_limit) refused origin;
+          (ap (λ (n : ℕ). full_at n new.history) limit ∙ ap (full_at old.limit) full.is ∙ at_limit) refused (same_ground new old limit origin);
     }
 
 pub port_lacks : (old new : BookView) → new.limit ≡ old.limit → new.origin ≡ old.origin → new.refused ≡ old.refused → new.history ≡ old.history → ports.Lacks (port_of old) (port_of new)
@@ -168,7 +174,7 @@ port_lacks old new limit origin refused same = record {
   is = same_port _ _ _ _ _ _ _ _ _ _
       (same ∙ sym (nothing_more old.history))
       (ap (λ (h : List Entry). places (length h)) same)
-      (ap (λ (n : ℕ). full_at n new.history) limit ∙ ap (full_at old.limit) same) refused origin;
+      (ap (λ (n : ℕ). full_at n new.history) limit ∙ ap (full_at old.limit) same) refused (same_ground new old limit origin);
 }
 
 replied : (sid at : ℕ) (request : Request) (reply : Reply) (full : Option ℕ) (old new : BookView) → full_of reply ≡ full → new.limit ≡ old.limit → new.origin ≡ old.origin → new.refused ≡ refused_after full old.refused

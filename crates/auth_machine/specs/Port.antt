@@ -9,8 +9,12 @@ use Rattle.auth_machine.specs.History.{Origin}
 abbrev pub full_at : ℕ → List Entry → Option ℕ
 full_at limit history = if length history == limit then Some limit else None
 
+-- what a book's answers stand on beside its history: its origin, and how many entries fit
+abbrev pub Ground : Type 0
+Ground = Origin × ℕ
+
 -- all entries are its own, it doesn't fail, and its history is its own
-abbrev pub port_of : BookView → Port Origin
+abbrev pub port_of : BookView → Port Ground
 port_of book = record {
   seen = book.history;
   mine = places (length book.history);
@@ -18,6 +22,6 @@ port_of book = record {
   refused = book.refused;
   faults = 0;
   odd = 0;
-  origin = book.origin;
+  origin = (book.origin, book.limit);
   home = [];
 }

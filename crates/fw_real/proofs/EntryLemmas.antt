@@ -1,5 +1,5 @@
 -- What adding an entry at the end does to the order.
-use Rattle.std.proofs.Common.{◌≡◌, ℕ, suc, ◌-◌, true, Bool, List, [], ◌∷◌, ◌++◌, length, IsTrue, Less, Equal, Greater, Ordering, false, refl, ap, sym, subst, is_lt, nat_cmp, ◌∙◌, arith}
+use Rattle.std.proofs.Common.{◌≡◌, ℕ, suc, ◌-◌, true, List, [], ◌∷◌, ◌++◌, length, IsTrue, Less, Equal, Greater, Ordering, refl, ap, sym, is_lt, nat_cmp, ◌∙◌, arith}
 use mathlib.Core.Bool.{true≢false}
 use Rattle.std.specs.Cmp.Lexicographic.{slice_cmp, nat_list_cmp_total}
 use Rattle.std.specs.List.{AllByRecursion}

@@ -1,5 +1,5 @@
 -- Records in a file.
-use Rattle.std.specs.Prelude.{◌≡◌, ℕ, List, [], Option, Some, None, MatchOption, Ok}
+use Rattle.std.specs.Prelude.{◌≡◌, ℕ, [], Option, Some, None, MatchOption, Ok}
 use Rattle.sqlite.specs.Files.{file_state, IsOpened}
 use Rattle.sqlite.specs.State.{State, HasCleanDisk, Executes}
 use Rattle.fw_outside.specs.Counts.{counted}

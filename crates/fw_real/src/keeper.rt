@@ -10,6 +10,10 @@ use crate::database::Database;
 use fw_outside::{KeepFault, Keeper, Name, NoMemory, Octets};
 
 /// Records in a file, which is a database of SQLite with the table `user (name TEXT PRIMARY KEY NOT NULL, record BLOB NOT NULL)`.
+///
+/// The file is opened at the first call, and made where it is missing, for its owner alone. It is locked as long as it is
+/// open, so nobody else can open it, and a file that somebody else has open is a failure. A call that is refused closes it,
+/// and the next call opens it anew. A file that is no database, or a damaged one, is refused and left as it is.
 #[derive(Drop)]
 pub struct Records {
     system: HostRuntime,

@@ -2,7 +2,7 @@
 use Rattle.std.proofs.Common.{◌≡◌, ℕ, List, refl, sym, ◌∙◌, ap, subst, inl, inr, arith, ◌⊎◌, Bool, true, false}
 use Rattle.std.specs.Prelude.{Option, Some, None, Result, Ok, Err, IfSome, IsSome}
 use Rattle.auth_machine.specs.Book.{BookView}
-use Rattle.auth_machine.specs.History.{Origin}
+use Rattle.auth_machine.specs.Port.{Ground}
 use Rattle.authsrv_lines.specs.Causes.{Caused}
 use Rattle.fw_outside.specs.Counts.{Rose}
 use Rattle.fw_outside.specs.Vault.{Missed, Vault}
@@ -124,7 +124,7 @@ lacking : (n : ℕ) → n ≡ 5 → Fails n
 lacking n is = inr is
 
 -- an ending at the console
-at_console : (ending : Ending) (old new : Meeting Origin) → Caused ending old.devices new.devices → Went Fails true (Permit 0) (ending_status ending)
+at_console : (ending : Ending) (old new : Meeting Ground) → Caused ending old.devices new.devices → Went Fails true (Permit 0) (ending_status ending)
 at_console Done old new h = inl (inl refl)
 at_console (Denied line) old new h = absurd h
 at_console ClientFault old new h = inr (inl refl)
@@ -137,7 +137,7 @@ at_console Spent old new h = inl (inr refl)
 at_console NoMemory old new h = inr (inr refl)
 
 -- an ending of a client that is permitted
-when_permitted : (line : ℕ) (ending : Ending) (old new : Meeting Origin) → Causes (Permit line) ending old new → Went Fails false (Permit line) (ending_status ending)
+when_permitted : (line : ℕ) (ending : Ending) (old new : Meeting Ground) → Causes (Permit line) ending old new → Went Fails false (Permit line) (ending_status ending)
 when_permitted line Done old new h = inl (inl refl)
 when_permitted line (Denied other) old new h = absurd (cc)
 when_permitted line ClientFault old new h = inr (inl refl)
@@ -153,14 +153,14 @@ when_denied : (line : ℕ) (ending : Ending) → IsRefused (Deny line) ending �
 when_denied line ending (inl is) = inl (ap ending_status is)
 when_denied line ending (inr is) = inr (inl (ap ending_status is))
 
-by_verdict : (verdict : Verdict) (ending : Ending) (old new : Meeting Origin) → Causes verdict ending old new → IsRefused verdict ending → Went Fails false verdict (ending_status ending)
+by_verdict : (verdict : Verdict) (ending : Ending) (old new : Meeting Ground) → Causes verdict ending old new → IsRefused verdict ending → Went Fails false verdict (ending_status ending)
 by_verdict (Permit line) ending old new caused refused = when_permitted line ending old new caused
 by_verdict (Deny line) ending old new caused refused = when_denied line ending refused
 
 console_any : (verdict : Verdict) (status : ℕ) → Went Fails true (Permit 0) status → Went Fails true verdict status
 console_any verdict status h = h
 
-visit_went : (console : Bool) (rules : RuleBook) (peer : Peer) (old new : Meeting Origin) (ending : Ending) → Visits console rules peer old new ending → Went Fails console (verdict_of rules peer) (ending_status ending)
+visit_went : (console : Bool) (rules : RuleBook) (peer : Peer) (old new : Meeting Ground) (ending : Ending) → Visits console rules peer old new ending → Went Fails console (verdict_of rules peer) (ending_status ending)
 visit_went true rules peer old new ending h = console_any (verdict_of rules peer) (ending_status ending) (at_console ending old new (ended_caused Authsrv peer ending old new h))
 visit_went false rules peer old new ending h =
     by_verdict (verdict_of rules peer) ending old new (conn_caused Authsrv rules peer old new ending h) (conn_refused Authsrv rules peer old new ending h)

@@ -5,7 +5,7 @@ use Rattle.auth_machine.specs.Book.{BookView}
 use Rattle.auth_machine.specs.History.{IsLegal, HasRecords, Origin}
 use Rattle.auth_machine.specs.Opening.{ReadsAs}
 use Rattle.auth_machine.specs.Policy.{PolicyView}
-use Rattle.auth_machine.specs.Port.{port_of}
+use Rattle.auth_machine.specs.Port.{Ground}
 use Rattle.fw_outside.specs.Vault.{Vault}
 use Rattle.fw_outside.specs.declared.ending.Ending.{Ending}
 use Rattle.fw_outside.specs.declared.ending.Ending.TheVariants.{Done, Denied, ClientFault, ServerFault, LogFault, AuthFault, Idle, NoRoute, Spent, NoMemory}
@@ -44,9 +44,12 @@ held_over visit rules first book ending outcome refused old mid new visits files
   files = ap (λ (d : Desk). d.files) back.is ∙ files;
 }
 
-visits_origin : (console : Bool) (rules : RuleBook) (peer : Peer) (old new : Desk) (first last : BookView) (ending : Ending) → Visits console rules peer (meeting old first) (meeting new last) ending → last.origin ≡ first.origin
-visits_origin true rules peer old new first last ending h = ended_origin Authsrv peer ending (meeting old first) (meeting new last) h
-visits_origin false rules peer old new first last ending h = conn_origin Authsrv rules peer (meeting old first) (meeting new last) ending h
+abbrev ground : BookView → Ground
+ground book = (book.origin, book.limit)
+
+visits_ground : (console : Bool) (rules : RuleBook) (peer : Peer) (old new : Desk) (first last : BookView) (ending : Ending) → Visits console rules peer (meeting old first) (meeting new last) ending → ground last ≡ ground first
+visits_ground true rules peer old new first last ending h = ended_origin Authsrv peer ending (meeting old first) (meeting new last) h
+visits_ground false rules peer old new first last ending h = conn_origin Authsrv rules peer (meeting old first) (meeting new last) ending h
 
 -- an outcome of a visit is a status, or that the history was full
 proceeds_by : (visit : Visit) (orders : Orders) (refused : Bool) (ending : Ending) (old new : Desk) → Held visit orders (outcome_of refused ending) old new → Proceeds visit orders (outcome_of refused ending) old new
@@ -90,7 +93,9 @@ from_old visit rules first last ending old mid new keeper is h =
 pub proceeds : (visit : Visit) (orders : Orders) (first : BookView) (outcome : Result ℕ Fault) (old mid new : Desk)
     → Opened orders.policy first old mid → HoldsOver visit orders.rules first outcome mid new → Proceeds visit orders outcome old new
 proceeds visit orders first outcome old mid new opened over =
-    let origin : over.book.origin ≡ first.origin = visits_origin visit.console orders.rules visit.peer mid new first over.book over.ending over.visits in
+    let same : ground over.book ≡ ground first = visits_ground visit.console orders.rules visit.peer mid new first over.book over.ending over.visits in
+    let origin : over.book.origin ≡ first.origin = ap (λ (b : Ground). b.0) same in
+    let limit : over.book.limit ≡ most_entries = ap (λ (b : Ground). b.1) same ∙ ap (λ (b : BookView). b.limit) opened.at_first in
     proceeds_so visit orders over.book.refused over.ending outcome old new over.outcome_is (record {
       before = first.vault;
       keeper = opened.keeper;
@@ -102,6 +107,7 @@ proceeds visit orders first outcome old mid new opened over =
       visits = from_first visit orders.rules first (book_at_first first.origin most_entries first.vault) over.book over.ending old new opened.at_first
           (from_old visit orders.rules first over.book over.ending old mid new None opened.is over.visits);
       origin_is = origin;
+      limit = limit;
       legal = subst (λ (o : Origin). IsLegal o over.book.history) origin over.legal;
       has = subst (λ (o : Origin). HasRecords o over.book.history over.book.vault) origin over.has;
       faults = over.faults;

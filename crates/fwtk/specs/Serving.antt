@@ -4,7 +4,7 @@ use Rattle.auth_machine.specs.Book.{BookView}
 use Rattle.auth_machine.specs.History.{HasRecords, IsLegal, NoMoreThanFaults, Origin}
 use Rattle.auth_machine.specs.Opening.{ReadsAs}
 use Rattle.auth_machine.specs.Policy.{PolicyView, policy_of}
-use Rattle.auth_machine.specs.Port.{port_of}
+use Rattle.auth_machine.specs.Port.{Ground, port_of}
 use Rattle.fw_outside.specs.Vault.{Missed, Vault}
 use Rattle.fw_outside.specs.declared.ending.Ending.{Ending}
 use Rattle.fw_outside.specs.declared.ending.Ending.TheVariants as endings
@@ -45,14 +45,14 @@ IsFaultOf read rules_faults.NoMemory = Unit {0}
 -- ---- a visit
 
 -- the devices that a client of the server meets
-abbrev pub meeting : Desk → BookView → Meeting Origin
+abbrev pub meeting : Desk → BookView → Meeting Ground
 meeting desk book = record {
   devices = record { inlet = desk.sitting.input; outlet = desk.output; port = port_of book; hours = desk.sitting.hours; throws = desk.sitting.throws };
   logs = desk.logs;
 }
 
--- a session at the console is held whatever the table says; any other client goes by the verdict
-abbrev pub Visits : Bool → RuleBook → Peer → Meeting Origin → Meeting Origin → Ending → Type 0
+-- a session at the console is held whatever the rules say of the peer; any other client goes by the verdict
+abbrev pub Visits : Bool → RuleBook → Peer → Meeting Ground → Meeting Ground → Ending → Type 0
 Visits true rules peer old new ending = Ended true Authsrv peer ending old new
 Visits false rules peer old new ending = Conn Authsrv rules peer old new ending
 
@@ -81,6 +81,7 @@ pub record Held (visit : Visit) (orders : Orders) (outcome : Result ℕ Fault) (
   pub ending : Ending
   pub visits : Visits visit.console orders.rules visit.peer (meeting old (book_at_first origin most_entries before)) (meeting new book) ending
   pub origin_is : book.origin ≡ origin
+  pub limit : book.limit ≡ most_entries
   pub legal : IsLegal origin book.history
   pub has : HasRecords origin book.history book.vault
   pub faults : NoMoreThanFaults book.history book.vault

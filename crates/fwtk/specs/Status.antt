@@ -42,7 +42,7 @@ pub record IsReadable (keeper : Vault) : Type 0 where
   pub records : List Fields
   pub read : ReadsAs (Ok records) keeper keeper
 
--- the session came to its end: 6 where a request was answered that the history is full, or as many bytes were taken as may be
+-- the session came to its end, or to a limit, which `Serving` tells
 abbrev pub IsHeld : ℕ → Type 0
 IsHeld status = (status ≡ 0) ⊎ (status ≡ 6)
 

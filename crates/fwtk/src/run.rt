@@ -99,21 +99,25 @@ fn end<T: Kit>(world: &mut World<T>, outcome: Result<u8, Fault>) -> u8
 
 /// Runs a command line over the devices of a world, and answers the exit status:
 ///
-/// - 0 where the table permits the peer, 1 where it denies it;
+/// - 0 where the table permits the peer, and a session of `authsrv` is done; 1 where it denies the peer;
 /// - 2 where the words are no command;
-/// - 3 where a line of the table, or of the service, can't be read;
+/// - 3 where a line of the table, or of the service, or a user's record can't be read;
 /// - 4 where a device failed, which its count shows;
-/// - 5 for want of memory.
+/// - 5 for want of memory;
+/// - 6 where a session took as many bytes as it may, or was done but was refused a request since the history is full.
 ///
-/// A status from 2 on is told to the log in one line that names its cause. `netacl` logs the verdict before it prints it,
-/// so a denial that was logged stands even if it couldn't be printed; `table` prints alone.
+/// What ends a run before a session is told to the log in one line that names its cause, and so is a history that was full.
+/// A session's ending has its own line, but for a denial, which the verdict's line tells, and a log that failed. `netacl`
+/// logs the verdict before it prints it, so a denial that was logged stands even if it couldn't be printed; `table` prints
+/// alone.
 pub fn run<T: Kit>(alloc: Global, words: &[Octets], world: &mut World<T>) -> u8
     requires keeper { IsSome world.old.sitting.keeper }
     // What each status means, and what the devices were given.
     ensures ran { Ran words.now result world.old world.new }
     // 2 is exactly for words that are no command.
     ensures usage { (result ≡ 2) ↔ (command_of words.now ≡ None) }
-    // 0, 1 and 3 are by the table's text, where the files tell it; else a device failed, or there was no memory.
+    // 0, 1 and 3 are by the table's text, where the files tell it, and by the records that the keeper has; a session that was
+    // held may end with 6; else a device failed, or there was no memory.
     ensures ruled { IsRuledBy Fails (table_named words.now) (command_of words.now) world.old result }
     // 4 is only for a device whose own count rose.
     ensures outside { result ≡ 4 → SomeRose world.old world.new }
@@ -121,10 +125,10 @@ pub fn run<T: Kit>(alloc: Global, words: &[Octets], world: &mut World<T>) -> u8
     ensures returned { world.new.files.out ≡ world.old.files.out }
     // The keeper is there again.
     ensures kept { IsSome world.new.sitting.keeper }
-    // A client of `authsrv` is told the replies of a legal history of the records that the keeper has, or that it is denied, or
-    // nothing.
-    ensures replies { Replies (table_named words.now) (command_of words.now) world.old world.new }
-    // So where no count rose, the status is by the table's text, or there was no memory.
+    // A client of `authsrv` is told the replies of a legal history, after which the keeper has the records; or, where the rules
+    // deny it, that it is denied; or, where the status is 3, 4 or 5, nothing.
+    ensures replies { Replies (table_named words.now) (command_of words.now) result world.old world.new }
+    // So where no count rose, the status is by the table's text and the records, or there was no memory.
     ensures complete { ¬ (SomeRose world.old world.new) → IsRuledBy WantsMemory (table_named words.now) (command_of words.now) world.old result }
 {
     let outcome = obey(alloc, words, world);

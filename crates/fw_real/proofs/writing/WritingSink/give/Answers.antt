@@ -1,4 +1,4 @@
-use Rattle.std.proofs.Common.{[], refl, rules}
+use Rattle.std.proofs.Common.{[], refl}
 use Rattle.fw_real.proofs.writing.WritingSink.give.Goals as goal
 
 pub returns-in-Err-clause-gives : goal.returns-in-Err-clause-gives
