@@ -1,0 +1,42 @@
+#!/bin/sh
+# Installs fwtk, its manual pages and an example table under a prefix. The program is built where it isn't yet, or is the
+# one that FWTK_PROGRAM names. DESTDIR, if it is set, stands before the prefix. No permission table is written or changed.
+set -eu
+
+if [ $# -ne 1 ]; then
+  echo 'usage: ./install.sh PREFIX' >&2
+  exit 2
+fi
+case $1 in
+  /*) prefix=${1%/} ;;
+  *) echo 'usage: ./install.sh PREFIX, which begins with /' >&2; exit 2 ;;
+esac
+top=$(CDPATH='' cd -- "$(dirname -- "$0")" && pwd)
+under=${DESTDIR:-}$prefix
+crate=$top/crates/fwtk
+program=${FWTK_PROGRAM:-$crate/out/fwtk}
+
+if [ -z "${FWTK_PROGRAM:-}" ] && [ ! -x "$program" ]; then
+  echo "building $program"
+  (CDPATH='' cd -- "$crate" && rt run -- --version </dev/null)
+fi
+if [ ! -f "$program" ] || [ ! -x "$program" ]; then
+  echo "install.sh: there is no program at $program" >&2
+  exit 1
+fi
+
+# put MODE FILE TO: a copy of the file, in place of one that is there. The old one is whole until the new one is.
+put() {
+  mkdir -p -- "$(dirname -- "$3")"
+  rm -f -- "$3.new"
+  cp -- "$2" "$3.new"
+  chmod "$1" "$3.new"
+  mv -f -- "$3.new" "$3"
+  echo "$3"
+}
+
+umask 022
+put 755 "$program" "$under/sbin/fwtk"
+put 644 "$top/docs/man/netperm-table.5" "$under/share/man/man5/netperm-table.5"
+put 644 "$top/docs/man/fwtk.8" "$under/share/man/man8/fwtk.8"
+put 644 "$crate/data/site-table" "$under/etc/netperm-table.example"
