@@ -7,13 +7,12 @@ ghost use Rattle.fwtk.specs.Visiting.{GivesBack, HoldsOver, Opened, fault_of};
 ghost use Rattle.fwtk.specs.Serving.{Attends, IsFaultOf, Proceeds, Unopened, Visits, meeting, orders_of, outcome_of};
 ghost use Rattle.gate_rules.specs.declared.service.Service.TheVariants.{Authsrv};
 
-use crate::conn::{conn, note_ending};
+use crate::conn::{conn, console};
 use crate::ending_line::ending_status;
 use crate::finding::read_table;
 use crate::orders::Orders;
 use crate::{Device, Fault, Kit, Visit, World};
 use auth_machine::{Book, OpenFault, Policy};
-use authsrv_lines::authsrv_session;
 use fw_outside::{Ending, Files, Keeper, Peer};
 use gate_rules::{Rules, RulesFault, Service};
 use netperm_table::Table;
@@ -93,22 +92,22 @@ fn open_book<T: Kit>(
     }
 }
 
-// A session at the console, and then its ending's line.
+// A session at the console.
 fn hold_at_console<T: Kit>(peer: &Peer, book: &mut Book<T::Keeper>, world: &mut World<T>) -> Ending
     ensures ended { Ended true Authsrv peer.now result (meeting world.old book.old) (meeting world.new book.new) }
     ensures files { world.new.files ≡ world.old.files }
     ensures keeper { world.new.sitting.keeper ≡ world.old.sitting.keeper }
 {
-    let ending = authsrv_session(
-        true,
+    console(
+        &Service::Authsrv,
+        peer,
         book,
         &mut world.input,
         &mut world.output,
+        &mut world.logs,
         &mut world.clock,
         &mut world.dice,
-    );
-    note_ending(&Service::Authsrv, peer, ending, &mut world.logs);
-    ending
+    )
 }
 
 fn hold<T: Kit>(

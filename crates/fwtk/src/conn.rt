@@ -1,6 +1,6 @@
 //! One client of a service: the verdict, the session, and how it ended.
-ghost use Rattle.std.specs.Prelude.{◌≡◌};
-ghost use Rattle.fwtk.specs.Conn.{Causes, Conn, IsRefused, Noted, NotedIf, Treated, seconds_by, timeout_of};
+ghost use Rattle.std.specs.Prelude.{◌≡◌, true};
+ghost use Rattle.fwtk.specs.Conn.{Causes, Conn, Ended, IsRefused, Noted, NotedIf, Treated, seconds_by, timeout_of};
 ghost use Rattle.gate_rules.specs.Verdict.{verdict_of};
 ghost use Rattle.fwtk.specs.Endings.{denied_text, ending_line};
 ghost use Rattle.gate_rules.specs.declared.service.Service.TheVariants.{Authsrv};
@@ -30,7 +30,7 @@ fn timeout_of(rules: &Rules) -> u32
 }
 
 // Gives the log the line of an ending, where it has one.
-pub(crate) fn note_ending<G: Sink>(service: &Service, peer: &Peer, ending: Ending, logs: &mut G)
+fn note_ending<G: Sink>(service: &Service, peer: &Peer, ending: Ending, logs: &mut G)
     ensures { NotedIf (ending_line service.now peer.now ending) (G.drain logs.old) (G.drain logs.new) }
 {
     if let Some(line) = ending_line(service, peer, ending) {
@@ -43,6 +43,26 @@ fn deny<K: Sink>(line: u32, to: &mut K)
     ensures { Noted (denied_text line) (K.drain to.old) (K.drain to.new) }
 {
     let _ = to.give(denied_line(line).as_slice());
+}
+
+/// A session at the console of the server, and then its ending's line.
+pub(crate) fn console<P: AuthPort, S: Source, K: Sink, G: Sink, C: Clock, R: Dice>(
+    service: &Service,
+    peer: &Peer,
+    port: &mut P,
+    from: &mut S,
+    to: &mut K,
+    logs: &mut G,
+    clock: &mut C,
+    dice: &mut R,
+) -> Ending
+    ensures { Ended true service.now peer.now result
+        (record { devices = record { inlet = S.spring from.old; outlet = K.drain to.old; port = P.port port.old; hours = C.hours clock.old; throws = R.throws dice.old }; logs = G.drain logs.old })
+        (record { devices = record { inlet = S.spring from.new; outlet = K.drain to.new; port = P.port port.new; hours = C.hours clock.new; throws = R.throws dice.new }; logs = G.drain logs.new }) }
+{
+    let ending = authsrv_session(true, port, from, to, clock, dice);
+    note_ending(service, peer, ending, logs);
+    ending
 }
 
 // A client whose verdict was logged: it is told that it is denied, or served.
