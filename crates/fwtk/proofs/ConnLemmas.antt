@@ -1,11 +1,11 @@
 -- What a client's ending says.
-use Rattle.std.proofs.Common.{◌≡◌, ◌∙◌, refl, sym, subst, ap, ℕ, List, inl, inr, Bool, true, false}
-use Rattle.std.specs.Prelude.{Option, Some, None, Result, Ok, Err}
+use Rattle.std.proofs.Common.{◌≡◌, ◌∙◌, refl, sym, subst, ap, ℕ, List, inl, inr, true, false}
+use Rattle.std.specs.Prelude.{Result, Ok, Err}
 use Rattle.authsrv_lines.specs.Causes.{Caused}
 use Rattle.authsrv_lines.specs.CauseLemmas.{session_caused, session_keeps}
 use Rattle.authsrv_lines.specs.Session.{Devices, Session}
 use Rattle.fw_outside.specs.Counts.{Rose}
-use Rattle.fw_outside.specs.Drain.{Cut, Drain, Gives}
+use Rattle.fw_outside.specs.Drain.{Drain, Gives}
 use Rattle.fw_outside.specs.Spring.{Spring, waiting}
 use Rattle.fw_outside.specs.declared.ending.Ending.{Ending}
 use Rattle.fw_outside.specs.declared.ending.Ending.TheVariants.{Done, Denied, ClientFault, ServerFault, LogFault, AuthFault, Idle, NoRoute, Spent, NoMemory}

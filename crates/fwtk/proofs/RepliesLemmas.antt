@@ -1,9 +1,8 @@
 -- What a client of the authentication server was told.
-use Rattle.std.proofs.Common.{◌≡◌, ◌⊎◌, refl, sym, ◌∙◌, ap, subst, inl, inr, ℕ, List, [], Bool, true, false}
+use Rattle.std.proofs.Common.{◌≡◌, ◌⊎◌, refl, sym, ◌∙◌, ap, subst, inl, inr, ℕ, List, Bool, true, false}
 use Rattle.std.specs.Prelude.{length, filter, map, Option, Some, None, Result, Ok, Err}
 use Rattle.auth_events.specs.Port.{Port, places}
 use Rattle.auth_machine.specs.Book.{BookView}
-use Rattle.auth_machine.specs.History.{Origin}
 use Rattle.auth_machine.specs.Port.{Ground, port_of}
 use Rattle.authsrv_lines.specs.Acts.{World}
 use Rattle.authsrv_lines.specs.Session.{Devices, Session, at_first}
@@ -22,8 +21,8 @@ use Rattle.gate_rules.specs.declared.verdict.Verdict.{Verdict}
 use Rattle.gate_rules.specs.declared.verdict.Verdict.TheVariants.{Permit, Deny}
 use Rattle.fwtk.specs.Conn.{AfterLine, Meeting, Noted, patient, timeout_of}
 use Rattle.fwtk.specs.Desk.{Desk, Sitting}
-use Rattle.fwtk.specs.Endings.{denied_text, ending_status}
-use Rattle.fwtk.specs.Replies.{IsSilent, IsTold, OfDenial, OfHistory, Replies}
+use Rattle.fwtk.specs.Endings.{denied_text}
+use Rattle.fwtk.specs.Replies.{IsTold, OfHistory, Replies}
 use Rattle.fwtk.specs.Ruling.{OfText, said_in}
 use Rattle.fwtk.specs.Run.{Does, Ends, Ran}
 use Rattle.fwtk.specs.Serving.{Attends, Held, Visits, book_at_first, meeting, most_entries, orders_of, outcome_of}

@@ -18,11 +18,10 @@ use Rattle.fwtk.specs.Conn.{Causes, IsRefused, Meeting}
 use Rattle.fwtk.specs.Deciding.{FilesFailed}
 use Rattle.fwtk.specs.Desk.{Desk, Sitting}
 use Rattle.fwtk.specs.Endings.{ending_status}
-use Rattle.fwtk.specs.Fault.{fault_text}
 use Rattle.fwtk.specs.Ruling.{said_in}
-use Rattle.fwtk.specs.Run.{Ends, Tells}
+use Rattle.fwtk.specs.Run.{Ends}
 use Rattle.fwtk.specs.Serving.{Attends, Follows, Held, Visits, book_at_first, meeting, most_entries, orders_of, outcome_of}
-use Rattle.fwtk.specs.Status.{Fails, HasBad, IsAnswered, IsHeld, IsReadable, IsServed, IsServedBy, IsServedFor, KeeperRose, SomeRose, WantsMemory}
+use Rattle.fwtk.specs.Status.{Fails, IsAnswered, IsHeld, IsReadable, IsServed, IsServedBy, IsServedFor, KeeperRose, SomeRose, WantsMemory}
 use Rattle.fwtk.specs.declared.fault.Device.TheVariants as device
 use Rattle.fwtk.specs.declared.fault.Fault.{Fault}
 use Rattle.fwtk.specs.declared.fault.Fault.TheVariants.{Usage, Table, Rule, Outside, Memory, Record, Limit}

@@ -1,7 +1,7 @@
 -- What the status of a run says, from what the run does.
 use Rattle.std.proofs.Common.{◌≡◌, ℕ, ◌≤◌, List, refl, sym, ◌∙◌, ap, subst, inl, inr, arith, ◌⊎◌}
-use Rattle.std.specs.Prelude.{Option, Some, None, IfSome, IsSome, Result, Ok, Err}
-use Rattle.fw_outside.specs.Cabinet.{Cabinet, held}
+use Rattle.std.specs.Prelude.{Option, Some, None, IsSome, Result, Ok, Err}
+use Rattle.fw_outside.specs.Cabinet.{Cabinet}
 use Rattle.fw_outside.specs.Counts.{Rose}
 use Rattle.fw_outside.specs.Drain.{Drain, Gives}
 use Rattle.fw_outside.specs.declared.failed.Failed.{Failed}

@@ -1,10 +1,8 @@
 -- From the book that was opened to what a visit answers and leaves.
-use Rattle.std.proofs.Common.{◌≡◌, refl, sym, ◌∙◌, ap, subst, ℕ, Bool, true, false}
-use Rattle.std.specs.Prelude.{Option, Some, None, Result, Ok, Err}
+use Rattle.std.proofs.Common.{◌≡◌, sym, ◌∙◌, ap, subst, ℕ, Bool, true, false}
+use Rattle.std.specs.Prelude.{Option, Some, None, Result}
 use Rattle.auth_machine.specs.Book.{BookView}
 use Rattle.auth_machine.specs.History.{IsLegal, HasRecords, Origin}
-use Rattle.auth_machine.specs.Opening.{ReadsAs}
-use Rattle.auth_machine.specs.Policy.{PolicyView}
 use Rattle.auth_machine.specs.Port.{Ground}
 use Rattle.fw_outside.specs.Vault.{Vault}
 use Rattle.fw_outside.specs.declared.ending.Ending.{Ending}
@@ -12,12 +10,10 @@ use Rattle.fw_outside.specs.declared.ending.Ending.TheVariants.{Done, Denied, Cl
 use Rattle.fw_outside.specs.declared.peer.Peer.{Peer}
 use Rattle.gate_rules.specs.Reading.{RuleBook}
 use Rattle.gate_rules.specs.declared.service.Service.TheVariants.{Authsrv}
-use Rattle.fwtk.specs.Conn.{Meeting}
 use Rattle.fwtk.specs.Desk.{Desk}
 use Rattle.fwtk.specs.Serving.{Held, Proceeds, Visits, book_at_first, meeting, most_entries, outcome_of}
 use Rattle.fwtk.specs.Visiting.{GivesBack, HoldsOver, Opened}
 use Rattle.fwtk.specs.declared.fault.Fault.{Fault}
-use Rattle.fwtk.specs.declared.fault.Fault.TheVariants.{Limit}
 use Rattle.fwtk.specs.declared.orders.Orders.{Orders}
 use Rattle.fwtk.specs.declared.words.Visit.{Visit}
 use Rattle.fwtk.proofs.ConnLemmas.{conn_origin, ended_origin}

@@ -1,5 +1,5 @@
 -- What `netacl` and `table` answer and leave.
-use Rattle.std.specs.Prelude.{◌≡◌, ℕ, ◌⊎◌, List, Option, Some, None, Result, Ok, Err, IsOk}
+use Rattle.std.specs.Prelude.{◌≡◌, ℕ, ◌⊎◌, List, Result, Ok, Err, IsOk}
 use Rattle.fw_outside.specs.Cabinet.{Cabinet, Misses, Counts}
 use Rattle.fw_outside.specs.Drain.{Drain, Cut, Gives}
 use Rattle.fw_outside.specs.Telling.{grown}
@@ -10,16 +10,13 @@ use Rattle.gate_rules.specs.Verdict.{verdict_of}
 use Rattle.fwtk.specs.declared.fault.Device.TheVariants as device
 use Rattle.fwtk.specs.declared.fault.Fault.{Fault}
 use Rattle.fwtk.specs.declared.fault.Fault.TheVariants.{Usage, Table, Rule, Outside, Memory, Record, Limit}
-use Rattle.fwtk.specs.declared.words.Command.{Command}
 use Rattle.fwtk.specs.declared.words.Command.TheVariants as command
 use Rattle.fwtk.specs.declared.words.Query.{Query}
 use Rattle.fwtk.specs.Desk.{Desk}
-use Rattle.fwtk.specs.Fault.{fault_text, status_of}
 use Rattle.fwtk.specs.Ruling.{OfText, exec_of, ruling}
 use Rattle.gate_rules.specs.Reading.{RuleBook}
 use Rattle.fwtk.specs.Sheet.{sheet_text}
 use Rattle.fwtk.specs.Texts.{decision_text, print_text}
-use Rattle.fwtk.specs.Words.{command_of, table_named}
 
 -- the sink has taken these bytes whole
 abbrev pub with_given : Drain → List ℕ → Drain

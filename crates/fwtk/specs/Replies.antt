@@ -1,5 +1,5 @@
 -- What a client of the authentication server is told, and by which history.
-use Rattle.std.specs.Prelude.{◌≡◌, ◌⊎◌, ℕ, Bool, true, false, List, filter, map, Option, Some, None, Ok}
+use Rattle.std.specs.Prelude.{◌≡◌, ◌⊎◌, ℕ, false, List, filter, map, Option, Some, None, Ok}
 use Rattle.auth_machine.specs.Book.{BookView}
 use Rattle.auth_machine.specs.History.{HasRecords, IsLegal, Origin}
 use Rattle.auth_machine.specs.Opening.{ReadsAs}
