@@ -8,6 +8,7 @@
 //! that a client of `authsrv` is told are those of a legal history; and each status has its cause, in the words, in the
 //! table's text, in the records, in a limit, or in the count of a device that rose. [`conn`] serves one client. `main` makes
 //! the devices of a process, and answers `--help` and `--version`.
+#![tactic(auto)]
 
 use fw_outside::{NoMemory, Octets, Sink};
 use fw_real::{Paths, Reading, Records, Salts, SystemClock, Writing};

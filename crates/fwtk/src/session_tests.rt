@@ -97,7 +97,7 @@ fn what_is_kept_holds_in_the_next_run(rt: HostRuntime) -> Result<(), Fail> {
 }
 
 #[test]
-fn a_challenge_ends_with_its_session(rt: HostRuntime) -> Result<(), Fail> {
+fn a_challenge_is_given_in_each_run(rt: HostRuntime) -> Result<(), Fail> {
     let unheard = Break {
         part: Part::Sink,
         at: 1,

@@ -1,6 +1,6 @@
 //! Runs of `authsrv`: operations, wizards, and the console.
 
-use crate::session_rows::{FAULTS, FIRST_PUT, FIRST_WORD, LOCKOUT, LOGIN, WORD};
+use crate::session_rows::{CHALLENGE, FAULTS, FIRST_PUT, FIRST_WORD, LOCKOUT, LOGIN, WORD};
 use crate::session_stage::Talk;
 
 const STAFF: &[&str] = &[
@@ -142,6 +142,7 @@ pub(crate) const CONSOLE: Talk = Talk {
 /// A one-time password has a number of at least 1.
 pub(crate) const NUMBER: Talk = Talk {
     name: "the number 0",
+    puts: 0,
     moments: &[100, 101],
     said: &["otp bob 0 test 7965E05436F5029F", "quit"],
     given: &["authsrv ready", "error wrong words", "ok"],
@@ -241,12 +242,13 @@ pub(crate) const UNKEPT: &[Talk] = &[NO_USER, NO_PROTO, NO_PASSWORD, NO_ENABLE];
 
 /// The runs whose parts are made to fail at each of their calls.
 pub(crate) const RUNS: &[Talk] = &[
-    LOGIN, FIRST_PUT, FAULTS, DECISIONS, GROUP, CONSOLE, LOCKOUT, WORD, FIRST_WORD,
+    LOGIN, FIRST_PUT, FAULTS, CHALLENGE, DECISIONS, GROUP, NOBODY, CONSOLE, NUMBER, LOCKOUT, WORD,
+    FIRST_WORD,
 ];
 
 /// Those in which little is said.
 pub(crate) const SHORT_RUNS: &[Talk] = &[
-    LOGIN, FIRST_PUT, DECISIONS, GROUP, CONSOLE, WORD, FIRST_WORD,
+    LOGIN, FIRST_PUT, CHALLENGE, DECISIONS, GROUP, NOBODY, CONSOLE, NUMBER, WORD, FIRST_WORD,
 ];
 
 /// Whether the session is at the console, so that no verdict is logged.
