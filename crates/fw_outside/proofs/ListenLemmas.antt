@@ -1,6 +1,6 @@
 -- How a reader of lines goes on from one piece to the next.
-use Rattle.std.proofs.Common.{◌≡◌, ℕ, ◌+◌, List, [], ◌∷◌, ◌++◌, length, take, false, refl, sym, ap, ◌∙◌, subst, append_assoc, arith}
-use Rattle.std.specs.Prelude.{Option, Some, None}
+use Rattle.std.proofs.Common.{◌≡◌, ℕ, ◌+◌, true, List, [], ◌∷◌, ◌++◌, length, take, false, refl, sym, ap, ◌∙◌, subst, append_assoc, arith}
+use Rattle.std.specs.Prelude.{◌==◌, Option, Some, None}
 use Rattle.std.specs.List.{list_any}
 use Rattle.std.proofs.lemmas.List.{append-nil}
 use Rattle.std.proofs.Common.{length-append}
@@ -9,11 +9,11 @@ use Rattle.fw_outside.specs.declared.heard.Heard.{Heard}
 use Rattle.fw_outside.specs.declared.heard.Heard.TheVariants.{Line, TooLong, Stopped}
 use Rattle.fw_outside.specs.declared.heard.Stop.{Stop}
 use Rattle.fw_outside.specs.declared.heard.Stop.TheVariants.{End, Idle, Failed, Spent}
-use Rattle.fw_outside.specs.Gathering.{Cuts, Drains, Fills, IsText, most}
+use Rattle.fw_outside.specs.Gathering.{Cuts, Drains, Fills, IsText, Misses, most}
 use Rattle.fw_outside.specs.Lines.{is_lf}
 use Rattle.fw_outside.specs.Spring.{Spring}
 use Rattle.fw_outside.specs.Telling.{grown, preceded}
-use Rattle.fw_outside.specs.Window.{Closes, Halts, Listens, Pulled, Reads, Window, rest_of}
+use Rattle.fw_outside.specs.Window.{Closes, Listens, Pulled, Reads, Window, is_spent, rest_of}
 use Rattle.fw_outside.proofs.LineLemmas.{heard_kept, heard_line, no_first_line, take_twice}
 
 grown-append : (told : Option (List ℕ)) (a b : List ℕ) → grown (grown told a) b ≡ grown told (a ++ b)
@@ -52,13 +52,11 @@ pub record Going (kept : List ℕ) (old now : Window) (first at : Spring) : Type
   pub unended : list_any is_lf bytes ≡ false
   pub reads : Reads bytes old now first at
 
+reads_none : (old : Window) (first : Spring) → Reads [] old old first first
+reads_none old first = record { pulled = []; pulls = pulled_none first; window = append-nil old.pending; room = omega arith }
+
 pub going_from : (old : Window) (first : Spring) → Going [] old old first first
-going_from old first = record {
-  bytes = [];
-  keeps = refl;
-  unended = refl;
-  reads = record { pulled = []; pulls = pulled_none first; window = append-nil old.pending; room = omega arith };
-}
+going_from old first = record { bytes = []; keeps = refl; unended = refl; reads = reads_none old first }
 
 -- the window's bytes were read
 reads_window : (bytes read rest : List ℕ) (old now new : Window) (first at : Spring) → Reads bytes old now first at → now.pending ≡ read ++ rest → new.pending ≡ rest → new.room ≡ now.room → Reads (bytes ++ read) old new first at
@@ -104,36 +102,66 @@ rest_is bytes old new first at reads =
     ap (preceded old.pending) (reads.pulls.next ∙ ap (preceded reads.pulled) (sym left)) ∙ preceded-append old.pending reads.pulled at.left
     ∙ ap (λ p. preceded p at.left) reads.window ∙ sym (preceded-append bytes new.pending at.left)
 
-halts_left : (stop : Stop) (new : Window) (at next : Spring) → Halts stop new at next → next.left ≡ at.left
-halts_left End new at next halts = ap (λ (s : Spring). s.left) halts.is
-halts_left Idle new at next halts = ap (λ (s : Spring). s.left) halts.is
-halts_left Failed new at next halts = ap (λ (s : Spring). s.left) halts.is
-halts_left Spent new at next halts = ap (λ (s : Spring). s.left) halts.1
+misses_left : (stop : Stop) (at next : Spring) → Misses stop at next → next.left ≡ at.left
+misses_left End at next misses = ap (λ (s : Spring). s.left) misses.is
+misses_left Idle at next misses = ap (λ (s : Spring). s.left) misses.is
+misses_left Failed at next misses = ap (λ (s : Spring). s.left) misses.is
+misses_left Spent at next misses = absurd misses
+
+closes_missed : (stop : Stop) (new : Window) (at next : Spring) → new.pending ≡ [] → Misses stop at next → Closes (Stopped stop) new at next
+closes_missed End new at next empty misses = (empty, misses)
+closes_missed Idle new at next empty misses = (empty, misses)
+closes_missed Failed new at next empty misses = (empty, misses)
+closes_missed Spent new at next empty misses = absurd misses
+
+not_spent : (stop : Stop) (at next : Spring) → Misses stop at next → is_spent (Stopped stop) ≡ false
+not_spent End at next misses = refl
+not_spent Idle at next misses = refl
+not_spent Failed at next misses = refl
+not_spent Spent at next misses = absurd misses
 
 -- the source stopped before the line's end
-listens_at : (stop : Stop) (kept : List ℕ) (old new : Window) (first at next : Spring) → Going kept old new first at → new.pending ≡ [] → Halts stop new at next → Listens (Stopped stop) old new first next
-listens_at stop kept old new first at next going empty halts = record {
+listens_at : (stop : Stop) (kept : List ℕ) (old new : Window) (first at next : Spring) → Going kept old new first at → new.pending ≡ [] → false ≡ (new.room == 0) → Misses stop at next → Listens (Stopped stop) old new first next
+listens_at stop kept old new first at next going empty more misses = record {
   bytes = going.bytes;
   middle = at;
   is_heard = no_first_line going.bytes going.unended;
-  rest = rest_is going.bytes old new first at going.reads ∙ ap (λ l. preceded going.bytes (preceded new.pending l)) (sym (halts_left stop new at next halts));
+  rest = rest_is going.bytes old new first at going.reads ∙ ap (λ l. preceded going.bytes (preceded new.pending l)) (sym (misses_left stop at next misses));
   reads = going.reads;
-  closes = (empty, halts);
+  closes = closes_missed stop new at next empty misses;
+  spent = not_spent stop at next misses ∙ more;
 }
 
-pub listens_stopped : (stop : Stop) (kept : List ℕ) (old now new : Window) (first at next : Spring) → Going kept old now first at → now.pending ≡ [] → new ≡ now → Halts stop new at next → Listens (Stopped stop) old new first next
-listens_stopped stop kept old now new first at next going empty same halts =
-    let here : Going kept old new first at = rw same going in
-    listens_at stop kept old new first at next here (rw same empty) halts
+pub listens_stopped : (stop : Stop) (kept now_kept : List ℕ) (old now drained new : Window) (first at next : Spring) → Going kept old now first at → false ≡ (now.room == 0) → Drains kept now_kept now drained → new ≡ drained → Misses stop at next → Listens (Stopped stop) old new first next
+listens_stopped stop kept now_kept old now drained new first at next going more drains same misses =
+    let here : Going now_kept old new first at = rw same (going_drained kept now_kept old now drained first at going drains) in
+    listens_at stop now_kept old new first at next here (rw same drains.empty) (more ∙ ap (λ n. n == 0) (sym drains.room ∙ ap (λ (w : Window). w.room) (sym same))) misses
+
+-- no more may be taken
+pub listens_spent : (kept : List ℕ) (old new : Window) (first next : Spring) → Going kept old new first next → true ≡ (new.room == 0) → Listens (Stopped Spent) old new first next
+listens_spent kept old new first next going none = record {
+  bytes = going.bytes;
+  middle = next;
+  is_heard = no_first_line going.bytes going.unended;
+  rest = rest_is going.bytes old new first next going.reads;
+  reads = going.reads;
+  closes = refl;
+  spent = none;
+}
 
 closes_line : (heard : Heard) (text : List ℕ) (new : Window) (at : Spring) → IsText heard text → Closes heard new at at
 closes_line (Line line) text new at is = refl
 closes_line TooLong text new at is = refl
 closes_line (Stopped stop) text new at is = absurd is
 
+line_not_spent : (heard : Heard) (text : List ℕ) → IsText heard text → is_spent heard ≡ false
+line_not_spent (Line line) text is = refl
+line_not_spent TooLong text is = refl
+line_not_spent (Stopped stop) text is = absurd is
+
 -- the line's end was read
-pub listens_line : (heard : Heard) (kept now_kept : List ℕ) (old now new : Window) (first at : Spring) → Going kept old now first at → Cuts kept now_kept now new → IsText heard now_kept → Listens heard old new first at
-listens_line heard kept now_kept old now new first at going cuts is =
+pub listens_line : (heard : Heard) (kept now_kept : List ℕ) (old now new : Window) (first at : Spring) → Going kept old now first at → false ≡ (now.room == 0) → Cuts kept now_kept now new → IsText heard now_kept → Listens heard old new first at
+listens_line heard kept now_kept old now new first at going more cuts is =
     let text : List ℕ = going.bytes ++ cuts.text in
     let keeps : now_kept ≡ take most text = cuts.gathers ∙ ap (λ k. take most (k ++ cuts.text)) going.keeps ∙ take_twice going.bytes cuts.text in
     let unended : list_any is_lf text ≡ false = no_end_in going.bytes cuts.text going.unended cuts.unended in
@@ -148,4 +176,5 @@ listens_line heard kept now_kept old now new first at going cuts is =
       rest = rest_is (text ++ 10 ∷ []) old new first at whole;
       reads = whole;
       closes = closes_line heard text new at told;
+      spent = line_not_spent heard text told ∙ more ∙ ap (λ n. n == 0) (sym cuts.room);
     }

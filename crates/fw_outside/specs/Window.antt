@@ -1,5 +1,5 @@
 -- A reader of lines, which takes ahead of what it gives.
-use Rattle.std.specs.Prelude.{◌≡◌, ℕ, ◌+◌, List, [], ◌++◌, length, Option}
+use Rattle.std.specs.Prelude.{◌≡◌, ℕ, ◌==◌, ◌+◌, Bool, true, false, List, [], ◌++◌, length, Option}
 use Rattle.fw_outside.specs.declared.heard.Heard.{Heard}
 use Rattle.fw_outside.specs.declared.heard.Heard.TheVariants.{Line, TooLong, Stopped}
 use Rattle.fw_outside.specs.declared.heard.Stop.{Stop}
@@ -30,20 +30,27 @@ pub record Reads (heard : List ℕ) (old new : Window) (before after : Spring) :
   pub window : old.pending ++ pulled ≡ heard ++ new.pending
   pub room : old.room ≡ length pulled + new.room
 
--- why no line was heard, and what that leaves of the source
+-- why no line was heard, and what that leaves of the source: a take that gave nothing, with nothing left in the window, or
+-- the limit
 abbrev pub Halts : Stop → Window → Spring → Spring → Type 0
-Halts End new before after = Ended before after
-Halts Idle new before after = Idled before after
-Halts Failed new before after = Broke before after
-Halts Spent new before after = (new.room ≡ 0) × (after ≡ before)
+Halts End new before after = (new.pending ≡ []) × Ended before after
+Halts Idle new before after = (new.pending ≡ []) × Idled before after
+Halts Failed new before after = (new.pending ≡ []) × Broke before after
+Halts Spent new before after = after ≡ before
 
--- a line leaves the source as it stands; where none was heard the window is empty
+-- a line leaves the source as it stands
 abbrev pub Closes : Heard → Window → Spring → Spring → Type 0
 Closes (Line _) new before after = after ≡ before
 Closes TooLong new before after = after ≡ before
-Closes (Stopped stop) new before after = (new.pending ≡ []) × Halts stop new before after
+Closes (Stopped stop) new before after = Halts stop new before after
 
--- what is heard next: these bytes, of what was left, are heard as that
+-- the limit stopped the reader
+abbrev pub is_spent : Heard → Bool
+is_spent (Stopped Spent) = true
+is_spent _ = false
+
+-- what is heard next: these bytes, of what was left, are heard as that. The take that reaches the limit stops the reader, and
+-- from then on nothing is heard.
 pub record Listens (heard : Heard) (old new : Window) (before after : Spring) : Type 0 where
   pub bytes : List ℕ
   pub middle : Spring
@@ -51,3 +58,4 @@ pub record Listens (heard : Heard) (old new : Window) (before after : Spring) : 
   pub rest : rest_of old before ≡ preceded bytes (rest_of new after)
   pub reads : Reads bytes old new before middle
   pub closes : Closes heard new middle after
+  pub spent : is_spent heard ≡ (new.room == 0)

@@ -1,7 +1,7 @@
 ghost use Rattle.std.specs.Prelude.{◌≡◌, ◌==◌, ◌+◌, ◌-◌, ◌<◌, ◌≤◌, [], ◌++◌, length, take, IfErr, OnOk, OnErr};
 ghost use Rattle.std.specs.Bool.{OnTrue, OnFalse};
-ghost use Rattle.fw_outside.specs.Gathering.{Cuts, Drains, Fills};
-ghost use Rattle.fw_outside.specs.Window.{Halts, Listens};
+ghost use Rattle.fw_outside.specs.Gathering.{Cuts, Drains, Fills, Misses};
+ghost use Rattle.fw_outside.specs.Window.{Listens};
 
 use crate::bytes::copy_of;
 use crate::line_text::LineText;
@@ -40,6 +40,23 @@ impl LineReader {
         }
     }
 
+    // The bytes that were taken and not heard yet.
+    fn pending(&self) -> &[u8]
+        ensures bytes { result.now ≡ self.now.pending }
+        ensures near { length self.now.pending ≤ 4096 }
+    {
+        &self.taken[self.at..]
+    }
+
+    // Whether no more bytes may be taken.
+    fn is_spent(&self) -> bool
+        ensures spent { result ≡ (self.now.room == 0) }
+        ensures near { length self.now.pending ≤ 4096 }
+    {
+        let _ = self.pending();
+        self.room == 0
+    }
+
     // Puts bytes that were taken into the empty window.
     fn keep(&mut self, bytes: &[u8])
         requires fits { length bytes.now ≤ 4096 }
@@ -53,15 +70,13 @@ impl LineReader {
 
     // Takes the next bytes into the empty window.
     fn fill<S: Source>(&mut self, from: &mut S) -> Result<(), Stop>
-        requires { self.old.pending ≡ [] }
+        requires empty { self.old.pending ≡ [] }
+        requires more { 0 < self.old.room }
         ensures fills { OnOk result (Fills self.old self.new (S.spring from.old) (S.spring from.new)) }
-        ensures halts { IfErr result (λ stop. Halts stop self.new (S.spring from.old) (S.spring from.new)) }
+        ensures misses { IfErr result (λ stop. Misses stop (S.spring from.old) (S.spring from.new)) }
         ensures kept { OnErr result (self.new ≡ self.old) }
     {
         let most = self.room.min(4096) as usize;
-        if most == 0 {
-            return Err(Stop::Spent);
-        }
         let mut buffer = [0; 4096];
         match from.take(&mut buffer[..most]) {
             Ok(Got::Bytes(count)) => {
@@ -92,17 +107,23 @@ impl LineReader {
         }
     }
 
-    /// The next line, without its end, if one is heard before the source stops.
+    /// The next line, without its end, if one is heard before the source stops. The take that reaches the limit stops the
+    /// reader for good: of its bytes nothing is heard.
     pub fn next<S: Source>(&mut self, from: &mut S) -> Heard
         ensures listens { Listens result self.old self.new (S.spring from.old) (S.spring from.new) }
         ensures near { length self.new.pending ≤ 4096 }
     {
         let mut text = LineText::new();
-        while !self.move_on(&mut text) {
+        loop {
+            if self.is_spent() {
+                return Heard::Stopped(Stop::Spent);
+            }
+            if self.move_on(&mut text) {
+                return text.heard();
+            }
             if let Err(stop) = self.fill(from) {
                 return Heard::Stopped(stop);
             }
         }
-        text.heard()
     }
 }
