@@ -161,40 +161,41 @@ one_longer : (h : List Entry) (entry : Entry) (limit : ℕ) → length h < limit
 one_longer h entry limit fits = omega (arith, length_push h entry, fits)
 
 -- the step of a book's policy and state is that of its origin and history
-rebased : (origin : Origin) (h : List Entry) (limit : ℕ) (policy : PolicyView) (s new : State) (place sid at : ℕ) (request : Request) (reply : Reply) (kept : Bool) (before now : Vault)
-    → Stands h limit origin before policy s → place ≡ length h
+rebased : (origin : Origin) (h : List Entry) (limit : ℕ) (refused : Bool) (policy : PolicyView) (s new : State) (place sid at : ℕ) (request : Request) (reply : Reply) (kept : Bool) (before now : Vault)
+    → Stands h limit refused origin before policy s → place ≡ length h
     → Steps policy place sid at request reply kept s new before now → Next origin h sid at request reply kept new before now
-rebased origin h limit policy s new place sid at request reply kept before now book is step =
+rebased origin h limit refused policy s new place sid at request reply kept before now book is step =
     subst (λ (n : ℕ). Steps origin.policy n sid at request reply kept (after origin h) new before now) is
     (subst (λ (p : PolicyView). Steps p place sid at request reply kept (after origin h) new before now) book.policy_is
     (subst (λ (z : State). Steps policy place sid at request reply kept z new before now) book.state_is step))
 
 -- the book stands with the entry
-pub stands_with : (origin : Origin) (h : List Entry) (limit : ℕ) (policy : PolicyView) (s new : State) (place sid at : ℕ) (request : Request) (reply : Reply) (kept : Bool) (before now : Vault)
-    → Stands h limit origin before policy s → place ≡ length h → length h < limit → session_at request place sid ≡ sid
+pub stands_with : (origin : Origin) (h : List Entry) (limit : ℕ) (refused : Bool) (policy : PolicyView) (s new : State) (place sid at : ℕ) (request : Request) (reply : Reply) (kept : Bool) (before now : Vault)
+    → Stands h limit refused origin before policy s → place ≡ length h → length h < limit → session_at request place sid ≡ sid
     → Steps policy place sid at request reply kept s new before now
-    → Stands (h ++ entry_of sid at request kept reply ∷ []) limit origin now policy new
-stands_with origin h limit policy s new place sid at request reply kept before now book is fits own step =
-    let next : Next origin h sid at request reply kept new before now = rebased origin h limit policy s new place sid at request reply kept before now book is step in
+    → Stands (h ++ entry_of sid at request kept reply ∷ []) limit refused origin now policy new
+stands_with origin h limit refused policy s new place sid at request reply kept before now book is fits own step =
+    let next : Next origin h sid at request reply kept new before now = rebased origin h limit refused policy s new place sid at request reply kept before now book is step in
     record {
       policy_is = book.policy_is;
       state_is = next_state origin h sid at request reply kept new before now next;
       legal = legal_one_more origin h (entry_of sid at request kept reply) book.legal
           (next_is_step origin h sid at request reply kept new before now (subst (λ (n : ℕ). session_at request n sid ≡ sid) is own) next);
       within = one_longer h (entry_of sid at request kept reply) limit fits;
+      full = λ was. let full = book.full was in absurd (omega (arith, full, fits));
       records = next_records origin h sid at request reply kept new before now next book.records;
       faults = next_faults origin h sid at request reply kept new before now next book.faults;
     }
 
 -- what asking does, where an entry is made
-pub asked_with : (origin : Origin) (h : List Entry) (limit : ℕ) (policy : PolicyView) (s new : State) (place told sid at : ℕ) (request : Request) (reply : Reply) (kept : Bool) (before now : Vault)
-    → Stands h limit origin before policy s → place ≡ length h → length h < limit → sid ≡ session_at request place told
+pub asked_with : (origin : Origin) (h : List Entry) (limit : ℕ) (refused : Bool) (policy : PolicyView) (s new : State) (place told sid at : ℕ) (request : Request) (reply : Reply) (kept : Bool) (before now : Vault)
+    → Stands h limit refused origin before policy s → place ≡ length h → length h < limit → sid ≡ session_at request place told
     → Steps policy place sid at request reply kept s new before now
     → Asked told at request limit origin h (Ok reply) (h ++ entry_of sid at request kept reply ∷ [])
-asked_with origin h limit policy s new place told sid at request reply kept before now book is fits sid_is step =
+asked_with origin h limit refused policy s new place told sid at request reply kept before now book is fits sid_is step =
     let own : session_at request place sid ≡ sid = ap (session_at request place) sid_is ∙ same_session request place told ∙ sym sid_is in
-    let stands : Stands (h ++ entry_of sid at request kept reply ∷ []) limit origin now policy new =
-    stands_with origin h limit policy s new place sid at request reply kept before now book is fits own step in
+    let stands : Stands (h ++ entry_of sid at request kept reply ∷ []) limit refused origin now policy new =
+    stands_with origin h limit refused policy s new place sid at request reply kept before now book is fits own step in
     let entered : Enters told at request reply limit h (h ++ entry_of sid at request kept reply ∷ []) = record {
       kept = kept;
       fits = fits;
@@ -208,15 +209,15 @@ asked_with origin h limit policy s new place told sid at request reply kept befo
     }
 
 -- and what it does to the keeper
-pub kept_with : (origin : Origin) (h : List Entry) (limit : ℕ) (policy : PolicyView) (s new : State) (place sid at : ℕ) (request : Request) (reply : Reply) (kept : Bool) (before now : Vault)
-    → Stands h limit origin before policy s → place ≡ length h
+pub kept_with : (origin : Origin) (h : List Entry) (limit : ℕ) (refused : Bool) (policy : PolicyView) (s new : State) (place sid at : ℕ) (request : Request) (reply : Reply) (kept : Bool) (before now : Vault)
+    → Stands h limit refused origin before policy s → place ≡ length h
     → Steps policy place sid at request reply kept s new before now
     → RepliesKept (full_of reply) origin h (h ++ entry_of sid at request kept reply ∷ []) before now
-kept_with origin h limit policy s new place sid at request reply kept before now book is step =
+kept_with origin h limit refused policy s new place sid at request reply kept before now book is step =
     subst (λ (full : Option ℕ). RepliesKept full origin h (h ++ entry_of sid at request kept reply ∷ []) before now)
     (sym (step_not_full policy s place sid at request kept reply step.reply_is))
     (record {
       entry = entry_of sid at request kept reply;
       is = refl;
-      keeping = (rebased origin h limit policy s new place sid at request reply kept before now book is step).keeping;
+      keeping = (rebased origin h limit refused policy s new place sid at request reply kept before now book is step).keeping;
     })

@@ -23,13 +23,14 @@ pub record BookView : Type 0 where
   pub vault : Vault
   pub refused : Bool
 
--- the history is legal and fits; the state is that after it; the keeper has the records, where it tells; and it failed at
--- least as often as entries were not kept
-pub record Stands (history : List Entry) (limit : ℕ) (origin : Origin) (vault : Vault) (policy : PolicyView) (s : State) : Type 0 where
+-- the history is legal and fits, and is full where a request was refused for that; the state is that after it; the keeper
+-- has the records, where it tells; and it failed at least as often as entries were not kept
+pub record Stands (history : List Entry) (limit : ℕ) (refused : Bool) (origin : Origin) (vault : Vault) (policy : PolicyView) (s : State) : Type 0 where
   pub policy_is : policy ≡ origin.policy
   pub state_is : s ≡ after origin history
   pub legal : IsLegal origin history
   pub within : length history ≤ limit
+  pub full : refused ≡ true → length history ≡ limit
   pub records : HasRecords origin history vault
   pub faults : NoMoreThanFaults history vault
 

@@ -1,4 +1,5 @@
 ghost use Rattle.std.specs.Prelude.{◌≡◌, ◌≤◌, [], IfErr, IfOk, IfSome, Ok, false, length};
+ghost use Rattle.std.specs.Bool.{OnTrue};
 ghost use Rattle.fw_outside.specs.Keyed.{Ascends};
 ghost use Rattle.fw_outside.specs.Vault.{AreSame};
 ghost use Rattle.auth_machine.specs.Book.{AnswersKept, Asked, RoseIfNotKept, Stands, refused_by};
@@ -40,7 +41,7 @@ impl<K: Keeper> Model for Book<K> {
 
     ghost view = { λ b. record { history = b.history.items; limit = b.limit; origin = b.origin.value; vault = K.vault b.keeper; refused = b.refused } };
 
-    ghost invariant = { λ b. Stands b.history.items b.limit b.origin.value (K.vault b.keeper) b.policy (state_of b.standing) };
+    ghost invariant = { λ b. Stands b.history.items b.limit b.refused b.origin.value (K.vault b.keeper) b.policy (state_of b.standing) };
 }
 
 impl<K: Keeper> Book<K> {
@@ -143,7 +144,8 @@ impl<K: Keeper> Book<K> {
 
     /// Whether a request was answered that the history is full.
     pub fn refused(&self) -> bool
-        ensures { result ≡ self.now.refused }
+        ensures is { result ≡ self.now.refused }
+        ensures full { OnTrue result (length self.now.history ≡ self.now.limit) }
     {
         self.refused
     }

@@ -1,5 +1,6 @@
 -- Every session keeps what `SessionKeeps` says, and its ending has its cause.
 use Rattle.std.proofs.Common.{arith, ◌≡◌, refl, sym, ap, subst, ◌∙◌, ℕ, ◌+◌, ◌≤◌, ◌⊎◌, inl, inr, Bool, List, [], ◌++◌, length, Option, Some, None, Result, Ok, Err, append_assoc, append-nil}
+use Rattle.std.proofs.lemmas.Bool.{eqb-true}
 use Rattle.std.proofs.lemmas.List.{length-append}
 use Rattle.auth_events.specs.Port.{Asks, Port, Replies}
 use Rattle.auth_events.specs.declared.denial.Denial.TheVariants as denials
@@ -42,7 +43,7 @@ rose_within a b c d before rose later = (omega (arith, before, rose.0, later), o
 
 -- ---- what bytes a source tells
 
-by_nothing : (told : Option (List ℕ)) → told ≡ grown told []
+pub by_nothing : (told : Option (List ℕ)) → told ≡ grown told []
 by_nothing None = refl
 by_nothing (Some bytes) = ap (λ (b : List ℕ). Some b) (sym (append-nil bytes))
 
@@ -53,7 +54,7 @@ by_both (Some bytes) first more = ap (λ (b : List ℕ). Some b) (append_assoc b
 -- ---- the devices one by one
 
 -- the source keeps its counts and its patience, and what was taken of it was room in the window
-record SourceKeeps (old new : Spring) (before after : Window) : Type 0 where
+pub record SourceKeeps (old new : Spring) (before after : Window) : Type 0 where
   pub faults : old.faults ≤ new.faults
   pub idles : old.idles ≤ new.idles
   pub waits : new.waits ≡ old.waits
@@ -61,11 +62,11 @@ record SourceKeeps (old new : Spring) (before after : Window) : Type 0 where
   pub took : new.taken ≡ grown old.taken bytes
   pub room : before.room ≡ length bytes + after.room
 
-record SinkKeeps (old new : Drain) : Type 0 where
+pub record SinkKeeps (old new : Drain) : Type 0 where
   pub drops : old.faults ≤ new.faults
   pub shut : new.shut ≡ old.shut
 
-record PortKeeps {Origin : Type 0} (old new : Port Origin) : Type 0 where
+pub record PortKeeps {Origin : Type 0} (old new : Port Origin) : Type 0 where
   pub breaks : old.faults ≤ new.faults
   pub strays : old.odd ≤ new.odd
   pub origin : new.origin ≡ old.origin
@@ -100,7 +101,7 @@ halts_source : (heard : Heard) (left : Window) (before after : Spring) → reade
 halts_source (Line line) left before after h = by_source before after before left left h (same_source before left)
 halts_source TooLong left before after h = by_source before after before left left h (same_source before left)
 halts_source (Stopped stops.End) left before after h = by_source before after before left left h.1.is (same_source before left)
-halts_source (Stopped stops.Spent) left before after h = by_source before after before left left h.1.1 (same_source before left)
+halts_source (Stopped stops.Spent) left before after h = by_source before after before left left h (same_source before left)
 halts_source (Stopped stops.Idle) left before after h = by_source before after _ left left h.1.is (record { faults = omega (arith); idles = h.1.rose.0; waits = refl; bytes = []; took = by_nothing before.taken; room = omega (arith) })
 halts_source (Stopped stops.Failed) left before after h = by_source before after _ left left h.1.is (record { faults = h.1.rose.0; idles = omega (arith); waits = refl; bytes = []; took = by_nothing before.taken; room = omega (arith) })
 
@@ -150,7 +151,7 @@ module _ {Origin : Type 0} where
 
   -- ---- acts
 
-  record Stays (old new : World Origin) : Type 0 where
+  pub record Stays (old new : World Origin) : Type 0 where
     pub source : SourceKeeps old.inlet new.inlet old.window new.window
     pub sink : SinkKeeps old.outlet new.outlet
     pub port : PortKeeps old.port new.port
@@ -224,7 +225,7 @@ module _ {Origin : Type 0} where
   stop_counted : (act : Act) (cause : Cause) (old new : World Origin) → Stops act cause old new → Counted cause old new
   stop_counted Hear ClientFault old new h = subst (λ (w : World Origin). Counted ClientFault old w) (sym h.is) (inl (halted_faults h.listens.reads.pulled old.inlet h.listens.middle h.inlet h.listens.reads.pulls h.listens.closes.1))
   stop_counted Hear Idle old new h = subst (λ (w : World Origin). Counted Idle old w) (sym h.is) (halted_idles h.listens.reads.pulled old.inlet h.listens.middle h.inlet h.listens.reads.pulls h.listens.closes.1)
-  stop_counted Hear Spent old new h = subst (λ (w : World Origin). Counted Spent old w) (sym h.is) h.listens.closes.1.0
+  stop_counted Hear Spent old new h = subst (λ (w : World Origin). Counted Spent old w) (sym h.is) (eqb-true h.window.room 0 (sym h.listens.spent))
   stop_counted (Say text) ClientFault old new h = subst (λ (w : World Origin). Counted ClientFault old w) (sym h.is) (inr (subst (λ (d : Drain). Rose old.outlet.faults d.faults) (sym h.cut.is) h.cut.rose))
   stop_counted (Ask request) AuthFault old new h = failing_counted request h.fault old new h.cause h.failing
   stop_counted (Ask request) NoMemory old new h = tt
@@ -243,7 +244,7 @@ module _ {Origin : Type 0} where
   stays_close None old new h = by_world old new old h (stays_same old)
   stays_close (Some sid) old new h = stays_answer h.answer old new h.closes
 
-  held_stays : (console : Bool) (old new : World Origin) (ending : Ending) → Held console old new ending → Stays old new
+  pub held_stays : (console : Bool) (old new : World Origin) (ending : Ending) → Held console old new ending → Stays old new
   held_stays console old new ending held = stays_both old held.mid new (ran_kept keeps held.ran) (stays_close held.mid.opened held.mid new held.closed)
 
   -- what the ending of a dialogue counts; one that came to its end counts nothing

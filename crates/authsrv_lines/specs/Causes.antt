@@ -1,5 +1,5 @@
 -- What a session keeps of the devices that it is lent, and by what each ending is caused.
-use Rattle.std.specs.Prelude.{◌≡◌, ℕ, ◌≤◌, ◌⊎◌, List, length}
+use Rattle.std.specs.Prelude.{◌≡◌, ℕ, ◌==◌, ◌≤◌, ◌⊎◌, Bool, true, false, List, length}
 use Rattle.fw_outside.specs.Counts.{Rose}
 use Rattle.fw_outside.specs.Spring.{Spring}
 use Rattle.fw_outside.specs.Telling.{grown}
@@ -24,6 +24,17 @@ pub record TookAll (old new : Spring) : Type 0 where
   pub bytes : List ℕ
   pub all : length bytes ≡ most_taken
   pub took : new.taken ≡ grown old.taken bytes
+
+abbrev pub is_spent : Ending → Bool
+is_spent Spent = true
+is_spent _ = false
+
+-- At most as many bytes were taken as may be, where the source tells them; and so many exactly where the ending is `Spent`.
+pub record TakesFor {Origin : Type 0} (ending : Ending) (old new : Devices Origin) : Type 0 where
+  pub bytes : List ℕ
+  pub took : new.inlet.taken ≡ grown old.inlet.taken bytes
+  pub most : length bytes ≤ most_taken
+  pub all : is_spent ending ≡ (length bytes == most_taken)
 
 -- The client's source or sink failed; nothing came in time; all that may be was taken; the port failed, or something strange
 -- came from it. No session of `authsrv` ends by a server, a log or a table, and what caused the other endings isn't counted.

@@ -16,6 +16,7 @@ pub mod ReplyReading
 pub mod Request
 pub mod SaltLemmas
 pub mod Session
+pub mod SpentLemmas
 pub mod Talk
 pub mod TalkLemmas
 pub mod Told

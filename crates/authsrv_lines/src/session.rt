@@ -2,7 +2,7 @@
 ghost use Rattle.std.specs.Prelude.{◌≡◌, ◌<◌, [], Some, None, IfOk, IfSome};
 ghost use Rattle.fw_acts.specs.Acts.Row.{At, Over};
 ghost use Rattle.fw_acts.specs.Ran.{Ran};
-ghost use Rattle.authsrv_lines.specs.Causes.{Caused, SessionKeeps};
+ghost use Rattle.authsrv_lines.specs.Causes.{Caused, SessionKeeps, TakesFor};
 ghost use Rattle.authsrv_lines.specs.Dialogue.{leads, rows, session_row};
 ghost use Rattle.authsrv_lines.specs.Distance.{IsPlace, distance};
 ghost use Rattle.authsrv_lines.specs.Session.{Closes, Closing, Held, Session, ending_by, ending_of, most_taken};
@@ -132,7 +132,7 @@ fn at_desk<'p, 's, 'k, 'c, 'r, P: AuthPort, S: Source, K: Sink, C: Clock, R: Dic
 /// A session of `authsrv`: from the client's bytes to replies, each request asked of the port at a moment of the clock.
 /// The salts of new passwords come from the dice. It takes at most 2^40 bytes from the client.
 ///
-/// The answer is `Done` after `quit`, at the end of what the client says, or where the port denied to open a session; else
+/// The answer is `Spent` exactly where it took that many: the take that reaches the limit ends it. Else it is `Done` after `quit`, at the end of what the client says, or where the port denied to open a session; else
 /// why the session stopped, which the device that failed has counted. Then Close is asked of a session that is open and
 /// wasn't asked to close.
 pub fn authsrv_session<P: AuthPort, S: Source, K: Sink, C: Clock, R: Dice>(
@@ -151,6 +151,9 @@ pub fn authsrv_session<P: AuthPort, S: Source, K: Sink, C: Clock, R: Dice>(
         (record { inlet = S.spring from.old; outlet = K.drain to.old; port = P.port port.old; hours = C.hours clock.old; throws = R.throws dice.old })
         (record { inlet = S.spring from.new; outlet = K.drain to.new; port = P.port port.new; hours = C.hours clock.new; throws = R.throws dice.new }) }
     ensures caused { Caused result
+        (record { inlet = S.spring from.old; outlet = K.drain to.old; port = P.port port.old; hours = C.hours clock.old; throws = R.throws dice.old })
+        (record { inlet = S.spring from.new; outlet = K.drain to.new; port = P.port port.new; hours = C.hours clock.new; throws = R.throws dice.new }) }
+    ensures spent { TakesFor result
         (record { inlet = S.spring from.old; outlet = K.drain to.old; port = P.port port.old; hours = C.hours clock.old; throws = R.throws dice.old })
         (record { inlet = S.spring from.new; outlet = K.drain to.new; port = P.port port.new; hours = C.hours clock.new; throws = R.throws dice.new }) }
 {

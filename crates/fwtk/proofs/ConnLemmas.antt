@@ -1,9 +1,10 @@
 -- What a client's ending says.
-use Rattle.std.proofs.Common.{◌≡◌, ◌∙◌, refl, sym, subst, ap, ℕ, List, inl, inr, true, false}
+use Rattle.std.proofs.Common.{arith, ◌≡◌, ◌∙◌, refl, sym, subst, ap, ℕ, List, [], inl, inr, true, false}
 use Rattle.std.specs.Prelude.{Result, Ok, Err}
-use Rattle.authsrv_lines.specs.Causes.{Caused}
-use Rattle.authsrv_lines.specs.CauseLemmas.{session_caused, session_keeps}
+use Rattle.authsrv_lines.specs.Causes.{Caused, TakesFor, is_spent}
+use Rattle.authsrv_lines.specs.CauseLemmas.{by_nothing, session_caused, session_keeps}
 use Rattle.authsrv_lines.specs.Session.{Devices, Session}
+use Rattle.authsrv_lines.specs.SpentLemmas.{session_spent}
 use Rattle.fw_outside.specs.Counts.{Rose}
 use Rattle.fw_outside.specs.Drain.{Drain, Gives}
 use Rattle.fw_outside.specs.Spring.{Spring, waiting}
@@ -94,6 +95,33 @@ module _ {Origin : Type 0} where
   -- so it is at the console
   pub ended_caused : (service : Service) (peer : Peer) (ending : Ending) (old new : Meeting Origin) → Ended true service peer ending old new → Caused ending old.devices new.devices
   ended_caused service peer ending old new h = session_caused true old.devices new.devices ending h.session
+
+  -- ---- bytes
+
+  -- who is denied, or not served since the log failed, is asked for none
+  takes_none : (ending : Ending) (old new : Devices Origin) → is_spent ending ≡ false → new.inlet ≡ old.inlet → TakesFor ending old new
+  takes_none ending old new never is = record { bytes = []; took = ap (λ (s : Spring). s.taken) is ∙ by_nothing old.inlet.taken; most = omega (arith); all = never }
+
+  -- how long the source waits counts for nothing
+  takes_patient : (seconds : ℕ) (ending : Ending) (old new : Devices Origin) → TakesFor ending (patient seconds old) new → TakesFor ending old new
+  takes_patient seconds ending old new h = record { bytes = h.bytes; took = h.took; most = h.most; all = h.all }
+
+  after_spent : (logging : Result (Unit {0}) Failed) (verdict : Verdict) (service : Service) (rules : RuleBook) (peer : Peer) (ending : Ending) (old new : Meeting Origin)
+      → AfterLine logging verdict service rules peer ending old new → TakesFor ending old.devices new.devices
+  after_spent (Err failed) verdict service rules peer ending old new h =
+      takes_none ending old.devices new.devices (ap is_spent h.ends) (ap (λ (m : Meeting Origin). m.devices.inlet) h.is)
+  after_spent (Ok done) (Deny line) service rules peer ending old new h =
+      takes_none ending old.devices new.devices (ap is_spent h.ends) (ap (λ (m : Meeting Origin). m.devices.inlet) h.is)
+  after_spent (Ok done) (Permit line) service rules peer ending old new h =
+      takes_patient (timeout_of rules) ending old.devices new.devices (session_spent false (patient (timeout_of rules) old.devices) new.devices ending h.session)
+
+  -- as many bytes as may be are taken exactly where the ending is `Spent`
+  pub conn_spent : (service : Service) (rules : RuleBook) (peer : Peer) (old new : Meeting Origin) (ending : Ending) → Conn service rules peer old new ending → TakesFor ending old.devices new.devices
+  conn_spent service rules peer old new ending conn =
+      after_spent conn.logging (verdict_of rules peer) service rules peer ending (record old { logs = conn.logs }) new conn.rest
+
+  pub ended_spent : (service : Service) (peer : Peer) (ending : Ending) (old new : Meeting Origin) → Ended true service peer ending old new → TakesFor ending old.devices new.devices
+  ended_spent service peer ending old new h = session_spent true old.devices new.devices ending h.session
 
   -- ---- what the port's answers stand on stays
 

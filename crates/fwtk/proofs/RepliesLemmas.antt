@@ -1,13 +1,17 @@
 -- What a client of the authentication server was told.
-use Rattle.std.proofs.Common.{◌≡◌, ◌⊎◌, refl, sym, ◌∙◌, ap, subst, inl, inr, ℕ, List, Bool, true, false}
+use Rattle.std.proofs.Common.{arith, ◌≡◌, ◌⊎◌, refl, sym, ◌∙◌, ap, subst, inl, inr, ℕ, List, Bool, true, false}
+use Rattle.std.proofs.lemmas.Bool.{eqb-true}
+use Rattle.std.specs.List.{list_any}
 use Rattle.std.specs.Prelude.{length, filter, map, Option, Some, None, Result, Ok, Err}
 use Rattle.auth_events.specs.Port.{Port, places}
 use Rattle.auth_machine.specs.Book.{BookView}
 use Rattle.auth_machine.specs.Port.{Ground, port_of}
 use Rattle.authsrv_lines.specs.Acts.{World}
-use Rattle.authsrv_lines.specs.Session.{Devices, Session, at_first}
-use Rattle.authsrv_lines.specs.Talk.{is_entered, said_of, talk_of}
-use Rattle.authsrv_lines.specs.TalkLemmas.{held_whole}
+use Rattle.authsrv_lines.specs.Causes.{TakesFor, TookAll, is_spent}
+use Rattle.authsrv_lines.specs.Session.{Devices, Session, at_first, most_taken}
+use Rattle.authsrv_lines.specs.SpentLemmas.{session_spent}
+use Rattle.authsrv_lines.specs.Talk.{is_entered, is_refused, said_of, talk_of}
+use Rattle.authsrv_lines.specs.TalkLemmas.{held_refused, held_whole}
 use Rattle.authsrv_lines.specs.ToldLemmas.{held_told}
 use Rattle.fw_outside.specs.Drain.{Drain}
 use Rattle.fw_outside.specs.declared.ending.Ending.{Ending}
@@ -22,7 +26,8 @@ use Rattle.gate_rules.specs.declared.verdict.Verdict.TheVariants.{Permit, Deny}
 use Rattle.fwtk.specs.Conn.{AfterLine, Meeting, Noted, patient, timeout_of}
 use Rattle.fwtk.specs.Desk.{Desk, Sitting}
 use Rattle.fwtk.specs.Endings.{denied_text}
-use Rattle.fwtk.specs.Replies.{IsTold, OfHistory, Replies}
+use Rattle.fwtk.specs.History.{MeetsLimit, OfHistory, session_status}
+use Rattle.fwtk.specs.Replies.{IsTold, Replies}
 use Rattle.fwtk.specs.Ruling.{OfText, said_in}
 use Rattle.fwtk.specs.Run.{Does, Ends, Ran}
 use Rattle.fwtk.specs.Serving.{Attends, Held, Visits, book_at_first, meeting, most_entries, orders_of, outcome_of}
@@ -34,24 +39,26 @@ use Rattle.fwtk.specs.declared.orders.Orders.{Orders}
 use Rattle.fwtk.specs.declared.words.Command.{Command}
 use Rattle.fwtk.specs.declared.words.Command.TheVariants as commands
 use Rattle.fwtk.specs.declared.words.Visit.{Visit}
+use Rattle.fwtk.proofs.ServingLemmas.{ended_status}
 
 -- ---- a session over a book
 
 -- a session was held over a book of which nothing was asked before
-record OfSession (console : Bool) (first last : BookView) (old new : Desk) : Type 0 where
+record OfSession (console : Bool) (ending : Ending) (first last : BookView) (old new : Desk) : Type 0 where
   seconds : ℕ
-  ending : Ending
   session : Session console (patient seconds (meeting old first).devices) (meeting new last).devices ending
 
-of_session : (name : List ℕ) (visit : Visit) (outcome : Result ℕ Fault) (orders : Orders) (old new : Desk) → OfText old.files.holds name (λ text. said_in orders_of text ≡ Ok orders)
-    → (held : Held visit orders outcome old new) → OfSession visit.console (book_at_first held.origin most_entries held.before) held.book old new → OfHistory name visit old new
-of_session name visit outcome orders old new said held s =
+of_session : (name : List ℕ) (visit : Visit) (outcome : Result ℕ Fault) (status : ℕ) (orders : Orders) (old mid new : Desk) → OfText old.files.holds name (λ text. said_in orders_of text ≡ Ok orders)
+    → (held : Held visit orders outcome old mid) → Ends outcome status mid new → OfSession visit.console held.ending (book_at_first held.origin most_entries held.before) held.book old mid → OfHistory name visit status old mid
+of_session name visit outcome status orders old mid new said held ends s =
     let devices : Devices Ground = patient s.seconds (meeting old (book_at_first held.origin most_entries held.before)).devices in
     let first : World Ground = at_first devices s.session.names in
     let last : World Ground = s.session.last in
     let port : last.port ≡ port_of held.book = ap (λ (d : Devices Ground). d.port) s.session.leaves in
     let mine : last.port.mine ≡ places (length last.port.seen) = subst (λ (p : Port Ground). p.mine ≡ places (length p.seen)) (sym port) refl in
-    let whole = held_whole visit.console first last s.ending s.session.held refl mine in
+    let whole = held_whole visit.console first last held.ending s.session.held refl mine in
+    let refused : held.book.refused ≡ list_any is_refused (talk_of s.session.held) =
+    ap (λ (p : Port Ground). p.refused) (sym port) ∙ held_refused visit.console first last held.ending s.session.held in
     let talk = subst (λ (p : Port Ground). map said_of p.seen ≡ filter is_entered (talk_of s.session.held)) port whole in
     record {
       orders = orders;
@@ -68,11 +75,13 @@ of_session name visit outcome orders old new said held s =
       seconds = s.seconds;
       names = s.session.names;
       last = last;
-      ending = s.ending;
+      ending = held.ending;
       held = s.session.held;
       leaves = s.session.leaves;
       talk = talk;
-      told = held_told visit.console first last s.ending s.session.held;
+      told = held_told visit.console first last held.ending s.session.held;
+      full = λ was. held.full (refused ∙ was);
+      answered = ended_status held.book.refused held.ending outcome status mid new held.outcome_is ends ∙ ap (λ (r : Bool). session_status r held.ending) refused;
     }
 
 -- ---- what a visit told
@@ -90,7 +99,7 @@ record OfVerdict (console : Bool) (verdict : Verdict) (ending : Ending) (old new
   told : Noted (denied_text line) old new
 
 abbrev OfVisit : Bool → Verdict → Ending → BookView → BookView → Desk → Desk → Type 0
-OfVisit console verdict ending first last old new = (OfFault ending old.output new.output ⊎ OfVerdict console verdict ending old.output new.output) ⊎ OfSession console first last old new
+OfVisit console verdict ending first last old new = (OfFault ending old.output new.output ⊎ OfVerdict console verdict ending old.output new.output) ⊎ OfSession console ending first last old new
 
 treated_told : (logging : Result (Unit {0}) Failed) (verdict : Verdict) (rules : RuleBook) (peer : Peer) (old new : Desk) (first last : BookView) (logs : Drain) (ending : Ending)
     → AfterLine logging verdict Authsrv rules peer ending (record (meeting old first) { logs = logs }) (meeting new last) → OfVisit false verdict ending first last old new
@@ -100,11 +109,11 @@ treated_told (Ok done) (Deny line) rules peer old new first last logs ending h =
     let is : new.output ≡ h.outlet = ap (λ (m : Meeting Ground). m.devices.outlet) h.is in
     inl (inr (record { from_outside = refl; line = line; denied = refl; ends = h.ends; told = subst (λ (d : Drain). Noted (denied_text line) old.output d) (sym is) h.noted }))
 treated_told (Ok done) (Permit line) rules peer old new first last logs ending h =
-    inr (record { seconds = timeout_of rules; ending = ending; session = h.session })
+    inr (record { seconds = timeout_of rules; session = h.session })
 
 visit_told : (console : Bool) (rules : RuleBook) (peer : Peer) (old new : Desk) (first last : BookView) (ending : Ending)
     → Visits console rules peer (meeting old first) (meeting new last) ending → OfVisit console (verdict_of rules peer) ending first last old new
-visit_told true rules peer old new first last ending h = inr (record { seconds = old.sitting.input.waits; ending = ending; session = h.session })
+visit_told true rules peer old new first last ending h = inr (record { seconds = old.sitting.input.waits; session = h.session })
 visit_told false rules peer old new first last ending h = treated_told h.logging (verdict_of rules peer) rules peer old new first last h.logs ending h.rest
 
 -- ---- with the outcome
@@ -139,7 +148,7 @@ held_told_by name visit outcome status orders old mid new said held ends =
       told = denied.told;
       answered = status_by 1 status outcome mid new ends (held.outcome_is ∙ denial held.book.refused denied.line held.ending denied.ends);
     }))
-    choose (inr session) = inr (of_session name visit outcome orders old mid said held session)
+    choose (inr session) = inr (of_session name visit outcome status orders old mid new said held ends session)
 
 silent : (name : List ℕ) (visit : Visit) (status : ℕ) (old new : Desk) → (status ≡ 3) ⊎ ((status ≡ 4) ⊎ (status ≡ 5)) → new.output ≡ old.output → IsTold name visit status old new
 silent name visit status old new why is = inl (inl (record { why = why; output = is }))
@@ -212,6 +221,8 @@ later_told name visit status old mid new logged (inr h) = inr (record {
   leaves = h.leaves ∙ sym (same_devices mid new h.book logged);
   talk = h.talk;
   told = h.told;
+  full = h.full;
+  answered = h.answered;
 })
 
 later_command : (name : List ℕ) (command : Option Command) (status : ℕ) (old mid new : Desk) → IsLogged mid new → Replies name command status old mid → Replies name command status old new
@@ -225,3 +236,56 @@ pub replies : (words : List (List ℕ)) (status : ℕ) (old new : Desk) → Ran 
 replies words status old new ran =
     later_command (table_named words) (command_of words) status old ran.middle new (ended_logged ran.outcome status ran.middle new ran.ends)
     (command_told (table_named words) (command_of words) ran.outcome status old ran.middle new ran.does ran.ends)
+
+-- ---- 6 is for a session that came to a limit
+
+six_by : (refused : Bool) (ending : Ending) → session_status refused ending ≡ 6 → (ending ≡ endings.Spent) ⊎ ((ending ≡ endings.Done) × (refused ≡ true))
+six_by true endings.Done is = inr (refl, refl)
+six_by false endings.Done is = absurd (omega (arith, is))
+six_by true endings.Spent is = inl refl
+six_by false endings.Spent is = inl refl
+six_by true (endings.Denied line) is = absurd (omega (arith, is))
+six_by false (endings.Denied line) is = absurd (omega (arith, is))
+six_by true endings.ClientFault is = absurd (omega (arith, is))
+six_by false endings.ClientFault is = absurd (omega (arith, is))
+six_by true endings.ServerFault is = absurd (omega (arith, is))
+six_by false endings.ServerFault is = absurd (omega (arith, is))
+six_by true endings.LogFault is = absurd (omega (arith, is))
+six_by false endings.LogFault is = absurd (omega (arith, is))
+six_by true endings.AuthFault is = absurd (omega (arith, is))
+six_by false endings.AuthFault is = absurd (omega (arith, is))
+six_by true endings.Idle is = absurd (omega (arith, is))
+six_by false endings.Idle is = absurd (omega (arith, is))
+six_by true endings.NoRoute is = absurd (omega (arith, is))
+six_by false endings.NoRoute is = absurd (omega (arith, is))
+six_by true endings.NoMemory is = absurd (omega (arith, is))
+six_by false endings.NoMemory is = absurd (omega (arith, is))
+
+took_all : (ending : Ending) (old new : Devices Ground) → ending ≡ endings.Spent → TakesFor ending old new → TookAll old.inlet new.inlet
+took_all ending old new spent h = record { bytes = h.bytes; all = eqb-true (length h.bytes) most_taken (sym h.all ∙ ap is_spent spent); took = h.took }
+
+-- the bytes that the session took are those that were taken of the input
+history_spent : (name : List ℕ) (visit : Visit) (status : ℕ) (old new : Desk) (h : OfHistory name visit status old new) → h.ending ≡ endings.Spent → TookAll old.sitting.input new.sitting.input
+history_spent name visit status old new h spent =
+    let first : Devices Ground = patient h.seconds (meeting old (book_at_first h.origin most_entries h.before)).devices in
+    let last : Devices Ground = (meeting new h.book).devices in
+    let session : Session visit.console first last h.ending = record { names = h.names; last = h.last; held = h.held; leaves = h.leaves } in
+    let took = took_all h.ending first last spent (session_spent visit.console first last h.ending session) in
+    record { bytes = took.bytes; all = took.all; took = took.took }
+
+history_limit : (name : List ℕ) (visit : Visit) (old new : Desk) → OfHistory name visit 6 old new → MeetsLimit name visit old new
+history_limit name visit old new h = choose (six_by (list_any is_refused (talk_of h.held)) h.ending (sym h.answered))
+  where
+    choose : (h.ending ≡ endings.Spent) ⊎ ((h.ending ≡ endings.Done) × (list_any is_refused (talk_of h.held) ≡ true)) → MeetsLimit name visit old new
+    choose (inl spent) = inl (history_spent name visit 6 old new h spent)
+    choose (inr full) = inr (record { session = h; refused = full.1; full = h.full full.1 })
+
+not_six : (status : ℕ) → (status ≡ 3) ⊎ ((status ≡ 4) ⊎ (status ≡ 5)) → status ≡ 6 → ⊥
+not_six status (inl three) six = omega (arith, three, six)
+not_six status (inr (inl four)) six = omega (arith, four, six)
+not_six status (inr (inr five)) six = omega (arith, five, six)
+
+pub told_limit : (name : List ℕ) (visit : Visit) (status : ℕ) (old new : Desk) → IsTold name visit status old new → status ≡ 6 → MeetsLimit name visit old new
+told_limit name visit status old new (inl (inl h)) six = absurd (not_six status h.why six)
+told_limit name visit status old new (inl (inr h)) six = let one = h.answered in absurd (omega (arith, one, six))
+told_limit name visit status old new (inr h) six = history_limit name visit old new (subst (λ (n : ℕ). OfHistory name visit n old new) six h)

@@ -1,10 +1,14 @@
 -- What a visit comes to, status by status.
-use Rattle.std.proofs.Common.{◌≡◌, ℕ, List, refl, sym, ◌∙◌, ap, subst, inl, inr, arith, ◌⊎◌, Bool, true, false}
+use Rattle.std.proofs.Common.{◌≡◌, ℕ, List, [], length, refl, sym, ◌∙◌, ap, subst, inl, inr, arith, ◌⊎◌, Bool, true, false}
 use Rattle.std.specs.Prelude.{Option, Some, None, Result, Ok, Err, IfSome, IsSome}
 use Rattle.auth_machine.specs.Book.{BookView}
 use Rattle.auth_machine.specs.Port.{Ground}
-use Rattle.authsrv_lines.specs.Causes.{Caused}
+use Rattle.authsrv_lines.specs.Causes.{Caused, TakesFor, is_spent}
+use Rattle.authsrv_lines.specs.CauseLemmas.{by_nothing}
+use Rattle.authsrv_lines.specs.Session.{Devices, most_taken}
+use Rattle.authsrv_lines.specs.SpentLemmas.{same_tells}
 use Rattle.fw_outside.specs.Counts.{Rose}
+use Rattle.fw_outside.specs.Spring.{Spring}
 use Rattle.fw_outside.specs.Vault.{Missed, Vault}
 use Rattle.fw_outside.specs.declared.ending.Ending.{Ending}
 use Rattle.fw_outside.specs.declared.ending.Ending.TheVariants.{Done, Denied, ClientFault, ServerFault, LogFault, AuthFault, Idle, NoRoute, Spent, NoMemory}
@@ -18,16 +22,17 @@ use Rattle.fwtk.specs.Conn.{Causes, IsRefused, Meeting}
 use Rattle.fwtk.specs.Deciding.{FilesFailed}
 use Rattle.fwtk.specs.Desk.{Desk, Sitting}
 use Rattle.fwtk.specs.Endings.{ending_status}
+use Rattle.fwtk.specs.History.{session_status}
 use Rattle.fwtk.specs.Ruling.{said_in}
 use Rattle.fwtk.specs.Run.{Ends}
 use Rattle.fwtk.specs.Serving.{Attends, Follows, Held, Visits, book_at_first, meeting, most_entries, orders_of, outcome_of}
-use Rattle.fwtk.specs.Status.{Fails, IsAnswered, IsHeld, IsReadable, IsServed, IsServedBy, IsServedFor, KeeperRose, SomeRose, WantsMemory}
+use Rattle.fwtk.specs.Status.{Fails, IsAnswered, IsHeld, IsReadable, IsServed, IsServedBy, IsServedFor, KeeperRose, SomeRose, TakesIn, WantsMemory}
 use Rattle.fwtk.specs.declared.fault.Device.TheVariants as device
 use Rattle.fwtk.specs.declared.fault.Fault.{Fault}
 use Rattle.fwtk.specs.declared.fault.Fault.TheVariants.{Usage, Table, Rule, Outside, Memory, Record, Limit}
 use Rattle.fwtk.specs.declared.orders.Orders.{Orders}
 use Rattle.fwtk.specs.declared.words.Visit.{Visit}
-use Rattle.fwtk.proofs.ConnLemmas.{conn_caused, conn_refused, ended_caused}
+use Rattle.fwtk.proofs.ConnLemmas.{conn_caused, conn_refused, conn_spent, ended_caused, ended_spent}
 use Rattle.fwtk.proofs.FindingLemmas.{of_any, of_text}
 
 -- ---- endings and statuses
@@ -104,14 +109,18 @@ attends_known name visit (Err Limit) old mid new status does ends is = let ended
 
 -- ---- the status says which records and rules there were
 
-done_held : (ending : Ending) → ending ≡ Done → IsHeld (ending_status ending)
+-- that a session came to a limit is shown further down
+abbrev pub Any : Type 0
+Any = Unit {0}
+
+done_held : (ending : Ending) → ending ≡ Done → IsHeld Any (ending_status ending)
 done_held ending is = inl (ap ending_status is)
 
 -- the client wasn't denied, and no device failed
 abbrev Went : (ℕ → Type 0) → Bool → Verdict → ℕ → Type 0
-Went other console verdict status = IsAnswered console verdict status ⊎ other status
+Went other console verdict status = IsAnswered Any console verdict status ⊎ other status
 
-held_on : (console : Bool) (verdict : Verdict) (status : ℕ) → IsHeld status → (console ≡ false → (line : ℕ) → verdict ≡ Deny line → ⊥) → IsAnswered console verdict status
+held_on : (console : Bool) (verdict : Verdict) (status : ℕ) → IsHeld Any status → (console ≡ false → (line : ℕ) → verdict ≡ Deny line → ⊥) → IsAnswered Any console verdict status
 held_on true verdict status held never = held
 held_on false (Permit line) status held never = held
 held_on false (Deny line) status held never = absurd (never refl line refl)
@@ -132,7 +141,7 @@ at_console LogFault old new h = absurd h
 at_console AuthFault old new h = inr (inl refl)
 at_console Idle old new h = inr (inl refl)
 at_console NoRoute old new h = absurd h
-at_console Spent old new h = inl (inr refl)
+at_console Spent old new h = inl (inr (refl, tt))
 at_console NoMemory old new h = inr (inr refl)
 
 -- an ending of a client that is permitted
@@ -145,7 +154,7 @@ when_permitted line LogFault old new h = inr (inl refl)
 when_permitted line AuthFault old new h = inr (inl refl)
 when_permitted line Idle old new h = inr (inl refl)
 when_permitted line NoRoute old new h = absurd h
-when_permitted line Spent old new h = inl (inr refl)
+when_permitted line Spent old new h = inl (inr (refl, tt))
 when_permitted line NoMemory old new h = inr (inr refl)
 
 when_denied : (line : ℕ) (ending : Ending) → IsRefused (Deny line) ending → Went Fails false (Deny line) (ending_status ending)
@@ -165,20 +174,20 @@ visit_went false rules peer old new ending h =
     by_verdict (verdict_of rules peer) ending old new (conn_caused Authsrv rules peer old new ending h) (conn_refused Authsrv rules peer old new ending h)
 
 -- 6 in the place of 0, where a request was answered that the history is full
-limited : (console : Bool) (verdict : Verdict) (ending : Ending) → ending ≡ Done → Went Fails console verdict (ending_status ending) → IsAnswered console verdict 6
-limited true verdict ending is h = inr refl
-limited false (Permit line) ending is h = inr refl
+limited : (console : Bool) (verdict : Verdict) (ending : Ending) → ending ≡ Done → Went Fails console verdict (ending_status ending) → IsAnswered Any console verdict 6
+limited true verdict ending is h = inr (refl, tt)
+limited false (Permit line) ending is h = inr (refl, tt)
 limited false (Deny line) ending is (inl h) = let zero_is : ending_status ending ≡ 0 = ap ending_status is in absurd (omega (arith, zero_is, h))
 limited false (Deny line) ending is (inr (inl h)) = let zero_is : ending_status ending ≡ 0 = ap ending_status is in absurd (omega (arith, zero_is, h))
 limited false (Deny line) ending is (inr (inr h)) = let zero_is : ending_status ending ≡ 0 = ap ending_status is in absurd (omega (arith, zero_is, h))
 
 abbrev Served : Visit → Desk → ℕ → Orders → Type 0
-Served visit old status orders = IfSome old.sitting.keeper (λ vault. IsServed orders visit vault status ⊎ Fails status)
+Served visit old status orders = IfSome old.sitting.keeper (λ vault. IsServed Any orders visit vault status ⊎ Fails status)
 
 with_keeper : (keeper : Option Vault) (vault : Vault) (P : Vault → Type 0) → keeper ≡ Some vault → P vault → IfSome keeper P
 with_keeper keeper vault P is h = subst (λ (k : Option Vault). IfSome k P) (sym is) h
 
-went_served : (orders : Orders) (visit : Visit) (vault : Vault) (status : ℕ) → IsReadable vault → Went Fails visit.console (verdict_of orders.rules visit.peer) status → IsServed orders visit vault status ⊎ Fails status
+went_served : (orders : Orders) (visit : Visit) (vault : Vault) (status : ℕ) → IsReadable vault → Went Fails visit.console (verdict_of orders.rules visit.peer) status → IsServed Any orders visit vault status ⊎ Fails status
 went_served orders visit vault status readable (inl answered) = inl (inr (readable, answered))
 went_served orders visit vault status readable (inr fails) = inr fails
 
@@ -189,34 +198,34 @@ any_other (Some vault) P other h = inr h
 held_served : (visit : Visit) (orders : Orders) (n : ℕ) (old mid : Desk) → Held visit orders (Ok n) old mid → Served visit old n orders
 held_served visit orders n old mid held =
     let is : n ≡ ending_status held.ending = outcome_status held.book.refused held.ending n held.outcome_is in
-    with_keeper old.sitting.keeper held.before (λ vault. IsServed orders visit vault n ⊎ Fails n) held.keeper
+    with_keeper old.sitting.keeper held.before (λ vault. IsServed Any orders visit vault n ⊎ Fails n) held.keeper
     (went_served orders visit held.before n (record { records = held.origin.records; read = held.records })
     (subst (λ (m : ℕ). Went Fails visit.console (verdict_of orders.rules visit.peer) m) (sym is) (visit_went visit.console orders.rules visit.peer _ _ held.ending held.visits)))
 
 limit_served : (visit : Visit) (orders : Orders) (old mid : Desk) → Held visit orders (Err Limit) old mid → Served visit old 6 orders
 limit_served visit orders old mid held =
     let done : held.ending ≡ Done = limit_done held.book.refused held.ending held.outcome_is in
-    with_keeper old.sitting.keeper held.before (λ vault. IsServed orders visit vault 6 ⊎ Fails 6) held.keeper
+    with_keeper old.sitting.keeper held.before (λ vault. IsServed Any orders visit vault 6 ⊎ Fails 6) held.keeper
     (inl (inr (
       record { records = held.origin.records; read = held.records },
       limited visit.console (verdict_of orders.rules visit.peer) held.ending done (visit_went visit.console orders.rules visit.peer _ _ held.ending held.visits),
     )))
 
-served_ok : (said : Result Orders Fault) (orders : Orders) (visit : Visit) (old : Desk) (status : ℕ) → said ≡ Ok orders → Served visit old status orders → IsServedBy Fails said visit old.sitting.keeper status
-served_ok said orders visit old status is h = subst (λ (s : Result Orders Fault). IsServedBy Fails s visit old.sitting.keeper status) (sym is) h
+served_ok : (said : Result Orders Fault) (orders : Orders) (visit : Visit) (old : Desk) (status : ℕ) → said ≡ Ok orders → Served visit old status orders → IsServedBy Fails Any said visit old.sitting.keeper status
+served_ok said orders visit old status is h = subst (λ (s : Result Orders Fault). IsServedBy Fails Any s visit old.sitting.keeper status) (sym is) h
 
-served_fault : (said : Result Orders Fault) (fault : Fault) (visit : Visit) (old : Desk) (status : ℕ) → said ≡ Err fault → status ≡ 3 → IsServedBy Fails said visit old.sitting.keeper status
-served_fault said fault visit old status is h = subst (λ (s : Result Orders Fault). IsServedBy Fails s visit old.sitting.keeper status) (sym is) (inl h)
+served_fault : (said : Result Orders Fault) (fault : Fault) (visit : Visit) (old : Desk) (status : ℕ) → said ≡ Err fault → status ≡ 3 → IsServedBy Fails Any said visit old.sitting.keeper status
+served_fault said fault visit old status is h = subst (λ (s : Result Orders Fault). IsServedBy Fails Any s visit old.sitting.keeper status) (sym is) (inl h)
 
-served_other : (said : Result Orders Fault) (visit : Visit) (old : Desk) (status : ℕ) → Fails status → IsServedBy Fails said visit old.sitting.keeper status
-served_other (Ok orders) visit old status h = any_other old.sitting.keeper (λ vault. IsServed orders visit vault status) (Fails status) h
+served_other : (said : Result Orders Fault) (visit : Visit) (old : Desk) (status : ℕ) → Fails status → IsServedBy Fails Any said visit old.sitting.keeper status
+served_other (Ok orders) visit old status h = any_other old.sitting.keeper (λ vault. IsServed Any orders visit vault status) (Fails status) h
 served_other (Err fault) visit old status h = inr h
 
-follows_served : (name : List ℕ) (visit : Visit) (outcome : Result ℕ Fault) (old mid : Desk) (status : ℕ) → (follows : Follows name visit outcome old mid) → Served visit old status follows.orders → IsServedFor Fails name visit old status
+follows_served : (name : List ℕ) (visit : Visit) (outcome : Result ℕ Fault) (old mid : Desk) (status : ℕ) → (follows : Follows name visit outcome old mid) → Served visit old status follows.orders → IsServedFor Fails Any name visit old status
 follows_served name visit outcome old mid status follows served =
     of_text old.files.holds name (λ text is. served_ok (said_in orders_of text) follows.orders visit old status is served) follows.of_table
 
-pub attends_served : (name : List ℕ) (visit : Visit) (outcome : Result ℕ Fault) (old mid new : Desk) (status : ℕ) → Attends name visit outcome old mid → Ends outcome status mid new → IsServedFor Fails name visit old status
+pub attends_served : (name : List ℕ) (visit : Visit) (outcome : Result ℕ Fault) (old mid new : Desk) (status : ℕ) → Attends name visit outcome old mid → Ends outcome status mid new → IsServedFor Fails Any name visit old status
 attends_served name visit (Ok n) old mid new status does ends =
     follows_served name visit (Ok n) old mid status does (subst (λ (m : ℕ). Served visit old m does.orders) (sym ends.0) (held_served visit does.orders n old mid does.proceeds))
 attends_served name visit (Err Limit) old mid new status does ends =
@@ -224,7 +233,7 @@ attends_served name visit (Err Limit) old mid new status does ends =
 attends_served name visit (Err (Record user at)) old mid new status does ends =
     let bad = does.proceeds in
     follows_served name visit (Err (Record user at)) old mid status does
-    (with_keeper old.sitting.keeper bad.before (λ vault. IsServed does.orders visit vault status ⊎ Fails status) bad.keeper (inl (inl (ends.0, record { user = user; at = at; bad = bad.bad }))))
+    (with_keeper old.sitting.keeper bad.before (λ vault. IsServed Any does.orders visit vault status ⊎ Fails status) bad.keeper (inl (inl (ends.0, record { user = user; at = at; bad = bad.bad }))))
 attends_served name visit (Err (Outside device.Records)) old mid new status does ends =
     of_any old.files.holds name (λ text. served_other (said_in orders_of text) visit old status (inl ends.0))
 attends_served name visit (Err (Outside device.Table)) old mid new status does ends =
@@ -239,18 +248,41 @@ attends_served name visit (Err (Rule fault)) old mid new status does ends =
     of_text old.files.holds name (λ text is. served_fault (said_in orders_of text) (Rule fault) visit old status is ends.0) does.of_table
 attends_served name visit (Err Usage) old mid new status does ends = absurd does
 
--- what isn't 4 is by the records and rules, or wants memory
-served_unless_four : (orders : Orders) (visit : Visit) (keeper : Option Vault) (status : ℕ) → (status ≡ 4 → ⊥) → IfSome keeper (λ vault. IsServed orders visit vault status ⊎ Fails status) → IfSome keeper (λ vault. IsServed orders visit vault status ⊎ WantsMemory status)
-served_unless_four orders visit None status never h = tt
-served_unless_four orders visit (Some vault) status never (inl is) = inl is
-served_unless_four orders visit (Some vault) status never (inr (inl four)) = absurd (never four)
-served_unless_four orders visit (Some vault) status never (inr (inr five)) = inr five
+-- where 6 is for a limit, the session came to one
+met_held : (limit : Type 0) (status : ℕ) → (status ≡ 6 → limit) → IsHeld Any status → IsHeld limit status
+met_held limit status met (inl zero) = inl zero
+met_held limit status met (inr six) = inr (six.0, met six.0)
 
-pub unless_four_served : (said : Result Orders Fault) (visit : Visit) (keeper : Option Vault) (status : ℕ) → (status ≡ 4 → ⊥) → IsServedBy Fails said visit keeper status → IsServedBy WantsMemory said visit keeper status
-unless_four_served (Ok orders) visit keeper status never h = served_unless_four orders visit keeper status never h
-unless_four_served (Err fault) visit keeper status never (inl is) = inl is
-unless_four_served (Err fault) visit keeper status never (inr (inl four)) = absurd (never four)
-unless_four_served (Err fault) visit keeper status never (inr (inr five)) = inr five
+met_answered : (limit : Type 0) (console : Bool) (verdict : Verdict) (status : ℕ) → (status ≡ 6 → limit) → IsAnswered Any console verdict status → IsAnswered limit console verdict status
+met_answered limit true verdict status met h = met_held limit status met h
+met_answered limit false (Permit line) status met h = met_held limit status met h
+met_answered limit false (Deny line) status met h = h
+
+met_served : (limit : Type 0) (orders : Orders) (visit : Visit) (vault : Vault) (status : ℕ) → (status ≡ 6 → limit) → IsServed Any orders visit vault status ⊎ Fails status → IsServed limit orders visit vault status ⊎ Fails status
+met_served limit orders visit vault status met (inl (inl bad)) = inl (inl bad)
+met_served limit orders visit vault status met (inl (inr h)) = inl (inr (h.0, met_answered limit visit.console (verdict_of orders.rules visit.peer) status met h.1))
+met_served limit orders visit vault status met (inr fails) = inr fails
+
+met_with : (limit : Type 0) (orders : Orders) (visit : Visit) (keeper : Option Vault) (status : ℕ) → (status ≡ 6 → limit) → IfSome keeper (λ vault. IsServed Any orders visit vault status ⊎ Fails status) → IfSome keeper (λ vault. IsServed limit orders visit vault status ⊎ Fails status)
+met_with limit orders visit None status met h = tt
+met_with limit orders visit (Some vault) status met h = met_served limit orders visit vault status met h
+
+pub met_by : (limit : Type 0) (said : Result Orders Fault) (visit : Visit) (keeper : Option Vault) (status : ℕ) → (status ≡ 6 → limit) → IsServedBy Fails Any said visit keeper status → IsServedBy Fails limit said visit keeper status
+met_by limit (Ok orders) visit keeper status met h = met_with limit orders visit keeper status met h
+met_by limit (Err fault) visit keeper status met h = h
+
+-- what isn't 4 is by the records and rules, or wants memory
+served_unless_four : (limit : Type 0) (orders : Orders) (visit : Visit) (keeper : Option Vault) (status : ℕ) → (status ≡ 4 → ⊥) → IfSome keeper (λ vault. IsServed limit orders visit vault status ⊎ Fails status) → IfSome keeper (λ vault. IsServed limit orders visit vault status ⊎ WantsMemory status)
+served_unless_four limit orders visit None status never h = tt
+served_unless_four limit orders visit (Some vault) status never (inl is) = inl is
+served_unless_four limit orders visit (Some vault) status never (inr (inl four)) = absurd (never four)
+served_unless_four limit orders visit (Some vault) status never (inr (inr five)) = inr five
+
+pub unless_four_served : (limit : Type 0) (said : Result Orders Fault) (visit : Visit) (keeper : Option Vault) (status : ℕ) → (status ≡ 4 → ⊥) → IsServedBy Fails limit said visit keeper status → IsServedBy WantsMemory limit said visit keeper status
+unless_four_served limit (Ok orders) visit keeper status never h = served_unless_four limit orders visit keeper status never h
+unless_four_served limit (Err fault) visit keeper status never (inl is) = inl is
+unless_four_served limit (Err fault) visit keeper status never (inr (inl four)) = absurd (never four)
+unless_four_served limit (Err fault) visit keeper status never (inr (inr five)) = inr five
 
 -- ---- 4 is only for a count that rose
 
@@ -364,3 +396,72 @@ attends_keeper name visit (Err (Outside device.Log)) old mid does before = absur
 attends_keeper name visit (Err (Outside device.Records)) old mid does before = some_there mid.sitting.keeper does.proceeds.after (ap (λ (d : Desk). d.sitting.keeper) does.proceeds.is)
 attends_keeper name visit (Err Memory) old mid does before = there old.sitting.keeper mid.sitting.keeper (ap (λ (d : Desk). d.sitting.keeper) does) before
 attends_keeper name visit (Err (Record user at)) old mid does before = there old.sitting.keeper mid.sitting.keeper (ap (λ (d : Desk). d.sitting.keeper) does.proceeds.is) before
+
+-- ---- bytes
+
+pub takes_same : (status : ℕ) (old new : Spring) → new ≡ old → TakesIn status old new
+takes_same status old new is = record { bytes = []; took = ap (λ (s : Spring). s.taken) is ∙ by_nothing old.taken; most = omega (arith); all = λ long. absurd (omega (arith, long)) }
+
+spent_is : (ending : Ending) → is_spent ending ≡ true → ending ≡ Spent
+spent_is Spent is = refl
+spent_is Done is = absurd (cc)
+spent_is (Denied line) is = absurd (cc)
+spent_is ClientFault is = absurd (cc)
+spent_is ServerFault is = absurd (cc)
+spent_is LogFault is = absurd (cc)
+spent_is AuthFault is = absurd (cc)
+spent_is Idle is = absurd (cc)
+spent_is NoRoute is = absurd (cc)
+spent_is NoMemory is = absurd (cc)
+
+takes_in : (ending : Ending) (status : ℕ) (old new : Devices Ground) → TakesFor ending old new → (ending ≡ Spent → status ≡ 6) → TakesIn status old.inlet new.inlet
+takes_in ending status old new h six = record {
+  bytes = h.bytes;
+  took = h.took;
+  most = h.most;
+  all = λ long. six (spent_is ending (h.all ∙ same_tells (length h.bytes) most_taken long));
+}
+
+visit_spent : (console : Bool) (rules : RuleBook) (peer : Peer) (old new : Meeting Ground) (ending : Ending) → Visits console rules peer old new ending → TakesFor ending old.devices new.devices
+visit_spent true rules peer old new ending h = ended_spent Authsrv peer ending old new h
+visit_spent false rules peer old new ending h = conn_spent Authsrv rules peer old new ending h
+
+-- the status of a visit is its session's
+pub ended_status : (refused : Bool) (ending : Ending) (outcome : Result ℕ Fault) (status : ℕ) (mid new : Desk) → outcome ≡ outcome_of refused ending → Ends outcome status mid new → status ≡ session_status refused ending
+ended_status refused ending outcome status mid new is ends = choose refused ending (subst (λ (o : Result ℕ Fault). Ends o status mid new) is ends)
+  where
+    choose : (refused : Bool) (ending : Ending) → Ends (outcome_of refused ending) status mid new → status ≡ session_status refused ending
+    choose false ending ends = ends.0
+    choose true Done ends = ends.0
+    choose true (Denied line) ends = ends.0
+    choose true ClientFault ends = ends.0
+    choose true ServerFault ends = ends.0
+    choose true LogFault ends = ends.0
+    choose true AuthFault ends = ends.0
+    choose true Idle ends = ends.0
+    choose true NoRoute ends = ends.0
+    choose true Spent ends = ends.0
+    choose true NoMemory ends = ends.0
+
+spent_six : (refused : Bool) (ending : Ending) → ending ≡ Spent → session_status refused ending ≡ 6
+spent_six true ending is = ap (session_status true) is
+spent_six false ending is = ap (session_status false) is
+
+held_takes : (visit : Visit) (orders : Orders) (outcome : Result ℕ Fault) (old mid new : Desk) (status : ℕ) → Held visit orders outcome old mid → Ends outcome status mid new → TakesIn status old.sitting.input mid.sitting.input
+held_takes visit orders outcome old mid new status held ends =
+    takes_in held.ending status _ _
+    (visit_spent visit.console orders.rules visit.peer (meeting old (book_at_first held.origin most_entries held.before)) (meeting mid held.book) held.ending held.visits)
+    (λ spent. ended_status held.book.refused held.ending outcome status mid new held.outcome_is ends ∙ spent_six held.book.refused held.ending spent)
+
+pub attends_takes : (name : List ℕ) (visit : Visit) (outcome : Result ℕ Fault) (old mid new : Desk) (status : ℕ) → Attends name visit outcome old mid → Ends outcome status mid new → TakesIn status old.sitting.input mid.sitting.input
+attends_takes name visit (Ok n) old mid new status does ends = held_takes visit does.orders (Ok n) old mid new status does.proceeds ends
+attends_takes name visit (Err Limit) old mid new status does ends = held_takes visit does.orders (Err Limit) old mid new status does.proceeds ends
+attends_takes name visit (Err Usage) old mid new status does ends = absurd does
+attends_takes name visit (Err (Table fault)) old mid new status does ends = takes_same status old.sitting.input mid.sitting.input (ap (λ (d : Desk). d.sitting.input) does.is)
+attends_takes name visit (Err (Rule fault)) old mid new status does ends = takes_same status old.sitting.input mid.sitting.input (ap (λ (d : Desk). d.sitting.input) does.is)
+attends_takes name visit (Err (Outside device.Table)) old mid new status does ends = takes_same status old.sitting.input mid.sitting.input (ap (λ (s : Sitting). s.input) does.sitting)
+attends_takes name visit (Err (Outside device.Output)) old mid new status does ends = absurd does
+attends_takes name visit (Err (Outside device.Log)) old mid new status does ends = absurd does
+attends_takes name visit (Err (Outside device.Records)) old mid new status does ends = takes_same status old.sitting.input mid.sitting.input (ap (λ (d : Desk). d.sitting.input) does.proceeds.is)
+attends_takes name visit (Err Memory) old mid new status does ends = takes_same status old.sitting.input mid.sitting.input (ap (λ (d : Desk). d.sitting.input) does)
+attends_takes name visit (Err (Record user at)) old mid new status does ends = takes_same status old.sitting.input mid.sitting.input (ap (λ (d : Desk). d.sitting.input) does.proceeds.is)

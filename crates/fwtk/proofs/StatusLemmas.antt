@@ -15,6 +15,7 @@ use Rattle.fwtk.specs.declared.fault.Fault.TheVariants.{Usage, Table, Rule, Outs
 use Rattle.fwtk.specs.declared.words.Command.{Command}
 use Rattle.fwtk.specs.declared.words.Command.TheVariants as commands
 use Rattle.fwtk.specs.declared.words.Query.{Query}
+use Rattle.fwtk.specs.declared.words.Visit.{Visit}
 use Rattle.fwtk.specs.Desk.{Desk, Sitting}
 use Rattle.fwtk.specs.Fault.{fault_text}
 use Rattle.fwtk.specs.Ruling.{OfText, ruling, said_in}
@@ -22,11 +23,14 @@ use Rattle.fwtk.specs.Serving.{orders_of}
 use Rattle.gate_rules.specs.Reading.{RuleBook}
 use Rattle.fwtk.specs.Run.{Does, Ends, Ran, Tells}
 use Rattle.fwtk.specs.Deciding.{ByTable, DecidesBy, FilesFailed, ShowsBy, verdict_status}
-use Rattle.fwtk.specs.Status.{Fails, IsRuled, IsRuledBy, SomeRose, WantsMemory}
+use Rattle.fwtk.specs.History.{MeetsLimit}
+use Rattle.fwtk.specs.Replies.{IsTold, Replies}
+use Rattle.fwtk.specs.Status.{Fails, IsRuled, IsRuledBy, IsServedFor, SomeRose, TakesIn, WantsMemory}
 use Rattle.fwtk.specs.Words.{command_of, table_named}
 use Rattle.fwtk.proofs.CommandLemmas.{IsCommand, cut_rose, decides_command, shows_command}
 use Rattle.fwtk.proofs.FindingLemmas.{of_any, of_text}
-use Rattle.fwtk.proofs.ServingLemmas.{attends_keeper, attends_known, attends_out, attends_rose, attends_served, unless_four_served}
+use Rattle.fwtk.proofs.RepliesLemmas.{replies, told_limit}
+use Rattle.fwtk.proofs.ServingLemmas.{Any, attends_keeper, attends_known, attends_out, attends_rose, attends_served, attends_takes, met_by, takes_same, unless_four_served}
 
 verdict_status_low : (verdict : Verdict) → verdict_status verdict ≤ 1
 verdict_status_low (Permit line) = omega arith
@@ -90,14 +94,19 @@ ruled_decision doing name query (Err Limit) old mid new status command does ends
 ruled_decision doing name query (Err Memory) old mid new status command does ends =
     of_any old.files.holds name (λ text. ruled_other Fails (ruling text query.service) query.peer status (inr ends.0))
 
-ruled_command : (name : List ℕ) (command : Option Command) (outcome : Result ℕ Fault) (old mid new : Desk) (status : ℕ) → Does name command outcome old mid → Ends outcome status mid new → IsRuledBy Fails name command old status
-ruled_command name None outcome old mid new status does ends = tt
-ruled_command name (Some (commands.Authsrv visit)) outcome old mid new status does ends = attends_served name visit outcome old mid new status does ends
-ruled_command name (Some (commands.Netacl query)) outcome old mid new status does ends = ruled_decision (DecidesBy query) name query outcome old mid new status (decides_command query) does ends
-ruled_command name (Some (commands.Table query)) outcome old mid new status does ends = ruled_decision (ShowsBy query) name query outcome old mid new status (shows_command query) does ends
+-- a visit's 6 is for a limit that its session came to, as its replies tell
+ruled_visit : (name : List ℕ) (visit : Visit) (status : ℕ) (old new : Desk) → IsTold name visit status old new → IsServedFor Fails Any name visit old status → IsServedFor Fails (MeetsLimit name visit old new) name visit old status
+ruled_visit name visit status old new told h =
+    of_text old.files.holds name (λ text. met_by (MeetsLimit name visit old new) (said_in orders_of text) visit old.sitting.keeper status (told_limit name visit status old new told)) h
 
-pub ruled : (words : List (List ℕ)) (status : ℕ) (old new : Desk) → Ran words status old new → IsRuledBy Fails (table_named words) (command_of words) old status
-ruled words status old new ran = ruled_command (table_named words) (command_of words) ran.outcome old ran.middle new status ran.does ran.ends
+ruled_command : (name : List ℕ) (command : Option Command) (outcome : Result ℕ Fault) (old mid new : Desk) (status : ℕ) → Does name command outcome old mid → Ends outcome status mid new → Replies name command status old new → IsRuledBy Fails name command old new status
+ruled_command name None outcome old mid new status does ends told = tt
+ruled_command name (Some (commands.Authsrv visit)) outcome old mid new status does ends told = ruled_visit name visit status old new told (attends_served name visit outcome old mid new status does ends)
+ruled_command name (Some (commands.Netacl query)) outcome old mid new status does ends told = ruled_decision (DecidesBy query) name query outcome old mid new status (decides_command query) does ends
+ruled_command name (Some (commands.Table query)) outcome old mid new status does ends told = ruled_decision (ShowsBy query) name query outcome old mid new status (shows_command query) does ends
+
+pub ruled : (words : List (List ℕ)) (status : ℕ) (old new : Desk) → Ran words status old new → IsRuledBy Fails (table_named words) (command_of words) old new status
+ruled words status old new ran = ruled_command (table_named words) (command_of words) ran.outcome old ran.middle new status ran.does ran.ends (replies words status old new ran)
 
 -- a count that rose has risen, however it goes on
 rose_on : (a b c : ℕ) → Rose a b → b ≤ c → Rose a c
@@ -154,14 +163,14 @@ unless_four (Err fault) peer status never (inl is) = inl is
 unless_four (Err fault) peer status never (inr (inl four)) = absurd (never four)
 unless_four (Err fault) peer status never (inr (inr five)) = inr five
 
-unless_four_by : (name : List ℕ) (command : Option Command) (old : Desk) (status : ℕ) → (status ≡ 4 → ⊥) → IsRuledBy Fails name command old status → IsRuledBy WantsMemory name command old status
-unless_four_by name None old status never h = tt
-unless_four_by name (Some (commands.Table query)) old status never h = of_text old.files.holds name (λ text. unless_four (ruling text query.service) query.peer status never) h
-unless_four_by name (Some (commands.Authsrv visit)) old status never h = of_text old.files.holds name (λ text. unless_four_served (said_in orders_of text) visit old.sitting.keeper status never) h
-unless_four_by name (Some (commands.Netacl query)) old status never h = of_text old.files.holds name (λ text. unless_four (ruling text query.service) query.peer status never) h
+unless_four_by : (name : List ℕ) (command : Option Command) (old new : Desk) (status : ℕ) → (status ≡ 4 → ⊥) → IsRuledBy Fails name command old new status → IsRuledBy WantsMemory name command old new status
+unless_four_by name None old new status never h = tt
+unless_four_by name (Some (commands.Table query)) old new status never h = of_text old.files.holds name (λ text. unless_four (ruling text query.service) query.peer status never) h
+unless_four_by name (Some (commands.Authsrv visit)) old new status never h = of_text old.files.holds name (λ text. unless_four_served (MeetsLimit name visit old new) (said_in orders_of text) visit old.sitting.keeper status never) h
+unless_four_by name (Some (commands.Netacl query)) old new status never h = of_text old.files.holds name (λ text. unless_four (ruling text query.service) query.peer status never) h
 
-pub complete : (words : List (List ℕ)) (status : ℕ) (old new : Desk) → Ran words status old new → (SomeRose old new → ⊥) → IsRuledBy WantsMemory (table_named words) (command_of words) old status
-complete words status old new ran none = unless_four_by (table_named words) (command_of words) old status (λ four. none (outside words status old new ran four)) (ruled words status old new ran)
+pub complete : (words : List (List ℕ)) (status : ℕ) (old new : Desk) → Ran words status old new → (SomeRose old new → ⊥) → IsRuledBy WantsMemory (table_named words) (command_of words) old new status
+complete words status old new ran none = unless_four_by (table_named words) (command_of words) old new status (λ four. none (outside words status old new ran four)) (ruled words status old new ran)
 
 -- as many sources are out, whether the files gave none or took one back that had failed
 failed_out : (old mid : Cabinet) → FilesFailed old mid → mid.out ≡ old.out
@@ -233,3 +242,19 @@ ended_sitting (Err fault) status mid new ends = ends.1.sitting
 pub keeper_back : (words : List (List ℕ)) (status : ℕ) (old new : Desk) → Ran words status old new → IsSome old.sitting.keeper → IsSome new.sitting.keeper
 keeper_back words status old new ran there =
     keeper_by ran.middle new (ended_sitting ran.outcome status ran.middle new ran.ends) (command_keeper (table_named words) (command_of words) ran.outcome old ran.middle ran.does there)
+
+-- ---- bytes
+
+command_takes : (name : List ℕ) (command : Option Command) (outcome : Result ℕ Fault) (old mid new : Desk) (status : ℕ) → Does name command outcome old mid → Ends outcome status mid new → TakesIn status old.sitting.input mid.sitting.input
+command_takes name None outcome old mid new status does ends = takes_same status old.sitting.input mid.sitting.input (ap (λ (d : Desk). d.sitting.input) does.is)
+command_takes name (Some (commands.Netacl query)) outcome old mid new status does ends =
+    takes_same status old.sitting.input mid.sitting.input (ap (λ (s : Sitting). s.input) (decided_sitting (DecidesBy query) name query outcome old mid (decides_command query) does))
+command_takes name (Some (commands.Table query)) outcome old mid new status does ends =
+    takes_same status old.sitting.input mid.sitting.input (ap (λ (s : Sitting). s.input) (decided_sitting (ShowsBy query) name query outcome old mid (shows_command query) does))
+command_takes name (Some (commands.Authsrv visit)) outcome old mid new status does ends = attends_takes name visit outcome old mid new status does ends
+
+-- after as many bytes as a session may take the status is 6
+pub taken : (words : List (List ℕ)) (status : ℕ) (old new : Desk) → Ran words status old new → TakesIn status old.sitting.input new.sitting.input
+taken words status old new ran =
+    subst (λ (s : Sitting). TakesIn status old.sitting.input s.input) (sym (ended_sitting ran.outcome status ran.middle new ran.ends))
+    (command_takes (table_named words) (command_of words) ran.outcome old ran.middle new status ran.does ran.ends)

@@ -1,5 +1,6 @@
 -- From the book that was opened to what a visit answers and leaves.
-use Rattle.std.proofs.Common.{◌≡◌, sym, ◌∙◌, ap, subst, ℕ, Bool, true, false}
+use Rattle.std.proofs.Common.{◌≡◌, sym, ◌∙◌, ap, subst, ℕ, Bool, true, false, length}
+use Rattle.std.specs.Bool.{OnTrue}
 use Rattle.std.specs.Prelude.{Option, Some, None, Result}
 use Rattle.auth_machine.specs.Book.{BookView}
 use Rattle.auth_machine.specs.History.{IsLegal, HasRecords, Origin}
@@ -24,17 +25,22 @@ with_keeper_back : (visit : Visit) (rules : RuleBook) (first book : BookView) (e
 with_keeper_back visit rules first book ending old mid new keeper is h =
     subst (λ (d : Desk). Visits visit.console rules visit.peer (meeting old first) (meeting d book) ending) (sym is) h
 
+on_true : (b : Bool) (P : Type 0) → OnTrue b P → b ≡ true → P
+on_true true P h is = h
+on_true false P h is = absurd (cc)
+
 -- the visit was held, and then the keeper given back
 pub held_over : (visit : Visit) (rules : RuleBook) (first book : BookView) (ending : Ending) (outcome : Result ℕ Fault) (refused : Bool) (old mid new : Desk)
     → Visits visit.console rules visit.peer (meeting old first) (meeting mid book) ending → mid.files ≡ old.files
-    → refused ≡ book.refused → GivesBack book mid new → outcome ≡ outcome_of refused ending → HoldsOver visit rules first outcome old new
-held_over visit rules first book ending outcome refused old mid new visits files refused_is back outcome_is = record {
+    → refused ≡ book.refused → OnTrue refused (length book.history ≡ book.limit) → GivesBack book mid new → outcome ≡ outcome_of refused ending → HoldsOver visit rules first outcome old new
+held_over visit rules first book ending outcome refused old mid new visits files refused_is full back outcome_is = record {
   book = book;
   ending = ending;
   visits = with_keeper_back visit rules first book ending old mid new (Some book.vault) back.is visits;
   legal = back.legal;
   has = back.has;
   faults = back.faults;
+  full = λ was. on_true refused (length book.history ≡ book.limit) full (refused_is ∙ was);
   outcome_is = outcome_is ∙ ap (λ (r : Bool). outcome_of r ending) refused_is;
   kept = ap (λ (d : Desk). d.sitting.keeper) back.is;
   files = ap (λ (d : Desk). d.files) back.is ∙ files;
@@ -107,6 +113,7 @@ proceeds visit orders first outcome old mid new opened over =
       legal = subst (λ (o : Origin). IsLegal o over.book.history) origin over.legal;
       has = subst (λ (o : Origin). HasRecords o over.book.history over.book.vault) origin over.has;
       faults = over.faults;
+      full = λ was. over.full was ∙ limit;
       outcome_is = over.outcome_is;
       kept = over.kept;
       files = over.files ∙ ap (λ (d : Desk). d.files) opened.is;

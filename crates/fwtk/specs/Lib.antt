@@ -4,6 +4,7 @@ pub mod Desk
 pub mod Endings
 pub mod Fault
 pub mod Finding
+pub mod History
 pub mod Places
 pub mod Replies
 pub mod Ruling

@@ -1,5 +1,5 @@
 -- What `authsrv` does: the table and the records are read, a client is served, and the records are given back.
-use Rattle.std.specs.Prelude.{◌≡◌, ℕ, Bool, true, false, List, [], Some, Result, Ok, Err}
+use Rattle.std.specs.Prelude.{◌≡◌, ℕ, Bool, true, false, List, [], length, Some, Result, Ok, Err}
 use Rattle.auth_machine.specs.Book.{BookView}
 use Rattle.auth_machine.specs.History.{HasRecords, IsLegal, NoMoreThanFaults, Origin}
 use Rattle.auth_machine.specs.Opening.{ReadsAs}
@@ -69,8 +69,8 @@ book_at_first origin limit vault = record { history = []; limit = limit; origin 
 abbrev pub most_entries : ℕ
 most_entries = 4194304
 
--- The visit was held over the records that the keeper had. The history of its requests is legal, and the keeper has the
--- records after it.
+-- The visit was held over the records that the keeper had. The history of its requests is legal, and full where one was
+-- refused for that; and the keeper has the records after it.
 pub record Held (visit : Visit) (orders : Orders) (outcome : Result ℕ Fault) (old new : Desk) : Type 0 where
   pub before : Vault
   pub keeper : old.sitting.keeper ≡ Some before
@@ -85,6 +85,7 @@ pub record Held (visit : Visit) (orders : Orders) (outcome : Result ℕ Fault) (
   pub legal : IsLegal origin book.history
   pub has : HasRecords origin book.history book.vault
   pub faults : NoMoreThanFaults book.history book.vault
+  pub full : book.refused ≡ true → length book.history ≡ most_entries
   pub outcome_is : outcome ≡ outcome_of book.refused ending
   pub kept : new.sitting.keeper ≡ Some book.vault
   pub files : new.files ≡ old.files

@@ -1,8 +1,11 @@
 -- What the status of a run says.
-use Rattle.std.specs.Prelude.{◌≡◌, ℕ, ◌⊎◌, Bool, true, false, List, Option, Some, None, Result, Ok, Err, IfSome}
+use Rattle.std.specs.Prelude.{◌≡◌, ℕ, ◌≤◌, ◌⊎◌, Bool, true, false, List, length, Option, Some, None, Result, Ok, Err, IfSome}
 use Rattle.auth_machine.specs.Opening.{ReadsAs}
 use Rattle.auth_records.specs.Spelling.{Fields}
+use Rattle.authsrv_lines.specs.Session.{most_taken}
 use Rattle.fw_outside.specs.Counts.{Rose}
+use Rattle.fw_outside.specs.Spring.{Spring}
+use Rattle.fw_outside.specs.Telling.{grown}
 use Rattle.fw_outside.specs.Vault.{Vault}
 use Rattle.fw_outside.specs.declared.peer.Peer.{Peer}
 use Rattle.gate_rules.specs.Reading.{RuleBook}
@@ -11,6 +14,7 @@ use Rattle.gate_rules.specs.declared.verdict.Verdict.{Verdict}
 use Rattle.gate_rules.specs.declared.verdict.Verdict.TheVariants.{Permit, Deny}
 use Rattle.fwtk.specs.Deciding.{verdict_status}
 use Rattle.fwtk.specs.Desk.{Desk}
+use Rattle.fwtk.specs.History.{MeetsLimit}
 use Rattle.fwtk.specs.Ruling.{OfText, ruling, said_in}
 use Rattle.fwtk.specs.Serving.{orders_of}
 use Rattle.fwtk.specs.declared.fault.Fault.{Fault}
@@ -42,38 +46,38 @@ pub record IsReadable (keeper : Vault) : Type 0 where
   pub records : List Fields
   pub read : ReadsAs (Ok records) keeper keeper
 
--- the session came to its end, or to a limit, which `Serving` tells
-abbrev pub IsHeld : ℕ → Type 0
-IsHeld status = (status ≡ 0) ⊎ (status ≡ 6)
+-- the session came to its end, or to a limit
+abbrev pub IsHeld : Type 0 → ℕ → Type 0
+IsHeld limit status = (status ≡ 0) ⊎ ((status ≡ 6) × limit)
 
 -- a client that the table denies is answered 1, unless it is at the console
-abbrev pub IsAnswered : Bool → Verdict → ℕ → Type 0
-IsAnswered true verdict status = IsHeld status
-IsAnswered false (Permit line) status = IsHeld status
-IsAnswered false (Deny line) status = status ≡ 1
+abbrev pub IsAnswered : Type 0 → Bool → Verdict → ℕ → Type 0
+IsAnswered limit true verdict status = IsHeld limit status
+IsAnswered limit false (Permit line) status = IsHeld limit status
+IsAnswered limit false (Deny line) status = status ≡ 1
 
 -- 3 where a record can't be read; and where all can, by the verdict
-abbrev pub IsServed : Orders → Visit → Vault → ℕ → Type 0
-IsServed orders visit keeper status =
-    ((status ≡ 3) × HasBad keeper) ⊎ (IsReadable keeper × IsAnswered visit.console (verdict_of orders.rules visit.peer) status)
+abbrev pub IsServed : Type 0 → Orders → Visit → Vault → ℕ → Type 0
+IsServed limit orders visit keeper status =
+    ((status ≡ 3) × HasBad keeper) ⊎ (IsReadable keeper × IsAnswered limit visit.console (verdict_of orders.rules visit.peer) status)
 
 -- 3 where a line can't be read, and else by the records; or other holds of the status
-abbrev pub IsServedBy : (ℕ → Type 0) → Result Orders Fault → Visit → Option Vault → ℕ → Type 0
-IsServedBy other (Err fault) visit keeper status = (status ≡ 3) ⊎ other status
-IsServedBy other (Ok orders) visit keeper status = IfSome keeper (λ vault. IsServed orders visit vault status ⊎ other status)
+abbrev pub IsServedBy : (ℕ → Type 0) → Type 0 → Result Orders Fault → Visit → Option Vault → ℕ → Type 0
+IsServedBy other limit (Err fault) visit keeper status = (status ≡ 3) ⊎ other status
+IsServedBy other limit (Ok orders) visit keeper status = IfSome keeper (λ vault. IsServed limit orders visit vault status ⊎ other status)
 
 -- the same by the table's text, where the files tell it
-abbrev pub IsServedFor : (ℕ → Type 0) → List ℕ → Visit → Desk → ℕ → Type 0
-IsServedFor other name visit old status = OfText old.files.holds name (λ text. IsServedBy other (said_in orders_of text) visit old.sitting.keeper status)
+abbrev pub IsServedFor : (ℕ → Type 0) → Type 0 → List ℕ → Visit → Desk → ℕ → Type 0
+IsServedFor other limit name visit old status = OfText old.files.holds name (λ text. IsServedBy other limit (said_in orders_of text) visit old.sitting.keeper status)
 
 -- ---- a run
 
 -- the status of a command is ruled by the table's text, where the files tell it
-abbrev pub IsRuledBy : (ℕ → Type 0) → List ℕ → Option Command → Desk → ℕ → Type 0
-IsRuledBy other name None old status = Unit {0}
-IsRuledBy other name (Some (Netacl query)) old status = IsRuledFor other name query old status
-IsRuledBy other name (Some (Table query)) old status = IsRuledFor other name query old status
-IsRuledBy other name (Some (Authsrv visit)) old status = IsServedFor other name visit old status
+abbrev pub IsRuledBy : (ℕ → Type 0) → List ℕ → Option Command → Desk → Desk → ℕ → Type 0
+IsRuledBy other name None old new status = Unit {0}
+IsRuledBy other name (Some (Netacl query)) old new status = IsRuledFor other name query old status
+IsRuledBy other name (Some (Table query)) old new status = IsRuledFor other name query old status
+IsRuledBy other name (Some (Authsrv visit)) old new status = IsServedFor other (MeetsLimit name visit old new) name visit old status
 
 -- there was no memory
 abbrev pub WantsMemory : ℕ → Type 0
@@ -95,3 +99,10 @@ SomeRose old new =
     ⊎ (Rose old.output.faults new.output.faults ⊎ Rose old.logs.faults new.logs.faults)
     ⊎ (Rose old.sitting.input.faults new.sitting.input.faults ⊎ Rose old.sitting.input.idles new.sitting.input.idles)
     ⊎ KeeperRose old.sitting.keeper new.sitting.keeper
+
+-- at most as many bytes were taken of a source as a session may take, where it tells them; and after so many the status is 6
+pub record TakesIn (status : ℕ) (old new : Spring) : Type 0 where
+  pub bytes : List ℕ
+  pub took : new.taken ≡ grown old.taken bytes
+  pub most : length bytes ≤ most_taken
+  pub all : length bytes ≡ most_taken → status ≡ 6

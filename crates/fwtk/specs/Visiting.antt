@@ -1,5 +1,5 @@
 -- A visit step by step: the book of the records that the keeper has is opened, the client served, and the keeper given back.
-use Rattle.std.specs.Prelude.{◌≡◌, ℕ, Some, None, Result, Ok}
+use Rattle.std.specs.Prelude.{◌≡◌, ℕ, true, length, Some, None, Result, Ok}
 use Rattle.auth_machine.specs.Book.{BookView}
 use Rattle.auth_machine.specs.History.{HasRecords, IsLegal, NoMoreThanFaults}
 use Rattle.auth_machine.specs.Opening.{ReadsAs}
@@ -44,6 +44,7 @@ pub record HoldsOver (visit : Visit) (rules : RuleBook) (first : BookView) (outc
   pub legal : IsLegal book.origin book.history
   pub has : HasRecords book.origin book.history book.vault
   pub faults : NoMoreThanFaults book.history book.vault
+  pub full : book.refused ≡ true → length book.history ≡ book.limit
   pub outcome_is : outcome ≡ outcome_of book.refused ending
   pub kept : new.sitting.keeper ≡ Some book.vault
   pub files : new.files ≡ old.files

@@ -137,7 +137,7 @@ fn hold<T: Kit>(
 }
 
 // What a visit comes to.
-fn outcome_of(refused: bool, ending: Ending) -> Result<u8, Fault>
+pub(crate) fn outcome_of(refused: bool, ending: Ending) -> Result<u8, Fault>
     ensures { result ≡ outcome_of refused ending }
 {
     if refused && ending == Ending::Done {

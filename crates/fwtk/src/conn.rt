@@ -1,5 +1,6 @@
 //! One client of a service: the verdict, the session, and how it ended.
 ghost use Rattle.std.specs.Prelude.{◌≡◌, true};
+ghost use Rattle.authsrv_lines.specs.Causes.{TakesFor};
 ghost use Rattle.fwtk.specs.Conn.{Causes, Conn, Ended, IsRefused, Noted, NotedIf, Treated, seconds_by, timeout_of};
 ghost use Rattle.gate_rules.specs.Verdict.{verdict_of};
 ghost use Rattle.fwtk.specs.Endings.{denied_text, ending_line};
@@ -123,6 +124,10 @@ pub fn conn<P: AuthPort, S: Source, K: Sink, G: Sink, C: Clock, R: Dice>(
     ensures caused { Causes (verdict_of rules.now peer.now) result
         (record { devices = record { inlet = S.spring from.old; outlet = K.drain to.old; port = P.port port.old; hours = C.hours clock.old; throws = R.throws dice.old }; logs = G.drain logs.old })
         (record { devices = record { inlet = S.spring from.new; outlet = K.drain to.new; port = P.port port.new; hours = C.hours clock.new; throws = R.throws dice.new }; logs = G.drain logs.new }) }
+    // As many bytes as may be were taken of the client exactly where the ending is `Spent`.
+    ensures spent { TakesFor result
+        (record { inlet = S.spring from.old; outlet = K.drain to.old; port = P.port port.old; hours = C.hours clock.old; throws = R.throws dice.old })
+        (record { inlet = S.spring from.new; outlet = K.drain to.new; port = P.port port.new; hours = C.hours clock.new; throws = R.throws dice.new }) }
     // A peer whom the rules deny is denied, unless the log failed.
     ensures refused { IsRefused (verdict_of rules.now peer.now) result }
 {

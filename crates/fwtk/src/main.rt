@@ -114,6 +114,8 @@ mod session_client_tests;
 #[cfg(test)]
 mod session_close_tests;
 #[cfg(test)]
+mod session_limit_tests;
+#[cfg(test)]
 mod session_log_tests;
 #[cfg(test)]
 mod session_refusal_rows;

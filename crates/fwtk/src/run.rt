@@ -4,7 +4,7 @@ ghost use Rattle.fwtk.specs.Finding.{Finds};
 ghost use Rattle.fwtk.specs.Replies.{Replies};
 ghost use Rattle.fwtk.specs.Run.{Does, Ends, Ran, Tells};
 ghost use Rattle.fwtk.specs.Deciding.{ByTable, DecidesBy, ShowsBy};
-ghost use Rattle.fwtk.specs.Status.{Fails, IsRuledBy, SomeRose, WantsMemory};
+ghost use Rattle.fwtk.specs.Status.{Fails, IsRuledBy, SomeRose, TakesIn, WantsMemory};
 ghost use Rattle.fwtk.specs.Ruling.{said_in};
 ghost use Rattle.gate_rules.specs.Reading.{rules_of};
 ghost use Rattle.fwtk.specs.Words.{command_of, table_named};
@@ -116,20 +116,22 @@ pub fn run<T: Kit>(alloc: Global, words: &[Octets], world: &mut World<T>) -> u8
     ensures ran { Ran words.now result world.old world.new }
     // 2 is exactly for words that are no command.
     ensures usage { (result ≡ 2) ↔ (command_of words.now ≡ None) }
-    // 0, 1 and 3 are by the table's text, where the files tell it, and by the records that the keeper has; a session that was
-    // held may end with 6; else a device failed, or there was no memory.
-    ensures ruled { IsRuledBy Fails (table_named words.now) (command_of words.now) world.old result }
+    // 0, 1 and 3 are by the table's text, where the files tell it, and by the records that the keeper has; 6 is for a session
+    // that came to a limit; else a device failed, or there was no memory.
+    ensures ruled { IsRuledBy Fails (table_named words.now) (command_of words.now) world.old world.new result }
+    // Where a session took as many bytes as it may, the status is 6.
+    ensures taken { TakesIn result world.old.sitting.input world.new.sitting.input }
     // 4 is only for a device whose own count rose.
     ensures outside { result ≡ 4 → SomeRose world.old world.new }
     // Each source that the run got was given back: as many are out as before.
     ensures returned { world.new.files.out ≡ world.old.files.out }
     // The keeper is there again.
     ensures kept { IsSome world.new.sitting.keeper }
-    // A client of `authsrv` is told the replies of a legal history, after which the keeper has the records; or, where the rules
-    // deny it, that it is denied; or, where the status is 3, 4 or 5, nothing.
+    // A client of `authsrv` is told the replies of a legal history, after which the keeper has the records, and the status is
+    // its session's; or it is told, where the rules deny it, that it is denied; or, where the status is 3, 4 or 5, nothing.
     ensures replies { Replies (table_named words.now) (command_of words.now) result world.old world.new }
     // So where no count rose, the status is by the table's text and the records, or there was no memory.
-    ensures complete { ¬ (SomeRose world.old world.new) → IsRuledBy WantsMemory (table_named words.now) (command_of words.now) world.old result }
+    ensures complete { ¬ (SomeRose world.old world.new) → IsRuledBy WantsMemory (table_named words.now) (command_of words.now) world.old world.new result }
 {
     let outcome = obey(alloc, words, world);
     end(world, outcome)

@@ -170,18 +170,17 @@ fn words_of(alloc: Global, talk: &Talk) -> Result<Vec<Octets>, Fail> {
     Ok(words)
 }
 
-/// Runs the command over these records; the client's bytes come in pieces of this length.
-pub(crate) fn told_by(
+/// What the command meets; the client's bytes come in pieces of this length.
+pub(crate) fn world_of(
     alloc: Global,
     talk: &Talk,
     records: Records,
     piece: usize,
     broken: Break,
-) -> Result<Told, Fail> {
-    let words = words_of(alloc, talk)?;
+) -> Result<World<Memory>, Fail> {
     let logs = calls_of(alloc, Part::Log, broken)?;
     let output = calls_of(alloc, Part::Sink, broken)?;
-    let mut world: World<Memory> = World {
+    Ok(World {
         files: files_with(
             alloc,
             talk.table.as_bytes(),
@@ -195,7 +194,19 @@ pub(crate) fn told_by(
         clock: clock_of(alloc, talk)?,
         dice: MemDice::new(0x0102_0304_0506_0708),
         keeper: Some(keeper_of(alloc, talk, records, broken)?),
-    };
+    })
+}
+
+/// Runs the command over these records.
+pub(crate) fn told_by(
+    alloc: Global,
+    talk: &Talk,
+    records: Records,
+    piece: usize,
+    broken: Break,
+) -> Result<Told, Fail> {
+    let words = words_of(alloc, talk)?;
+    let mut world = world_of(alloc, talk, records, piece, broken)?;
     let status = run(alloc, &words, &mut world);
     Ok(Told { status, world })
 }

@@ -1,5 +1,6 @@
 use Rattle.std.proofs.Common.{rules}
 use Rattle.authsrv_lines.specs.CauseLemmas.{session_caused, session_keeps}
+use Rattle.authsrv_lines.specs.SpentLemmas.{session_spent}
 use Rattle.authsrv_lines.proofs.session.authsrv_session.Goals as goal
 
 pub returns-clause-keeps : goal.returns-clause-keeps
@@ -7,3 +8,6 @@ returns-clause-keeps g c = session_keeps c.args.console _ _ c.at_desk.result (se
 
 pub returns-clause-caused : goal.returns-clause-caused
 returns-clause-caused g c = session_caused c.args.console _ _ c.at_desk.result (search rules)
+
+pub returns-clause-spent : goal.returns-clause-spent
+returns-clause-spent g c = session_spent c.args.console _ _ c.at_desk.result (search rules)

@@ -1,7 +1,7 @@
 use Rattle.std.proofs.Common.{refl}
 use Rattle.fw_outside.specs.declared.ending.Ending.TheVariants.{LogFault}
 use Rattle.fwtk.specs.Conn.{Conn, Meeting}
-use Rattle.fwtk.proofs.ConnLemmas.{conn_caused, conn_from, conn_refused}
+use Rattle.fwtk.proofs.ConnLemmas.{conn_caused, conn_from, conn_refused, conn_spent}
 use Rattle.fwtk.proofs.conn.conn.Goals as goal
 
 pub returns-in-Ok : goal.returns-in-Ok
@@ -14,6 +14,7 @@ returns-in-Ok g c =
       conn = conn;
       caused = conn_caused c.args.service.now c.args.rules.now c.args.peer.now old new c.treat.result conn;
       refused = conn_refused c.args.service.now c.args.rules.now c.args.peer.now old new c.treat.result conn;
+      spent = conn_spent c.args.service.now c.args.rules.now c.args.peer.now old new c.treat.result conn;
     }
 
 pub returns-in-Err : goal.returns-in-Err
@@ -26,4 +27,5 @@ returns-in-Err g c =
       conn = conn;
       caused = conn_caused c.args.service.now c.args.rules.now c.args.peer.now old new LogFault conn;
       refused = conn_refused c.args.service.now c.args.rules.now c.args.peer.now old new LogFault conn;
+      spent = conn_spent c.args.service.now c.args.rules.now c.args.peer.now old new LogFault conn;
     }
