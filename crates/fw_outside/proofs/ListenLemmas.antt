@@ -1,5 +1,7 @@
 -- How a reader of lines goes on from one piece to the next.
-use Rattle.std.proofs.Common.{◌≡◌, ℕ, ◌+◌, true, List, [], ◌∷◌, ◌++◌, length, take, false, refl, sym, ap, ◌∙◌, subst, append_assoc, arith}
+use Rattle.std.proofs.Common.{◌≡◌, ℕ, ◌+◌, ◌<◌, ◌≤◌, ◌⊎◌, inl, inr, Bool, true, List, [], ◌∷◌, ◌++◌, length, take, false, refl, sym, ap, ◌∙◌, subst, append_assoc, arith}
+use mathlib.Core.Bool.{true≢false}
+use Rattle.std.proofs.lemmas.Bool.{eqb-true}
 use Rattle.std.specs.Prelude.{◌==◌, Option, Some, None}
 use Rattle.std.specs.List.{list_any}
 use Rattle.std.proofs.lemmas.List.{append-nil}
@@ -51,12 +53,13 @@ pub record Going (kept : List ℕ) (old now : Window) (first at : Spring) : Type
   pub keeps : kept ≡ take most bytes
   pub unended : list_any is_lf bytes ≡ false
   pub reads : Reads bytes old now first at
+  pub behind : (now ≡ old) ⊎ (length old.pending ≤ length bytes)
 
 reads_none : (old : Window) (first : Spring) → Reads [] old old first first
 reads_none old first = record { pulled = []; pulls = pulled_none first; window = append-nil old.pending; room = omega arith }
 
 pub going_from : (old : Window) (first : Spring) → Going [] old old first first
-going_from old first = record { bytes = []; keeps = refl; unended = refl; reads = reads_none old first }
+going_from old first = record { bytes = []; keeps = refl; unended = refl; reads = reads_none old first; behind = inl refl }
 
 -- the window's bytes were read
 reads_window : (bytes read rest : List ℕ) (old now new : Window) (first at : Spring) → Reads bytes old now first at → now.pending ≡ read ++ rest → new.pending ≡ rest → new.room ≡ now.room → Reads (bytes ++ read) old new first at
@@ -76,6 +79,15 @@ reads_filled bytes old now new first at next reads empty fills = record {
   room = let long = length-append reads.pulled new.pending in omega (arith, reads.room, fills.room, long);
 }
 
+-- where the window is empty, all that stood in it before was read
+all_read : (bytes : List ℕ) (old now : Window) (first at : Spring) → Reads bytes old now first at → now.pending ≡ [] → length old.pending ≤ length bytes
+all_read bytes old now first at reads empty =
+    let left = length-append old.pending reads.pulled in
+    let right = length-append bytes now.pending in
+    let same = ap length reads.window in
+    let none = ap length empty in
+    omega (arith, left, right, same, none)
+
 no_end_in : (a b : List ℕ) → list_any is_lf a ≡ false → list_any is_lf b ≡ false → list_any is_lf (a ++ b) ≡ false
 no_end_in a b one two = list_any-append is_lf a b ∙ rw (one, two) refl
 
@@ -85,6 +97,8 @@ going_drained kept now_kept old now new first at going drains = record {
   keeps = drains.gathers ∙ ap (λ k. take most (k ++ now.pending)) going.keeps ∙ take_twice going.bytes now.pending;
   unended = no_end_in going.bytes now.pending going.unended drains.unended;
   reads = reads_window going.bytes now.pending [] old now new first at going.reads (sym (append-nil now.pending)) drains.empty drains.room;
+  behind = inr (all_read (going.bytes ++ now.pending) old new first at
+      (reads_window going.bytes now.pending [] old now new first at going.reads (sym (append-nil now.pending)) drains.empty drains.room) drains.empty);
 }
 
 pub going_filled : (kept : List ℕ) (old now new : Window) (first at next : Spring) → Going kept old now first at → now.pending ≡ [] → Fills now new at next → Going kept old new first next
@@ -93,6 +107,7 @@ going_filled kept old now new first at next going empty fills = record {
   keeps = going.keeps;
   unended = going.unended;
   reads = reads_filled going.bytes old now new first at next going.reads empty fills;
+  behind = inr (all_read going.bytes old now first at going.reads empty);
 }
 
 -- what is left behind the window is what is left of it without the bytes that were read
@@ -114,6 +129,9 @@ closes_missed Idle new at next empty misses = (empty, misses)
 closes_missed Failed new at next empty misses = (empty, misses)
 closes_missed Spent new at next empty misses = absurd misses
 
+never : {A : Type 0} {b : Bool} → b ≡ false → b ≡ true → A
+never not was = absurd (true≢false (sym was ∙ not))
+
 not_spent : (stop : Stop) (at next : Spring) → Misses stop at next → is_spent (Stopped stop) ≡ false
 not_spent End at next misses = refl
 not_spent Idle at next misses = refl
@@ -130,12 +148,17 @@ listens_at stop kept old new first at next going empty more misses = record {
   reads = going.reads;
   closes = closes_missed stop new at next empty misses;
   spent = not_spent stop at next misses ∙ more;
+  behind = λ was. never (not_spent stop at next misses) was;
 }
 
 pub listens_stopped : (stop : Stop) (kept now_kept : List ℕ) (old now drained new : Window) (first at next : Spring) → Going kept old now first at → false ≡ (now.room == 0) → Drains kept now_kept now drained → new ≡ drained → Misses stop at next → Listens (Stopped stop) old new first next
 listens_stopped stop kept now_kept old now drained new first at next going more drains same misses =
     let here : Going now_kept old new first at = rw same (going_drained kept now_kept old now drained first at going drains) in
     listens_at stop now_kept old new first at next here (rw same drains.empty) (more ∙ ap (λ n. n == 0) (sym drains.room ∙ ap (λ (w : Window). w.room) (sym same))) misses
+
+read_behind : (bytes : List ℕ) (old new : Window) → (new ≡ old) ⊎ (length old.pending ≤ length bytes) → new.room ≡ 0 → 0 < old.room → length old.pending ≤ length bytes
+read_behind bytes old new (inl same) none more = let room = ap (λ (w : Window). w.room) same in absurd (omega (arith, room, none, more))
+read_behind bytes old new (inr all) none more = all
 
 -- no more may be taken
 pub listens_spent : (kept : List ℕ) (old new : Window) (first next : Spring) → Going kept old new first next → true ≡ (new.room == 0) → Listens (Stopped Spent) old new first next
@@ -147,6 +170,7 @@ listens_spent kept old new first next going none = record {
   reads = going.reads;
   closes = refl;
   spent = none;
+  behind = λ was more. read_behind going.bytes old new going.behind (eqb-true new.room 0 (sym none)) more;
 }
 
 closes_line : (heard : Heard) (text : List ℕ) (new : Window) (at : Spring) → IsText heard text → Closes heard new at at
@@ -177,4 +201,5 @@ listens_line heard kept now_kept old now new first at going more cuts is =
       reads = whole;
       closes = closes_line heard text new at told;
       spent = line_not_spent heard text told ∙ more ∙ ap (λ n. n == 0) (sym cuts.room);
+      behind = λ was. never (line_not_spent heard text told) was;
     }

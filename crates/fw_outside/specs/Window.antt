@@ -1,5 +1,5 @@
 -- A reader of lines, which takes ahead of what it gives.
-use Rattle.std.specs.Prelude.{◌≡◌, ℕ, ◌==◌, ◌+◌, Bool, true, false, List, [], ◌++◌, length, Option}
+use Rattle.std.specs.Prelude.{◌≡◌, ℕ, ◌==◌, ◌<◌, ◌≤◌, ◌+◌, Bool, true, false, List, [], ◌++◌, length, Option}
 use Rattle.fw_outside.specs.declared.heard.Heard.{Heard}
 use Rattle.fw_outside.specs.declared.heard.Heard.TheVariants.{Line, TooLong, Stopped}
 use Rattle.fw_outside.specs.declared.heard.Stop.{Stop}
@@ -49,8 +49,8 @@ abbrev pub is_spent : Heard → Bool
 is_spent (Stopped Spent) = true
 is_spent _ = false
 
--- what is heard next: these bytes, of what was left, are heard as that. The take that reaches the limit stops the reader, and
--- from then on nothing is heard.
+-- What is heard next: these bytes, of what was left, are heard as that. The take that reaches the limit stops the reader, who
+-- had read all that was in the window; from then on nothing is heard.
 pub record Listens (heard : Heard) (old new : Window) (before after : Spring) : Type 0 where
   pub bytes : List ℕ
   pub middle : Spring
@@ -59,3 +59,4 @@ pub record Listens (heard : Heard) (old new : Window) (before after : Spring) : 
   pub reads : Reads bytes old new before middle
   pub closes : Closes heard new middle after
   pub spent : is_spent heard ≡ (new.room == 0)
+  pub behind : is_spent heard ≡ true → 0 < old.room → length old.pending ≤ length bytes

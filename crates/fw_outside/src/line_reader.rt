@@ -53,6 +53,7 @@ impl LineReader {
         ensures spent { result ≡ (self.now.room == 0) }
         ensures near { length self.now.pending ≤ 4096 }
     {
+        // that shows `near`
         let _ = self.pending();
         self.room == 0
     }
@@ -108,7 +109,7 @@ impl LineReader {
     }
 
     /// The next line, without its end, if one is heard before the source stops. The take that reaches the limit stops the
-    /// reader for good: of its bytes nothing is heard.
+    /// reader for good: what it brought isn't heard.
     pub fn next<S: Source>(&mut self, from: &mut S) -> Heard
         ensures listens { Listens result self.old self.new (S.spring from.old) (S.spring from.new) }
         ensures near { length self.new.pending ≤ 4096 }
