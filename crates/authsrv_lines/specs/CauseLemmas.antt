@@ -28,7 +28,7 @@ use Rattle.fw_outside.specs.declared.heard.Heard.TheVariants.{Line, TooLong, Sto
 use Rattle.fw_outside.specs.declared.heard.Stop.TheVariants as stops
 use Rattle.authsrv_lines.specs.Acts.{Act, Answer, Does, Failing, Hears, HearsLine, IsCounted, Stops, World, acts}
 use Rattle.authsrv_lines.specs.Acts.Act.{Hear, Salt, Ask, Say}
-use Rattle.authsrv_lines.specs.Causes.{Caused, SessionKeeps, TookAll}
+use Rattle.authsrv_lines.specs.Causes.{Caused, SessionKeeps, TookMost}
 use Rattle.authsrv_lines.specs.Dialogue.{rows}
 use Rattle.authsrv_lines.specs.Session.{Closes, ClosesSo, Devices, Held, Session, at_first, devices_of, ending_of}
 use Rattle.authsrv_lines.specs.declared.cause.Cause.{Cause}
@@ -262,8 +262,8 @@ module _ {Origin : Type 0} where
   held_counted console old new ending held =
       comes_counted held.dialogue held.ran.left old held.ran.mid held.mid new (does_kept keeps held.ran.steps old held.ran.mid held.ran.does) held.ran.comes (stays_close held.mid.opened held.mid new held.closed)
 
-  all_taken : (old : Devices Origin) (names : List ℕ) (last : World Origin) → Stays (at_first old names) last → last.window.room ≡ 0 → TookAll old.inlet last.inlet
-  all_taken old names last stays none = record { bytes = stays.source.bytes; all = omega (arith, none, stays.source.room); took = stays.source.took }
+  all_taken : (old : Devices Origin) (names : List ℕ) (last : World Origin) → Stays (at_first old names) last → last.window.room ≡ 0 → TookMost old.inlet last.inlet
+  all_taken old names last stays none = record { took = record { bytes = stays.source.bytes; most = let room = stays.source.room in omega (arith, room); is = stays.source.took }; all = omega (arith, none, stays.source.room) }
 
   caused_by : (dialogue : Result (Unit {0}) Cause) (old : Devices Origin) (names : List ℕ) (last : World Origin) → Stays (at_first old names) last → CountedBy dialogue (at_first old names) last → Caused (ending_of dialogue) old (devices_of last)
   caused_by (Ok done) old names last stays counted = tt

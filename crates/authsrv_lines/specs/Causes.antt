@@ -19,29 +19,32 @@ pub record SessionKeeps {Origin : Type 0} (old new : Devices Origin) : Type 0 wh
   pub origin : new.port.origin ≡ old.port.origin
   pub home : new.port.home ≡ old.port.home
 
--- as many bytes were taken as may be, where the source tells them
-pub record TookAll (old new : Spring) : Type 0 where
+-- these bytes were taken, where the source tells them: no more than may be
+pub record Took (old new : Spring) : Type 0 where
   pub bytes : List ℕ
-  pub all : length bytes ≡ most_taken
-  pub took : new.taken ≡ grown old.taken bytes
+  pub most : length bytes ≤ most_taken
+  pub is : new.taken ≡ grown old.taken bytes
+
+-- as many as may be
+pub record TookMost (old new : Spring) : Type 0 where
+  pub took : Took old new
+  pub all : length took.bytes ≡ most_taken
 
 abbrev pub is_spent : Ending → Bool
 is_spent Spent = true
 is_spent _ = false
 
--- At most as many bytes were taken as may be, where the source tells them; and so many exactly where the ending is `Spent`.
+-- as many exactly where the ending is `Spent`
 pub record TakesFor {Origin : Type 0} (ending : Ending) (old new : Devices Origin) : Type 0 where
-  pub bytes : List ℕ
-  pub took : new.inlet.taken ≡ grown old.inlet.taken bytes
-  pub most : length bytes ≤ most_taken
-  pub all : is_spent ending ≡ (length bytes == most_taken)
+  pub took : Took old.inlet new.inlet
+  pub all : is_spent ending ≡ (length took.bytes == most_taken)
 
 -- The client's source or sink failed; nothing came in time; all that may be was taken; the port failed, or something strange
 -- came from it. No session of `authsrv` ends by a server, a log or a table, and what caused the other endings isn't counted.
 abbrev pub Caused : {Origin : Type 0} → Ending → Devices Origin → Devices Origin → Type 0
 Caused ClientFault old new = Rose old.inlet.faults new.inlet.faults ⊎ Rose old.outlet.faults new.outlet.faults
 Caused Idle old new = Rose old.inlet.idles new.inlet.idles
-Caused Spent old new = TookAll old.inlet new.inlet
+Caused Spent old new = TookMost old.inlet new.inlet
 Caused AuthFault old new = Rose old.port.faults new.port.faults ⊎ Rose old.port.odd new.port.odd
 Caused (Denied line) old new = ⊥
 Caused ServerFault old new = ⊥

@@ -8,8 +8,8 @@
 //!
 //! [`authsrv_session`] is a whole session, from a client's bytes to replies. Its contract is the run of its rows, which
 //! stand in `specs/Dialogue.antt` as the dialogue does, then the Close that is owed, then the ending by its cause.
-//! Its clause `caused` says of each ending what the devices have counted (`specs/Causes.antt`), and `keeps` that no count
-//! falls.
+//! Its clause `caused` says of each ending what the devices have counted (`specs/Causes.antt`), `keeps` that no count
+//! falls, and `spent` that as many bytes as may be were taken exactly where the ending is `Spent`.
 //! [`laws`] says what that comes to at the client, the port, the clock and the dice.
 #![tactic(auto)]
 

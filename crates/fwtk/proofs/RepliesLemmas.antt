@@ -7,7 +7,7 @@ use Rattle.auth_events.specs.Port.{Port, places}
 use Rattle.auth_machine.specs.Book.{BookView}
 use Rattle.auth_machine.specs.Port.{Ground, port_of}
 use Rattle.authsrv_lines.specs.Acts.{World}
-use Rattle.authsrv_lines.specs.Causes.{TakesFor, TookAll, is_spent}
+use Rattle.authsrv_lines.specs.Causes.{TakesFor, TookMost, is_spent}
 use Rattle.authsrv_lines.specs.Session.{Devices, Session, at_first, most_taken}
 use Rattle.authsrv_lines.specs.SpentLemmas.{session_spent}
 use Rattle.authsrv_lines.specs.Talk.{is_entered, is_refused, said_of, talk_of}
@@ -26,7 +26,8 @@ use Rattle.gate_rules.specs.declared.verdict.Verdict.TheVariants.{Permit, Deny}
 use Rattle.fwtk.specs.Conn.{AfterLine, Meeting, Noted, patient, timeout_of}
 use Rattle.fwtk.specs.Desk.{Desk, Sitting}
 use Rattle.fwtk.specs.Endings.{denied_text}
-use Rattle.fwtk.specs.History.{MeetsLimit, OfHistory, session_status}
+use Rattle.fwtk.specs.Fault.{status_in}
+use Rattle.fwtk.specs.History.{MeetsLimit, OfHistory}
 use Rattle.fwtk.specs.Replies.{IsTold, Replies}
 use Rattle.fwtk.specs.Ruling.{OfText, said_in}
 use Rattle.fwtk.specs.Run.{Does, Ends, Ran}
@@ -81,7 +82,7 @@ of_session name visit outcome status orders old mid new said held ends s =
       talk = talk;
       told = held_told visit.console first last held.ending s.session.held;
       full = λ was. held.full (refused ∙ was);
-      answered = ended_status held.book.refused held.ending outcome status mid new held.outcome_is ends ∙ ap (λ (r : Bool). session_status r held.ending) refused;
+      answered = ended_status outcome status mid new ends ∙ ap status_in (held.outcome_is ∙ ap (λ (r : Bool). outcome_of r held.ending) refused);
     }
 
 -- ---- what a visit told
@@ -239,7 +240,7 @@ replies words status old new ran =
 
 -- ---- 6 is for a session that came to a limit
 
-six_by : (refused : Bool) (ending : Ending) → session_status refused ending ≡ 6 → (ending ≡ endings.Spent) ⊎ ((ending ≡ endings.Done) × (refused ≡ true))
+six_by : (refused : Bool) (ending : Ending) → status_in (outcome_of refused ending) ≡ 6 → (ending ≡ endings.Spent) ⊎ ((ending ≡ endings.Done) × (refused ≡ true))
 six_by true endings.Done is = inr (refl, refl)
 six_by false endings.Done is = absurd (omega (arith, is))
 six_by true endings.Spent is = inl refl
@@ -261,24 +262,24 @@ six_by false endings.NoRoute is = absurd (omega (arith, is))
 six_by true endings.NoMemory is = absurd (omega (arith, is))
 six_by false endings.NoMemory is = absurd (omega (arith, is))
 
-took_all : (ending : Ending) (old new : Devices Ground) → ending ≡ endings.Spent → TakesFor ending old new → TookAll old.inlet new.inlet
-took_all ending old new spent h = record { bytes = h.bytes; all = eqb-true (length h.bytes) most_taken (sym h.all ∙ ap is_spent spent); took = h.took }
+took_most : (ending : Ending) (old new : Devices Ground) → ending ≡ endings.Spent → TakesFor ending old new → TookMost old.inlet new.inlet
+took_most ending old new spent h = record { took = h.took; all = eqb-true (length h.took.bytes) most_taken (sym h.all ∙ ap is_spent spent) }
 
 -- the bytes that the session took are those that were taken of the input
-history_spent : (name : List ℕ) (visit : Visit) (status : ℕ) (old new : Desk) (h : OfHistory name visit status old new) → h.ending ≡ endings.Spent → TookAll old.sitting.input new.sitting.input
+history_spent : (name : List ℕ) (visit : Visit) (status : ℕ) (old new : Desk) (h : OfHistory name visit status old new) → h.ending ≡ endings.Spent → TookMost old.sitting.input new.sitting.input
 history_spent name visit status old new h spent =
     let first : Devices Ground = patient h.seconds (meeting old (book_at_first h.origin most_entries h.before)).devices in
     let last : Devices Ground = (meeting new h.book).devices in
     let session : Session visit.console first last h.ending = record { names = h.names; last = h.last; held = h.held; leaves = h.leaves } in
-    let took = took_all h.ending first last spent (session_spent visit.console first last h.ending session) in
-    record { bytes = took.bytes; all = took.all; took = took.took }
+    let most = took_most h.ending first last spent (session_spent visit.console first last h.ending session) in
+    record { took = record { bytes = most.took.bytes; most = most.took.most; is = most.took.is }; all = most.all }
 
 history_limit : (name : List ℕ) (visit : Visit) (old new : Desk) → OfHistory name visit 6 old new → MeetsLimit name visit old new
 history_limit name visit old new h = choose (six_by (list_any is_refused (talk_of h.held)) h.ending (sym h.answered))
   where
     choose : (h.ending ≡ endings.Spent) ⊎ ((h.ending ≡ endings.Done) × (list_any is_refused (talk_of h.held) ≡ true)) → MeetsLimit name visit old new
     choose (inl spent) = inl (history_spent name visit 6 old new h spent)
-    choose (inr full) = inr (record { session = h; refused = full.1; full = h.full full.1 })
+    choose (inr full) = inr (record { session = h; refused = full.1 })
 
 not_six : (status : ℕ) → (status ≡ 3) ⊎ ((status ≡ 4) ⊎ (status ≡ 5)) → status ≡ 6 → ⊥
 not_six status (inl three) six = omega (arith, three, six)

@@ -22,7 +22,7 @@ use Rattle.fwtk.specs.Conn.{Causes, IsRefused, Meeting}
 use Rattle.fwtk.specs.Deciding.{FilesFailed}
 use Rattle.fwtk.specs.Desk.{Desk, Sitting}
 use Rattle.fwtk.specs.Endings.{ending_status}
-use Rattle.fwtk.specs.History.{session_status}
+use Rattle.fwtk.specs.Fault.{status_in}
 use Rattle.fwtk.specs.Ruling.{said_in}
 use Rattle.fwtk.specs.Run.{Ends}
 use Rattle.fwtk.specs.Serving.{Attends, Follows, Held, Visits, book_at_first, meeting, most_entries, orders_of, outcome_of}
@@ -400,7 +400,7 @@ attends_keeper name visit (Err (Record user at)) old mid does before = there old
 -- ---- bytes
 
 pub takes_same : (status : ℕ) (old new : Spring) → new ≡ old → TakesIn status old new
-takes_same status old new is = record { bytes = []; took = ap (λ (s : Spring). s.taken) is ∙ by_nothing old.taken; most = omega (arith); all = λ long. absurd (omega (arith, long)) }
+takes_same status old new is = record { took = record { bytes = []; most = omega (arith); is = ap (λ (s : Spring). s.taken) is ∙ by_nothing old.taken }; all = λ long. absurd (omega (arith, long)) }
 
 spent_is : (ending : Ending) → is_spent ending ≡ true → ending ≡ Spent
 spent_is Spent is = refl
@@ -415,43 +415,26 @@ spent_is NoRoute is = absurd (cc)
 spent_is NoMemory is = absurd (cc)
 
 takes_in : (ending : Ending) (status : ℕ) (old new : Devices Ground) → TakesFor ending old new → (ending ≡ Spent → status ≡ 6) → TakesIn status old.inlet new.inlet
-takes_in ending status old new h six = record {
-  bytes = h.bytes;
-  took = h.took;
-  most = h.most;
-  all = λ long. six (spent_is ending (h.all ∙ same_tells (length h.bytes) most_taken long));
-}
+takes_in ending status old new h six = record { took = h.took; all = λ long. six (spent_is ending (h.all ∙ same_tells (length h.took.bytes) most_taken long)) }
 
 visit_spent : (console : Bool) (rules : RuleBook) (peer : Peer) (old new : Meeting Ground) (ending : Ending) → Visits console rules peer old new ending → TakesFor ending old.devices new.devices
 visit_spent true rules peer old new ending h = ended_spent Authsrv peer ending old new h
 visit_spent false rules peer old new ending h = conn_spent Authsrv rules peer old new ending h
 
--- the status of a visit is its session's
-pub ended_status : (refused : Bool) (ending : Ending) (outcome : Result ℕ Fault) (status : ℕ) (mid new : Desk) → outcome ≡ outcome_of refused ending → Ends outcome status mid new → status ≡ session_status refused ending
-ended_status refused ending outcome status mid new is ends = choose refused ending (subst (λ (o : Result ℕ Fault). Ends o status mid new) is ends)
-  where
-    choose : (refused : Bool) (ending : Ending) → Ends (outcome_of refused ending) status mid new → status ≡ session_status refused ending
-    choose false ending ends = ends.0
-    choose true Done ends = ends.0
-    choose true (Denied line) ends = ends.0
-    choose true ClientFault ends = ends.0
-    choose true ServerFault ends = ends.0
-    choose true LogFault ends = ends.0
-    choose true AuthFault ends = ends.0
-    choose true Idle ends = ends.0
-    choose true NoRoute ends = ends.0
-    choose true Spent ends = ends.0
-    choose true NoMemory ends = ends.0
+-- the status is what the outcome comes to
+pub ended_status : (outcome : Result ℕ Fault) (status : ℕ) (mid new : Desk) → Ends outcome status mid new → status ≡ status_in outcome
+ended_status (Ok n) status mid new ends = ends.0
+ended_status (Err fault) status mid new ends = ends.0
 
-spent_six : (refused : Bool) (ending : Ending) → ending ≡ Spent → session_status refused ending ≡ 6
-spent_six true ending is = ap (session_status true) is
-spent_six false ending is = ap (session_status false) is
+spent_six : (refused : Bool) (ending : Ending) → ending ≡ Spent → status_in (outcome_of refused ending) ≡ 6
+spent_six true ending is = ap (λ (e : Ending). status_in (outcome_of true e)) is
+spent_six false ending is = ap (λ (e : Ending). status_in (outcome_of false e)) is
 
 held_takes : (visit : Visit) (orders : Orders) (outcome : Result ℕ Fault) (old mid new : Desk) (status : ℕ) → Held visit orders outcome old mid → Ends outcome status mid new → TakesIn status old.sitting.input mid.sitting.input
 held_takes visit orders outcome old mid new status held ends =
     takes_in held.ending status _ _
     (visit_spent visit.console orders.rules visit.peer (meeting old (book_at_first held.origin most_entries held.before)) (meeting mid held.book) held.ending held.visits)
-    (λ spent. ended_status held.book.refused held.ending outcome status mid new held.outcome_is ends ∙ spent_six held.book.refused held.ending spent)
+    (λ spent. ended_status outcome status mid new ends ∙ ap status_in held.outcome_is ∙ spent_six held.book.refused held.ending spent)
 
 pub attends_takes : (name : List ℕ) (visit : Visit) (outcome : Result ℕ Fault) (old mid new : Desk) (status : ℕ) → Attends name visit outcome old mid → Ends outcome status mid new → TakesIn status old.sitting.input mid.sitting.input
 attends_takes name visit (Ok n) old mid new status does ends = held_takes visit does.orders (Ok n) old mid new status does.proceeds ends

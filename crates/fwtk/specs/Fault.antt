@@ -1,5 +1,5 @@
 -- Why a run stops, as its status and the log tell it.
-use Rattle.std.specs.Prelude.{ℕ, List, ◌++◌, unwrap_or, codes}
+use Rattle.std.specs.Prelude.{ℕ, List, ◌++◌, Result, Ok, Err, unwrap_or, codes}
 use Rattle.std.specs.Fmt.{decimal}
 use Rattle.netperm_table.specs.declared.table_fault.TableFault.{TableFault}
 use Rattle.netperm_table.specs.Fault as table
@@ -49,3 +49,8 @@ status_of (Record name at) = 3
 status_of (Outside which) = 4
 status_of Memory = 5
 status_of Limit = 6
+
+-- the status of an outcome
+abbrev pub status_in : Result ℕ Fault → ℕ
+status_in (Ok status) = status
+status_in (Err fault) = status_of fault

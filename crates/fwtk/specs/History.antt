@@ -1,36 +1,30 @@
 -- A session of the authentication server, with the history of what it asked.
-use Rattle.std.specs.Prelude.{◌≡◌, ◌⊎◌, ℕ, Bool, true, List, filter, length, map, Some, Ok}
+use Rattle.std.specs.Prelude.{◌≡◌, ◌⊎◌, ℕ, true, List, filter, length, map, Some, Ok}
 use Rattle.std.specs.List.{list_any}
 use Rattle.auth_machine.specs.Book.{BookView}
 use Rattle.auth_machine.specs.History.{HasRecords, IsLegal, Origin}
 use Rattle.auth_machine.specs.Opening.{ReadsAs}
 use Rattle.auth_machine.specs.Port.{Ground}
 use Rattle.authsrv_lines.specs.Acts.{World}
-use Rattle.authsrv_lines.specs.Causes.{TookAll}
+use Rattle.authsrv_lines.specs.Causes.{TookMost}
 use Rattle.authsrv_lines.specs.Session.{Held, at_first, devices_of}
 use Rattle.authsrv_lines.specs.Talk.{is_entered, is_refused, said_of, talk_of}
 use Rattle.authsrv_lines.specs.Told.{Told}
 use Rattle.fw_outside.specs.Vault.{Vault}
 use Rattle.fw_outside.specs.declared.ending.Ending.{Ending}
-use Rattle.fw_outside.specs.declared.ending.Ending.TheVariants as endings
 use Rattle.fwtk.specs.Conn.{patient}
 use Rattle.fwtk.specs.Desk.{Desk}
-use Rattle.fwtk.specs.Endings.{ending_status}
+use Rattle.fwtk.specs.Fault.{status_in}
 use Rattle.fwtk.specs.Ruling.{OfText, said_in}
-use Rattle.fwtk.specs.Serving.{book_at_first, meeting, most_entries, orders_of}
+use Rattle.fwtk.specs.Serving.{book_at_first, meeting, most_entries, orders_of, outcome_of}
 use Rattle.fwtk.specs.declared.orders.Orders.{Orders}
 use Rattle.fwtk.specs.declared.words.Visit.{Visit}
-
--- the status after a session, in which a request was refused since the history is full, or none was: its ending's, but for
--- one that ended well and was refused
-abbrev pub session_status : Bool → Ending → ℕ
-session_status true endings.Done = 6
-session_status refused ending = ending_status ending
 
 -- A session was held with the client, over a book of the records that the keeper had and under the policy of the table's
 -- text. What it asked and was answered, but for what was refused since the history was full, is the whole of the history,
 -- in order; that is legal, and the keeper has the records after it. The client was told the replies as the dialogue has
--- them, and a front of the text at which the session stopped, if it did at one. And the status is the session's.
+-- them, and a front of the text at which the session stopped, if it did at one. And the status is the ending's, but 6 where
+-- the session was done and a request had been refused.
 pub record OfHistory (name : List ℕ) (visit : Visit) (status : ℕ) (old new : Desk) : Type 0 where
   pub orders : Orders
   pub of_table : OfText old.files.holds name (λ text. said_in orders_of text ≡ Ok orders)
@@ -52,14 +46,13 @@ pub record OfHistory (name : List ℕ) (visit : Visit) (status : ℕ) (old new :
   pub talk : map said_of book.history ≡ filter is_entered (talk_of held)
   pub told : Told visit.console (at_first (patient seconds (meeting old (book_at_first origin most_entries before)).devices) names) last ending held
   pub full : list_any is_refused (talk_of held) ≡ true → length book.history ≡ most_entries
-  pub answered : status ≡ session_status (list_any is_refused (talk_of held)) ending
+  pub answered : status ≡ status_in (outcome_of (list_any is_refused (talk_of held)) ending)
 
--- a request of the session was refused: as many entries as fit are in its history
+-- the run ended with 6, and a request of its session was refused, whose history then has as many entries as fit
 pub record FillsHistory (name : List ℕ) (visit : Visit) (old new : Desk) : Type 0 where
   pub session : OfHistory name visit 6 old new
   pub refused : list_any is_refused (talk_of session.held) ≡ true
-  pub full : length session.book.history ≡ most_entries
 
--- the session came to a limit: of the bytes that a client may say, or of its history
+-- the session came to a limit: of the bytes that are taken of a client, or of its history
 abbrev pub MeetsLimit : List ℕ → Visit → Desk → Desk → Type 0
-MeetsLimit name visit old new = TookAll old.sitting.input new.sitting.input ⊎ FillsHistory name visit old new
+MeetsLimit name visit old new = TookMost old.sitting.input new.sitting.input ⊎ FillsHistory name visit old new

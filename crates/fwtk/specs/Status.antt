@@ -1,11 +1,11 @@
 -- What the status of a run says.
-use Rattle.std.specs.Prelude.{◌≡◌, ℕ, ◌≤◌, ◌⊎◌, Bool, true, false, List, length, Option, Some, None, Result, Ok, Err, IfSome}
+use Rattle.std.specs.Prelude.{◌≡◌, ℕ, ◌⊎◌, Bool, true, false, List, length, Option, Some, None, Result, Ok, Err, IfSome}
 use Rattle.auth_machine.specs.Opening.{ReadsAs}
 use Rattle.auth_records.specs.Spelling.{Fields}
+use Rattle.authsrv_lines.specs.Causes.{Took}
 use Rattle.authsrv_lines.specs.Session.{most_taken}
 use Rattle.fw_outside.specs.Counts.{Rose}
 use Rattle.fw_outside.specs.Spring.{Spring}
-use Rattle.fw_outside.specs.Telling.{grown}
 use Rattle.fw_outside.specs.Vault.{Vault}
 use Rattle.fw_outside.specs.declared.peer.Peer.{Peer}
 use Rattle.gate_rules.specs.Reading.{RuleBook}
@@ -46,7 +46,7 @@ pub record IsReadable (keeper : Vault) : Type 0 where
   pub records : List Fields
   pub read : ReadsAs (Ok records) keeper keeper
 
--- the session came to its end, or to a limit
+-- the session came to its end, or to a limit, of which this is to hold
 abbrev pub IsHeld : Type 0 → ℕ → Type 0
 IsHeld limit status = (status ≡ 0) ⊎ ((status ≡ 6) × limit)
 
@@ -100,9 +100,7 @@ SomeRose old new =
     ⊎ (Rose old.sitting.input.faults new.sitting.input.faults ⊎ Rose old.sitting.input.idles new.sitting.input.idles)
     ⊎ KeeperRose old.sitting.keeper new.sitting.keeper
 
--- at most as many bytes were taken of a source as a session may take, where it tells them; and after so many the status is 6
+-- no more bytes were taken than a session may take; and after so many the status is 6
 pub record TakesIn (status : ℕ) (old new : Spring) : Type 0 where
-  pub bytes : List ℕ
-  pub took : new.taken ≡ grown old.taken bytes
-  pub most : length bytes ≤ most_taken
-  pub all : length bytes ≡ most_taken → status ≡ 6
+  pub took : Took old new
+  pub all : length took.bytes ≡ most_taken → status ≡ 6
