@@ -16,7 +16,8 @@ use Rattle.fw_acts.specs.Ran.{Comes}
 use Rattle.fw_acts.specs.RanLemmas.{stopped}
 use Rattle.fw_acts.specs.Acts.{Row}
 use Rattle.fw_acts.specs.Acts.Row.{Over}
-use Rattle.fw_outside.specs.Counts.{Rose}
+use Rattle.fw_outside.specs.CountLemmas.{grew_by, grew_none}
+use Rattle.fw_outside.specs.Counts.{Grew, Rose}
 use Rattle.fw_outside.specs.Drain.{Drain}
 use Rattle.fw_outside.specs.Spring.{Broke, Idled, Spring}
 use Rattle.fw_outside.specs.Telling.{grown}
@@ -60,6 +61,7 @@ pub record SourceKeeps (old new : Spring) (before after : Window) : Type 0 where
   pub waits : new.waits ≡ old.waits
   pub bytes : List ℕ
   pub took : new.taken ≡ grown old.taken bytes
+  pub grew : Grew (length bytes) old.amount new.amount
   pub room : before.room ≡ length bytes + after.room
 
 pub record SinkKeeps (old new : Drain) : Type 0 where
@@ -73,7 +75,7 @@ pub record PortKeeps {Origin : Type 0} (old new : Port Origin) : Type 0 where
   pub home : new.home ≡ old.home
 
 same_source : (source : Spring) (window : Window) → SourceKeeps source source window window
-same_source source window = record { faults = omega (arith); idles = omega (arith); waits = refl; bytes = []; took = by_nothing source.taken; room = omega (arith) }
+same_source source window = record { faults = omega (arith); idles = omega (arith); waits = refl; bytes = []; took = by_nothing source.taken; grew = grew_none source.amount; room = omega (arith) }
 
 both_source : (a b c : Spring) (u v w : Window) → SourceKeeps a b u v → SourceKeeps b c v w → SourceKeeps a c u w
 both_source a b c u v w first next =
@@ -84,6 +86,7 @@ both_source a b c u v w first next =
       waits = next.waits ∙ first.waits;
       bytes = first.bytes ++ next.bytes;
       took = next.took ∙ ap (λ (told : Option (List ℕ)). grown told next.bytes) first.took ∙ by_both a.taken first.bytes next.bytes;
+      grew = grew_by (length first.bytes) (length next.bytes) (length (first.bytes ++ next.bytes)) a.amount b.amount c.amount lengths first.grew next.grew;
       room = omega (arith, lengths, first.room, next.room);
     }
 
@@ -102,12 +105,12 @@ halts_source (Line line) left before after h = by_source before after before lef
 halts_source TooLong left before after h = by_source before after before left left h (same_source before left)
 halts_source (Stopped stops.End) left before after h = by_source before after before left left h.1.is (same_source before left)
 halts_source (Stopped stops.Spent) left before after h = by_source before after before left left h (same_source before left)
-halts_source (Stopped stops.Idle) left before after h = by_source before after _ left left h.1.is (record { faults = omega (arith); idles = h.1.rose.0; waits = refl; bytes = []; took = by_nothing before.taken; room = omega (arith) })
-halts_source (Stopped stops.Failed) left before after h = by_source before after _ left left h.1.is (record { faults = h.1.rose.0; idles = omega (arith); waits = refl; bytes = []; took = by_nothing before.taken; room = omega (arith) })
+halts_source (Stopped stops.Idle) left before after h = by_source before after _ left left h.1.is (record { faults = omega (arith); idles = h.1.rose.0; waits = refl; bytes = []; took = by_nothing before.taken; grew = grew_none before.amount; room = omega (arith) })
+halts_source (Stopped stops.Failed) left before after h = by_source before after _ left left h.1.is (record { faults = h.1.rose.0; idles = omega (arith); waits = refl; bytes = []; took = by_nothing before.taken; grew = grew_none before.amount; room = omega (arith) })
 
 pulled_source : (bytes : List ℕ) (u v : Window) (before middle : Spring) → Pulled bytes before middle → u.room ≡ length bytes + v.room → SourceKeeps before middle u v
 pulled_source bytes u v before middle pulled room =
-    by_source before middle _ u v pulled.is (record { faults = omega (arith); idles = omega (arith); waits = refl; bytes = bytes; took = refl; room = room })
+    by_source before middle _ u v pulled.is (record { faults = omega (arith); idles = omega (arith); waits = refl; bytes = bytes; took = refl; grew = pulled.grew; room = room })
 
 listens_source : (heard : Heard) (u v : Window) (before after : Spring) → Listens heard u v before after → SourceKeeps before after u v
 listens_source heard u v before after h =
@@ -263,7 +266,7 @@ module _ {Origin : Type 0} where
       comes_counted held.dialogue held.ran.left old held.ran.mid held.mid new (does_kept keeps held.ran.steps old held.ran.mid held.ran.does) held.ran.comes (stays_close held.mid.opened held.mid new held.closed)
 
   all_taken : (old : Devices Origin) (names : List ℕ) (last : World Origin) → Stays (at_first old names) last → last.window.room ≡ 0 → TookMost old.inlet last.inlet
-  all_taken old names last stays none = record { took = record { bytes = stays.source.bytes; most = let room = stays.source.room in omega (arith, room); is = stays.source.took }; all = omega (arith, none, stays.source.room) }
+  all_taken old names last stays none = record { took = record { bytes = stays.source.bytes; most = let room = stays.source.room in omega (arith, room); grew = stays.source.grew; is = stays.source.took }; all = omega (arith, none, stays.source.room) }
 
   caused_by : (dialogue : Result (Unit {0}) Cause) (old : Devices Origin) (names : List ℕ) (last : World Origin) → Stays (at_first old names) last → CountedBy dialogue (at_first old names) last → Caused (ending_of dialogue) old (devices_of last)
   caused_by (Ok done) old names last stays counted = tt

@@ -1,6 +1,6 @@
 -- What a session keeps of the devices that it is lent, and by what each ending is caused.
 use Rattle.std.specs.Prelude.{◌≡◌, ℕ, ◌==◌, ◌≤◌, ◌⊎◌, Bool, true, false, List, length}
-use Rattle.fw_outside.specs.Counts.{Rose}
+use Rattle.fw_outside.specs.Counts.{Grew, Rose}
 use Rattle.fw_outside.specs.Spring.{Spring}
 use Rattle.fw_outside.specs.Telling.{grown}
 use Rattle.fw_outside.specs.declared.ending.Ending.{Ending}
@@ -19,10 +19,11 @@ pub record SessionKeeps {Origin : Type 0} (old new : Devices Origin) : Type 0 wh
   pub origin : new.port.origin ≡ old.port.origin
   pub home : new.port.home ≡ old.port.home
 
--- these bytes were taken, where the source tells them: no more than may be
+-- these bytes were taken, no more than may be: the source has counted them, and they are those that it tells, where it does
 pub record Took (old new : Spring) : Type 0 where
   pub bytes : List ℕ
   pub most : length bytes ≤ most_taken
+  pub grew : Grew (length bytes) old.amount new.amount
   pub is : new.taken ≡ grown old.taken bytes
 
 -- as many as may be

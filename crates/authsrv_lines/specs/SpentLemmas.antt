@@ -110,7 +110,7 @@ module _ {Origin : Type 0} where
   -- what is told of the bytes that were taken
   takes_for : (old : Devices Origin) (names : List ℕ) (last : World Origin) (ending : Ending) → Stays (at_first old names) last → is_spent ending ≡ none_left last → TakesFor ending old (devices_of last)
   takes_for old names last ending stays spent = record {
-    took = record { bytes = stays.source.bytes; most = let room = stays.source.room in omega (arith, room); is = stays.source.took };
+    took = record { bytes = stays.source.bytes; most = let room = stays.source.room in omega (arith, room); grew = stays.source.grew; is = stays.source.took };
     all = spent ∙ sym (all_used (length stays.source.bytes) last.window.room most_taken stays.source.room);
   }
 

@@ -132,10 +132,10 @@ fn at_desk<'p, 's, 'k, 'c, 'r, P: AuthPort, S: Source, K: Sink, C: Clock, R: Dic
 /// A session of `authsrv`: from the client's bytes to replies, each request asked of the port at a moment of the clock.
 /// The salts of new passwords come from the dice. It takes at most 2^40 bytes from the client.
 ///
-/// The answer is `Spent` exactly where it took that many, which shows where the source tells what was taken: the take that
-/// reaches the limit ends the session. Else it is `Done` after `quit`, at the end of what the client says, or where the port denied to open a session; else
-/// why the session stopped, which the device that failed has counted. Then Close is asked of a session that is open and
-/// wasn't asked to close.
+/// The answer is `Done` after `quit`, at the end of what the client says, or where the port denied to open a session; else
+/// why the session stopped, which the device that failed has counted. It is `Spent` exactly where 2^40 bytes were taken:
+/// the take that reaches the limit ends the session. Then Close is asked of a session that is open and wasn't asked to
+/// close.
 pub fn authsrv_session<P: AuthPort, S: Source, K: Sink, C: Clock, R: Dice>(
     console: bool,
     port: &mut P,

@@ -11,6 +11,8 @@ use Rattle.fw_outside.specs.declared.heard.Heard.{Heard}
 use Rattle.fw_outside.specs.declared.heard.Heard.TheVariants.{Line, TooLong, Stopped}
 use Rattle.fw_outside.specs.declared.heard.Stop.{Stop}
 use Rattle.fw_outside.specs.declared.heard.Stop.TheVariants.{End, Idle, Failed, Spent}
+use Rattle.fw_outside.specs.CountLemmas.{grew_by, grew_none}
+use Rattle.fw_outside.specs.Counts.{Grew}
 use Rattle.fw_outside.specs.Gathering.{Cuts, Drains, Fills, IsText, Misses, most}
 use Rattle.fw_outside.specs.Lines.{is_lf}
 use Rattle.fw_outside.specs.Spring.{Spring}
@@ -41,11 +43,13 @@ pulled_on a b first now new one two =
     record {
       left = two.left;
       next = one.next ∙ ap (preceded a) (sym left ∙ two.next) ∙ preceded-append a b two.left;
+      count = two.count;
+      grew = grew_by (length a) (length b) (length (a ++ b)) first.amount one.count two.count (length-append a b) one.grew (subst (λ n. Grew (length b) n two.count) (rw one.is refl) two.grew);
       is = rw (two.is, one.is, grown-append first.taken a b) refl;
     }
 
 pulled_none : (first : Spring) → Pulled [] first first
-pulled_none first = record { left = first.left; next = preceded-nil first.left; is = rw (grown-nil first.taken) refl }
+pulled_none first = record { left = first.left; next = preceded-nil first.left; count = first.amount; grew = grew_none first.amount; is = rw (grown-nil first.taken) refl }
 
 -- what was read of a line so far
 pub record Going (kept : List ℕ) (old now : Window) (first at : Spring) : Type 0 where

@@ -1,6 +1,7 @@
 pub mod Bytes
 pub mod Cabinet
 pub mod Chest
+pub mod CountLemmas
 pub mod Counts
 pub mod Cup
 pub mod Dest

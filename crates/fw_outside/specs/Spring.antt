@@ -4,20 +4,22 @@ use Rattle.std.specs.Option.{option_map}
 use Rattle.fw_outside.specs.declared.source.Got.{Got}
 use Rattle.fw_outside.specs.declared.source.Got.TheVariants.{Bytes, End, Idle}
 use Rattle.fw_outside.specs.declared.failed.Failed.{Failed}
-use Rattle.fw_outside.specs.Counts.{Rose}
+use Rattle.fw_outside.specs.Counts.{Grew, Rose}
 use Rattle.fw_outside.specs.Telling.{grown, preceded, IsOver}
 
--- the bytes taken and those left, where the source tells; how often it failed, and how often nothing came in time; how many seconds it waits
+-- the bytes taken and those left, where the source tells; how many were taken, how often it failed, and how often nothing came
+-- in time, as counts of 64 bits; how many seconds it waits
 pub record Spring : Type 0 where
   pub taken : Option (List ℕ)
   pub left : Option (List ℕ)
+  pub amount : ℕ
   pub faults : ℕ
   pub idles : ℕ
   pub waits : ℕ
 
 -- a new source of what is left: nothing is taken, nothing is counted, and it waits an hour
 abbrev pub fresh : Option (List ℕ) → Spring
-fresh left = record { taken = option_map (λ _. []) left; left = left; faults = 0; idles = 0; waits = 3600 }
+fresh left = record { taken = option_map (λ _. []) left; left = left; amount = 0; faults = 0; idles = 0; waits = 3600 }
 
 -- the source after `patience`
 abbrev pub waiting : Spring → ℕ → Spring
@@ -29,7 +31,9 @@ pub record Came (n : ℕ) (buf : List ℕ) (old new : Spring) : Type 0 where
   pub some : 0 < n
   pub fits : n ≤ length buf
   pub next : old.left ≡ preceded (take n buf) rest
-  pub is : new ≡ record old { taken = grown old.taken (take n buf); left = rest }
+  pub count : ℕ
+  pub grew : Grew n old.amount count
+  pub is : new ≡ record old { taken = grown old.taken (take n buf); left = rest; amount = count }
 
 -- the end: nothing is left, and nothing changed
 pub record Ended (old new : Spring) : Type 0 where

@@ -1,5 +1,5 @@
 -- A source in memory.
-use Rattle.std.specs.Prelude.{◌≡◌, ℕ, ◌==◌, min, List, [], length, Some, Result, Ok, Err, if◌then◌else◌}
+use Rattle.std.specs.Prelude.{◌≡◌, ℕ, ◌==◌, ◌-◌, ◌^◌, min, List, [], length, Some, Result, Ok, Err, if◌then◌else◌}
 use Rattle.fw_outside.specs.declared.source.Got.{Got}
 use Rattle.fw_outside.specs.declared.source.Got.TheVariants.{Bytes, End, Idle}
 use Rattle.fw_outside.specs.declared.failed.Failed.{Failed}
@@ -25,7 +25,7 @@ new_supply bytes piece fails idle = record { taken = []; left = bytes; piece = p
 
 -- it tells all
 abbrev pub spring_of : Supply → Spring
-spring_of s = record { taken = Some s.taken; left = Some s.left; faults = s.faults; idles = s.idles; waits = s.waits }
+spring_of s = record { taken = Some s.taken; left = Some s.left; amount = min (length s.taken) (2 ^ 64 - 1); faults = s.faults; idles = s.idles; waits = s.waits }
 
 -- what comes into a buffer of this length: the end, or as many bytes as fit
 abbrev pub handed : Supply → ℕ → Got

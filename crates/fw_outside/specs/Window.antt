@@ -4,6 +4,7 @@ use Rattle.fw_outside.specs.declared.heard.Heard.{Heard}
 use Rattle.fw_outside.specs.declared.heard.Heard.TheVariants.{Line, TooLong, Stopped}
 use Rattle.fw_outside.specs.declared.heard.Stop.{Stop}
 use Rattle.fw_outside.specs.declared.heard.Stop.TheVariants.{End, Idle, Failed, Spent}
+use Rattle.fw_outside.specs.Counts.{Grew}
 use Rattle.fw_outside.specs.Lines.{IsHeard}
 use Rattle.fw_outside.specs.Spring.{Spring, Broke, Ended, Idled}
 use Rattle.fw_outside.specs.Telling.{grown, preceded}
@@ -21,7 +22,9 @@ rest_of window source = preceded window.pending source.left
 pub record Pulled (bytes : List ℕ) (before after : Spring) : Type 0 where
   pub left : Option (List ℕ)
   pub next : before.left ≡ preceded bytes left
-  pub is : after ≡ record before { taken = grown before.taken bytes; left = left }
+  pub count : ℕ
+  pub grew : Grew (length bytes) before.amount count
+  pub is : after ≡ record before { taken = grown before.taken bytes; left = left; amount = count }
 
 -- bytes were taken from the source into the window, and the first ones of the window were heard
 pub record Reads (heard : List ℕ) (old new : Window) (before after : Spring) : Type 0 where

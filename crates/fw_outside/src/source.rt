@@ -16,7 +16,7 @@ pub enum Got {
 
 /// Bytes that come from outside, once and in order.
 pub trait Source: Drop {
-    /// The bytes taken and left, the counts, and how long it waits.
+    /// The bytes taken and left, the counts, how many were taken among them, and how long it waits.
     ghost spring: { Self → Spring };
 
     /// Takes the next bytes, as many as it likes and as fit. `End`, `Idle` and `Failed` take nothing.

@@ -7,9 +7,9 @@ use Rattle.fw_outside.specs.declared.source.Got.{Got}
 use Rattle.fw_outside.specs.declared.source.Got.TheVariants.{Bytes, End, Idle}
 use Rattle.fw_outside.specs.declared.failed.Failed.{Failed}
 
--- a source that tells nothing
-abbrev pub untold : ℕ → ℕ → Spring
-untold faults waits = record { taken = None; left = None; faults = faults; idles = 0; waits = waits }
+-- a source that tells only counts: so many bytes were taken, and so often it failed
+abbrev pub untold : ℕ → ℕ → ℕ → Spring
+untold amount faults waits = record { taken = None; left = None; amount = amount; faults = faults; idles = 0; waits = waits }
 
 -- a sink that tells nothing
 abbrev pub unseen : ℕ → Drain

@@ -5,7 +5,8 @@ use Rattle.authsrv_lines.specs.Causes.{Caused, TakesFor, is_spent}
 use Rattle.authsrv_lines.specs.CauseLemmas.{by_nothing, session_caused, session_keeps}
 use Rattle.authsrv_lines.specs.Session.{Devices, Session}
 use Rattle.authsrv_lines.specs.SpentLemmas.{session_spent}
-use Rattle.fw_outside.specs.Counts.{Rose}
+use Rattle.fw_outside.specs.CountLemmas.{grew_none}
+use Rattle.fw_outside.specs.Counts.{Grew, Rose}
 use Rattle.fw_outside.specs.Drain.{Drain, Gives}
 use Rattle.fw_outside.specs.Spring.{Spring, waiting}
 use Rattle.fw_outside.specs.declared.ending.Ending.{Ending}
@@ -36,7 +37,7 @@ module _ {Origin : Type 0} where
   held_caused verdict seconds AuthFault devices logs new h = h
   held_caused verdict seconds Idle devices logs new h = h
   held_caused verdict seconds NoRoute devices logs new h = absurd h
-  held_caused verdict seconds Spent devices logs new h = record { took = record { bytes = h.took.bytes; most = h.took.most; is = h.took.is }; all = h.all }
+  held_caused verdict seconds Spent devices logs new h = record { took = record { bytes = h.took.bytes; most = h.took.most; grew = h.took.grew; is = h.took.is }; all = h.all }
   held_caused verdict seconds NoMemory devices logs new h = tt
 
   treated_caused : (verdict : Verdict) (service : Service) (rules : RuleBook) (peer : Peer) (ending : Ending) (devices : Devices Origin) (before logs : Drain) (new : Meeting Origin) → Treated verdict service rules peer ending (meets devices logs) new → Causes verdict ending (meets devices before) new
@@ -100,11 +101,11 @@ module _ {Origin : Type 0} where
 
   -- who is denied, or not served since the log failed, is asked for none
   takes_none : (ending : Ending) (old new : Devices Origin) → is_spent ending ≡ false → new.inlet ≡ old.inlet → TakesFor ending old new
-  takes_none ending old new never is = record { took = record { bytes = []; most = omega (arith); is = ap (λ (s : Spring). s.taken) is ∙ by_nothing old.inlet.taken }; all = never }
+  takes_none ending old new never is = record { took = record { bytes = []; most = omega (arith); grew = subst (λ (s : Spring). Grew 0 old.inlet.amount s.amount) (sym is) (grew_none old.inlet.amount); is = ap (λ (s : Spring). s.taken) is ∙ by_nothing old.inlet.taken }; all = never }
 
   -- how long the source waits counts for nothing
   takes_patient : (seconds : ℕ) (ending : Ending) (old new : Devices Origin) → TakesFor ending (patient seconds old) new → TakesFor ending old new
-  takes_patient seconds ending old new h = record { took = record { bytes = h.took.bytes; most = h.took.most; is = h.took.is }; all = h.all }
+  takes_patient seconds ending old new h = record { took = record { bytes = h.took.bytes; most = h.took.most; grew = h.took.grew; is = h.took.is }; all = h.all }
 
   after_spent : (logging : Result (Unit {0}) Failed) (verdict : Verdict) (service : Service) (rules : RuleBook) (peer : Peer) (ending : Ending) (old new : Meeting Origin)
       → AfterLine logging verdict service rules peer ending old new → TakesFor ending old.devices new.devices

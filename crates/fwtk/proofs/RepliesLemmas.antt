@@ -272,7 +272,7 @@ history_spent name visit status old new h spent =
     let last : Devices Ground = (meeting new h.book).devices in
     let session : Session visit.console first last h.ending = record { names = h.names; last = h.last; held = h.held; leaves = h.leaves } in
     let most = took_most h.ending first last spent (session_spent visit.console first last h.ending session) in
-    record { took = record { bytes = most.took.bytes; most = most.took.most; is = most.took.is }; all = most.all }
+    record { took = record { bytes = most.took.bytes; most = most.took.most; grew = most.took.grew; is = most.took.is }; all = most.all }
 
 history_limit : (name : List ℕ) (visit : Visit) (old new : Desk) → OfHistory name visit 6 old new → MeetsLimit name visit old new
 history_limit name visit old new h = choose (six_by (list_any is_refused (talk_of h.held)) h.ending (sym h.answered))

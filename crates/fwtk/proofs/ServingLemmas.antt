@@ -7,7 +7,8 @@ use Rattle.authsrv_lines.specs.Causes.{Caused, TakesFor, is_spent}
 use Rattle.authsrv_lines.specs.CauseLemmas.{by_nothing}
 use Rattle.authsrv_lines.specs.Session.{Devices, most_taken}
 use Rattle.authsrv_lines.specs.SpentLemmas.{same_tells}
-use Rattle.fw_outside.specs.Counts.{Rose}
+use Rattle.fw_outside.specs.CountLemmas.{grew_none}
+use Rattle.fw_outside.specs.Counts.{Grew, Rose}
 use Rattle.fw_outside.specs.Spring.{Spring}
 use Rattle.fw_outside.specs.Vault.{Missed, Vault}
 use Rattle.fw_outside.specs.declared.ending.Ending.{Ending}
@@ -400,7 +401,7 @@ attends_keeper name visit (Err (Record user at)) old mid does before = there old
 -- ---- bytes
 
 pub takes_same : (status : ℕ) (old new : Spring) → new ≡ old → TakesIn status old new
-takes_same status old new is = record { took = record { bytes = []; most = omega (arith); is = ap (λ (s : Spring). s.taken) is ∙ by_nothing old.taken }; all = λ long. absurd (omega (arith, long)) }
+takes_same status old new is = record { took = record { bytes = []; most = omega (arith); grew = subst (λ (s : Spring). Grew 0 old.amount s.amount) (sym is) (grew_none old.amount); is = ap (λ (s : Spring). s.taken) is ∙ by_nothing old.taken }; all = λ long. absurd (omega (arith, long)) }
 
 spent_is : (ending : Ending) → is_spent ending ≡ true → ending ≡ Spent
 spent_is Spent is = refl

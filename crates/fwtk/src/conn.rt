@@ -124,8 +124,7 @@ pub fn conn<P: AuthPort, S: Source, K: Sink, G: Sink, C: Clock, R: Dice>(
     ensures caused { Causes (verdict_of rules.now peer.now) result
         (record { devices = record { inlet = S.spring from.old; outlet = K.drain to.old; port = P.port port.old; hours = C.hours clock.old; throws = R.throws dice.old }; logs = G.drain logs.old })
         (record { devices = record { inlet = S.spring from.new; outlet = K.drain to.new; port = P.port port.new; hours = C.hours clock.new; throws = R.throws dice.new }; logs = G.drain logs.new }) }
-    // As many bytes as may be were taken of the client exactly where the ending is `Spent`, which shows where its source tells
-    // what was taken.
+    // As many bytes as may be were taken of the client exactly where the ending is `Spent`.
     ensures spent { TakesFor result
         (record { inlet = S.spring from.old; outlet = K.drain to.old; port = P.port port.old; hours = C.hours clock.old; throws = R.throws dice.old })
         (record { inlet = S.spring from.new; outlet = K.drain to.new; port = P.port port.new; hours = C.hours clock.new; throws = R.throws dice.new }) }

@@ -119,7 +119,7 @@ pub fn run<T: Kit>(alloc: Global, words: &[Octets], world: &mut World<T>) -> u8
     // 0, 1 and 3 are by the table's text, where the files tell it, and by the records that the keeper has; 6 is for a session
     // that came to a limit; else a device failed, or there was no memory.
     ensures ruled { IsRuledBy Fails (table_named words.now) (command_of words.now) world.old world.new result }
-    // Where a session took as many bytes as it may, the status is 6, which shows where the input tells what was taken.
+    // Where a session took as many bytes as it may, the status is 6.
     ensures taken { TakesIn result world.old.sitting.input world.new.sitting.input }
     // 4 is only for a device whose own count rose.
     ensures outside { result ≡ 4 → SomeRose world.old world.new }

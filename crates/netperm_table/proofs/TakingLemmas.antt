@@ -1,11 +1,12 @@
 -- How reading a table takes from its source.
-use Rattle.std.proofs.Common.{◌≡◌, ◌≢◌, ℕ, ◌+◌, ◌<◌, List, [], ◌++◌, take, refl, sym, ap, ◌∙◌, append_assoc, length, length-append, inl, inr, true, false, arith}
+use Rattle.std.proofs.Common.{◌≡◌, ◌≢◌, ℕ, ◌+◌, ◌<◌, List, [], ◌++◌, take, refl, sym, ap, subst, ◌∙◌, append_assoc, length, length-append, inl, inr, true, false, arith}
 use Rattle.std.proofs.lemmas.Bool.Decides.{nat_tests}
 use Rattle.std.specs.Prelude.{◌⊎◌, ◌||◌, filter, nat_lt, Option, Some, None, Result, Ok, Err}
-use Rattle.std.proofs.lemmas.List.{append-nil}
+use Rattle.std.proofs.lemmas.List.{append-nil, length-take-le}
 use Rattle.std.proofs.lemmas.List.Elements.{filter-append}
 use Rattle.fw_outside.specs.Cabinet.{has_failed}
-use Rattle.fw_outside.specs.Counts.{Rose}
+use Rattle.fw_outside.specs.CountLemmas.{grew_by, grew_none}
+use Rattle.fw_outside.specs.Counts.{Grew, Rose}
 use Rattle.fw_outside.specs.Spring.{Spring, Came, Ended, Broke, Idled}
 use Rattle.fw_outside.specs.Telling.{grown, preceded, IsOver}
 use Rattle.netperm_table.specs.declared.line.Line.{Line}
@@ -34,7 +35,9 @@ pub record ReadsOn (first now : Spring) (reader : Progress) : Type 0 where
   pub part : List ℕ
   pub rest : Option (List ℕ)
   pub next : first.left ≡ preceded part rest
-  pub is : now ≡ record first { taken = grown first.taken part; left = rest }
+  pub count : ℕ
+  pub grew : Grew (length part) first.amount count
+  pub is : now ≡ record first { taken = grown first.taken part; left = rest; amount = count }
   pub leads : Leads start part reader []
   pub number : reader.number ≡ line_ends part + 1
 
@@ -51,13 +54,15 @@ reads_nothing first = record {
   part = [];
   rest = first.left;
   next = preceded-nil first.left;
+  count = first.amount;
+  grew = grew_none first.amount;
   is = rw (grown-nil first.taken) refl;
   leads = leads_start start [];
   number = refl;
 }
 
 pub took : (first now : Spring) (reader : Progress) → ReadsOn first now reader → Took first now
-took first now reader r = record { part = r.part; rest = r.rest; next = r.next; is = r.is }
+took first now reader r = record { part = r.part; rest = r.rest; next = r.next; count = r.count; grew = r.grew; is = r.is }
 
 -- one more piece was taken
 pub next_more : (first now new : Spring) (reader : Progress) (n : ℕ) (piece : List ℕ) (r : ReadsOn first now reader) (came : Came n piece now new) → first.left ≡ preceded (r.part ++ take n piece) came.rest
@@ -65,7 +70,7 @@ next_more first now new reader n piece r came =
     let left : now.left ≡ r.rest = rw r.is refl in
     r.next ∙ ap (preceded r.part) (sym left ∙ came.next) ∙ preceded-append r.part (take n piece) came.rest
 
-pub is_more : (first now new : Spring) (reader : Progress) (n : ℕ) (piece : List ℕ) (r : ReadsOn first now reader) (came : Came n piece now new) → new ≡ record first { taken = grown first.taken (r.part ++ take n piece); left = came.rest }
+pub is_more : (first now new : Spring) (reader : Progress) (n : ℕ) (piece : List ℕ) (r : ReadsOn first now reader) (came : Came n piece now new) → new ≡ record first { taken = grown first.taken (r.part ++ take n piece); left = came.rest; amount = came.count }
 is_more first now new reader n piece r came =
     let taken : now.taken ≡ grown first.taken r.part = rw r.is refl in
     let faults : now.faults ≡ first.faults = rw r.is refl in
@@ -73,11 +78,19 @@ is_more first now new reader n piece r came =
     let waits : now.waits ≡ first.waits = rw r.is refl in
     came.is ∙ rw (taken, faults, idles, waits, grown-append first.taken r.part (take n piece)) refl
 
+grew_more : (first now new : Spring) (reader : Progress) (n : ℕ) (piece : List ℕ) (r : ReadsOn first now reader) (came : Came n piece now new) → Grew (length (r.part ++ take n piece)) first.amount came.count
+grew_more first now new reader n piece r came =
+    let amount : now.amount ≡ r.count = rw r.is refl in
+    let whole : length (r.part ++ take n piece) ≡ length r.part + n = length-append r.part (take n piece) ∙ ap (λ m. length r.part + m) (length-take-le n piece came.fits) in
+    grew_by (length r.part) n (length (r.part ++ take n piece)) first.amount r.count came.count whole r.grew (subst (λ m. Grew n m came.count) amount came.grew)
+
 pub took_more : (first now new : Spring) (reader : Progress) (n : ℕ) (piece : List ℕ) → ReadsOn first now reader → Came n piece now new → Took first new
 took_more first now new reader n piece r came = record {
   part = r.part ++ take n piece;
   rest = came.rest;
   next = next_more first now new reader n piece r came;
+  count = came.count;
+  grew = grew_more first now new reader n piece r came;
   is = is_more first now new reader n piece r came;
 }
 
@@ -97,6 +110,8 @@ reads_more first now new reader after n piece r came leads number = record {
   part = r.part ++ take n piece;
   rest = came.rest;
   next = next_more first now new reader n piece r came;
+  count = came.count;
+  grew = grew_more first now new reader n piece r came;
   is = is_more first now new reader n piece r came;
   leads = leads_more reader r.part (take n piece) after r.leads leads;
   number = omega (arith, number, r.number, ends-append r.part (take n piece));
@@ -181,6 +196,8 @@ leaves_failed first now new reader r failed = by failed
       faults = broke.count;
       idles = first.idles;
       next = r.next;
+      count = r.count;
+      grew = r.grew;
       rose = inl (rw (← faults) broke.rose, refl);
       is = broke.is ∙ rw r.is refl;
     }
@@ -190,6 +207,8 @@ leaves_failed first now new reader r failed = by failed
       faults = first.faults;
       idles = idled.count;
       next = r.next;
+      count = r.count;
+      grew = r.grew;
       rose = inr (rw (← idles) idled.rose, refl);
       is = idled.is ∙ rw r.is refl;
     }

@@ -1,6 +1,6 @@
 -- What reading a table does to its source.
 use Rattle.std.specs.Prelude.{◌≡◌, ℕ, ◌≤◌, ◌⊎◌, Bool, true, false, List, [], ◌++◌, length, filter, Option, Some, None, Result, Ok, Err, IfErr}
-use Rattle.fw_outside.specs.Counts.{Rose}
+use Rattle.fw_outside.specs.Counts.{Grew, Rose}
 use Rattle.fw_outside.specs.Spring.{Spring}
 use Rattle.fw_outside.specs.Telling.{grown, preceded, IsOver}
 use Rattle.netperm_table.specs.declared.line.Line.{Line}
@@ -15,7 +15,9 @@ pub record Took (old new : Spring) : Type 0 where
   pub part : List ℕ
   pub rest : Option (List ℕ)
   pub next : old.left ≡ preceded part rest
-  pub is : new ≡ record old { taken = grown old.taken part; left = rest }
+  pub count : ℕ
+  pub grew : Grew (length part) old.amount count
+  pub is : new ≡ record old { taken = grown old.taken part; left = rest; amount = count }
 
 -- bytes were taken to the end of what was left
 pub record TookAll (old new : Spring) : Type 0 where
@@ -29,8 +31,10 @@ pub record Stopped (old new : Spring) : Type 0 where
   pub faults : ℕ
   pub idles : ℕ
   pub next : old.left ≡ preceded part rest
+  pub count : ℕ
+  pub grew : Grew (length part) old.amount count
   pub rose : (Rose old.faults faults × (idles ≡ old.idles)) ⊎ (Rose old.idles idles × (faults ≡ old.faults))
-  pub is : new ≡ record old { taken = grown old.taken part; left = rest; faults = faults; idles = idles }
+  pub is : new ≡ record old { taken = grown old.taken part; left = rest; amount = count; faults = faults; idles = idles }
 
 -- what an answer leaves of the source
 abbrev pub Leaves : Result (List Line) TableFault → Spring → Spring → Type 0
