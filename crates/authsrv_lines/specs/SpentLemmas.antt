@@ -1,10 +1,9 @@
 -- A session takes as many bytes as it may exactly where it ends by that.
-use Rattle.std.proofs.Common.{arith, ◌≡◌, refl, sym, ap, subst, ◌∙◌, ℕ, ◌+◌, ◌≤◌, Bool, true, false, List, [], ◌∷◌, length, Option, Some, None, Result, Ok, Err, ◌⊎◌, inl, inr, ◌≢◌}
+use Rattle.std.proofs.Common.{arith, ◌≡◌, refl, sym, ap, subst, ◌∙◌, ℕ, ◌+◌, Bool, true, false, List, [], ◌∷◌, length, Option, Some, None, Result, Ok, Err, ◌⊎◌, inl, inr, ◌≢◌}
 use Rattle.std.specs.Prelude.{◌==◌}
 use Rattle.std.proofs.lemmas.Bool.{eqb-false, eqb-true, ne_eqb}
 use Rattle.std.proofs.lemmas.Bool.Decides.{eqb_tells}
 use Rattle.auth_events.specs.declared.reply.Reply.{Reply}
-use Rattle.auth_events.specs.declared.request.Request.TheVariants as requests
 use Rattle.fw_acts.specs.Acts.{Row, Step}
 use Rattle.fw_acts.specs.Acts.Row.{Over}
 use Rattle.fw_acts.specs.Ran.{Comes}

@@ -1,6 +1,6 @@
 -- From the lines of a table to what they say.
 use Rattle.std.proofs.Common.{◌≡◌, ◌∙◌, ℕ, List, ap}
-use Rattle.std.specs.Prelude.{Option, Some, None, Result, Ok, Err, IfSome}
+use Rattle.std.specs.Prelude.{Option, Some, None, Result, Ok, Err}
 use Rattle.fw_outside.specs.Cabinet.{Cabinet, held}
 use Rattle.netperm_table.specs.declared.line.Line.{Line}
 use Rattle.netperm_table.specs.Table.{table_of}
@@ -9,28 +9,32 @@ use Rattle.fwtk.specs.declared.fault.Device.TheVariants as device
 use Rattle.fwtk.specs.declared.fault.Fault.{Fault}
 use Rattle.fwtk.specs.declared.fault.Fault.TheVariants.{Usage, Table, Rule, Outside, Memory, Record, Limit}
 use Rattle.fwtk.specs.Finding.{Finds, OfTable, ReadsLines, ReadsTable}
-use Rattle.fwtk.specs.Ruling.{OfText, or_rule_fault, said_by, said_in}
+use Rattle.fwtk.specs.Ruling.{OfHeld, OfText, OfTextOr, or_rule_fault, said_by, said_in}
 
-if_some : {P Q : List ℕ → Type 0} (text : Option (List ℕ)) → ((bytes : List ℕ) → P bytes → Q bytes) → IfSome text P → IfSome text Q
-if_some None more h = tt
-if_some (Some bytes) more h = more bytes h
+of_held : {P Q : List ℕ → Type 0} (missing gone : Type 0) (text : Option (List ℕ)) → (missing → gone) → ((bytes : List ℕ) → P bytes → Q bytes) → OfHeld missing text P → OfHeld gone text Q
+of_held missing gone None without more h = without h
+of_held missing gone (Some bytes) without more h = more bytes h
+
+-- what follows of each text, and of none, follows of what is under the name
+pub of_text_or : {P Q : List ℕ → Type 0} (missing gone : Type 0) (holds : Option (List (List ℕ × List ℕ))) (name : List ℕ) → (missing → gone) → ((text : List ℕ) → P text → Q text) → OfTextOr missing holds name P → OfTextOr gone holds name Q
+of_text_or missing gone None name without more h = tt
+of_text_or missing gone (Some files) name without more h = of_held missing gone (held files name) without more h
 
 -- what follows of each text follows of the one under the name
-pub of_text : {P Q : List ℕ → Type 0} (holds : Option (List (List ℕ × List ℕ))) (name : List ℕ) → ((text : List ℕ) → P text → Q text) → OfText holds name P → OfText holds name Q
-of_text None name more h = tt
-of_text (Some files) name more h = if_some (held files name) more h
+pub of_text : {P Q : List ℕ → Type 0} (gone : Type 0) (holds : Option (List (List ℕ × List ℕ))) (name : List ℕ) → ((text : List ℕ) → P text → Q text) → OfText holds name P → OfTextOr gone holds name Q
+of_text gone holds name more h = of_text_or ⊥ gone holds name (λ none. absurd none) more h
 
-all_some : {P : List ℕ → Type 0} (text : Option (List ℕ)) → ((bytes : List ℕ) → P bytes) → IfSome text P
-all_some None all = tt
-all_some (Some bytes) all = all bytes
+all_held : {P : List ℕ → Type 0} (missing : Type 0) (text : Option (List ℕ)) → missing → ((bytes : List ℕ) → P bytes) → OfHeld missing text P
+all_held missing None without all = without
+all_held missing (Some bytes) without all = all bytes
 
--- a fact of every text is one of the text under the name
-pub of_any : {P : List ℕ → Type 0} (holds : Option (List (List ℕ × List ℕ))) (name : List ℕ) → ((text : List ℕ) → P text) → OfText holds name P
-of_any None name all = tt
-of_any (Some files) name all = all_some (held files name) all
+-- a fact of every text, and another one, are facts of what is under the name
+pub of_any : {P : List ℕ → Type 0} (missing : Type 0) (holds : Option (List (List ℕ × List ℕ))) (name : List ℕ) → missing → ((text : List ℕ) → P text) → OfTextOr missing holds name P
+of_any missing None name without all = tt
+of_any missing (Some files) name without all = all_held missing (held files name) without all
 
 of_table : {P Q : List ℕ → Type 0} (name : List ℕ) (old new : Cabinet) → ((text : List ℕ) → P text → Q text) → OfTable name P old new → OfTable name Q old new
-of_table name old new more h = record { of_text = of_text old.holds name more h.of_text; is = h.is }
+of_table name old new more h = record { of_text = of_text ⊥ old.holds name more h.of_text; is = h.is }
 
 module _ {A : Type 0} where
   said_of_lines : (said : List Line → Result A RuleFault) (text : List ℕ) (lines : List Line) → table_of text ≡ Ok lines → said_in said text ≡ or_rule_fault (said lines)

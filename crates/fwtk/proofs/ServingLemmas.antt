@@ -224,7 +224,7 @@ served_other (Err fault) visit old status h = inr h
 
 follows_served : (name : List ℕ) (visit : Visit) (outcome : Result ℕ Fault) (old mid : Desk) (status : ℕ) → (follows : Follows name visit outcome old mid) → Served visit old status follows.orders → IsServedFor Fails Any name visit old status
 follows_served name visit outcome old mid status follows served =
-    of_text old.files.holds name (λ text is. served_ok (said_in orders_of text) follows.orders visit old status is served) follows.of_table
+    of_text (Fails status) old.files.holds name (λ text is. served_ok (said_in orders_of text) follows.orders visit old status is served) follows.of_table
 
 pub attends_served : (name : List ℕ) (visit : Visit) (outcome : Result ℕ Fault) (old mid new : Desk) (status : ℕ) → Attends name visit outcome old mid → Ends outcome status mid new → IsServedFor Fails Any name visit old status
 attends_served name visit (Ok n) old mid new status does ends =
@@ -236,17 +236,17 @@ attends_served name visit (Err (Record user at)) old mid new status does ends =
     follows_served name visit (Err (Record user at)) old mid status does
     (with_keeper old.sitting.keeper bad.before (λ vault. IsServed Any does.orders visit vault status ⊎ Fails status) bad.keeper (inl (inl (ends.0, record { user = user; at = at; bad = bad.bad }))))
 attends_served name visit (Err (Outside device.Records)) old mid new status does ends =
-    of_any old.files.holds name (λ text. served_other (said_in orders_of text) visit old status (inl ends.0))
+    of_any (Fails status) old.files.holds name (inl ends.0) (λ text. served_other (said_in orders_of text) visit old status (inl ends.0))
 attends_served name visit (Err (Outside device.Table)) old mid new status does ends =
-    of_any old.files.holds name (λ text. served_other (said_in orders_of text) visit old status (inl ends.0))
+    of_any (Fails status) old.files.holds name (inl ends.0) (λ text. served_other (said_in orders_of text) visit old status (inl ends.0))
 attends_served name visit (Err (Outside device.Output)) old mid new status does ends = absurd does
 attends_served name visit (Err (Outside device.Log)) old mid new status does ends = absurd does
 attends_served name visit (Err Memory) old mid new status does ends =
-    of_any old.files.holds name (λ text. served_other (said_in orders_of text) visit old status (inr ends.0))
+    of_any (Fails status) old.files.holds name (inr ends.0) (λ text. served_other (said_in orders_of text) visit old status (inr ends.0))
 attends_served name visit (Err (Table fault)) old mid new status does ends =
-    of_text old.files.holds name (λ text is. served_fault (said_in orders_of text) (Table fault) visit old status is ends.0) does.of_table
+    of_text (Fails status) old.files.holds name (λ text is. served_fault (said_in orders_of text) (Table fault) visit old status is ends.0) does.of_table
 attends_served name visit (Err (Rule fault)) old mid new status does ends =
-    of_text old.files.holds name (λ text is. served_fault (said_in orders_of text) (Rule fault) visit old status is ends.0) does.of_table
+    of_text (Fails status) old.files.holds name (λ text is. served_fault (said_in orders_of text) (Rule fault) visit old status is ends.0) does.of_table
 attends_served name visit (Err Usage) old mid new status does ends = absurd does
 
 -- where 6 is for a limit, the session came to one

@@ -18,17 +18,17 @@ use Rattle.fwtk.specs.declared.words.Query.{Query}
 use Rattle.fwtk.specs.declared.words.Visit.{Visit}
 use Rattle.fwtk.specs.Desk.{Desk, Sitting}
 use Rattle.fwtk.specs.Fault.{fault_text}
-use Rattle.fwtk.specs.Ruling.{OfText, ruling, said_in}
+use Rattle.fwtk.specs.Ruling.{ruling, said_in}
 use Rattle.fwtk.specs.Serving.{orders_of}
 use Rattle.gate_rules.specs.Reading.{RuleBook}
 use Rattle.fwtk.specs.Run.{Does, Ends, Ran, Tells}
 use Rattle.fwtk.specs.Deciding.{ByTable, DecidesBy, FilesFailed, ShowsBy, verdict_status}
 use Rattle.fwtk.specs.History.{MeetsLimit}
 use Rattle.fwtk.specs.Replies.{IsTold, Replies}
-use Rattle.fwtk.specs.Status.{Fails, IsRuled, IsRuledBy, IsServedFor, SomeRose, TakesIn, WantsMemory}
+use Rattle.fwtk.specs.Status.{Fails, IsRuled, IsRuledBy, IsRuledFor, IsServedFor, SomeRose, TakesIn, WantsMemory}
 use Rattle.fwtk.specs.Words.{command_of, table_named}
 use Rattle.fwtk.proofs.CommandLemmas.{IsCommand, cut_rose, decides_command, shows_command}
-use Rattle.fwtk.proofs.FindingLemmas.{of_any, of_text}
+use Rattle.fwtk.proofs.FindingLemmas.{of_any, of_text, of_text_or}
 use Rattle.fwtk.proofs.RepliesLemmas.{replies, told_limit}
 use Rattle.fwtk.proofs.ServingLemmas.{Any, attends_keeper, attends_known, attends_out, attends_rose, attends_served, attends_takes, met_by, takes_same, unless_four_served}
 
@@ -79,25 +79,25 @@ ruled_ok read rules peer status is told = rw is (inl told)
 ruled_fault : (read : Result RuleBook Fault) (fault : Fault) (peer : Peer) (status : ℕ) → read ≡ Err fault → status ≡ 3 → IsRuled Fails read peer status
 ruled_fault read fault peer status is told = rw is (inl told)
 
-ruled_decision : (does : Result ℕ Fault → Desk → Desk → RuleBook → Type 0) (name : List ℕ) (query : Query) (outcome : Result ℕ Fault) (old mid new : Desk) (status : ℕ) → IsCommand query does → ByTable does name query outcome old mid → Ends outcome status mid new → OfText old.files.holds name (λ text. IsRuled Fails (ruling text query.service) query.peer status)
+ruled_decision : (does : Result ℕ Fault → Desk → Desk → RuleBook → Type 0) (name : List ℕ) (query : Query) (outcome : Result ℕ Fault) (old mid new : Desk) (status : ℕ) → IsCommand query does → ByTable does name query outcome old mid → Ends outcome status mid new → IsRuledFor Fails name query old status
 ruled_decision doing name query (Ok n) old mid new status command does ends =
-    of_text old.files.holds name (λ text is. ruled_ok (ruling text query.service) does.rules query.peer status is (ends.0 ∙ command.ok n old mid does.rules does.told)) does.of_table
+    of_text (Fails status) old.files.holds name (λ text is. ruled_ok (ruling text query.service) does.rules query.peer status is (ends.0 ∙ command.ok n old mid does.rules does.told)) does.of_table
 ruled_decision doing name query (Err Usage) old mid new status command does ends = absurd does
 ruled_decision doing name query (Err (Table fault)) old mid new status command does ends =
-    of_text old.files.holds name (λ text is. ruled_fault (ruling text query.service) (Table fault) query.peer status is ends.0) does.of_table
+    of_text (Fails status) old.files.holds name (λ text is. ruled_fault (ruling text query.service) (Table fault) query.peer status is ends.0) does.of_table
 ruled_decision doing name query (Err (Rule fault)) old mid new status command does ends =
-    of_text old.files.holds name (λ text is. ruled_fault (ruling text query.service) (Rule fault) query.peer status is ends.0) does.of_table
+    of_text (Fails status) old.files.holds name (λ text is. ruled_fault (ruling text query.service) (Rule fault) query.peer status is ends.0) does.of_table
 ruled_decision doing name query (Err (Outside which)) old mid new status command does ends =
-    of_any old.files.holds name (λ text. ruled_other Fails (ruling text query.service) query.peer status (inl ends.0))
+    of_any (Fails status) old.files.holds name (inl ends.0) (λ text. ruled_other Fails (ruling text query.service) query.peer status (inl ends.0))
 ruled_decision doing name query (Err (Record user at)) old mid new status command does ends = absurd does
 ruled_decision doing name query (Err Limit) old mid new status command does ends = absurd does
 ruled_decision doing name query (Err Memory) old mid new status command does ends =
-    of_any old.files.holds name (λ text. ruled_other Fails (ruling text query.service) query.peer status (inr ends.0))
+    of_any (Fails status) old.files.holds name (inr ends.0) (λ text. ruled_other Fails (ruling text query.service) query.peer status (inr ends.0))
 
 -- a visit's 6 is for a limit that its session came to, as its replies tell
 ruled_visit : (name : List ℕ) (visit : Visit) (status : ℕ) (old new : Desk) → IsTold name visit status old new → IsServedFor Fails Any name visit old status → IsServedFor Fails (MeetsLimit name visit old new) name visit old status
 ruled_visit name visit status old new told h =
-    of_text old.files.holds name (λ text. met_by (MeetsLimit name visit old new) (said_in orders_of text) visit old.sitting.keeper status (told_limit name visit status old new told)) h
+    of_text_or (Fails status) (Fails status) old.files.holds name (λ fails. fails) (λ text. met_by (MeetsLimit name visit old new) (said_in orders_of text) visit old.sitting.keeper status (told_limit name visit status old new told)) h
 
 ruled_command : (name : List ℕ) (command : Option Command) (outcome : Result ℕ Fault) (old mid new : Desk) (status : ℕ) → Does name command outcome old mid → Ends outcome status mid new → Replies name command status old new → IsRuledBy Fails name command old new status
 ruled_command name None outcome old mid new status does ends told = tt
@@ -163,11 +163,15 @@ unless_four (Err fault) peer status never (inl is) = inl is
 unless_four (Err fault) peer status never (inr (inl four)) = absurd (never four)
 unless_four (Err fault) peer status never (inr (inr five)) = inr five
 
+only_memory : (status : ℕ) → (status ≡ 4 → ⊥) → Fails status → WantsMemory status
+only_memory status never (inl four) = absurd (never four)
+only_memory status never (inr five) = five
+
 unless_four_by : (name : List ℕ) (command : Option Command) (old new : Desk) (status : ℕ) → (status ≡ 4 → ⊥) → IsRuledBy Fails name command old new status → IsRuledBy WantsMemory name command old new status
 unless_four_by name None old new status never h = tt
-unless_four_by name (Some (commands.Table query)) old new status never h = of_text old.files.holds name (λ text. unless_four (ruling text query.service) query.peer status never) h
-unless_four_by name (Some (commands.Authsrv visit)) old new status never h = of_text old.files.holds name (λ text. unless_four_served (MeetsLimit name visit old new) (said_in orders_of text) visit old.sitting.keeper status never) h
-unless_four_by name (Some (commands.Netacl query)) old new status never h = of_text old.files.holds name (λ text. unless_four (ruling text query.service) query.peer status never) h
+unless_four_by name (Some (commands.Table query)) old new status never h = of_text_or (Fails status) (WantsMemory status) old.files.holds name (only_memory status never) (λ text. unless_four (ruling text query.service) query.peer status never) h
+unless_four_by name (Some (commands.Authsrv visit)) old new status never h = of_text_or (Fails status) (WantsMemory status) old.files.holds name (only_memory status never) (λ text. unless_four_served (MeetsLimit name visit old new) (said_in orders_of text) visit old.sitting.keeper status never) h
+unless_four_by name (Some (commands.Netacl query)) old new status never h = of_text_or (Fails status) (WantsMemory status) old.files.holds name (only_memory status never) (λ text. unless_four (ruling text query.service) query.peer status never) h
 
 pub complete : (words : List (List ℕ)) (status : ℕ) (old new : Desk) → Ran words status old new → (SomeRose old new → ⊥) → IsRuledBy WantsMemory (table_named words) (command_of words) old new status
 complete words status old new ran none = unless_four_by (table_named words) (command_of words) old new status (λ four. none (outside words status old new ran four)) (ruled words status old new ran)

@@ -1,5 +1,5 @@
 -- What the text of a table rules for a service.
-use Rattle.std.specs.Prelude.{ℕ, List, [], Option, Some, None, Result, Ok, Err, IfSome}
+use Rattle.std.specs.Prelude.{ℕ, List, [], Option, Some, None, Result, Ok, Err}
 use Rattle.fw_outside.specs.Cabinet.{held}
 use Rattle.netperm_table.specs.declared.line.Line.{Line}
 use Rattle.netperm_table.specs.declared.table_fault.TableFault.{TableFault}
@@ -39,7 +39,16 @@ abbrev pub exec_of : RuleBook → Verdict → List (List ℕ)
 exec_of rules (Permit line) = exec_in (options_at rules line)
 exec_of rules (Deny line) = []
 
--- a fact of the text under this name, where the files tell it
+-- a fact of the text, if one is there, and else another fact
+abbrev pub OfHeld : Type 0 → Option (List ℕ) → (List ℕ → Type 0) → Type 0
+OfHeld missing None P = missing
+OfHeld missing (Some text) P = P text
+
+-- the same of the text under this name, where the files tell what they hold
+abbrev pub OfTextOr : Type 0 → Option (List (List ℕ × List ℕ)) → List ℕ → (List ℕ → Type 0) → Type 0
+OfTextOr missing None name P = Unit {0}
+OfTextOr missing (Some files) name P = OfHeld missing (held files name) P
+
+-- a text is under this name, with this fact, where the files tell what they hold
 abbrev pub OfText : Option (List (List ℕ × List ℕ)) → List ℕ → (List ℕ → Type 0) → Type 0
-OfText None name P = Unit {0}
-OfText (Some files) name P = IfSome (held files name) P
+OfText holds name P = OfTextOr ⊥ holds name P

@@ -15,7 +15,7 @@ use Rattle.gate_rules.specs.declared.verdict.Verdict.TheVariants.{Permit, Deny}
 use Rattle.fwtk.specs.Deciding.{verdict_status}
 use Rattle.fwtk.specs.Desk.{Desk}
 use Rattle.fwtk.specs.History.{MeetsLimit}
-use Rattle.fwtk.specs.Ruling.{OfText, ruling, said_in}
+use Rattle.fwtk.specs.Ruling.{OfTextOr, ruling, said_in}
 use Rattle.fwtk.specs.Serving.{orders_of}
 use Rattle.fwtk.specs.declared.fault.Fault.{Fault}
 use Rattle.fwtk.specs.declared.orders.Orders.{Orders}
@@ -29,9 +29,9 @@ abbrev pub IsRuled : (ℕ → Type 0) → Result RuleBook Fault → Peer → ℕ
 IsRuled other (Ok rules) peer status = (status ≡ verdict_status (verdict_of rules peer)) ⊎ other status
 IsRuled other (Err fault) peer status = (status ≡ 3) ⊎ other status
 
--- the status is ruled by what the table's text says to a service, where the files tell it
+-- the status is ruled by what the table's text says to a service, where the files tell it; without a table, other holds of it
 abbrev pub IsRuledFor : (ℕ → Type 0) → List ℕ → Query → Desk → ℕ → Type 0
-IsRuledFor other name query old status = OfText old.files.holds name (λ text. IsRuled other (ruling text query.service) query.peer status)
+IsRuledFor other name query old status = OfTextOr (other status) old.files.holds name (λ text. IsRuled other (ruling text query.service) query.peer status)
 
 -- ---- a visit to the authentication server
 
@@ -66,9 +66,9 @@ abbrev pub IsServedBy : (ℕ → Type 0) → Type 0 → Result Orders Fault → 
 IsServedBy other limit (Err fault) visit keeper status = (status ≡ 3) ⊎ other status
 IsServedBy other limit (Ok orders) visit keeper status = IfSome keeper (λ vault. IsServed limit orders visit vault status ⊎ other status)
 
--- the same by the table's text, where the files tell it
+-- the same by the table's text, where the files tell it; without a table, other holds of the status
 abbrev pub IsServedFor : (ℕ → Type 0) → Type 0 → List ℕ → Visit → Desk → ℕ → Type 0
-IsServedFor other limit name visit old status = OfText old.files.holds name (λ text. IsServedBy other limit (said_in orders_of text) visit old.sitting.keeper status)
+IsServedFor other limit name visit old status = OfTextOr (other status) old.files.holds name (λ text. IsServedBy other limit (said_in orders_of text) visit old.sitting.keeper status)
 
 -- ---- a run
 

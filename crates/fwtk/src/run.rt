@@ -117,7 +117,7 @@ pub fn run<T: Kit>(alloc: Global, words: &[Octets], world: &mut World<T>) -> u8
     // 2 is exactly for words that are no command.
     ensures usage { (result ≡ 2) ↔ (command_of words.now ≡ None) }
     // 0, 1 and 3 are by the table's text, where the files tell it, and by the records that the keeper has; 6 is for a session
-    // that came to a limit; else a device failed, or there was no memory.
+    // that came to a limit; else, and where there is no such table, a device failed, or there was no memory.
     ensures ruled { IsRuledBy Fails (table_named words.now) (command_of words.now) world.old world.new result }
     // Where a session took as many bytes as it may, the status is 6.
     ensures taken { TakesIn result world.old.sitting.input world.new.sitting.input }

@@ -63,12 +63,12 @@ fn policy_of(alloc: Global, table: &Table) -> Result<Policy, Fail> {
 }
 
 // What the client is told, and the status that it comes to. The history never has more entries than fit.
-fn told_at_limit(alloc: Global, piece: usize, broken: Break) -> Result<Told, Fail> {
+fn told_at_limit(alloc: Global, talk: &Talk, piece: usize, broken: Break) -> Result<Told, Fail> {
     let table = table_of(alloc)?;
     let rules = rules_of(alloc, &table)?;
     let policy = policy_of(alloc, &table)?;
-    let records = records_before(alloc, &FULL)?;
-    let mut world = world_of(alloc, &FULL, records, piece, broken)?;
+    let records = records_before(alloc, talk)?;
+    let mut world = world_of(alloc, talk, records, piece, broken)?;
     let keeper = world.keeper.take().ok_or("no keeper")?;
     let Ok(mut book) = Book::open(alloc, keeper, policy, ROOM) else {
         return Err(Fail::from("the book isn't opened"));
@@ -105,7 +105,7 @@ fn first_otherwise(
     piece: usize,
     broken: Break,
 ) -> Result<Option<&'static str>, Fail> {
-    let mut told = told_at_limit(alloc, piece, broken)?;
+    let mut told = told_at_limit(alloc, talk, piece, broken)?;
     let other = otherwise(alloc, talk, &told)?;
     if other.is_none() && !are_asked(&mut told) {
         return Ok(Some("the requests"));
@@ -178,11 +178,7 @@ fn a_sink_that_fails_closes_the_session_once(rt: HostRuntime) -> Result<(), Fail
     Ok(())
 }
 
-fn log_otherwise(
-    alloc: Global,
-    talk: &Talk,
-    at: usize,
-) -> Result<Option<&'static str>, Fail> {
+fn log_otherwise(alloc: Global, talk: &Talk, at: usize) -> Result<Option<&'static str>, Fail> {
     let broken = Break {
         part: Part::Log,
         at,
