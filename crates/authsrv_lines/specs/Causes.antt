@@ -19,14 +19,14 @@ pub record SessionKeeps {Origin : Type 0} (old new : Devices Origin) : Type 0 wh
   pub origin : new.port.origin ≡ old.port.origin
   pub home : new.port.home ≡ old.port.home
 
--- these bytes were taken, no more than may be: the source has counted them, and they are those that it tells, where it does
+-- these bytes were taken, at most `most_taken`: the source has counted them, and they are those that it tells, where it does
 pub record Took (old new : Spring) : Type 0 where
   pub bytes : List ℕ
   pub most : length bytes ≤ most_taken
   pub grew : Grew (length bytes) old.amount new.amount
   pub is : new.taken ≡ grown old.taken bytes
 
--- as many as may be
+-- `most_taken` bytes were taken
 pub record TookMost (old new : Spring) : Type 0 where
   pub took : Took old new
   pub all : length took.bytes ≡ most_taken
@@ -35,7 +35,7 @@ abbrev pub is_spent : Ending → Bool
 is_spent Spent = true
 is_spent _ = false
 
--- as many exactly where the ending is `Spent`
+-- `most_taken` bytes were taken exactly where the ending is `Spent`, and else fewer
 pub record TakesFor {Origin : Type 0} (ending : Ending) (old new : Devices Origin) : Type 0 where
   pub took : Took old.inlet new.inlet
   pub all : is_spent ending ≡ (length took.bytes == most_taken)

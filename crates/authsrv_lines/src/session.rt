@@ -133,8 +133,8 @@ fn at_desk<'p, 's, 'k, 'c, 'r, P: AuthPort, S: Source, K: Sink, C: Clock, R: Dic
 /// The salts of new passwords come from the dice. It takes at most 2^40 bytes from the client.
 ///
 /// The answer is `Done` after `quit`, at the end of what the client says, or where the port denied to open a session; else
-/// why the session stopped, which the device that failed has counted. It is `Spent` exactly where 2^40 bytes were taken:
-/// the take that reaches the limit ends the session. Then Close is asked of a session that is open and wasn't asked to
+/// why the session stopped, which the device that failed or was idle has counted. It is `Spent` exactly where 2^40 bytes
+/// were taken, and then nothing more is heard. After a stop, Close is asked of a session that is open and wasn't asked to
 /// close.
 pub fn authsrv_session<P: AuthPort, S: Source, K: Sink, C: Clock, R: Dice>(
     console: bool,

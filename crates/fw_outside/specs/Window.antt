@@ -52,8 +52,8 @@ abbrev pub is_spent : Heard → Bool
 is_spent (Stopped Spent) = true
 is_spent _ = false
 
--- What is heard next: these bytes, of what was left, are heard as that. The take that reaches the limit stops the reader, who
--- had read all that was in the window; from then on nothing is heard.
+-- What is heard next: these bytes, of what was left, are heard as that. At the limit the reader stops, having read all that
+-- was in the window before; from then on nothing is heard.
 pub record Listens (heard : Heard) (old new : Window) (before after : Spring) : Type 0 where
   pub bytes : List ℕ
   pub middle : Spring

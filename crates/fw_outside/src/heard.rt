@@ -9,7 +9,7 @@ pub enum Stop {
     Idle,
     /// The source failed.
     Failed,
-    /// As many bytes were taken as may be. What the last take brought isn't heard.
+    /// As many bytes were taken as may be. What was taken last isn't heard.
     Spent,
 }
 

@@ -13,8 +13,8 @@
 //! is said by no clause. [`MemClock`] and [`MemDice`] give exactly the moments and the numbers that they were made with.
 //!
 //! [`LineReader`] hears the lines of a source, in whatever pieces it gives: each answer is what the bytes behind those heard
-//! before are heard as, by what a line is in a whole text. It takes no more than a limit, and the take that reaches the limit
-//! stops it: what that brought isn't heard.
+//! before are heard as, by what a line is in a whole text. It takes no more than a limit, and where it
+//! comes to that it stops for good: what it took last, at most 4,096 bytes, isn't heard.
 //!
 //! The plain types are read exactly: [`Host::read`], [`HostName::read`], [`Name::read`] and [`read_quad`] give a
 //! value exactly for the texts that they say, and what is written is that text again.

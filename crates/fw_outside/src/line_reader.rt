@@ -108,8 +108,8 @@ impl LineReader {
         }
     }
 
-    /// The next line, without its end, if one is heard before the source stops. The take that reaches the limit stops the
-    /// reader for good: what it brought isn't heard.
+    /// The next line, without its end, if one is heard before the source stops. Where as many bytes were taken as may be,
+    /// the reader stops for good: what was taken last, at most 4,096 bytes, isn't heard.
     pub fn next<S: Source>(&mut self, from: &mut S) -> Heard
         ensures listens { Listens result self.old self.new (S.spring from.old) (S.spring from.new) }
         ensures near { length self.new.pending ≤ 4096 }

@@ -49,16 +49,7 @@ outcome_status true Idle n is = cc
 outcome_status true NoRoute n is = cc
 outcome_status true Spent n is = cc
 outcome_status true NoMemory n is = cc
-outcome_status false Done n is = cc
-outcome_status false (Denied line) n is = cc
-outcome_status false ClientFault n is = cc
-outcome_status false ServerFault n is = cc
-outcome_status false LogFault n is = cc
-outcome_status false AuthFault n is = cc
-outcome_status false Idle n is = cc
-outcome_status false NoRoute n is = cc
-outcome_status false Spent n is = cc
-outcome_status false NoMemory n is = cc
+outcome_status false ending n is = ap status_in is
 
 limit_done : (refused : Bool) (ending : Ending) → Err Limit ≡ outcome_of refused ending → ending ≡ Done
 limit_done true Done is = refl
@@ -71,16 +62,7 @@ limit_done true Idle is = absurd (cc)
 limit_done true NoRoute is = absurd (cc)
 limit_done true Spent is = absurd (cc)
 limit_done true NoMemory is = absurd (cc)
-limit_done false Done is = absurd (cc)
-limit_done false (Denied line) is = absurd (cc)
-limit_done false ClientFault is = absurd (cc)
-limit_done false ServerFault is = absurd (cc)
-limit_done false LogFault is = absurd (cc)
-limit_done false AuthFault is = absurd (cc)
-limit_done false Idle is = absurd (cc)
-limit_done false NoRoute is = absurd (cc)
-limit_done false Spent is = absurd (cc)
-limit_done false NoMemory is = absurd (cc)
+limit_done false ending is = absurd (cc)
 
 never_two : (ending : Ending) → ending_status ending ≡ 2 → ⊥
 never_two Done is = omega (arith, is)

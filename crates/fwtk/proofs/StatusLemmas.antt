@@ -25,7 +25,7 @@ use Rattle.fwtk.specs.Run.{Does, Ends, Ran, Tells}
 use Rattle.fwtk.specs.Deciding.{ByTable, DecidesBy, FilesFailed, ShowsBy, verdict_status}
 use Rattle.fwtk.specs.History.{MeetsLimit}
 use Rattle.fwtk.specs.Replies.{IsTold, Replies}
-use Rattle.fwtk.specs.Status.{Fails, IsRuled, IsRuledBy, IsRuledFor, IsServedFor, SomeRose, TakesIn, WantsMemory}
+use Rattle.fwtk.specs.Status.{Fails, IsAtLimit, IsRuled, IsRuledBy, IsRuledFor, IsServedFor, SomeRose, TakesIn, WantsMemory}
 use Rattle.fwtk.specs.Words.{command_of, table_named}
 use Rattle.fwtk.proofs.CommandLemmas.{IsCommand, cut_rose, decides_command, shows_command}
 use Rattle.fwtk.proofs.FindingLemmas.{of_any, of_text, of_text_or}
@@ -246,6 +246,30 @@ ended_sitting (Err fault) status mid new ends = ends.1.sitting
 pub keeper_back : (words : List (List ℕ)) (status : ℕ) (old new : Desk) → Ran words status old new → IsSome old.sitting.keeper → IsSome new.sitting.keeper
 keeper_back words status old new ran there =
     keeper_by ran.middle new (ended_sitting ran.outcome status ran.middle new ran.ends) (command_keeper (table_named words) (command_of words) ran.outcome old ran.middle ran.does there)
+
+-- ---- 6 is only for a limit
+
+decides_below : (does : Result ℕ Fault → Desk → Desk → RuleBook → Type 0) (name : List ℕ) (query : Query) (outcome : Result ℕ Fault) (old mid new : Desk) (status : ℕ) → IsCommand query does → ByTable does name query outcome old mid → Ends outcome status mid new → status ≡ 6 → ⊥
+decides_below doing name query (Ok n) old mid new status command does ends is =
+    let low = verdict_status_low (verdict_of does.rules query.peer) in
+    let told = command.ok n old mid does.rules does.told in
+    let ended = ends.0 in omega arith
+decides_below doing name query (Err Usage) old mid new status command does ends is = does
+decides_below doing name query (Err (Table fault)) old mid new status command does ends is = let ended = ends.0 in omega arith
+decides_below doing name query (Err (Rule fault)) old mid new status command does ends is = let ended = ends.0 in omega arith
+decides_below doing name query (Err (Outside which)) old mid new status command does ends is = let ended = ends.0 in omega arith
+decides_below doing name query (Err Memory) old mid new status command does ends is = let ended = ends.0 in omega arith
+decides_below doing name query (Err (Record user at)) old mid new status command does ends is = does
+decides_below doing name query (Err Limit) old mid new status command does ends is = does
+
+limited_command : (name : List ℕ) (command : Option Command) (outcome : Result ℕ Fault) (old mid new : Desk) (status : ℕ) → Does name command outcome old mid → Ends outcome status mid new → Replies name command status old new → status ≡ 6 → IsAtLimit name command old new
+limited_command name None outcome old mid new status does ends told is = let two = refused outcome status mid new does.usage ends in omega (arith, two, is)
+limited_command name (Some (commands.Netacl query)) outcome old mid new status does ends told is = decides_below (DecidesBy query) name query outcome old mid new status (decides_command query) does ends is
+limited_command name (Some (commands.Table query)) outcome old mid new status does ends told is = decides_below (ShowsBy query) name query outcome old mid new status (shows_command query) does ends is
+limited_command name (Some (commands.Authsrv visit)) outcome old mid new status does ends told is = told_limit name visit status old new told is
+
+pub limited : (words : List (List ℕ)) (status : ℕ) (old new : Desk) → Ran words status old new → status ≡ 6 → IsAtLimit (table_named words) (command_of words) old new
+limited words status old new ran is = limited_command (table_named words) (command_of words) ran.outcome old ran.middle new status ran.does ran.ends (replies words status old new ran) is
 
 -- ---- bytes
 

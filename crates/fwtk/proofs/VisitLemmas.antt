@@ -65,16 +65,7 @@ proceeds_by visit orders true Idle old new h = h
 proceeds_by visit orders true NoRoute old new h = h
 proceeds_by visit orders true Spent old new h = h
 proceeds_by visit orders true NoMemory old new h = h
-proceeds_by visit orders false Done old new h = h
-proceeds_by visit orders false (Denied line) old new h = h
-proceeds_by visit orders false ClientFault old new h = h
-proceeds_by visit orders false ServerFault old new h = h
-proceeds_by visit orders false LogFault old new h = h
-proceeds_by visit orders false AuthFault old new h = h
-proceeds_by visit orders false Idle old new h = h
-proceeds_by visit orders false NoRoute old new h = h
-proceeds_by visit orders false Spent old new h = h
-proceeds_by visit orders false NoMemory old new h = h
+proceeds_by visit orders false ending old new h = h
 
 proceeds_so : (visit : Visit) (orders : Orders) (refused : Bool) (ending : Ending) (outcome : Result ℕ Fault) (old new : Desk) → outcome ≡ outcome_of refused ending → Held visit orders outcome old new → Proceeds visit orders outcome old new
 proceeds_so visit orders refused ending outcome old new is h =

@@ -88,7 +88,8 @@ pub record Conn {Origin : Type 0} (service : Service) (rules : RuleBook) (peer :
 
 -- ---- what an ending says
 
--- a denial is the verdict's; where the log failed, it has counted it; and any other ending has its cause in the session's devices
+-- a denial is the verdict's; where the log failed, it has counted it; and any other ending, but done and want of memory, has
+-- its cause in the session's devices
 abbrev pub Causes : {Origin : Type 0} → Verdict → Ending → Meeting Origin → Meeting Origin → Type 0
 Causes verdict (endings.Denied line) old new = verdict ≡ Deny line
 Causes verdict endings.LogFault old new = Rose old.logs.faults new.logs.faults

@@ -39,7 +39,7 @@ abbrev pub exec_of : RuleBook → Verdict → List (List ℕ)
 exec_of rules (Permit line) = exec_in (options_at rules line)
 exec_of rules (Deny line) = []
 
--- a fact of the text, if one is there, and else another fact
+-- a fact of the text; and where there is none, `missing`
 abbrev pub OfHeld : Type 0 → Option (List ℕ) → (List ℕ → Type 0) → Type 0
 OfHeld missing None P = missing
 OfHeld missing (Some text) P = P text

@@ -136,7 +136,7 @@ Proceeds visit orders (Err (Rule fault)) old new = ⊥
 
 -- ---- the command
 
--- the table was read, and then it was gone by
+-- the table was read and followed
 pub record Follows (name : List ℕ) (visit : Visit) (outcome : Result ℕ Fault) (old new : Desk) : Type 0 where
   pub orders : Orders
   pub of_table : OfText old.files.holds name (λ text. said_in orders_of text ≡ Ok orders)

@@ -46,7 +46,7 @@ pub record IsReadable (keeper : Vault) : Type 0 where
   pub records : List Fields
   pub read : ReadsAs (Ok records) keeper keeper
 
--- the session came to its end, or to a limit, of which this is to hold
+-- status 0; or 6, and then `limit` holds
 abbrev pub IsHeld : Type 0 → ℕ → Type 0
 IsHeld limit status = (status ≡ 0) ⊎ ((status ≡ 6) × limit)
 
@@ -99,6 +99,13 @@ SomeRose old new =
     ⊎ (Rose old.output.faults new.output.faults ⊎ Rose old.logs.faults new.logs.faults)
     ⊎ (Rose old.sitting.input.faults new.sitting.input.faults ⊎ Rose old.sitting.input.idles new.sitting.input.idles)
     ⊎ KeeperRose old.sitting.keeper new.sitting.keeper
+
+-- 6 is only for a session of `authsrv` that came to a limit
+abbrev pub IsAtLimit : List ℕ → Option Command → Desk → Desk → Type 0
+IsAtLimit name None old new = ⊥
+IsAtLimit name (Some (Netacl query)) old new = ⊥
+IsAtLimit name (Some (Table query)) old new = ⊥
+IsAtLimit name (Some (Authsrv visit)) old new = MeetsLimit name visit old new
 
 -- no more bytes were taken than a session may take; and after so many the status is 6
 pub record TakesIn (status : ℕ) (old new : Spring) : Type 0 where

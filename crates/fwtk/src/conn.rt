@@ -120,7 +120,7 @@ pub fn conn<P: AuthPort, S: Source, K: Sink, G: Sink, C: Clock, R: Dice>(
         (record { devices = record { inlet = S.spring from.old; outlet = K.drain to.old; port = P.port port.old; hours = C.hours clock.old; throws = R.throws dice.old }; logs = G.drain logs.old })
         (record { devices = record { inlet = S.spring from.new; outlet = K.drain to.new; port = P.port port.new; hours = C.hours clock.new; throws = R.throws dice.new }; logs = G.drain logs.new })
         result }
-    // Each ending has its cause: the verdict, or the count of a device that rose.
+    // Each ending but done and want of memory has its cause: the verdict, or a count of a device.
     ensures caused { Causes (verdict_of rules.now peer.now) result
         (record { devices = record { inlet = S.spring from.old; outlet = K.drain to.old; port = P.port port.old; hours = C.hours clock.old; throws = R.throws dice.old }; logs = G.drain logs.old })
         (record { devices = record { inlet = S.spring from.new; outlet = K.drain to.new; port = P.port port.new; hours = C.hours clock.new; throws = R.throws dice.new }; logs = G.drain logs.new }) }

@@ -3,11 +3,11 @@
 //!
 //! [`run`] is the call that the program makes, over devices that are handed in: the files with the table, standard input and
 //! output, the log, the clock, the dice and the keeper of the users' records. Its contract says, for every command line,
-//! every table and every way in which a device may fail, which status it answers and what it leaves: the line of `netacl`'s
-//! verdict stands whole in the log before anything is printed; what is printed and logged is told byte for byte; the replies
-//! that a client of `authsrv` is told are those of a legal history; and each status has its cause, in the words, in the
-//! table's text, in the records, in a limit, or in the count of a device that rose. [`conn`] serves one client. `main` makes
-//! the devices of a process, and answers `--help` and `--version`.
+//! every table and every way in which a device may fail, which status it answers and what it leaves: wherever `netacl` has
+//! printed anything, the line of its verdict stands whole in the log; what is printed and logged is told byte for byte, where
+//! the devices tell it; the replies that a client of `authsrv` is told are those of a legal history; and each status has its
+//! cause, in the words, in the table's text, in the records, in a limit, or in the count of a device that rose. [`conn`]
+//! serves one client. `main` makes the devices of a process, and answers `--help` and `--version`.
 #![tactic(auto)]
 
 use fw_outside::{NoMemory, Octets, Sink};

@@ -4,7 +4,7 @@ ghost use Rattle.fwtk.specs.Finding.{Finds};
 ghost use Rattle.fwtk.specs.Replies.{Replies};
 ghost use Rattle.fwtk.specs.Run.{Does, Ends, Ran, Tells};
 ghost use Rattle.fwtk.specs.Deciding.{ByTable, DecidesBy, ShowsBy};
-ghost use Rattle.fwtk.specs.Status.{Fails, IsRuledBy, SomeRose, TakesIn, WantsMemory};
+ghost use Rattle.fwtk.specs.Status.{Fails, IsAtLimit, IsRuledBy, SomeRose, TakesIn, WantsMemory};
 ghost use Rattle.fwtk.specs.Ruling.{said_in};
 ghost use Rattle.gate_rules.specs.Reading.{rules_of};
 ghost use Rattle.fwtk.specs.Words.{command_of, table_named};
@@ -119,7 +119,9 @@ pub fn run<T: Kit>(alloc: Global, words: &[Octets], world: &mut World<T>) -> u8
     // 0, 1 and 3 are by the table's text, where the files tell it, and by the records that the keeper has; 6 is for a session
     // that came to a limit; else, and where there is no such table, a device failed, or there was no memory.
     ensures ruled { IsRuledBy Fails (table_named words.now) (command_of words.now) world.old world.new result }
-    // Where a session took as many bytes as it may, the status is 6.
+    // 6 is only for a session that came to a limit: as many bytes as may be were taken of the input, or a request was refused.
+    ensures limited { result ≡ 6 → IsAtLimit (table_named words.now) (command_of words.now) world.old world.new }
+    // Where as many bytes as may be were taken of the input, the status is 6.
     ensures taken { TakesIn result world.old.sitting.input world.new.sitting.input }
     // 4 is only for a device whose own count rose.
     ensures outside { result ≡ 4 → SomeRose world.old world.new }

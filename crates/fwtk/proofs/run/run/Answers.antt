@@ -1,6 +1,6 @@
 use Rattle.fwtk.specs.Run.{Ran}
 use Rattle.fwtk.proofs.RepliesLemmas.{replies}
-use Rattle.fwtk.proofs.StatusLemmas.{complete, for_usage, given_back, keeper_back, only_for_usage, outside, ruled, taken}
+use Rattle.fwtk.proofs.StatusLemmas.{complete, for_usage, given_back, keeper_back, limited, only_for_usage, outside, ruled, taken}
 use Rattle.fwtk.proofs.run.run.Goals as goal
 
 pub returns : goal.returns
@@ -10,6 +10,7 @@ returns g c =
       ran = ran;
       usage = (only_for_usage c.args.words.now c.end.result c.args.world.now c.end.new.world ran, for_usage c.args.words.now c.end.result c.args.world.now c.end.new.world ran);
       ruled = ruled c.args.words.now c.end.result c.args.world.now c.end.new.world ran;
+      limited = limited c.args.words.now c.end.result c.args.world.now c.end.new.world ran;
       taken = taken c.args.words.now c.end.result c.args.world.now c.end.new.world ran;
       complete = complete c.args.words.now c.end.result c.args.world.now c.end.new.world ran;
       returned = given_back c.args.words.now c.end.result c.args.world.now c.end.new.world ran;
