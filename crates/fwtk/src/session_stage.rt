@@ -1,5 +1,7 @@
 //! Runs of `authsrv`: what stands before, what a client says, and what comes of it.
 
+ghost use Rattle.std.specs.Prelude.{IfOk, IsSome};
+
 use crate::tests::{Memory, files_with};
 use crate::{World, run};
 use fw_outside::{Calls, MemClock, MemDice, MemKeeper, MemSink, MemSource, Name, Octets};
@@ -177,7 +179,9 @@ pub(crate) fn world_of(
     records: Records,
     piece: usize,
     broken: Break,
-) -> Result<World<Memory>, Fail> {
+) -> Result<World<Memory>, Fail>
+    ensures { IfOk result (λ world. IsSome world.sitting.keeper) }
+{
     let logs = calls_of(alloc, Part::Log, broken)?;
     let output = calls_of(alloc, Part::Sink, broken)?;
     Ok(World {
