@@ -13,11 +13,11 @@ use Rattle.fw_outside.specs.declared.heard.Stop.{Stop}
 use Rattle.fw_outside.specs.declared.heard.Stop.TheVariants.{End, Idle, Failed, Spent}
 use Rattle.fw_outside.specs.CountLemmas.{grew_by, grew_none}
 use Rattle.fw_outside.specs.Counts.{Grew}
-use Rattle.fw_outside.specs.Gathering.{Cuts, Drains, Fills, IsText, Misses, most}
+use Rattle.fw_outside.specs.Gathering.{Cuts, Drains, Fills, IsText, most}
 use Rattle.fw_outside.specs.Lines.{is_lf}
 use Rattle.fw_outside.specs.Spring.{Spring}
 use Rattle.fw_outside.specs.Telling.{grown, preceded}
-use Rattle.fw_outside.specs.Window.{Closes, Listens, Pulled, Reads, Window, is_spent, rest_of}
+use Rattle.fw_outside.specs.Window.{Closes, Listens, Misses, Pulled, Reads, Window, is_spent, rest_of}
 use Rattle.fw_outside.proofs.LineLemmas.{heard_kept, heard_line, no_first_line, take_twice}
 
 grown-append : (told : Option (List ℕ)) (a b : List ℕ) → grown (grown told a) b ≡ grown told (a ++ b)

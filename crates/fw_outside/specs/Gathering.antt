@@ -4,10 +4,8 @@ use Rattle.std.specs.List.{list_any}
 use Rattle.std.specs.Str.Lines.{strip_carriage_return}
 use Rattle.fw_outside.specs.declared.heard.Heard.{Heard}
 use Rattle.fw_outside.specs.declared.heard.Heard.TheVariants.{Line, TooLong, Stopped}
-use Rattle.fw_outside.specs.declared.heard.Stop.{Stop}
-use Rattle.fw_outside.specs.declared.heard.Stop.TheVariants.{End, Idle, Failed, Spent}
 use Rattle.fw_outside.specs.Lines.{is_lf}
-use Rattle.fw_outside.specs.Spring.{Spring, Broke, Ended, Idled}
+use Rattle.fw_outside.specs.Spring.{Spring}
 use Rattle.fw_outside.specs.Window.{Pulled, Window}
 
 -- as much of a line as tells whether it is too long: one byte more than the longest line and its CR
@@ -40,10 +38,3 @@ pub record Fills (old new : Window) (before after : Spring) : Type 0 where
   pub some : 0 < length new.pending
   pub pulls : Pulled new.pending before after
   pub room : old.room ≡ length new.pending + new.room
-
--- nothing was taken, for this reason
-abbrev pub Misses : Stop → Spring → Spring → Type 0
-Misses End before after = Ended before after
-Misses Idle before after = Idled before after
-Misses Failed before after = Broke before after
-Misses Spent before after = ⊥

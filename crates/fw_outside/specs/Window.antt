@@ -33,13 +33,17 @@ pub record Reads (heard : List ℕ) (old new : Window) (before after : Spring) :
   pub window : old.pending ++ pulled ≡ heard ++ new.pending
   pub room : old.room ≡ length pulled + new.room
 
--- why no line was heard, and what that leaves of the source: a take that gave nothing, with nothing left in the window, or
--- the limit
+-- nothing was taken, for this reason
+abbrev pub Misses : Stop → Spring → Spring → Type 0
+Misses End before after = Ended before after
+Misses Idle before after = Idled before after
+Misses Failed before after = Broke before after
+Misses Spent before after = ⊥
+
+-- why no line was heard, and what that leaves of the source: nothing was taken, with nothing left in the window, or the limit
 abbrev pub Halts : Stop → Window → Spring → Spring → Type 0
-Halts End new before after = (new.pending ≡ []) × Ended before after
-Halts Idle new before after = (new.pending ≡ []) × Idled before after
-Halts Failed new before after = (new.pending ≡ []) × Broke before after
 Halts Spent new before after = after ≡ before
+Halts stop new before after = (new.pending ≡ []) × Misses stop before after
 
 -- a line leaves the source as it stands
 abbrev pub Closes : Heard → Window → Spring → Spring → Type 0

@@ -1,7 +1,7 @@
 ghost use Rattle.std.specs.Prelude.{◌≡◌, ◌==◌, ◌+◌, ◌-◌, ◌<◌, ◌≤◌, [], ◌++◌, length, take, IfErr, OnOk, OnErr};
 ghost use Rattle.std.specs.Bool.{OnTrue, OnFalse};
-ghost use Rattle.fw_outside.specs.Gathering.{Cuts, Drains, Fills, Misses};
-ghost use Rattle.fw_outside.specs.Window.{Listens};
+ghost use Rattle.fw_outside.specs.Gathering.{Cuts, Drains, Fills};
+ghost use Rattle.fw_outside.specs.Window.{Listens, Misses};
 
 use crate::bytes::copy_of;
 use crate::line_text::LineText;
