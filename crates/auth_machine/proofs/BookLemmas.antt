@@ -1,5 +1,5 @@
 -- A book with one entry more.
-use Rattle.std.proofs.Common.{arith, ◌≡◌, refl, sym, ap, subst, ◌∙◌, ℕ, ◌<◌, ◌≤◌, Bool, true, false, not, ◌&&◌, cond, List, [], ◌∷◌, ◌++◌, length, Option, None, IfSome, Ok}
+use Rattle.std.proofs.Common.{arith, ◌≡◌, refl, sym, ap, subst, ◌∙◌, ℕ, ◌<◌, ◌≤◌, ◌+◌, Bool, true, false, not, ◌&&◌, cond, List, [], ◌∷◌, ◌++◌, length, Option, None, IfSome, Ok}
 use Rattle.std.proofs.lemmas.List.{length_push}
 use Rattle.fw_outside.specs.Counts.{Rose}
 use Rattle.fw_outside.specs.Vault.{AreSame, Vault}
@@ -17,7 +17,7 @@ use Rattle.auth_machine.proofs.TableLemmas.{clash, count_after, kept_unless, tab
 use Rattle.auth_machine.specs.Answer.{Answer, answer_of}
 use Rattle.auth_machine.specs.Answers.{full_answer, full_of, is_unkept, is_unkept_answer}
 use Rattle.auth_machine.specs.Book.{Asked, Enters, Replies, RepliesKept, Stands}
-use Rattle.auth_machine.specs.History.{HasRecords, IsStep, NoMoreThanFaults, Origin, after, table_of, unkept}
+use Rattle.auth_machine.specs.History.{CountsUnkept, HasRecords, IsStep, Origin, after, table_of, unkept}
 use Rattle.auth_machine.specs.Policy.{PolicyView}
 use Rattle.auth_machine.specs.State.{State, Change, at_moment, changed, edited}
 use Rattle.auth_machine.specs.Step.{answer, is_refused, keeps, proposed}
@@ -151,31 +151,32 @@ next_records origin h sid at request reply kept new before now step has =
     subst (λ (records : List Fields). IfSome now.table (λ table. AreSame table (table_of records))) (sym is)
     (table_after change.records kept before now (after origin h).records step.keeping has)
 
-next_faults : (origin : Origin) (h : List Entry) (sid at : ℕ) (request : Request) (reply : Reply) (kept : Bool) (new : State) (before now : Vault)
-    → Next origin h sid at request reply kept new before now → NoMoreThanFaults h before → NoMoreThanFaults (h ++ entry_of sid at request kept reply ∷ []) now
-next_faults origin h sid at request reply kept new before now step most =
+next_faults : (origin : Origin) (failed : ℕ) (h : List Entry) (sid at : ℕ) (request : Request) (reply : Reply) (kept : Bool) (new : State) (before now : Vault)
+    → Next origin h sid at request reply kept new before now → CountsUnkept failed h before → CountsUnkept failed (h ++ entry_of sid at request kept reply ∷ []) now
+next_faults origin failed h sid at request reply kept new before now step most =
+    let more : unkept (h ++ entry_of sid at request kept reply ∷ []) ≡ unkept h + cond kept 0 1 = unkept_one_more h (entry_of sid at request kept reply) in
     count_after (keeps origin.policy (after origin h) (length h) sid at request) (proposed origin.policy (after origin h) (length h) sid at request).records kept before now
-    (unkept h) _ (unkept_one_more h (entry_of sid at request kept reply)) step.keeping most
+    (failed + unkept h) _ (omega (arith, more)) step.keeping most
 
 one_longer : (h : List Entry) (entry : Entry) (limit : ℕ) → length h < limit → length (h ++ entry ∷ []) ≤ limit
 one_longer h entry limit fits = omega (arith, length_push h entry, fits)
 
 -- the step of a book's policy and state is that of its origin and history
-rebased : (origin : Origin) (h : List Entry) (limit : ℕ) (refused : Bool) (policy : PolicyView) (s new : State) (place sid at : ℕ) (request : Request) (reply : Reply) (kept : Bool) (before now : Vault)
-    → Stands h limit refused origin before policy s → place ≡ length h
+rebased : (origin : Origin) (h : List Entry) (limit : ℕ) (refused : Bool) (failed : ℕ) (policy : PolicyView) (s new : State) (place sid at : ℕ) (request : Request) (reply : Reply) (kept : Bool) (before now : Vault)
+    → Stands h limit refused origin failed before policy s → place ≡ length h
     → Steps policy place sid at request reply kept s new before now → Next origin h sid at request reply kept new before now
-rebased origin h limit refused policy s new place sid at request reply kept before now book is step =
+rebased origin h limit refused failed policy s new place sid at request reply kept before now book is step =
     subst (λ (n : ℕ). Steps origin.policy n sid at request reply kept (after origin h) new before now) is
     (subst (λ (p : PolicyView). Steps p place sid at request reply kept (after origin h) new before now) book.policy_is
     (subst (λ (z : State). Steps policy place sid at request reply kept z new before now) book.state_is step))
 
 -- the book stands with the entry
-pub stands_with : (origin : Origin) (h : List Entry) (limit : ℕ) (refused : Bool) (policy : PolicyView) (s new : State) (place sid at : ℕ) (request : Request) (reply : Reply) (kept : Bool) (before now : Vault)
-    → Stands h limit refused origin before policy s → place ≡ length h → length h < limit → session_at request place sid ≡ sid
+pub stands_with : (origin : Origin) (h : List Entry) (limit : ℕ) (refused : Bool) (failed : ℕ) (policy : PolicyView) (s new : State) (place sid at : ℕ) (request : Request) (reply : Reply) (kept : Bool) (before now : Vault)
+    → Stands h limit refused origin failed before policy s → place ≡ length h → length h < limit → session_at request place sid ≡ sid
     → Steps policy place sid at request reply kept s new before now
-    → Stands (h ++ entry_of sid at request kept reply ∷ []) limit refused origin now policy new
-stands_with origin h limit refused policy s new place sid at request reply kept before now book is fits own step =
-    let next : Next origin h sid at request reply kept new before now = rebased origin h limit refused policy s new place sid at request reply kept before now book is step in
+    → Stands (h ++ entry_of sid at request kept reply ∷ []) limit refused origin failed now policy new
+stands_with origin h limit refused failed policy s new place sid at request reply kept before now book is fits own step =
+    let next : Next origin h sid at request reply kept new before now = rebased origin h limit refused failed policy s new place sid at request reply kept before now book is step in
     record {
       policy_is = book.policy_is;
       state_is = next_state origin h sid at request reply kept new before now next;
@@ -184,18 +185,18 @@ stands_with origin h limit refused policy s new place sid at request reply kept 
       within = one_longer h (entry_of sid at request kept reply) limit fits;
       full = λ was. let full = book.full was in absurd (omega (arith, full, fits));
       records = next_records origin h sid at request reply kept new before now next book.records;
-      faults = next_faults origin h sid at request reply kept new before now next book.faults;
+      faults = next_faults origin failed h sid at request reply kept new before now next book.faults;
     }
 
 -- what asking does, where an entry is made
-pub asked_with : (origin : Origin) (h : List Entry) (limit : ℕ) (refused : Bool) (policy : PolicyView) (s new : State) (place told sid at : ℕ) (request : Request) (reply : Reply) (kept : Bool) (before now : Vault)
-    → Stands h limit refused origin before policy s → place ≡ length h → length h < limit → sid ≡ session_at request place told
+pub asked_with : (origin : Origin) (h : List Entry) (limit : ℕ) (refused : Bool) (failed : ℕ) (policy : PolicyView) (s new : State) (place told sid at : ℕ) (request : Request) (reply : Reply) (kept : Bool) (before now : Vault)
+    → Stands h limit refused origin failed before policy s → place ≡ length h → length h < limit → sid ≡ session_at request place told
     → Steps policy place sid at request reply kept s new before now
     → Asked told at request limit origin h (Ok reply) (h ++ entry_of sid at request kept reply ∷ [])
-asked_with origin h limit refused policy s new place told sid at request reply kept before now book is fits sid_is step =
+asked_with origin h limit refused failed policy s new place told sid at request reply kept before now book is fits sid_is step =
     let own : session_at request place sid ≡ sid = ap (session_at request place) sid_is ∙ same_session request place told ∙ sym sid_is in
-    let stands : Stands (h ++ entry_of sid at request kept reply ∷ []) limit refused origin now policy new =
-    stands_with origin h limit refused policy s new place sid at request reply kept before now book is fits own step in
+    let stands : Stands (h ++ entry_of sid at request kept reply ∷ []) limit refused origin failed now policy new =
+    stands_with origin h limit refused failed policy s new place sid at request reply kept before now book is fits own step in
     let entered : Enters told at request reply limit h (h ++ entry_of sid at request kept reply ∷ []) = record {
       kept = kept;
       fits = fits;
@@ -209,15 +210,15 @@ asked_with origin h limit refused policy s new place told sid at request reply k
     }
 
 -- and what it does to the keeper
-pub kept_with : (origin : Origin) (h : List Entry) (limit : ℕ) (refused : Bool) (policy : PolicyView) (s new : State) (place sid at : ℕ) (request : Request) (reply : Reply) (kept : Bool) (before now : Vault)
-    → Stands h limit refused origin before policy s → place ≡ length h
+pub kept_with : (origin : Origin) (h : List Entry) (limit : ℕ) (refused : Bool) (failed : ℕ) (policy : PolicyView) (s new : State) (place sid at : ℕ) (request : Request) (reply : Reply) (kept : Bool) (before now : Vault)
+    → Stands h limit refused origin failed before policy s → place ≡ length h
     → Steps policy place sid at request reply kept s new before now
     → RepliesKept (full_of reply) origin h (h ++ entry_of sid at request kept reply ∷ []) before now
-kept_with origin h limit refused policy s new place sid at request reply kept before now book is step =
+kept_with origin h limit refused failed policy s new place sid at request reply kept before now book is step =
     subst (λ (full : Option ℕ). RepliesKept full origin h (h ++ entry_of sid at request kept reply ∷ []) before now)
     (sym (step_not_full policy s place sid at request kept reply step.reply_is))
     (record {
       entry = entry_of sid at request kept reply;
       is = refl;
-      keeping = (rebased origin h limit refused policy s new place sid at request reply kept before now book is step).keeping;
+      keeping = (rebased origin h limit refused failed policy s new place sid at request reply kept before now book is step).keeping;
     })

@@ -102,10 +102,10 @@ same_port seen more mine others full told refused known origin other a b c d e =
     ∙ ap (λ (x : Bool). made more others told x origin) d ∙ ap (λ (x : Ground). made more others told known x) e
 
 abbrev ground : BookView → Ground
-ground book = (book.origin, book.limit)
+ground book = (book.origin, book.limit, book.failed_before)
 
-same_ground : (new old : BookView) → new.limit ≡ old.limit → new.origin ≡ old.origin → ground new ≡ ground old
-same_ground new old limit origin = cc
+same_ground : (new old : BookView) → new.limit ≡ old.limit → new.origin ≡ old.origin → new.failed_before ≡ old.failed_before → ground new ≡ ground old
+same_ground new old limit origin failed = cc
 
 nothing_more : (h : List Entry) → h ++ [] ≡ h
 nothing_more h = search rules
@@ -135,9 +135,9 @@ next_place h entry =
     let more : length (h ++ entry ∷ []) ≡ suc (length h) = omega (arith, length_push h entry) in
     ap places more
 
-port_entered : (sid at : ℕ) (request : Request) (reply : Reply) (old new : BookView) → new.limit ≡ old.limit → new.origin ≡ old.origin → new.refused ≡ old.refused
+port_entered : (sid at : ℕ) (request : Request) (reply : Reply) (old new : BookView) → new.limit ≡ old.limit → new.origin ≡ old.origin → new.failed_before ≡ old.failed_before → new.refused ≡ old.refused
     → Enters sid at request reply old.limit old.history new.history → IsLegal old.origin new.history → ports.Enters sid at request reply (port_of old) (port_of new)
-port_entered sid at request reply old new limit origin refused enters legal =
+port_entered sid at request reply old new limit origin failed refused enters legal =
     let entry : Entry = record { sid = session_at request (length old.history) sid; at = at; request = request; kept = enters.kept; reply = reply } in
     let same : old.history ++ [] ≡ old.history = nothing_more old.history in
     record {
@@ -151,11 +151,11 @@ port_entered sid at request reply old new limit origin refused enters legal =
       is = same_port _ _ _ _ _ _ _ _ _ _
           (enters.is ∙ ap (λ (h : List Entry). h ++ entry ∷ []) (sym same))
           (ap (λ (h : List Entry). places (length h)) enters.is ∙ next_place old.history entry)
-          refl refused (same_ground new old limit origin);
+          refl refused (same_ground new old limit origin failed);
     }
 
-port_full : (told : ℕ) (old new : BookView) → new.limit ≡ old.limit → new.origin ≡ old.origin → new.refused ≡ true → IsFull told old.limit old.history new.history → ports.IsFull told (port_of old) (port_of new)
-port_full told old new limit origin refused full =
+port_full : (told : ℕ) (old new : BookView) → new.limit ≡ old.limit → new.origin ≡ old.origin → new.failed_before ≡ old.failed_before → new.refused ≡ true → IsFull told old.limit old.history new.history → ports.IsFull told (port_of old) (port_of new)
+port_full told old new limit origin failed refused full =
     let at_limit : full_at old.limit old.history ≡ Some told = is_full old.limit old.history full.full ∙ ap (λ (n : ℕ). Some n) (sym full.limit_is) in
     record {
       others = [];
@@ -163,25 +163,25 @@ port_full told old new limit origin refused full =
       is = same_port _ _ _ _ _ _ _ _ _ _
           (full.is ∙ sym (nothing_more old.history))
           (ap (λ (h : List Entry). places (length h)) full.is)
-          (ap (λ (n : ℕ). full_at n new.history) limit ∙ ap (full_at old.limit) full.is ∙ at_limit) refused (same_ground new old limit origin);
+          (ap (λ (n : ℕ). full_at n new.history) limit ∙ ap (full_at old.limit) full.is ∙ at_limit) refused (same_ground new old limit origin failed);
     }
 
-pub port_lacks : (old new : BookView) → new.limit ≡ old.limit → new.origin ≡ old.origin → new.refused ≡ old.refused → new.history ≡ old.history → ports.Lacks (port_of old) (port_of new)
-port_lacks old new limit origin refused same = record {
+pub port_lacks : (old new : BookView) → new.limit ≡ old.limit → new.origin ≡ old.origin → new.failed_before ≡ old.failed_before → new.refused ≡ old.refused → new.history ≡ old.history → ports.Lacks (port_of old) (port_of new)
+port_lacks old new limit origin failed refused same = record {
   others = [];
   full = full_at old.limit old.history;
   stays = stays (full_at old.limit old.history);
   is = same_port _ _ _ _ _ _ _ _ _ _
       (same ∙ sym (nothing_more old.history))
       (ap (λ (h : List Entry). places (length h)) same)
-      (ap (λ (n : ℕ). full_at n new.history) limit ∙ ap (full_at old.limit) same) refused (same_ground new old limit origin);
+      (ap (λ (n : ℕ). full_at n new.history) limit ∙ ap (full_at old.limit) same) refused (same_ground new old limit origin failed);
 }
 
-replied : (sid at : ℕ) (request : Request) (reply : Reply) (full : Option ℕ) (old new : BookView) → full_of reply ≡ full → new.limit ≡ old.limit → new.origin ≡ old.origin → new.refused ≡ refused_after full old.refused
+replied : (sid at : ℕ) (request : Request) (reply : Reply) (full : Option ℕ) (old new : BookView) → full_of reply ≡ full → new.limit ≡ old.limit → new.origin ≡ old.origin → new.failed_before ≡ old.failed_before → new.refused ≡ refused_after full old.refused
     → Replies full sid at request reply old.limit old.history new.history → IsLegal old.origin new.history → ports.Replies sid at request reply (port_of old) (port_of new)
-replied sid at request reply None old new is limit origin same enters legal = entered reply is (port_entered sid at request reply old new limit origin same enters legal)
-replied sid at request reply (Some told) old new is limit origin noted full legal = refused sid at request reply is (port_full told old new limit origin noted full)
+replied sid at request reply None old new is limit origin failed same enters legal = entered reply is (port_entered sid at request reply old new limit origin failed same enters legal)
+replied sid at request reply (Some told) old new is limit origin failed noted full legal = refused sid at request reply is (port_full told old new limit origin failed noted full)
 
-pub port_replies : (sid at : ℕ) (request : Request) (reply : Reply) (old new : BookView) → new.limit ≡ old.limit → new.origin ≡ old.origin → new.refused ≡ refused_by (Ok reply) old.refused
+pub port_replies : (sid at : ℕ) (request : Request) (reply : Reply) (old new : BookView) → new.limit ≡ old.limit → new.origin ≡ old.origin → new.failed_before ≡ old.failed_before → new.refused ≡ refused_by (Ok reply) old.refused
     → Asked sid at request old.limit old.origin old.history (Ok reply) new.history → ports.Replies sid at request reply (port_of old) (port_of new)
-port_replies sid at request reply old new limit origin refused asked = replied sid at request reply (full_of reply) old new refl limit origin refused asked.answers asked.legal
+port_replies sid at request reply old new limit origin failed refused asked = replied sid at request reply (full_of reply) old new refl limit origin failed refused asked.answers asked.legal

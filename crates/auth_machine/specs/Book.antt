@@ -8,31 +8,32 @@ use Rattle.auth_events.specs.declared.entry.Entry.{Entry}
 use Rattle.auth_events.specs.declared.reply.Reply.{Reply}
 use Rattle.auth_events.specs.declared.request.Request.{Request}
 use Rattle.auth_machine.specs.Answers.{full_of, is_unkept}
-use Rattle.auth_machine.specs.History.{NoMoreThanFaults, HasRecords, IsLegal, Origin, after}
+use Rattle.auth_machine.specs.History.{CountsUnkept, HasRecords, IsLegal, Origin, after}
 use Rattle.auth_machine.specs.Keeping.{Keeps}
 use Rattle.auth_machine.specs.Policy.{PolicyView}
 use Rattle.auth_machine.specs.State.{State}
 use Rattle.auth_machine.specs.Step.{keeps, proposed}
 
--- the entries so far, how many fit, the policy and the loaded records, the keeper, and whether a request was answered that
--- the history is full
+-- the entries so far, how many fit, the policy and the loaded records, the keeper, how often it had failed when the book was
+-- opened, and whether a request was answered that the history is full
 pub record BookView : Type 0 where
   pub history : List Entry
   pub limit : ℕ
   pub origin : Origin
   pub vault : Vault
+  pub failed_before : ℕ
   pub refused : Bool
 
 -- the history is legal and fits, and is full where a request was refused for that; the state is that after it; the keeper
--- has the records, where it tells; and it failed at least as often as entries were not kept
-pub record Stands (history : List Entry) (limit : ℕ) (refused : Bool) (origin : Origin) (vault : Vault) (policy : PolicyView) (s : State) : Type 0 where
+-- has the records, where it tells; and since the opening it failed at least as often as entries were not kept
+pub record Stands (history : List Entry) (limit : ℕ) (refused : Bool) (origin : Origin) (failed_before : ℕ) (vault : Vault) (policy : PolicyView) (s : State) : Type 0 where
   pub policy_is : policy ≡ origin.policy
   pub state_is : s ≡ after origin history
   pub legal : IsLegal origin history
   pub within : length history ≤ limit
   pub full : refused ≡ true → length history ≡ limit
   pub records : HasRecords origin history vault
-  pub faults : NoMoreThanFaults history vault
+  pub faults : CountsUnkept failed_before history vault
 
 -- ---- what asking does
 

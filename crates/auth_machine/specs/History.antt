@@ -59,6 +59,7 @@ abbrev pub unkept : List Entry → ℕ
 unkept [] = 0
 unkept (entry ∷ entries) = (if entry.kept then 0 else 1) + unkept entries
 
--- no more than the keeper's failures, unless that count is at its last value
-abbrev pub NoMoreThanFaults : List Entry → Vault → Type 0
-NoMoreThanFaults history vault = min (unkept history) (2 ^ 64 - 1) ≤ vault.faults
+-- beside the failures that it had counted before, the keeper has counted one for each entry that was not kept, unless its
+-- count is at its last value
+abbrev pub CountsUnkept : ℕ → List Entry → Vault → Type 0
+CountsUnkept before history vault = min (before + unkept history) (2 ^ 64 - 1) ≤ vault.faults

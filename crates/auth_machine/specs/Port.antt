@@ -9,9 +9,10 @@ use Rattle.auth_machine.specs.History.{Origin}
 abbrev pub full_at : ℕ → List Entry → Option ℕ
 full_at limit history = if length history == limit then Some limit else None
 
--- what a book's answers stand on beside its history: its origin, and how many entries fit
+-- what a book's answers stand on beside its history: its origin, how many entries fit, and how often the keeper had failed
+-- when it was opened
 abbrev pub Ground : Type 0
-Ground = Origin × ℕ
+Ground = Origin × ℕ × ℕ
 
 -- all entries are its own, it doesn't fail, and its history is its own
 abbrev pub port_of : BookView → Port Ground
@@ -22,6 +23,6 @@ port_of book = record {
   refused = book.refused;
   faults = 0;
   odd = 0;
-  origin = (book.origin, book.limit);
+  origin = (book.origin, book.limit, book.failed_before);
   home = [];
 }

@@ -3,7 +3,7 @@ ghost use Rattle.std.specs.Bool.{OnTrue};
 ghost use Rattle.fw_outside.specs.Keyed.{Ascends};
 ghost use Rattle.fw_outside.specs.Vault.{AreSame};
 ghost use Rattle.auth_machine.specs.Book.{AnswersKept, Asked, RoseIfNotKept, Stands, refused_by};
-ghost use Rattle.auth_machine.specs.History.{NoMoreThanFaults, HasRecords, IsLegal, table_of};
+ghost use Rattle.auth_machine.specs.History.{CountsUnkept, HasRecords, IsLegal, table_of};
 ghost use Rattle.auth_machine.specs.Opening.{ReadsAs, Refuses};
 ghost use Rattle.auth_machine.specs.Standing.{state_of};
 ghost use Rattle.auth_machine.specs.State.{name_of};
@@ -25,6 +25,7 @@ use std::snapshot::Snapshot;
 pub struct Book<K: Keeper> {
     alloc: Global,
     keeper: K,
+    at_opening: Snapshot<K>,
     policy: Policy,
     standing: Standing,
     history: Vec<Entry>,
@@ -39,23 +40,25 @@ impl<K: Keeper> Model for Book<K> {
 
     ghost Value = { BookView };
 
-    ghost view = { λ b. record { history = b.history.items; limit = b.limit; origin = b.origin.value; vault = K.vault b.keeper; refused = b.refused } };
+    ghost view = { λ b. record { history = b.history.items; limit = b.limit; origin = b.origin.value; vault = K.vault b.keeper; failed_before = (K.vault b.at_opening.value).faults; refused = b.refused } };
 
-    ghost invariant = { λ b. Stands b.history.items b.limit b.refused b.origin.value (K.vault b.keeper) b.policy (state_of b.standing) };
+    ghost invariant = { λ b. Stands b.history.items b.limit b.refused b.origin.value (K.vault b.at_opening.value).faults (K.vault b.keeper) b.policy (state_of b.standing) };
 }
 
 impl<K: Keeper> Book<K> {
     // The book of these records, with an empty history.
     fn over(alloc: Global, keeper: K, policy: Policy, records: Vec<Kept>, limit: u64) -> Book<K>
         requires { IfSome (K.vault keeper).table (λ table. AreSame table (table_of records.items)) }
-        ensures { result ≡ record { history = []; limit = limit; origin = record { policy = policy; records = records.items }; vault = K.vault keeper; refused = false } }
+        ensures { result ≡ record { history = []; limit = limit; origin = record { policy = policy; records = records.items }; vault = K.vault keeper; failed_before = (K.vault keeper).faults; refused = false } }
     {
         let loaded = Loaded { policy, records };
         let origin = Snapshot::of(&loaded);
+        let at_opening = Snapshot::of(&keeper);
         let Loaded { policy, records } = loaded;
         Book {
             alloc,
             keeper,
+            at_opening,
             policy,
             standing: Standing::at_first(alloc, records),
             history: Vec::new(alloc),
@@ -85,6 +88,7 @@ impl<K: Keeper> Book<K> {
         ensures history { IfOk result (λ book. book.history ≡ []) }
         ensures limit { IfOk result (λ book. book.limit ≡ limit) }
         ensures refused { IfOk result (λ book. book.refused ≡ false) }
+        ensures failed_before { IfOk result (λ book. book.failed_before ≡ (K.vault keeper).faults) }
         ensures fault { IfErr result (λ e. Refuses e.1 (K.vault keeper) (K.vault e.0)) }
     {
         let mut keeper = keeper;
@@ -102,6 +106,7 @@ impl<K: Keeper> Book<K> {
         ensures refused { self.new.refused ≡ refused_by result self.old.refused }
         ensures limit { self.new.limit ≡ self.old.limit }
         ensures origin { self.new.origin ≡ self.old.origin }
+        ensures failed_before { self.new.failed_before ≡ self.old.failed_before }
     {
         if self.history.len() as u64 == self.limit {
             self.refused = true;
@@ -137,7 +142,7 @@ impl<K: Keeper> Book<K> {
         ensures legal { IsLegal self.now.origin result.now }
         ensures within { length result.now ≤ self.now.limit }
         ensures records { HasRecords self.now.origin self.now.history self.now.vault }
-        ensures faults { NoMoreThanFaults self.now.history self.now.vault }
+        ensures faults { CountsUnkept self.now.failed_before self.now.history self.now.vault }
     {
         &self.history
     }
@@ -156,7 +161,7 @@ impl<K: Keeper> Book<K> {
         ensures history { result.1.items ≡ self.history }
         ensures legal { IsLegal self.origin self.history }
         ensures records { HasRecords self.origin self.history self.vault }
-        ensures faults { NoMoreThanFaults self.history self.vault }
+        ensures faults { CountsUnkept self.failed_before self.history self.vault }
     {
         let Book {
             keeper,

@@ -8,7 +8,7 @@ use auth_events::{AuthPort, PortFault, Reply, Request};
 use fw_outside::{Keeper, NoMemory};
 
 impl<K: Keeper> AuthPort for Book<K> {
-    type Origin = (Loaded, u64);
+    type Origin = (Loaded, u64, u64);
 
     ghost port = { port_of };
 

@@ -4,6 +4,7 @@ pub mod Causes
 pub mod Command
 pub mod Course
 pub mod CourseLemmas
+pub mod DeviceLemmas
 pub mod Dialogue
 pub mod Distance
 pub mod EntryLemmas

@@ -2,7 +2,8 @@
 use Rattle.std.proofs.Common.{arith, ◌≡◌, ◌∙◌, refl, sym, subst, ap, ℕ, List, [], inl, inr, true, false}
 use Rattle.std.specs.Prelude.{Result, Ok, Err}
 use Rattle.authsrv_lines.specs.Causes.{Caused, TakesFor, is_spent}
-use Rattle.authsrv_lines.specs.CauseLemmas.{by_nothing, session_caused, session_keeps}
+use Rattle.authsrv_lines.specs.CauseLemmas.{session_caused, session_keeps}
+use Rattle.authsrv_lines.specs.DeviceLemmas.{by_nothing}
 use Rattle.authsrv_lines.specs.Session.{Devices, Session}
 use Rattle.authsrv_lines.specs.SpentLemmas.{session_spent}
 use Rattle.fw_outside.specs.CountLemmas.{grew_none}

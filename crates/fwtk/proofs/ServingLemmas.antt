@@ -4,7 +4,7 @@ use Rattle.std.specs.Prelude.{Option, Some, None, Result, Ok, Err, IfSome, IsSom
 use Rattle.auth_machine.specs.Book.{BookView}
 use Rattle.auth_machine.specs.Port.{Ground}
 use Rattle.authsrv_lines.specs.Causes.{Caused, TakesFor, is_spent}
-use Rattle.authsrv_lines.specs.CauseLemmas.{by_nothing}
+use Rattle.authsrv_lines.specs.DeviceLemmas.{by_nothing}
 use Rattle.authsrv_lines.specs.Session.{Devices, most_taken}
 use Rattle.authsrv_lines.specs.SpentLemmas.{same_tells}
 use Rattle.fw_outside.specs.CountLemmas.{grew_none}

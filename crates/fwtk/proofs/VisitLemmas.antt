@@ -3,7 +3,7 @@ use Rattle.std.proofs.Common.{◌≡◌, sym, ◌∙◌, ap, subst, ℕ, Bool, t
 use Rattle.std.specs.Bool.{OnTrue}
 use Rattle.std.specs.Prelude.{Option, Some, None, Result}
 use Rattle.auth_machine.specs.Book.{BookView}
-use Rattle.auth_machine.specs.History.{IsLegal, HasRecords, Origin}
+use Rattle.auth_machine.specs.History.{CountsUnkept, HasRecords, IsLegal, Origin}
 use Rattle.auth_machine.specs.Port.{Ground}
 use Rattle.fw_outside.specs.Vault.{Vault}
 use Rattle.fw_outside.specs.declared.ending.Ending.{Ending}
@@ -47,7 +47,7 @@ held_over visit rules first book ending outcome refused old mid new visits files
 }
 
 abbrev ground : BookView → Ground
-ground book = (book.origin, book.limit)
+ground book = (book.origin, book.limit, book.failed_before)
 
 visits_ground : (console : Bool) (rules : RuleBook) (peer : Peer) (old new : Desk) (first last : BookView) (ending : Ending) → Visits console rules peer (meeting old first) (meeting new last) ending → ground last ≡ ground first
 visits_ground true rules peer old new first last ending h = ended_origin Authsrv peer ending (meeting old first) (meeting new last) h
@@ -88,7 +88,8 @@ pub proceeds : (visit : Visit) (orders : Orders) (first : BookView) (outcome : R
 proceeds visit orders first outcome old mid new opened over =
     let same : ground over.book ≡ ground first = visits_ground visit.console orders.rules visit.peer mid new first over.book over.ending over.visits in
     let origin : over.book.origin ≡ first.origin = ap (λ (b : Ground). b.0) same in
-    let limit : over.book.limit ≡ most_entries = ap (λ (b : Ground). b.1) same ∙ ap (λ (b : BookView). b.limit) opened.at_first in
+    let limit : over.book.limit ≡ most_entries = ap (λ (b : Ground). b.1.0) same ∙ ap (λ (b : BookView). b.limit) opened.at_first in
+    let failed : over.book.failed_before ≡ first.vault.faults = ap (λ (b : Ground). b.1.1) same ∙ ap (λ (b : BookView). b.failed_before) opened.at_first in
     proceeds_so visit orders over.book.refused over.ending outcome old new over.outcome_is (record {
       before = first.vault;
       keeper = opened.keeper;
@@ -103,7 +104,7 @@ proceeds visit orders first outcome old mid new opened over =
       limit = limit;
       legal = subst (λ (o : Origin). IsLegal o over.book.history) origin over.legal;
       has = subst (λ (o : Origin). HasRecords o over.book.history over.book.vault) origin over.has;
-      faults = over.faults;
+      faults = subst (λ (n : ℕ). CountsUnkept n over.book.history over.book.vault) failed over.faults;
       full = λ was. over.full was ∙ limit;
       outcome_is = over.outcome_is;
       kept = over.kept;

@@ -2,7 +2,7 @@
 use Rattle.std.specs.Prelude.{◌≡◌, ◌⊎◌, ℕ, true, List, filter, length, map, Some, Ok}
 use Rattle.std.specs.List.{list_any}
 use Rattle.auth_machine.specs.Book.{BookView}
-use Rattle.auth_machine.specs.History.{HasRecords, IsLegal, Origin}
+use Rattle.auth_machine.specs.History.{CountsUnkept, HasRecords, IsLegal, Origin}
 use Rattle.auth_machine.specs.Opening.{ReadsAs}
 use Rattle.auth_machine.specs.Port.{Ground}
 use Rattle.authsrv_lines.specs.Acts.{World}
@@ -22,9 +22,9 @@ use Rattle.fwtk.specs.declared.words.Visit.{Visit}
 
 -- A session was held with the client, over a book of the records that the keeper had and under the policy of the table's
 -- text. What it asked and was answered, but for what was refused since the history was full, is the whole of the history,
--- in order; that is legal, and the keeper has the records after it. The client was told the replies as the dialogue has
--- them, and a front of the text at which the session stopped, if it did at one. And the status is the ending's, but 6 where
--- the session was done and a request had been refused.
+-- in order; that is legal, and the keeper has the records after it and has counted a failure for each entry that was not
+-- kept. The client was told the replies as the dialogue has them, and a front of the text at which the session stopped, if
+-- it did at one. And the status is the ending's, but 6 where the session was done and a request had been refused.
 pub record OfHistory (name : List ℕ) (visit : Visit) (status : ℕ) (old new : Desk) : Type 0 where
   pub orders : Orders
   pub of_table : OfText old.files.holds name (λ text. said_in orders_of text ≡ Ok orders)
@@ -36,6 +36,7 @@ pub record OfHistory (name : List ℕ) (visit : Visit) (status : ℕ) (old new :
   pub book : BookView
   pub legal : IsLegal origin book.history
   pub has : HasRecords origin book.history book.vault
+  pub faults : CountsUnkept before.faults book.history book.vault
   pub kept : new.sitting.keeper ≡ Some book.vault
   pub seconds : ℕ
   pub names : List ℕ

@@ -1,7 +1,7 @@
 -- What `authsrv` does: the table and the records are read, a client is served, and the records are given back.
 use Rattle.std.specs.Prelude.{◌≡◌, ℕ, Bool, true, false, List, [], length, Some, Result, Ok, Err}
 use Rattle.auth_machine.specs.Book.{BookView}
-use Rattle.auth_machine.specs.History.{HasRecords, IsLegal, NoMoreThanFaults, Origin}
+use Rattle.auth_machine.specs.History.{CountsUnkept, HasRecords, IsLegal, Origin}
 use Rattle.auth_machine.specs.Opening.{ReadsAs}
 use Rattle.auth_machine.specs.Policy.{PolicyView, policy_of}
 use Rattle.auth_machine.specs.Port.{Ground, port_of}
@@ -63,14 +63,14 @@ outcome_of refused ending = Ok (ending_status ending)
 
 -- a book of these records, of which nothing was asked yet
 abbrev pub book_at_first : Origin → ℕ → Vault → BookView
-book_at_first origin limit vault = record { history = []; limit = limit; origin = origin; vault = vault; refused = false }
+book_at_first origin limit vault = record { history = []; limit = limit; origin = origin; vault = vault; failed_before = vault.faults; refused = false }
 
 -- so many requests fit in a history
 abbrev pub most_entries : ℕ
 most_entries = 4194304
 
 -- The visit was held over the records that the keeper had. The history of its requests is legal, and full where one was
--- refused for that; and the keeper has the records after it.
+-- refused for that; the keeper has the records after it, and has counted a failure for each entry that was not kept.
 pub record Held (visit : Visit) (orders : Orders) (outcome : Result ℕ Fault) (old new : Desk) : Type 0 where
   pub before : Vault
   pub keeper : old.sitting.keeper ≡ Some before
@@ -84,7 +84,7 @@ pub record Held (visit : Visit) (orders : Orders) (outcome : Result ℕ Fault) (
   pub limit : book.limit ≡ most_entries
   pub legal : IsLegal origin book.history
   pub has : HasRecords origin book.history book.vault
-  pub faults : NoMoreThanFaults book.history book.vault
+  pub faults : CountsUnkept before.faults book.history book.vault
   pub full : book.refused ≡ true → length book.history ≡ most_entries
   pub outcome_is : outcome ≡ outcome_of book.refused ending
   pub kept : new.sitting.keeper ≡ Some book.vault

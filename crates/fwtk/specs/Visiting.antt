@@ -1,7 +1,7 @@
 -- A visit step by step: the book of the records that the keeper has is opened, the client served, and the keeper given back.
 use Rattle.std.specs.Prelude.{◌≡◌, ℕ, true, length, Some, None, Result, Ok}
 use Rattle.auth_machine.specs.Book.{BookView}
-use Rattle.auth_machine.specs.History.{HasRecords, IsLegal, NoMoreThanFaults}
+use Rattle.auth_machine.specs.History.{CountsUnkept, HasRecords, IsLegal}
 use Rattle.auth_machine.specs.Opening.{ReadsAs}
 use Rattle.auth_machine.specs.Policy.{PolicyView}
 use Rattle.auth_machine.specs.declared.open_fault.OpenFault.{OpenFault}
@@ -34,7 +34,7 @@ pub record GivesBack (book : BookView) (old new : Desk) : Type 0 where
   pub is : new ≡ record old { sitting = record (old.sitting) { keeper = Some book.vault } }
   pub legal : IsLegal book.origin book.history
   pub has : HasRecords book.origin book.history book.vault
-  pub faults : NoMoreThanFaults book.history book.vault
+  pub faults : CountsUnkept book.failed_before book.history book.vault
 
 -- a visit was held over this book, and then the keeper given back
 pub record HoldsOver (visit : Visit) (rules : RuleBook) (first : BookView) (outcome : Result ℕ Fault) (old new : Desk) : Type 0 where
@@ -43,7 +43,7 @@ pub record HoldsOver (visit : Visit) (rules : RuleBook) (first : BookView) (outc
   pub visits : Visits visit.console rules visit.peer (meeting old first) (meeting new book) ending
   pub legal : IsLegal book.origin book.history
   pub has : HasRecords book.origin book.history book.vault
-  pub faults : NoMoreThanFaults book.history book.vault
+  pub faults : CountsUnkept book.failed_before book.history book.vault
   pub full : book.refused ≡ true → length book.history ≡ book.limit
   pub outcome_is : outcome ≡ outcome_of book.refused ending
   pub kept : new.sitting.keeper ≡ Some book.vault

@@ -119,7 +119,8 @@ pub fn run<T: Kit>(alloc: Global, words: &[Octets], world: &mut World<T>) -> u8
     // 0, 1 and 3 are by the table's text, where the files tell it, and by the records that the keeper has; 6 is for a session
     // that came to a limit; else, and where there is no such table, a device failed, or there was no memory.
     ensures ruled { IsRuledBy Fails (table_named words.now) (command_of words.now) world.old world.new result }
-    // 6 is only for a session that came to a limit: as many bytes as may be were taken of the input, or a request was refused.
+    // 6 is only for a session that came to a limit: as many bytes as may be were taken of the input, or it was done but a
+    // request of it was refused, since the history is full.
     ensures limited { result ≡ 6 → IsAtLimit (table_named words.now) (command_of words.now) world.old world.new }
     // Where as many bytes as may be were taken of the input, the status is 6.
     ensures taken { TakesIn result world.old.sitting.input world.new.sitting.input }
@@ -129,8 +130,9 @@ pub fn run<T: Kit>(alloc: Global, words: &[Octets], world: &mut World<T>) -> u8
     ensures returned { world.new.files.out ≡ world.old.files.out }
     // The keeper is there again.
     ensures kept { IsSome world.new.sitting.keeper }
-    // A client of `authsrv` is told the replies of a legal history, after which the keeper has the records, and the status is
-    // its session's; or it is told, where the rules deny it, that it is denied; or, where the status is 3, 4 or 5, nothing.
+    // A client of `authsrv` is told the replies of a legal history, after which the keeper has the records and has counted a
+    // failure for each entry that wasn't kept, and the status is its session's; or it is told, where the rules deny it, that
+    // it is denied; or, where the status is 3, 4 or 5, nothing.
     ensures replies { Replies (table_named words.now) (command_of words.now) result world.old world.new }
     // So where no count rose, the status is by the table's text and the records, or there was no memory.
     ensures complete { ¬ (SomeRose world.old world.new) → IsRuledBy WantsMemory (table_named words.now) (command_of words.now) world.old world.new result }

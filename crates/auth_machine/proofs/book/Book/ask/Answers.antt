@@ -19,8 +19,8 @@ invariant_of-self-2 g c =
     let own : session_at c.args.request c.len-place.result c.session_of-sid.result ≡ c.session_of-sid.result =
     ap (session_at c.args.request c.len-place.result) c.session_of-sid.ensures ∙ same_session c.args.request c.len-place.result c.args.sid ∙ sym c.session_of-sid.ensures in
     let items : c.push_reserved.new.self.items ≡ c.self.inside.history.items ++ record { sid = c.session_of-sid.result; at = c.args.at; request = c.args.request; kept = c.in_ok-stepped.stepped.kept; reply = c.in_ok-stepped.stepped.reply } ∷ [] = search rules in
-    subst (λ (entries : List Entry). Stands entries c.self.inside.limit c.self.inside.refused c.self.inside.origin.value (g.K.Keeper.vault c.step.new.keeper) c.self.inside.policy (state_of c.step.new.standing)) (sym items)
-    (stands_with c.self.inside.origin.value c.self.inside.history.items c.self.inside.limit c.self.inside.refused c.self.inside.policy (state_of c.self.inside.standing) (state_of c.step.new.standing) c.len-place.result c.session_of-sid.result c.args.at c.args.request
+    subst (λ (entries : List Entry). Stands entries c.self.inside.limit c.self.inside.refused c.self.inside.origin.value (g.K.Keeper.vault c.self.inside.at_opening.value).faults (g.K.Keeper.vault c.step.new.keeper) c.self.inside.policy (state_of c.step.new.standing)) (sym items)
+    (stands_with c.self.inside.origin.value c.self.inside.history.items c.self.inside.limit c.self.inside.refused (g.K.Keeper.vault c.self.inside.at_opening.value).faults c.self.inside.policy (state_of c.self.inside.standing) (state_of c.step.new.standing) c.len-place.result c.session_of-sid.result c.args.at c.args.request
     c.in_ok-stepped.stepped.reply c.in_ok-stepped.stepped.kept (g.K.Keeper.vault c.self.inside.keeper) (g.K.Keeper.vault c.step.new.keeper) c.self.invariant place fits own step)
 
 pub returns-clause-asked : goal.returns-clause-asked
@@ -33,7 +33,7 @@ returns-clause-asked g c =
     subst (λ (b : BookView). Asked c.args.sid c.args.at c.args.request b.limit b.origin b.history (Ok c.twin-reply.result) c.push_reserved.new.self.items) c.self.view_is
     (subst (λ (r : Reply). Asked c.args.sid c.args.at c.args.request c.self.inside.limit c.self.inside.origin.value c.self.inside.history.items (Ok r) c.push_reserved.new.self.items) (sym c.twin-reply.ensures)
     (subst (λ (entries : List Entry). Asked c.args.sid c.args.at c.args.request c.self.inside.limit c.self.inside.origin.value c.self.inside.history.items (Ok c.in_ok-stepped.stepped.reply) entries) (sym items)
-    (asked_with c.self.inside.origin.value c.self.inside.history.items c.self.inside.limit c.self.inside.refused c.self.inside.policy (state_of c.self.inside.standing) (state_of c.step.new.standing) c.len-place.result c.args.sid c.session_of-sid.result c.args.at c.args.request
+    (asked_with c.self.inside.origin.value c.self.inside.history.items c.self.inside.limit c.self.inside.refused (g.K.Keeper.vault c.self.inside.at_opening.value).faults c.self.inside.policy (state_of c.self.inside.standing) (state_of c.step.new.standing) c.len-place.result c.args.sid c.session_of-sid.result c.args.at c.args.request
     c.in_ok-stepped.stepped.reply c.in_ok-stepped.stepped.kept (g.K.Keeper.vault c.self.inside.keeper) (g.K.Keeper.vault c.step.new.keeper) c.self.invariant place fits c.session_of-sid.ensures step)))
 
 pub returns-clause-kept : goal.returns-clause-kept
@@ -46,7 +46,7 @@ returns-clause-kept g c =
     subst (λ (b : BookView). RepliesKept (full_of c.twin-reply.result) b.origin b.history c.push_reserved.new.self.items b.vault (g.K.Keeper.vault c.step.new.keeper)) c.self.view_is
     (subst (λ (r : Reply). RepliesKept (full_of r) c.self.inside.origin.value c.self.inside.history.items c.push_reserved.new.self.items (g.K.Keeper.vault c.self.inside.keeper) (g.K.Keeper.vault c.step.new.keeper)) (sym c.twin-reply.ensures)
     (subst (λ (entries : List Entry). RepliesKept (full_of c.in_ok-stepped.stepped.reply) c.self.inside.origin.value c.self.inside.history.items entries (g.K.Keeper.vault c.self.inside.keeper) (g.K.Keeper.vault c.step.new.keeper)) (sym items)
-    (kept_with c.self.inside.origin.value c.self.inside.history.items c.self.inside.limit c.self.inside.refused c.self.inside.policy (state_of c.self.inside.standing) (state_of c.step.new.standing) c.len-place.result c.session_of-sid.result c.args.at c.args.request
+    (kept_with c.self.inside.origin.value c.self.inside.history.items c.self.inside.limit c.self.inside.refused (g.K.Keeper.vault c.self.inside.at_opening.value).faults c.self.inside.policy (state_of c.self.inside.standing) (state_of c.step.new.standing) c.len-place.result c.session_of-sid.result c.args.at c.args.request
     c.in_ok-stepped.stepped.reply c.in_ok-stepped.stepped.kept (g.K.Keeper.vault c.self.inside.keeper) (g.K.Keeper.vault c.step.new.keeper) c.self.invariant place step)))
 
 pub returns-clause-not_kept : goal.returns-clause-not_kept
