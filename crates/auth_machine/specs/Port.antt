@@ -9,8 +9,7 @@ use Rattle.auth_machine.specs.History.{Origin}
 abbrev pub full_at : ℕ → List Entry → Option ℕ
 full_at limit history = if length history == limit then Some limit else None
 
--- what a book's answers stand on beside its history: its origin, how many entries fit, and how often the keeper had failed
--- when it was opened
+-- what stays as it was when the book was opened: its origin, how many entries fit, and how often the keeper had failed then
 abbrev pub Ground : Type 0
 Ground = Origin × ℕ × ℕ
 

@@ -1,6 +1,6 @@
 -- With the same answers, one of two runs of a row is a front of the other.
 use Rattle.std.proofs.Common.{◌≡◌, List, [], ◌∷◌, ◌++◌, refl, subst, sym, ap, inl, inr, ◌∙◌}
-use mathlib.Core.Path.{from_path_p, subst_refl}
+use mathlib.Core.Path.{subst_refl}
 use Rattle.fw_acts.specs.Acts.{Sig, Step, Row, Table}
 use Rattle.fw_acts.specs.Acts.Row.{Do, At, Over}
 use Rattle.fw_acts.specs.Runs.{Run}
@@ -31,17 +31,14 @@ step_of {S} act p q x y xp yq same =
     let as_step : S.Answer act → Step S = λ answer. record { act = act; answer = answer } in
     xp ∙ ap as_step same ∙ sym yq
 
--- one step has one answer, where equal acts are equal in one way
-same_answer : {S : Sig} → IsSet S.Act → (act : S.Act) (p q : S.Answer act) (x y : Step S)
-    → x ≡ record { act = act; answer = p } → y ≡ record { act = act; answer = q } → x ≡ y → p ≡ q
-same_answer {S} set act p q x y xp yq same =
-    let with_p : Step S = record { act = act; answer = p } in
-    let with_q : Step S = record { act = act; answer = q } in
-    let e : with_p ≡ with_q = sym xp ∙ same ∙ yq in
-    let loop : act ≡ act = ap (λ (z : Step S). z.act) e in
-    let along : act ≡ act → S.Answer act = λ l. subst S.Answer l p in
-    let here : along loop ≡ q = from_path_p (λ i. S.Answer (loop i)) (λ i. (e i).answer) in
-    sym (subst_refl S.Answer p) ∙ ap along (set act act refl loop) ∙ here
+-- an act that is answered the same, however it is equal to itself, has one answer
+same_answer : {S : Sig} (act : S.Act) (p q : S.Answer act) (x y : Step S)
+    → x ≡ record { act = act; answer = p } → y ≡ record { act = act; answer = q }
+    → ((same : x.act ≡ y.act) → subst S.Answer same x.answer ≡ y.answer) → p ≡ q
+same_answer {S} act p q x y xp yq agree =
+    let first = subst (λ (z : Step S). (same : z.act ≡ y.act) → subst S.Answer same z.answer ≡ y.answer) xp agree in
+    let both = subst (λ (z : Step S). (same : act ≡ z.act) → subst S.Answer same p ≡ z.answer) yq first in
+    sym (subst_refl S.Answer p) ∙ both refl
 
 pub one_list : {S : Sig} {P : Type 0} (answers : List (Step S) → (act : S.Act) → S.Answer act) (rows : Table S P) (past : List (Step S)) (r s t : Row S P) (a b : List (Step S))
     → Run rows r a s → IsAnsweredBy answers past a → Run rows r b t → IsAnsweredBy answers past b → OneGoesOn rows a s b t
@@ -59,18 +56,16 @@ one_list answers rows past (At place) s t (x ∷ a) (y ∷ b) p h q k =
     both_behind x y step (one_list answers rows (past ++ (x ∷ [])) (rows.go place p.0) s t a b p.2 h.1 (subst (λ answer. Run rows (rows.go place answer) b t) (sym same) q.2) (subst (λ z. IsAnsweredBy answers (past ++ (z ∷ [])) b) (sym step) k.1))
 one_list answers rows past Over s t (x ∷ a) (y ∷ b) p h q k = absurd p
 
-pub one_list_agreed : {S : Sig} {P : Type 0} → IsSet S.Act → (rows : Table S P) (r s t : Row S P) (a b : List (Step S))
+pub one_list_agreed : {S : Sig} {P : Type 0} (rows : Table S P) (r s t : Row S P) (a b : List (Step S))
     → Run rows r a s → Run rows r b t → Agree a b → OneGoesOn rows a s b t
-one_list_agreed set rows r s t [] b p q h =
+one_list_agreed rows r s t [] b p q h =
     inl (record { more = b; joined = refl; run = subst (λ row. Run rows row b t) p q })
-one_list_agreed set rows r s t (x ∷ a) [] p q h =
+one_list_agreed rows r s t (x ∷ a) [] p q h =
     inr (record { more = x ∷ a; joined = refl; run = subst (λ row. Run rows row (x ∷ a) s) q p })
-one_list_agreed {S} set rows (Do act go) s t (x ∷ a) (y ∷ b) p q h =
-    let step = h.0 (ap (λ (z : Step S). z.act) p.1 ∙ sym (ap (λ (z : Step S). z.act) q.1)) in
-    let same = same_answer set act p.0 q.0 x y p.1 q.1 step in
-    both_behind x y step (one_list_agreed set rows (go p.0) s t a b p.2 (subst (λ answer. Run rows (go answer) b t) (sym same) q.2) h.1)
-one_list_agreed {S} set rows (At place) s t (x ∷ a) (y ∷ b) p q h =
-    let step = h.0 (ap (λ (z : Step S). z.act) p.1 ∙ sym (ap (λ (z : Step S). z.act) q.1)) in
-    let same = same_answer set (rows.act place) p.0 q.0 x y p.1 q.1 step in
-    both_behind x y step (one_list_agreed set rows (rows.go place p.0) s t a b p.2 (subst (λ answer. Run rows (rows.go place answer) b t) (sym same) q.2) h.1)
-one_list_agreed set rows Over s t (x ∷ a) (y ∷ b) p q h = absurd p
+one_list_agreed {S} rows (Do act go) s t (x ∷ a) (y ∷ b) p q h =
+    let same = same_answer act p.0 q.0 x y p.1 q.1 h.0 in
+    both_behind x y (step_of act p.0 q.0 x y p.1 q.1 same) (one_list_agreed rows (go p.0) s t a b p.2 (subst (λ answer. Run rows (go answer) b t) (sym same) q.2) h.1)
+one_list_agreed {S} rows (At place) s t (x ∷ a) (y ∷ b) p q h =
+    let same = same_answer (rows.act place) p.0 q.0 x y p.1 q.1 h.0 in
+    both_behind x y (step_of (rows.act place) p.0 q.0 x y p.1 q.1 same) (one_list_agreed rows (rows.go place p.0) s t a b p.2 (subst (λ answer. Run rows (rows.go place answer) b t) (sym same) q.2) h.1)
+one_list_agreed rows Over s t (x ∷ a) (y ∷ b) p q h = absurd p

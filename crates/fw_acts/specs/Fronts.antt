@@ -1,4 +1,5 @@
 -- When two runs have the same answers, and how a run goes on.
+use Rattle.std.proofs.Common.{subst}
 use Rattle.std.specs.Prelude.{◌≡◌, List, [], ◌∷◌, ◌++◌, ◌⊎◌}
 use Rattle.fw_acts.specs.Acts.{Sig, Step, Row, Table}
 use Rattle.fw_acts.specs.Acts.Row.{Do, At, Over}
@@ -10,11 +11,11 @@ IsAnsweredBy answers past [] = Unit {0}
 IsAnsweredBy answers past (step ∷ steps) =
     (step.answer ≡ answers past step.act) × IsAnsweredBy answers (past ++ (step ∷ [])) steps
 
--- wherever both lists have one act in one position, it was answered the same
+-- wherever both lists have one act in one position, it was answered the same, in whatever way the acts are equal
 abbrev pub Agree : {S : Sig} → List (Step S) → List (Step S) → Type 0
 Agree [] others = Unit {0}
 Agree (step ∷ steps) [] = Unit {0}
-Agree (step ∷ steps) (other ∷ others) = (step.act ≡ other.act → step ≡ other) × Agree steps others
+Agree {S} (step ∷ steps) (other ∷ others) = ((same : step.act ≡ other.act) → subst S.Answer same step.answer ≡ other.answer) × Agree steps others
 
 -- the first acts are a front of the others, which go on from the row that the first ones left
 pub record GoesOn {S : Sig} {P : Type 0} (rows : Table S P) (first : List (Step S)) (s : Row S P) (all : List (Step S)) (t : Row S P) : Type 0 where

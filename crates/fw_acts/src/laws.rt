@@ -33,15 +33,14 @@ pub trait Watcher {
 /// One table with the same answers gives one list of acts: of two runs of a row one is a front of
 /// the other, which goes on from the row that the first one left. The answers are the same where
 /// both runs have one answerer (`answered`), or where each act that both did in one position was
-/// answered the same (`agreed`, for acts that are equal in at most one way).
+/// answered the same (`agreed`).
 pub fn one_list<S: Signature, P>()
     ensures answered { (answers : List (Step S.acts) → (act : S.acts.Act) → S.acts.Answer act)
         (rows : Table S.acts P) (r s t : Row S.acts P) (a b : List (Step S.acts))
         → Run rows r a s → IsAnsweredBy answers [] a
         → Run rows r b t → IsAnsweredBy answers [] b
         → OneGoesOn rows a s b t }
-    ensures agreed { IsSet S.acts.Act
-        → (rows : Table S.acts P) (r s t : Row S.acts P) (a b : List (Step S.acts))
+    ensures agreed { (rows : Table S.acts P) (r s t : Row S.acts P) (a b : List (Step S.acts))
         → Run rows r a s → Run rows r b t → Agree a b
         → OneGoesOn rows a s b t }
 {}

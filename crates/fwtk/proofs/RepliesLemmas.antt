@@ -27,7 +27,7 @@ use Rattle.fwtk.specs.Conn.{AfterLine, Meeting, Noted, patient, timeout_of}
 use Rattle.fwtk.specs.Desk.{Desk, Sitting}
 use Rattle.fwtk.specs.Endings.{denied_text}
 use Rattle.fwtk.specs.Fault.{status_in}
-use Rattle.fwtk.specs.History.{MeetsLimit, OfHistory}
+use Rattle.fwtk.specs.History.{IsServed, MeetsLimit, OfHistory}
 use Rattle.fwtk.specs.Replies.{IsTold, Replies}
 use Rattle.fwtk.specs.Ruling.{OfText, said_in}
 use Rattle.fwtk.specs.Run.{Does, Ends, Ran}
@@ -45,12 +45,13 @@ use Rattle.fwtk.proofs.ServingLemmas.{ended_status}
 -- ---- a session over a book
 
 -- a session was held over a book of which nothing was asked before
-record OfSession (console : Bool) (ending : Ending) (first last : BookView) (old new : Desk) : Type 0 where
+record OfSession (console : Bool) (verdict : Verdict) (rules : RuleBook) (ending : Ending) (first last : BookView) (old new : Desk) : Type 0 where
   seconds : ℕ
+  served : IsServed console verdict rules old.sitting.input.waits seconds
   session : Session console (patient seconds (meeting old first).devices) (meeting new last).devices ending
 
 of_session : (name : List ℕ) (visit : Visit) (outcome : Result ℕ Fault) (status : ℕ) (orders : Orders) (old mid new : Desk) → OfText old.files.holds name (λ text. said_in orders_of text ≡ Ok orders)
-    → (held : Held visit orders outcome old mid) → Ends outcome status mid new → OfSession visit.console held.ending (book_at_first held.origin most_entries held.before) held.book old mid → OfHistory name visit status old mid
+    → (held : Held visit orders outcome old mid) → Ends outcome status mid new → OfSession visit.console (verdict_of orders.rules visit.peer) orders.rules held.ending (book_at_first held.origin most_entries held.before) held.book old mid → OfHistory name visit status old mid
 of_session name visit outcome status orders old mid new said held ends s =
     let devices : Devices Ground = patient s.seconds (meeting old (book_at_first held.origin most_entries held.before)).devices in
     let first : World Ground = at_first devices s.session.names in
@@ -75,6 +76,7 @@ of_session name visit outcome status orders old mid new said held ends s =
       faults = held.faults;
       kept = held.kept;
       seconds = s.seconds;
+      served = s.served;
       names = s.session.names;
       last = last;
       ending = held.ending;
@@ -100,22 +102,22 @@ record OfVerdict (console : Bool) (verdict : Verdict) (ending : Ending) (old new
   ends : ending ≡ endings.Denied line
   told : Noted (denied_text line) old new
 
-abbrev OfVisit : Bool → Verdict → Ending → BookView → BookView → Desk → Desk → Type 0
-OfVisit console verdict ending first last old new = (OfFault ending old.output new.output ⊎ OfVerdict console verdict ending old.output new.output) ⊎ OfSession console ending first last old new
+abbrev OfVisit : Bool → Verdict → RuleBook → Ending → BookView → BookView → Desk → Desk → Type 0
+OfVisit console verdict rules ending first last old new = (OfFault ending old.output new.output ⊎ OfVerdict console verdict ending old.output new.output) ⊎ OfSession console verdict rules ending first last old new
 
 treated_told : (logging : Result (Unit {0}) Failed) (verdict : Verdict) (rules : RuleBook) (peer : Peer) (old new : Desk) (first last : BookView) (logs : Drain) (ending : Ending)
-    → AfterLine logging verdict Authsrv rules peer ending (record (meeting old first) { logs = logs }) (meeting new last) → OfVisit false verdict ending first last old new
+    → AfterLine logging verdict Authsrv rules peer ending (record (meeting old first) { logs = logs }) (meeting new last) → OfVisit false verdict rules ending first last old new
 treated_told (Err failed) verdict rules peer old new first last logs ending h =
     inl (inl (record { fault = h.ends; output = ap (λ (m : Meeting Ground). m.devices.outlet) h.is }))
 treated_told (Ok done) (Deny line) rules peer old new first last logs ending h =
     let is : new.output ≡ h.outlet = ap (λ (m : Meeting Ground). m.devices.outlet) h.is in
     inl (inr (record { from_outside = refl; line = line; denied = refl; ends = h.ends; told = subst (λ (d : Drain). Noted (denied_text line) old.output d) (sym is) h.noted }))
 treated_told (Ok done) (Permit line) rules peer old new first last logs ending h =
-    inr (record { seconds = timeout_of rules; session = h.session })
+    inr (record { seconds = timeout_of rules; served = record { line = line; permitted = refl; patience = refl }; session = h.session })
 
 visit_told : (console : Bool) (rules : RuleBook) (peer : Peer) (old new : Desk) (first last : BookView) (ending : Ending)
-    → Visits console rules peer (meeting old first) (meeting new last) ending → OfVisit console (verdict_of rules peer) ending first last old new
-visit_told true rules peer old new first last ending h = inr (record { seconds = old.sitting.input.waits; session = h.session })
+    → Visits console rules peer (meeting old first) (meeting new last) ending → OfVisit console (verdict_of rules peer) rules ending first last old new
+visit_told true rules peer old new first last ending h = inr (record { seconds = old.sitting.input.waits; served = refl; session = h.session })
 visit_told false rules peer old new first last ending h = treated_told h.logging (verdict_of rules peer) rules peer old new first last h.logs ending h.rest
 
 -- ---- with the outcome
@@ -136,7 +138,7 @@ held_told_by : (name : List ℕ) (visit : Visit) (outcome : Result ℕ Fault) (s
 held_told_by name visit outcome status orders old mid new said held ends =
     choose (visit_told visit.console orders.rules visit.peer old mid (book_at_first held.origin most_entries held.before) held.book held.ending held.visits)
   where
-    choose : OfVisit visit.console (verdict_of orders.rules visit.peer) held.ending (book_at_first held.origin most_entries held.before) held.book old mid → IsTold name visit status old mid
+    choose : OfVisit visit.console (verdict_of orders.rules visit.peer) orders.rules held.ending (book_at_first held.origin most_entries held.before) held.book old mid → IsTold name visit status old mid
     choose (inl (inl fault)) = inl (inl (record {
       why = inr (inl (status_by 4 status outcome mid new ends (held.outcome_is ∙ log_fault held.book.refused held.ending fault.fault)));
       output = fault.output;
@@ -217,6 +219,7 @@ later_told name visit status old mid new logged (inr h) = inr (record {
   faults = h.faults;
   kept = ap (λ (s : Sitting). s.keeper) logged.sitting ∙ h.kept;
   seconds = h.seconds;
+  served = h.served;
   names = h.names;
   last = h.last;
   ending = h.ending;

@@ -88,8 +88,8 @@ pub proceeds : (visit : Visit) (orders : Orders) (first : BookView) (outcome : R
 proceeds visit orders first outcome old mid new opened over =
     let same : ground over.book ≡ ground first = visits_ground visit.console orders.rules visit.peer mid new first over.book over.ending over.visits in
     let origin : over.book.origin ≡ first.origin = ap (λ (b : Ground). b.0) same in
-    let limit : over.book.limit ≡ most_entries = ap (λ (b : Ground). b.1.0) same ∙ ap (λ (b : BookView). b.limit) opened.at_first in
-    let failed : over.book.failed_before ≡ first.vault.faults = ap (λ (b : Ground). b.1.1) same ∙ ap (λ (b : BookView). b.failed_before) opened.at_first in
+    let limit : over.book.limit ≡ most_entries = ap (λ (b : Ground). b.1) same ∙ ap (λ (b : BookView). b.limit) opened.at_first in
+    let failed : over.book.failed_before ≡ first.vault.faults = ap (λ (b : Ground). b.2) same ∙ ap (λ (b : BookView). b.failed_before) opened.at_first in
     proceeds_so visit orders over.book.refused over.ending outcome old new over.outcome_is (record {
       before = first.vault;
       keeper = opened.keeper;

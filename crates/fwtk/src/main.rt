@@ -5,16 +5,17 @@
 //! output, the log, the clock, the dice and the keeper of the users' records. Its contract says, for every command line,
 //! every table and every way in which a device may fail, which status it answers and what it leaves: wherever `netacl` has
 //! printed anything, the line of its verdict stands whole in the log; what is printed and logged is told byte for byte, where
-//! the devices tell it; the replies that a client of `authsrv` is told are those of a legal history; and each status has its
-//! cause, in the words, in the table's text, in the records, in a limit, or in the count of a device that rose. [`conn`]
-//! serves one client. `main` makes the devices of a process, and answers `--help` and `--version`.
+//! the devices tell it; the replies that a client of `authsrv` is told are those of a legal history; and each status but 5,
+//! want of memory, has its cause: in the words, in a limit, in the count of a device that rose, or, where the devices tell
+//! what they hold, in the table's text and the records. [`conn`] serves one client. `main` makes the devices of a process,
+//! and answers `--help` and `--version`.
 #![tactic(auto)]
 
-use fw_outside::{NoMemory, Octets, Sink};
+use fw_outside::{Dice, MemDice, NoMemory, Octets, Sink};
 use fw_real::{Paths, Reading, Records, Salts, SystemClock, Writing};
 use process::Process;
 use std::env;
-use std::io::ErrorKind;
+use std::io::{ErrorKind, Stdout};
 use std::process::ExitCode;
 
 mod authsrv;
@@ -78,6 +79,29 @@ fn tell(rt: &HostRuntime, fault: Fault) -> u8 {
     fault.status()
 }
 
+// Whether the words ask for a session. No other command throws dice.
+fn is_session(words: &[Octets]) -> bool {
+    matches!(read_command(words), Some(Command::Authsrv(_)))
+}
+
+fn run_with<D: Dice>(
+    rt: HostRuntime,
+    words: &[Octets],
+    output: Writing<Stdout>,
+    dice: D,
+) -> Result<u8, Fault> {
+    let mut world: World<Process<D>> = World {
+        files: Paths::new(rt),
+        input: Reading::new(rt.stdin()),
+        output,
+        logs: Writing::new(rt.stderr()),
+        clock: SystemClock::new(rt),
+        dice,
+        keeper: Some(Records::new(rt, places(words).db)?),
+    };
+    Ok(run(rt.alloc(), words, &mut world))
+}
+
 fn serve(rt: HostRuntime) -> Result<u8, Fault> {
     let words = read_words(&rt)?;
     let mut output = Writing::new(rt.stdout());
@@ -87,19 +111,13 @@ fn serve(rt: HostRuntime) -> Result<u8, Fault> {
             Err(_) => Err(Fault::Outside(Device::Output)),
         };
     }
-    let Ok(dice) = Salts::new(&rt) else {
-        return Err(Fault::Memory);
-    };
-    let mut world: World<Process> = World {
-        files: Paths::new(rt),
-        input: Reading::new(rt.stdin()),
-        output,
-        logs: Writing::new(rt.stderr()),
-        clock: SystemClock::new(rt),
-        dice,
-        keeper: Some(Records::new(rt, places(&words).db)?),
-    };
-    Ok(run(rt.alloc(), &words, &mut world))
+    if !is_session(&words) {
+        return run_with(rt, &words, output, MemDice::new(0));
+    }
+    match Salts::new(&rt) {
+        Ok(salts) => run_with(rt, &words, output, salts),
+        Err(_) => Err(Fault::Memory),
+    }
 }
 
 fn main(rt: HostRuntime) -> ExitCode {

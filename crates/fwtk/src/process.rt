@@ -1,14 +1,18 @@
 //! The devices of a process.
 
 use crate::Kit;
-use fw_real::{Paths, Reading, Records, Salts, SystemClock, Writing};
+use fw_outside::Dice;
+use fw_real::{Paths, Reading, Records, SystemClock, Writing};
 use std::io::{Stderr, Stdin, Stdout};
+use std::marker::PhantomData;
 
-/// The kinds of device that a process has.
+/// The kinds of device that a process has, with dice of this kind.
 #[derive(Drop)]
-pub struct Process;
+pub struct Process<D: Dice> {
+    dice: PhantomData<D>,
+}
 
-impl Kit for Process {
+impl<D: Dice> Kit for Process<D> {
     type Files = Paths<HostRuntime>;
 
     type Input = Reading<Stdin>;
@@ -19,7 +23,7 @@ impl Kit for Process {
 
     type Tick = SystemClock<HostRuntime>;
 
-    type Dice = Salts;
+    type Dice = D;
 
     type Keeper = Records;
 }

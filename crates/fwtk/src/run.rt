@@ -99,7 +99,8 @@ fn end<T: Kit>(world: &mut World<T>, outcome: Result<u8, Fault>) -> u8
 
 /// Runs a command line over the devices of a world, and answers the exit status:
 ///
-/// - 0 where the table permits the peer, and a session of `authsrv` is done; 1 where it denies the peer;
+/// - 0 where the table permits the peer, and a session of `authsrv` is done; 1 where it denies the peer, who isn't at the
+///   console of `authsrv`;
 /// - 2 where the words are no command;
 /// - 3 where a line of the table, or of the service, or a user's record can't be read;
 /// - 4 where a device failed, which its count shows;

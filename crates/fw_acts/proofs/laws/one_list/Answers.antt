@@ -6,4 +6,4 @@ pub returns-clause-answered : goal.returns-clause-answered
 returns-clause-answered g c = λ answers rows r s t a b. one_list answers rows [] r s t a b
 
 pub returns-clause-agreed : goal.returns-clause-agreed
-returns-clause-agreed g c = λ set rows r s t a b. one_list_agreed set rows r s t a b
+returns-clause-agreed g c = λ rows r s t a b. one_list_agreed rows r s t a b
