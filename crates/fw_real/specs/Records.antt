@@ -1,5 +1,5 @@
 -- Records in a file.
-use Rattle.std.specs.Prelude.{◌≡◌, ℕ, [], Option, Some, None, MatchOption, Ok}
+use Rattle.std.specs.Prelude.{◌≡◌, ◌⊎◌, ℕ, [], Option, Some, None, MatchOption, Ok}
 use Rattle.sqlite.specs.Files.{file_state, IsOpened}
 use Rattle.sqlite.specs.State.{State, HasCleanDisk, Executes}
 use Rattle.fw_outside.specs.Counts.{counted}
@@ -39,3 +39,11 @@ pub record Did (what : State → State → Type 0) (old new : Option Database) :
   pub was : MatchOption old (IsOpen before) (λ database. before ≡ database)
   pub is : new ≡ Some after
   pub did : HasCleanDisk (shown_by after) → what (shown_by before) (shown_by after)
+
+-- no file was open, and none is
+abbrev pub StaysClosed : Option Database → Option Database → Type 0
+StaysClosed old new = (old ≡ None) × (new ≡ None)
+
+-- the file couldn't be opened, or this was done in it; so one that was open stays open
+abbrev pub StaysClosedOrDid : (State → State → Type 0) → Option Database → Option Database → Type 0
+StaysClosedOrDid what old new = StaysClosed old new ⊎ Did what old new

@@ -1,10 +1,10 @@
-ghost use Rattle.std.specs.Prelude.{◌≡◌, ◌∷◌, [], Some, None, Ok, IfOk, IfErr, OnOk, MatchOption};
+ghost use Rattle.std.specs.Prelude.{◌≡◌, ◌∷◌, [], Some, None, Ok, Err, IfOk, IfErr, OnOk, OnErr, MatchOption};
 ghost use Rattle.fw_outside.specs.Counts.{counted};
 ghost use Rattle.fw_outside.specs.Keyed.{Ascends};
 ghost use Rattle.fw_outside.specs.Vault.{AreLoaded, Refuses, Sets, name_of};
 ghost use Rattle.sqlite.specs.declared.types.Value.TheVariants.{Text, Blob};
-ghost use Rattle.fw_real.specs.Records.{Did, IsOpen, after_fault, untold};
-ghost use Rattle.fw_real.specs.Statements.{Loads, Runs, drop_text, put_text};
+ghost use Rattle.fw_real.specs.Records.{Did, IsOpen, StaysClosed, StaysClosedOrDid, after_fault, untold};
+ghost use Rattle.fw_real.specs.Statements.{FailsToLoad, Loads, Runs, drop_text, put_text};
 
 use crate::database::Database;
 use fw_outside::{KeepFault, Keeper, Name, NoMemory, Octets};
@@ -12,8 +12,9 @@ use fw_outside::{KeepFault, Keeper, Name, NoMemory, Octets};
 /// Records in a file, which is a database of SQLite with the table `user (name TEXT PRIMARY KEY NOT NULL, record BLOB NOT NULL)`.
 ///
 /// The file is opened at the first call, and made where it is missing, for its owner alone. It is locked as long as it is
-/// open, so nobody else can open it, and a file that somebody else has open is a failure. A call that is refused closes it,
-/// and the next call opens it anew. A file that is no database, or a damaged one, is refused and left as it is.
+/// open, so nobody else can open it, and a file that somebody else has open is a failure. Once it is open it stays open
+/// until the records are dropped, also where a call is refused. A call that couldn't open it leaves it closed, and the next
+/// one tries again. A file that is no database, or a damaged one, is refused and left as it is.
 #[derive(Drop)]
 pub struct Records {
     system: HostRuntime,
@@ -40,6 +41,7 @@ impl Records {
     // The open database, which is taken out, or the file opened.
     fn take_open(&mut self) -> Result<Database, KeepFault>
         ensures open { IfOk result (λ database. MatchOption self.old.database (IsOpen database) (λ old. database ≡ old)) }
+        ensures closed { OnErr result (StaysClosed self.old.database self.new.database) }
         ensures faults { self.new.faults ≡ self.old.faults }
         ensures path { self.new.path ≡ self.old.path }
     {
@@ -51,36 +53,39 @@ impl Records {
 
     fn put_in_file(&mut self, name: &Name, bytes: &[u8]) -> Result<(), KeepFault>
         ensures did { OnOk result (Did (λ old new. Runs put_text (Text name.now ∷ Blob bytes.now ∷ []) old new (Ok (record {}))) self.old.database self.new.database) }
+        ensures not_done { IfErr result (λ fault. StaysClosedOrDid (λ old new. Runs put_text (Text name.now ∷ Blob bytes.now ∷ []) old new (Err fault)) self.old.database self.new.database) }
         ensures faults { self.new.faults ≡ self.old.faults }
         ensures path { self.new.path ≡ self.old.path }
     {
         let mut database = self.take_open()?;
-        database.put(name, bytes)?;
+        let answer = database.put(name, bytes);
         self.database = Some(database);
-        Ok(())
+        answer
     }
 
     fn drop_in_file(&mut self, name: &Name) -> Result<(), KeepFault>
         ensures did { OnOk result (Did (λ old new. Runs drop_text (Text name.now ∷ []) old new (Ok (record {}))) self.old.database self.new.database) }
+        ensures not_done { IfErr result (λ fault. StaysClosedOrDid (λ old new. Runs drop_text (Text name.now ∷ []) old new (Err fault)) self.old.database self.new.database) }
         ensures faults { self.new.faults ≡ self.old.faults }
         ensures path { self.new.path ≡ self.old.path }
     {
         let mut database = self.take_open()?;
-        database.drop_name(name)?;
+        let answer = database.drop_name(name);
         self.database = Some(database);
-        Ok(())
+        answer
     }
 
     fn load_from_file(&mut self) -> Result<Vec<(Name, Octets)>, KeepFault>
         ensures ordered { IfOk result (λ loaded. Ascends name_of loaded.items) }
         ensures did { IfOk result (λ loaded. Did (λ old new. Loads old new loaded.items) self.old.database self.new.database) }
+        ensures not_done { IfErr result (λ fault. StaysClosedOrDid (λ old new. FailsToLoad old new fault) self.old.database self.new.database) }
         ensures faults { self.new.faults ≡ self.old.faults }
         ensures path { self.new.path ≡ self.old.path }
     {
         let mut database = self.take_open()?;
-        let loaded = database.load(self.system.alloc())?;
+        let answer = database.load(self.system.alloc());
         self.database = Some(database);
-        Ok(loaded)
+        answer
     }
 
     // Counts a failure; want of memory isn't one.
@@ -102,6 +107,7 @@ impl Keeper for Records {
     fn put(&mut self, name: &Name, bytes: &[u8]) -> Result<(), KeepFault>
         ensures sets { Sets result name.now (Some bytes.now) (untold self.old.faults) (untold self.new.faults) }
         ensures did { OnOk result (Did (λ old new. Runs put_text (Text name.now ∷ Blob bytes.now ∷ []) old new (Ok (record {}))) self.old.database self.new.database) }
+        ensures not_done { IfErr result (λ fault. StaysClosedOrDid (λ old new. Runs put_text (Text name.now ∷ Blob bytes.now ∷ []) old new (Err fault)) self.old.database self.new.database) }
         ensures path { self.new.path ≡ self.old.path }
     {
         match self.put_in_file(name, bytes) {
@@ -113,6 +119,7 @@ impl Keeper for Records {
     fn drop_name(&mut self, name: &Name) -> Result<(), KeepFault>
         ensures sets { Sets result name.now None (untold self.old.faults) (untold self.new.faults) }
         ensures did { OnOk result (Did (λ old new. Runs drop_text (Text name.now ∷ []) old new (Ok (record {}))) self.old.database self.new.database) }
+        ensures not_done { IfErr result (λ fault. StaysClosedOrDid (λ old new. Runs drop_text (Text name.now ∷ []) old new (Err fault)) self.old.database self.new.database) }
         ensures path { self.new.path ≡ self.old.path }
     {
         match self.drop_in_file(name) {
@@ -125,6 +132,7 @@ impl Keeper for Records {
         ensures loaded { IfOk result (λ loaded. AreLoaded loaded.items (untold self.old.faults) (untold self.new.faults)) }
         ensures refused { IfErr result (λ fault. Refuses fault (untold self.old.faults) (untold self.new.faults)) }
         ensures did { IfOk result (λ loaded. Did (λ old new. Loads old new loaded.items) self.old.database self.new.database) }
+        ensures not_done { IfErr result (λ fault. StaysClosedOrDid (λ old new. FailsToLoad old new fault) self.old.database self.new.database) }
         ensures path { self.new.path ≡ self.old.path }
     {
         match self.load_from_file() {

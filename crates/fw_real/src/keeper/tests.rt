@@ -1,6 +1,6 @@
 use super::Records;
 use fw_outside::{KeepFault, Keeper, Name, Octets};
-use sqlite::Connection;
+use sqlite::{Connection, Error, ErrorCode};
 use std::fs;
 use std::os::unix::fs::MetadataExt;
 use std::test::Fail;
@@ -78,7 +78,7 @@ fn is_refused(rt: HostRuntime, path: &[u8]) -> bool {
 }
 
 // Makes a database of other rows.
-fn make(rt: &HostRuntime, path: &str, text: &str) -> Result<(), sqlite::Error> {
+fn make(rt: &HostRuntime, path: &str, text: &str) -> Result<(), Error> {
     let mut connection = Connection::open(rt, path)?;
     connection.execute_batch(text)?;
     connection.close()
@@ -135,5 +135,50 @@ fn rows_of_another_form_are_refused(rt: HostRuntime) -> Result<(), Fail> {
         assert_eq!(rt; records.faults, 1);
     }
     fs::remove_dir_all(&rt, "fw_real_rows")?;
+    Ok(())
+}
+
+// Whether another has the file open.
+fn is_locked(rt: &HostRuntime, path: &str) -> bool {
+    match Connection::open(rt, path) {
+        Err(error) => error == Error::SqliteFailure(ErrorCode::DatabaseBusy),
+        Ok(_) => false,
+    }
+}
+
+#[test]
+fn a_refused_call_leaves_the_file_open_and_locked(rt: HostRuntime) -> Result<(), Fail> {
+    let _ = fs::remove_dir_all(&rt, "fw_real_refused");
+    fs::create_dir(&rt, "fw_real_refused")?;
+    let path = "fw_real_refused/users";
+    make(
+        &rt,
+        path,
+        "CREATE TABLE user (name TEXT PRIMARY KEY, record BLOB CHECK (length(record) < 3));
+        CREATE TABLE more (name TEXT REFERENCES user (name));
+        INSERT INTO user VALUES ('ann', 'no'); INSERT INTO more VALUES ('ann')",
+    )?;
+    let mut records = Records::new(rt, path.as_bytes())?;
+    assert!(rt; !is_locked(&rt, path));
+    assert_eq!(rt; records.load().map(|_| ()), Err(KeepFault::Failed));
+    assert!(rt; is_locked(&rt, path));
+    assert_eq!(rt; put(&mut records, b"ann", b"old"), Err(KeepFault::Failed));
+    assert!(rt; is_locked(&rt, path));
+    assert_eq!(rt; drop_name(&mut records, b"ann"), Err(KeepFault::Failed));
+    assert!(rt; is_locked(&rt, path));
+    assert!(rt; is_refused(rt, path.as_bytes()));
+    assert_eq!(rt; records.faults, 3);
+    assert_eq!(rt; put(&mut records, b"ann", b"up"), Ok(()));
+    let Ok(loaded) = records.load() else {
+        return Err("not loaded".into());
+    };
+    let [ann] = loaded.as_slice() else {
+        return Err("not one".into());
+    };
+    assert!(rt; is_entry(ann, b"ann", b"up"));
+    assert_eq!(rt; records.faults, 3);
+    drop(records);
+    assert!(rt; !is_locked(&rt, path));
+    fs::remove_dir_all(&rt, "fw_real_refused")?;
     Ok(())
 }

@@ -1,6 +1,22 @@
-use Rattle.std.proofs.Common.{refl}
+use Rattle.std.proofs.Common.{◌∷◌, [], Ok, Err}
+use Rattle.sqlite.specs.declared.types.Value.TheVariants.{Text, Blob}
+use Rattle.fw_real.specs.Records.{shown_by}
+use Rattle.fw_real.specs.Statements.{Runs, put_text}
+use Rattle.fw_real.proofs.RecordLemmas.{did_if_ok, did_if_err, ran_if_ok, ran_if_err}
 use Rattle.fw_real.proofs.keeper.Records.put_in_file.Goals as goal
 
 pub returns-clause-did : goal.returns-clause-did
 returns-clause-did c =
-    record { before = c.in_ok-database.database; after = c.put.new.self; was = c.in_ok-database.ensures.open; is = refl; did = c.in_ok-put.ensures }
+    let before = c.in_ok-database.database in
+    let after = c.put-answer.new.self in
+    let values = Text c.args.name.now ∷ Blob c.args.bytes.now ∷ [] in
+    did_if_ok (λ it old new. Runs put_text values old new (Ok (record {}))) c.put-answer.result c.args.self.now.database before after c.in_ok-database.ensures.open
+    (λ clean. ran_if_ok put_text values c.put-answer.result (shown_by before) (shown_by after) (c.put-answer.ensures clean))
+
+pub returns-clause-not_done : goal.returns-clause-not_done
+returns-clause-not_done c =
+    let before = c.in_ok-database.database in
+    let after = c.put-answer.new.self in
+    let values = Text c.args.name.now ∷ Blob c.args.bytes.now ∷ [] in
+    did_if_err (λ fault old new. Runs put_text values old new (Err fault)) c.put-answer.result c.args.self.now.database before after c.in_ok-database.ensures.open
+    (λ clean. ran_if_err put_text values c.put-answer.result (shown_by before) (shown_by after) (c.put-answer.ensures clean))

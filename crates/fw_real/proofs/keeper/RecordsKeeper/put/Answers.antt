@@ -1,0 +1,4 @@
+use Rattle.fw_real.proofs.keeper.RecordsKeeper.put.Goals as goal
+
+pub returns-in-Err-clause-not_done : goal.returns-in-Err-clause-not_done
+returns-in-Err-clause-not_done c = rw (c.count.ensures.answer, c.count.ensures.is) c.in-Err.ensures.not_done
