@@ -1,6 +1,7 @@
 #!/bin/sh
-# Installs fwtk, its manual pages and an example table under a prefix. The program is built where it isn't yet, or is the
-# one that FWTK_PROGRAM names. DESTDIR, if it is set, stands before the prefix. No permission table is written or changed.
+# Installs fwtk, its manual pages and an example table under a prefix. The program is built where it isn't yet or a source
+# is newer, or is the one that FWTK_PROGRAM names. DESTDIR, if it is set, stands before the prefix. No permission table is
+# written or changed.
 set -eu
 
 if [ $# -ne 1 ]; then
@@ -16,7 +17,14 @@ under=${DESTDIR:-}$prefix
 crate=$top/crates/fwtk
 program=${FWTK_PROGRAM:-$crate/out/fwtk}
 
-if [ -z "${FWTK_PROGRAM:-}" ] && [ ! -x "$program" ]; then
+# Whether the program is there and no source is newer.
+is_new() {
+  [ -x "$program" ] || return 1
+  newer=$(find "$top/crates.txt" "$top/crates" -name out -prune -o -type f -newer "$program" -print | head -n 1)
+  [ -z "$newer" ]
+}
+
+if [ -z "${FWTK_PROGRAM:-}" ] && ! is_new; then
   echo "building $program"
   (CDPATH='' cd -- "$crate" && rt run -- --version </dev/null)
 fi
