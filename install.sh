@@ -1,6 +1,6 @@
 #!/bin/sh
-# Installs fwtk, its manual pages and an example table under a prefix. The program is built where it isn't yet or a source
-# is newer, or is the one that FWTK_PROGRAM names. DESTDIR, if it is set, stands before the prefix. No permission table is
+# Installs fwtk, its manual pages and an example table under a prefix. The program is built if it isn't yet or a source is
+# newer, or is the one that FWTK_PROGRAM names. DESTDIR, if it is set, stands before the prefix. No permission table is
 # written or changed.
 set -eu
 
@@ -46,5 +46,7 @@ put() {
 umask 022
 put 755 "$program" "$under/sbin/fwtk"
 put 644 "$top/docs/man/netperm-table.5" "$under/share/man/man5/netperm-table.5"
-put 644 "$top/docs/man/fwtk.8" "$under/share/man/man8/fwtk.8"
+for page in authsrv fwtk netacl; do
+  put 644 "$top/docs/man/$page.8" "$under/share/man/man8/$page.8"
+done
 put 644 "$crate/data/site-table" "$under/etc/netperm-table.example"

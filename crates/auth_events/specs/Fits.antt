@@ -14,20 +14,20 @@ comes_after None name = true
 comes_after (Some told) name = is_lt (slice_cmp nat_cmp told name)
 
 -- a reply that isn't a denial fits the request; the place is that of the request's own entry in the history
-abbrev pub Answers : Request → ℕ → Reply → Type 0
-Answers (requests.Open _) place (replies.Opened sid) = sid ≡ place
-Answers (requests.Authenticate _) place replies.Password = Unit {0}
-Answers (requests.Authenticate _) place (replies.Challenge _ _) = Unit {0}
-Answers (requests.Display _) place (replies.Shown _) = Unit {0}
-Answers (requests.List after) place (replies.Shown summary) = IsTrue (comes_after after summary.name)
-Answers (requests.Open _) place replies.Ok = ⊥
-Answers (requests.Authenticate _) place replies.Ok = ⊥
-Answers (requests.Display _) place replies.Ok = ⊥
-Answers (requests.List _) place replies.Ok = ⊥
-Answers _ place replies.Ok = Unit {0}
-Answers _ place _ = ⊥
+abbrev pub IsReplyTo : Request → ℕ → Reply → Type 0
+IsReplyTo (requests.Open _) place (replies.Opened sid) = sid ≡ place
+IsReplyTo (requests.Authenticate _) place replies.Password = Unit {0}
+IsReplyTo (requests.Authenticate _) place (replies.Challenge _ _) = Unit {0}
+IsReplyTo (requests.Display _) place (replies.Shown _) = Unit {0}
+IsReplyTo (requests.List after) place (replies.Shown summary) = IsTrue (comes_after after summary.name)
+IsReplyTo (requests.Open _) place replies.Ok = ⊥
+IsReplyTo (requests.Authenticate _) place replies.Ok = ⊥
+IsReplyTo (requests.Display _) place replies.Ok = ⊥
+IsReplyTo (requests.List _) place replies.Ok = ⊥
+IsReplyTo _ place replies.Ok = Unit {0}
+IsReplyTo _ place _ = ⊥
 
 -- the reply fits the request: each may be denied
 abbrev pub Fits : Request → ℕ → Reply → Type 0
 Fits request place (replies.Denied _) = Unit {0}
-Fits request place reply = Answers request place reply
+Fits request place reply = IsReplyTo request place reply

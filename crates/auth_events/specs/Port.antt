@@ -13,8 +13,8 @@ use Rattle.auth_events.specs.declared.port.PortFault.TheVariants.{NoMemory, Link
 
 -- the history as far as the port has seen it, and the places in it of the port's own entries, rising; the limit of the
 -- history, once it has been reached; whether a request was refused because of that; how often the link failed, and how
--- often something strange came; what the answers stand on beside the history; and which shared history the port belongs
--- to: nothing where it has one of its own
+-- often something strange came; what the answers stand on besides the history; and which shared history the port
+-- belongs to: nothing where it has one of its own
 pub record Port (Origin : Type 0) : Type 0 where
   pub seen : List Entry
   pub mine : List ℕ
@@ -58,14 +58,14 @@ pub record IsFull {Origin : Type 0} (limit : ℕ) (old new : Port Origin) : Type
   pub is : new ≡ record old { seen = old.seen ++ others; full = Some limit; refused = true }
 
 -- no memory: nothing was entered or counted
-pub record Lacks {Origin : Type 0} (old new : Port Origin) : Type 0 where
+pub record RanOutOfMemory {Origin : Type 0} (old new : Port Origin) : Type 0 where
   pub others : List Entry
   pub full : Option ℕ
   pub stays : Stays old.full full
   pub is : new ≡ record old { seen = old.seen ++ others; full = full }
 
 -- the link failed, which is counted
-pub record Breaks {Origin : Type 0} (old new : Port Origin) : Type 0 where
+pub record LinkFailed {Origin : Type 0} (old new : Port Origin) : Type 0 where
   pub others : List Entry
   pub full : Option ℕ
   pub count : ℕ
@@ -74,7 +74,7 @@ pub record Breaks {Origin : Type 0} (old new : Port Origin) : Type 0 where
   pub is : new ≡ record old { seen = old.seen ++ others; full = full; faults = count }
 
 -- something strange came, which is counted
-pub record Strays {Origin : Type 0} (old new : Port Origin) : Type 0 where
+pub record WasOdd {Origin : Type 0} (old new : Port Origin) : Type 0 where
   pub others : List Entry
   pub full : Option ℕ
   pub count : ℕ
@@ -90,6 +90,6 @@ Replies sid at request reply old new = Enters sid at request reply old new
 -- what a request is answered and leaves
 abbrev pub Asks : {Origin : Type 0} → Result Reply PortFault → ℕ → ℕ → Request → Port Origin → Port Origin → Type 0
 Asks (Ok reply) sid at request old new = Replies sid at request reply old new
-Asks (Err NoMemory) sid at request old new = Lacks old new
-Asks (Err Link) sid at request old new = Breaks old new
-Asks (Err Strange) sid at request old new = Strays old new
+Asks (Err NoMemory) sid at request old new = RanOutOfMemory old new
+Asks (Err Link) sid at request old new = LinkFailed old new
+Asks (Err Strange) sid at request old new = WasOdd old new

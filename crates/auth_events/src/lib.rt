@@ -1,9 +1,9 @@
 //! What is asked of the service that knows the users, what it answers, and the port through which a program asks.
 //!
 //! [`Request`], [`Reply`] and [`Entry`] are plain data, which contracts see field by field. [`AuthPort`] is the trait
-//! of whatever answers requests: a book of records, a share of one, a link to one. Its one ghost member, [`Port`] of
-//! `specs/Port.antt`, says what history of entries the port has seen, which of them are its own, and how often it
-//! failed; the clause on `ask` says what each answer does to that. Each reply fits its request.
+//! of whatever answers requests. Its one ghost member, [`Port`] of `specs/Port.antt`, says what history of entries the
+//! port has seen, which of them are its own, and how often it failed; the clause on `ask` says what each answer does to
+//! that. Each reply fits its request.
 #![tactic(auto)]
 
 mod denial;
@@ -19,6 +19,3 @@ pub use otp_number::OtpNumber;
 pub use port::{AuthPort, PortFault};
 pub use reply::{Reply, Summary};
 pub use request::{OpService, Request};
-
-#[cfg(test)]
-mod tests;

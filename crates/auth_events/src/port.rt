@@ -19,8 +19,8 @@ pub enum PortFault {
 
 /// Whatever answers requests.
 pub trait AuthPort: Drop {
-    /// What stays as it was when the history began: the policy and the records that its answers stand on, and the like. A
-    /// layer above chooses the type, as a plain struct that need not be made when the program runs.
+    /// What stays as it was when the history began: the policy and the records that its answers stand on, and the like.
+    /// A layer above chooses the type, as a plain struct that need not be made when the program runs.
     type Origin;
 
     /// What the port has seen of which history, and the counts.

@@ -2,7 +2,7 @@ ghost use Rattle.std.specs.Prelude.{◌≡◌, ◌≤◌};
 
 use crate::Denial;
 use auth_records::{LongName, Proto, Seed, Wiz};
-use fw_outside::Name;
+use fw_types::Name;
 
 /// What is shown of a user's record.
 #[derive(Drop)]

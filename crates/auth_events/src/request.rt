@@ -2,9 +2,9 @@ ghost use Rattle.std.specs.Prelude.{◌≡◌};
 
 use crate::OtpNumber;
 use auth_records::{LongName, Proto, Seed};
-use fw_outside::{Host, Name};
+use fw_types::{Host, Name};
 
-/// The gateway for which leave is asked.
+/// The gateway for which permission is asked.
 #[derive(Clone, Copy, Debug, PartialEq, Eq)]
 pub enum OpService {
     Telnet,
@@ -28,7 +28,7 @@ pub enum Request {
         hash: [u8; 16],
         word: Option<u64>,
     },
-    /// Leave for the user who is logged in to reach a host.
+    /// Permission for the user who is logged in to reach a host.
     Operation {
         service: OpService,
         host: Host,

@@ -8,12 +8,12 @@ use Rattle.auth_events.specs.declared.denial.Denial.TheVariants as denials
 use Rattle.auth_events.specs.declared.request.Request.{Request}
 use Rattle.auth_events.specs.declared.request.Request.TheVariants as requests
 use Rattle.auth_events.specs.declared.request.OpService.{OpService}
-use Rattle.fw_outside.specs.declared.host.Host.{Host}
+use Rattle.fw_types.specs.declared.host.Host.{Host}
 use Rattle.auth_machine.specs.Answer.{Answer}
 use Rattle.auth_machine.specs.Answer.Answer.{Denied}
 use Rattle.auth_machine.specs.Login.{answers_only}
 use Rattle.auth_machine.specs.Policy.{PolicyView}
-use Rattle.auth_machine.specs.Powers.{add_user, adds, adds_to, deletes, disabled, done_with, enabled, list, lists, new_user, operation, operation_by, over_all, own_power, power_of, reached, shows, shows_some, stores, user_of, with_group, with_otp, with_password, with_proto, with_wiz}
+use Rattle.auth_machine.specs.Powers.{add_user, adds, adds_to, deletes, disabled, done_with, enabled, list, lists, new_user, asks_operation, operation_by, over_all, own_power, power_of, reachable, shows, shows_some, stores, user_of, with_group, with_otp, with_password, with_proto, with_wiz}
 use Rattle.auth_machine.specs.State.{State, Change, record_at, session_of}
 use Rattle.auth_machine.specs.Step.{change_of, closes, in_session, opens}
 use Rattle.auth_machine.specs.declared.power.Power.{Power}
@@ -78,13 +78,13 @@ pub data Administers (s : State) (session : Session) : Request → Change → Ty
   nothing : (request : Request) (a : Answer) → Administers s session request (answers_only a)
   makes : (name long : List ℕ) (group : Option (List ℕ)) → record_at name s.records ≡ None → AddsTo (power_of s session) group
       → Administers s session (requests.Adduser name long) (stores (new_user name long group))
-  removes : (name : List ℕ) (f : Fields) → record_at name s.records ≡ Some f → reached (power_of s session) (record_at name s.records) ≡ common.Ok f
+  removes : (name : List ℕ) (f : Fields) → record_at name s.records ≡ Some f → reachable (power_of s session) (record_at name s.records) ≡ common.Ok f
       → Administers s session (requests.Deluser name) (deletes f)
   alters : (request : Request) (name : List ℕ) (f : Fields) → target request ≡ Some name → record_at name s.records ≡ Some f
-      → reached (power_for s session request name) (record_at name s.records) ≡ common.Ok f → Administers s session request (stores (altered request f))
+      → reachable (power_for s session request name) (record_at name s.records) ≡ common.Ok f → Administers s session request (stores (altered request f))
 
 -- what is reached is there
-reached_there : (power : Option Power) (found : Option Fields) (f : Fields) → reached power found ≡ common.Ok f → found ≡ Some f
+reached_there : (power : Option Power) (found : Option Fields) (f : Fields) → reachable power found ≡ common.Ok f → found ≡ Some f
 reached_there None found f is = absurd (cc)
 reached_there (Some Nobody) found f is = absurd (cc)
 reached_there (Some (Members group)) None f is = absurd (cc)
@@ -97,7 +97,7 @@ reached_there (Some (Members group)) (Some g) f is = choose _ is
 reached_there (Some Everybody) (Some g) f is = cc
 
 module _ (s : State) (session : Session) where
-  of_altering : (request : Request) (name : List ℕ) (r : Result Fields Denial) → target request ≡ Some name → reached (power_for s session request name) (record_at name s.records) ≡ r
+  of_altering : (request : Request) (name : List ℕ) (r : Result Fields Denial) → target request ≡ Some name → reachable (power_for s session request name) (record_at name s.records) ≡ r
       → Administers s session request (done_with r (λ f. stores (altered request f)))
   of_altering request name (Err d) to is = nothing request (Denied d)
   of_altering request name (common.Ok f) to is = alters request name f to (reached_there (power_for s session request name) _ f is) is
@@ -106,7 +106,7 @@ module _ (s : State) (session : Session) where
   of_showing request (Err d) = nothing request (Denied d)
   of_showing request (common.Ok f) = nothing request _
 
-  of_removing : (name : List ℕ) (r : Result Fields Denial) → reached (power_of s session) (record_at name s.records) ≡ r
+  of_removing : (name : List ℕ) (r : Result Fields Denial) → reachable (power_of s session) (record_at name s.records) ≡ r
       → Administers s session (requests.Deluser name) (done_with r deletes)
   of_removing name (Err d) is = nothing (requests.Deluser name) (Denied d)
   of_removing name (common.Ok f) is = removes name f (reached_there (power_of s session) _ f is) is
@@ -140,8 +140,8 @@ module _ (s : State) (session : Session) where
   unfolding list
   of_list request told = of_lists (power_of s session) request told
 
-  of_operation : (policy : PolicyView) (request : Request) (service : OpService) (host : Host) → Administers s session request (operation policy s session service host)
-  unfolding operation
+  of_operation : (policy : PolicyView) (request : Request) (service : OpService) (host : Host) → Administers s session request (asks_operation policy s session service host)
+  unfolding asks_operation
   of_operation policy request service host = choose (user_of s session)
     where
       choose : (user : Option Fields) → Administers s session request (operation_by policy service host user)
@@ -173,7 +173,7 @@ module _ (policy : PolicyView) (s : State) (place sid : ℕ) where
   other request act is h = within request act (session_of sid s.sessions) refl (λ session there. administering request session (act session) there is (h session))
 
   altering : (request : Request) (name : List ℕ) → is_other request ≡ true → target request ≡ Some name
-      → Happens policy s place sid request (in_session (session_of sid s.sessions) (λ session. done_with (reached (power_for s session request name) (record_at name s.records)) (λ f. stores (altered request f))))
+      → Happens policy s place sid request (in_session (session_of sid s.sessions) (λ session. done_with (reachable (power_for s session request name) (record_at name s.records)) (λ f. stores (altered request f))))
   altering request name is to = other request _ is (λ session. of_altering s session request name _ to refl)
 
   pub happens : (request : Request) → Happens policy s place sid request (change_of policy s place sid request)

@@ -7,13 +7,13 @@ use Rattle.auth_records.specs.declared.record.Proto.TheVariants as protos
 use Rattle.auth_events.specs.declared.denial.Denial.{Denial}
 use Rattle.auth_events.specs.declared.denial.Denial.TheVariants as denials
 use Rattle.auth_events.specs.declared.request.OpService.{OpService}
-use Rattle.fw_outside.specs.declared.host.Host.{Host}
+use Rattle.fw_types.specs.declared.host.Host.{Host}
 use Rattle.auth_machine.specs.Answer.{Answer}
 use Rattle.auth_machine.specs.Answer.Answer.{Password, Challenged, Denied, Ok as Done}
 use Rattle.auth_machine.specs.Answers.{IsOwnDenial}
 use Rattle.auth_machine.specs.Login.{asks, asks_word, authenticate, authenticate_as, checks, checks_otp, checks_plain, checks_word, guarded, later, lockout, refusal, respond, respond_as, respond_in, unless_refused}
 use Rattle.auth_machine.specs.Policy.{PolicyView}
-use Rattle.auth_machine.specs.Powers.{add_user, adds, adds_to, operation_answer, covers, done_with, operation, operation_by, reached}
+use Rattle.auth_machine.specs.Powers.{add_user, adds, adds_to, operation_answer, covers, done_with, asks_operation, operation_by, reachable}
 use Rattle.auth_machine.specs.State.{State, Change, challenge_at, record_at}
 use Rattle.auth_machine.specs.Step.{in_session}
 use Rattle.auth_machine.specs.declared.session.Challenge.{Challenge}
@@ -122,15 +122,15 @@ module _ (P : Answer → Type 0) (denied : (d : Denial) → IsOwnDenial d → P 
   of_operation_by done policy service host None = denied denials.NotIn (refl, refl)
   of_operation_by done policy service host (Some user) = of_allowed done _
 
-  pub of_operation : P Done → (policy : PolicyView) (s : State) (session : Session) (service : OpService) (host : Host) → P (operation policy s session service host).answer
-  unfolding operation
+  pub of_operation : P Done → (policy : PolicyView) (s : State) (session : Session) (service : OpService) (host : Host) → P (asks_operation policy s session service host).answer
+  unfolding asks_operation
   of_operation done policy s session service host = of_operation_by done policy service host _
 
   of_members : (act : Fields → Change) → ((f : Fields) → P (act f).answer) → (b : Bool) (f : Fields) → P (done_with (cond b (Ok f) (Err denials.NotWizard)) act).answer
   of_members act h true f = h f
   of_members act h false f = denied denials.NotWizard (refl, refl)
 
-  pub of_reached : (act : Fields → Change) → ((f : Fields) → P (act f).answer) → (power : Option Power) (target : Option Fields) → P (done_with (reached power target) act).answer
+  pub of_reached : (act : Fields → Change) → ((f : Fields) → P (act f).answer) → (power : Option Power) (target : Option Fields) → P (done_with (reachable power target) act).answer
   of_reached act h None target = denied denials.NotIn (refl, refl)
   of_reached act h (Some Nobody) target = denied denials.NotWizard (refl, refl)
   of_reached act h (Some (Members group)) None = denied denials.NoSuch (refl, refl)

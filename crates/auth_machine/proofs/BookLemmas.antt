@@ -2,7 +2,7 @@
 use Rattle.std.proofs.Common.{arith, ◌≡◌, refl, sym, ap, subst, ◌∙◌, ℕ, ◌<◌, ◌≤◌, ◌+◌, Bool, true, false, not, ◌&&◌, cond, List, [], ◌∷◌, ◌++◌, length, Option, None, IfSome, Ok}
 use Rattle.std.proofs.lemmas.List.{length_push}
 use Rattle.fw_outside.specs.Counts.{Rose}
-use Rattle.fw_outside.specs.Vault.{AreSame, Vault}
+use Rattle.fw_outside.specs.KeeperView.{AreSame, KeeperView}
 use Rattle.auth_records.specs.Spelling.{Fields}
 use Rattle.auth_events.specs.Fits.{Fits}
 use Rattle.auth_events.specs.Port.{session_at}
@@ -16,10 +16,10 @@ use Rattle.auth_machine.proofs.HistoryLemmas.{after_one_more, legal_one_more, un
 use Rattle.auth_machine.proofs.TableLemmas.{clash, count_after, kept_unless, table_after, unkept_rose}
 use Rattle.auth_machine.specs.Answer.{Answer, answer_of}
 use Rattle.auth_machine.specs.Answers.{full_answer, full_of, is_unkept, is_unkept_answer}
-use Rattle.auth_machine.specs.Book.{Asked, Enters, Replies, RepliesKept, Stands}
-use Rattle.auth_machine.specs.History.{CountsUnkept, HasRecords, IsStep, Origin, after, table_of, unkept}
+use Rattle.auth_machine.specs.Book.{Asked, AddsEntry, EntersReply, KeeperAfterReply, Stands}
+use Rattle.auth_machine.specs.History.{CountsUnkept, HasRecords, IsStep, Origin, after, entries_of, unkept}
 use Rattle.auth_machine.specs.Policy.{PolicyView}
-use Rattle.auth_machine.specs.State.{State, Change, at_moment, changed, edited}
+use Rattle.auth_machine.specs.State.{State, Change, at_moment, changed, records_after}
 use Rattle.auth_machine.specs.Step.{answer, is_refused, keeps, proposed}
 use Rattle.auth_machine.specs.Stepping.{Steps}
 
@@ -99,7 +99,7 @@ unkept_step policy s place sid at request kept reply is unkept =
     (unkept_by (is_refused policy s place sid at request kept) (proposed policy s place sid at request).answer _ (own_proposal policy s place sid at request).kept
     (sym (ap is_unkept_answer is) ∙ sym (unkept_as_answer reply) ∙ unkept)))
 
-pub step_rose : (policy : PolicyView) (s new : State) (place sid at : ℕ) (request : Request) (kept : Bool) (reply : Reply) (before now : Vault)
+pub step_rose : (policy : PolicyView) (s new : State) (place sid at : ℕ) (request : Request) (kept : Bool) (reply : Reply) (before now : KeeperView)
     → Steps policy place sid at request reply kept s new before now → is_unkept reply ≡ true → Rose before.faults now.faults
 step_rose policy s new place sid at request kept reply before now step unkept =
     unkept_rose (keeps policy s place sid at request) (proposed policy s place sid at request).records kept before now step.keeping
@@ -113,7 +113,7 @@ either_fits request place false a not_kept reply own denied is = own reply is
 -- ---- the state after a step
 
 records_of : (b : Bool) (s : State) (sid at : ℕ) (change : Change)
-    → (cond b (at_moment at s) (changed sid change (at_moment at s))).records ≡ cond b s.records (edited change.records s.records)
+    → (cond b (at_moment at s) (changed sid change (at_moment at s))).records ≡ cond b s.records (records_after change.records s.records)
 records_of true s sid at change = refl
 records_of false s sid at change = refl
 
@@ -123,15 +123,15 @@ abbrev entry_of : ℕ → ℕ → Request → Bool → Reply → Entry
 entry_of sid at request kept reply = record { sid = sid; at = at; request = request; kept = kept; reply = reply }
 
 -- the step of the request that is entered next, for its session
-abbrev Next : Origin → List Entry → ℕ → ℕ → Request → Reply → Bool → State → Vault → Vault → Type 0
+abbrev Next : Origin → List Entry → ℕ → ℕ → Request → Reply → Bool → State → KeeperView → KeeperView → Type 0
 Next origin h sid at request reply kept new before now = Steps origin.policy (length h) sid at request reply kept (after origin h) new before now
 
-next_state : (origin : Origin) (h : List Entry) (sid at : ℕ) (request : Request) (reply : Reply) (kept : Bool) (new : State) (before now : Vault)
+next_state : (origin : Origin) (h : List Entry) (sid at : ℕ) (request : Request) (reply : Reply) (kept : Bool) (new : State) (before now : KeeperView)
     → Next origin h sid at request reply kept new before now → new ≡ after origin (h ++ entry_of sid at request kept reply ∷ [])
 next_state origin h sid at request reply kept new before now step =
     step.state_is ∙ sym (after_one_more origin h (entry_of sid at request kept reply))
 
-next_is_step : (origin : Origin) (h : List Entry) (sid at : ℕ) (request : Request) (reply : Reply) (kept : Bool) (new : State) (before now : Vault)
+next_is_step : (origin : Origin) (h : List Entry) (sid at : ℕ) (request : Request) (reply : Reply) (kept : Bool) (new : State) (before now : KeeperView)
     → session_at request (length h) sid ≡ sid → Next origin h sid at request reply kept new before now
     → IsStep origin.policy (after origin h) (length h) (entry_of sid at request kept reply)
 next_is_step origin h sid at request reply kept new before now own step = record {
@@ -140,18 +140,18 @@ next_is_step origin h sid at request reply kept new before now own step = record
   sid = own;
 }
 
-next_records : (origin : Origin) (h : List Entry) (sid at : ℕ) (request : Request) (reply : Reply) (kept : Bool) (new : State) (before now : Vault)
+next_records : (origin : Origin) (h : List Entry) (sid at : ℕ) (request : Request) (reply : Reply) (kept : Bool) (new : State) (before now : KeeperView)
     → Next origin h sid at request reply kept new before now → HasRecords origin h before → HasRecords origin (h ++ entry_of sid at request kept reply ∷ []) now
 next_records origin h sid at request reply kept new before now step has =
     let change : Change = proposed origin.policy (after origin h) (length h) sid at request in
     let is : (after origin (h ++ entry_of sid at request kept reply ∷ [])).records
-    ≡ cond (is_refused origin.policy (after origin h) (length h) sid at request kept) (after origin h).records (edited change.records (after origin h).records) =
+    ≡ cond (is_refused origin.policy (after origin h) (length h) sid at request kept) (after origin h).records (records_after change.records (after origin h).records) =
     ap (λ (s : State). s.records) (after_one_more origin h (entry_of sid at request kept reply))
     ∙ records_of (is_refused origin.policy (after origin h) (length h) sid at request kept) (after origin h) (session_at request (length h) sid) at change in
-    subst (λ (records : List Fields). IfSome now.table (λ table. AreSame table (table_of records))) (sym is)
+    subst (λ (records : List Fields). IfSome now.table (λ table. AreSame table (entries_of records))) (sym is)
     (table_after change.records kept before now (after origin h).records step.keeping has)
 
-next_faults : (origin : Origin) (failed : ℕ) (h : List Entry) (sid at : ℕ) (request : Request) (reply : Reply) (kept : Bool) (new : State) (before now : Vault)
+next_faults : (origin : Origin) (failed : ℕ) (h : List Entry) (sid at : ℕ) (request : Request) (reply : Reply) (kept : Bool) (new : State) (before now : KeeperView)
     → Next origin h sid at request reply kept new before now → CountsUnkept failed h before → CountsUnkept failed (h ++ entry_of sid at request kept reply ∷ []) now
 next_faults origin failed h sid at request reply kept new before now step most =
     let more : unkept (h ++ entry_of sid at request kept reply ∷ []) ≡ unkept h + cond kept 0 1 = unkept_one_more h (entry_of sid at request kept reply) in
@@ -162,7 +162,7 @@ one_longer : (h : List Entry) (entry : Entry) (limit : ℕ) → length h < limit
 one_longer h entry limit fits = omega (arith, length_push h entry, fits)
 
 -- the step of a book's policy and state is that of its origin and history
-rebased : (origin : Origin) (h : List Entry) (limit : ℕ) (refused : Bool) (failed : ℕ) (policy : PolicyView) (s new : State) (place sid at : ℕ) (request : Request) (reply : Reply) (kept : Bool) (before now : Vault)
+rebased : (origin : Origin) (h : List Entry) (limit : ℕ) (refused : Bool) (failed : ℕ) (policy : PolicyView) (s new : State) (place sid at : ℕ) (request : Request) (reply : Reply) (kept : Bool) (before now : KeeperView)
     → Stands h limit refused origin failed before policy s → place ≡ length h
     → Steps policy place sid at request reply kept s new before now → Next origin h sid at request reply kept new before now
 rebased origin h limit refused failed policy s new place sid at request reply kept before now book is step =
@@ -171,7 +171,7 @@ rebased origin h limit refused failed policy s new place sid at request reply ke
     (subst (λ (z : State). Steps policy place sid at request reply kept z new before now) book.state_is step))
 
 -- the book stands with the entry
-pub stands_with : (origin : Origin) (h : List Entry) (limit : ℕ) (refused : Bool) (failed : ℕ) (policy : PolicyView) (s new : State) (place sid at : ℕ) (request : Request) (reply : Reply) (kept : Bool) (before now : Vault)
+pub stands_with : (origin : Origin) (h : List Entry) (limit : ℕ) (refused : Bool) (failed : ℕ) (policy : PolicyView) (s new : State) (place sid at : ℕ) (request : Request) (reply : Reply) (kept : Bool) (before now : KeeperView)
     → Stands h limit refused origin failed before policy s → place ≡ length h → length h < limit → session_at request place sid ≡ sid
     → Steps policy place sid at request reply kept s new before now
     → Stands (h ++ entry_of sid at request kept reply ∷ []) limit refused origin failed now policy new
@@ -189,7 +189,7 @@ stands_with origin h limit refused failed policy s new place sid at request repl
     }
 
 -- what asking does, where an entry is made
-pub asked_with : (origin : Origin) (h : List Entry) (limit : ℕ) (refused : Bool) (failed : ℕ) (policy : PolicyView) (s new : State) (place told sid at : ℕ) (request : Request) (reply : Reply) (kept : Bool) (before now : Vault)
+pub asked_with : (origin : Origin) (h : List Entry) (limit : ℕ) (refused : Bool) (failed : ℕ) (policy : PolicyView) (s new : State) (place told sid at : ℕ) (request : Request) (reply : Reply) (kept : Bool) (before now : KeeperView)
     → Stands h limit refused origin failed before policy s → place ≡ length h → length h < limit → sid ≡ session_at request place told
     → Steps policy place sid at request reply kept s new before now
     → Asked told at request limit origin h (Ok reply) (h ++ entry_of sid at request kept reply ∷ [])
@@ -197,25 +197,25 @@ asked_with origin h limit refused failed policy s new place told sid at request 
     let own : session_at request place sid ≡ sid = ap (session_at request place) sid_is ∙ same_session request place told ∙ sym sid_is in
     let stands : Stands (h ++ entry_of sid at request kept reply ∷ []) limit refused origin failed now policy new =
     stands_with origin h limit refused failed policy s new place sid at request reply kept before now book is fits own step in
-    let entered : Enters told at request reply limit h (h ++ entry_of sid at request kept reply ∷ []) = record {
+    let entered : AddsEntry told at request reply limit h (h ++ entry_of sid at request kept reply ∷ []) = record {
       kept = kept;
       fits = fits;
       is = ap (λ (n : ℕ). h ++ entry_of n at request kept reply ∷ []) (sid_is ∙ ap (λ (n : ℕ). session_at request n told) is);
     } in
     record {
-      answers = subst (λ (full : Option ℕ). Replies full told at request reply limit h (h ++ entry_of sid at request kept reply ∷ []))
+      answers = subst (λ (full : Option ℕ). EntersReply full told at request reply limit h (h ++ entry_of sid at request kept reply ∷ []))
           (sym (step_not_full policy s place sid at request kept reply step.reply_is)) entered;
       legal = stands.legal;
       within = stands.within;
     }
 
 -- and what it does to the keeper
-pub kept_with : (origin : Origin) (h : List Entry) (limit : ℕ) (refused : Bool) (failed : ℕ) (policy : PolicyView) (s new : State) (place sid at : ℕ) (request : Request) (reply : Reply) (kept : Bool) (before now : Vault)
+pub kept_with : (origin : Origin) (h : List Entry) (limit : ℕ) (refused : Bool) (failed : ℕ) (policy : PolicyView) (s new : State) (place sid at : ℕ) (request : Request) (reply : Reply) (kept : Bool) (before now : KeeperView)
     → Stands h limit refused origin failed before policy s → place ≡ length h
     → Steps policy place sid at request reply kept s new before now
-    → RepliesKept (full_of reply) origin h (h ++ entry_of sid at request kept reply ∷ []) before now
+    → KeeperAfterReply (full_of reply) origin h (h ++ entry_of sid at request kept reply ∷ []) before now
 kept_with origin h limit refused failed policy s new place sid at request reply kept before now book is step =
-    subst (λ (full : Option ℕ). RepliesKept full origin h (h ++ entry_of sid at request kept reply ∷ []) before now)
+    subst (λ (full : Option ℕ). KeeperAfterReply full origin h (h ++ entry_of sid at request kept reply ∷ []) before now)
     (sym (step_not_full policy s place sid at request kept reply step.reply_is))
     (record {
       entry = entry_of sid at request kept reply;

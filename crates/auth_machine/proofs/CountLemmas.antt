@@ -7,10 +7,10 @@ use Rattle.auth_events.specs.declared.request.Request.{Request}
 use Rattle.auth_events.specs.declared.request.Request.TheVariants as requests
 use Rattle.auth_machine.specs.History.{AreSteps, IsLegal, Origin, after, after_entries, after_entry}
 use Rattle.auth_machine.specs.Logins.{is_ok, is_response}
-use Rattle.auth_machine.specs.Chains.{IsAcceptance, Lowers, SetsNone, accepted, accepted_in, asks_words, is_about, is_by_words, is_setting, with_first, words_of}
+use Rattle.auth_machine.specs.Chains.{IsAcceptance, Lowers, SetsNone, accepted, accepted_in, asks_words, is_about, is_by_words, is_setting, with_first, otp_in_record}
 use Rattle.auth_machine.specs.Login.{lowered}
 use Rattle.auth_machine.specs.Policy.{PolicyView}
-use Rattle.auth_machine.specs.State.{State, at_moment, record_at, start}
+use Rattle.auth_machine.specs.State.{State, at_moment, record_at, first_state}
 use Rattle.auth_machine.proofs.EntriesLemmas.{after_joined, parts_behind}
 use Rattle.auth_machine.proofs.RecordLemmas.{LogsInAs, RecordMoves, last_moves, record_moves}
 use Rattle.auth_machine.proofs.RecordLemmas.RecordMoves.{becomes, enters, fails, made, removed, same, uses}
@@ -39,9 +39,9 @@ module _ (s : State) (k : List ℕ) (entry : Entry) where
       let e : first_count (accepted_of s k entry found) ≡ 0 = ap first_count none in
       record { otp = new; is = is; sum = omega arith }
 
-  more_before : (policy : PolicyView) (old new : Option Fields) (n : OtpFields) → RecordMoves policy (at_moment entry.at s) k entry old new → is_setting k entry ≡ false → words_of new ≡ Some n
-      → IsMoreBy (first_count (accepted_of s k entry old)) (words_of old) n
-  more_before policy old new n (same _ out) none is = as_many old (words_of old) n (not_accepted s k entry old out) is
+  more_before : (policy : PolicyView) (old new : Option Fields) (n : OtpFields) → RecordMoves policy (at_moment entry.at s) k entry old new → is_setting k entry ≡ false → otp_in_record new ≡ Some n
+      → IsMoreBy (first_count (accepted_of s k entry old)) (otp_in_record old) n
+  more_before policy old new n (same _ out) none is = as_many old (otp_in_record old) n (not_accepted s k entry old out) is
   more_before policy old new n (made long group session request there to) none is = absurd (cc)
   more_before policy old new n (removed f session request reply there power) none is = absurd (cc)
   more_before policy old new n (becomes f session to reply there power) none is =
@@ -57,7 +57,7 @@ module _ (s : State) (k : List ℕ) (entry : Entry) where
       record { otp = otp; is = chain.otp_is; sum = omega arith }
 
 more_after : (policy : PolicyView) (k : List ℕ) (entries : List Entry) (place : ℕ) (s : State) (n : OtpFields) → AreSteps policy s place entries → SetsNone k entries
-    → words_of (record_at k (after_entries policy s place entries).records) ≡ Some n → IsMoreBy (length (accepted policy k s place entries)) (words_of (record_at k s.records)) n
+    → otp_in_record (record_at k (after_entries policy s place entries).records) ≡ Some n → IsMoreBy (length (accepted policy k s place entries)) (otp_in_record (record_at k s.records)) n
 more_after policy k [] place s n steps none is = record { otp = n; is = is; sum = omega arith }
 more_after policy k (entry ∷ entries) place s n steps none is =
     let rest = more_after policy k entries (suc place) (after_entry policy s place entry) n steps.1 none.1 is in
@@ -68,14 +68,14 @@ more_after policy k (entry ∷ entries) place s n steps none is =
     record { otp = first.otp; is = first.is; sum = omega arith }
 
 pub words_counted : (origin : Origin) (before during : List Entry) (name : List ℕ) (old new : OtpFields) → IsLegal origin (before ++ during) → SetsNone name during
-    → words_of (record_at name (after origin before).records) ≡ Some old → words_of (record_at name (after origin (before ++ during)).records) ≡ Some new
+    → otp_in_record (record_at name (after origin before).records) ≡ Some old → otp_in_record (record_at name (after origin (before ++ during)).records) ≡ Some new
     → new.number + length (accepted origin.policy name (after origin before) (length before) during) ≡ old.number
 words_counted origin before during name old new legal none was is =
     let zero_first : 0 + length before ≡ length before = omega arith in
-    let steps = subst (λ (n : ℕ). AreSteps origin.policy (after origin before) n during) zero_first (parts_behind origin.policy (start origin.records) 0 before during legal) in
+    let steps = subst (λ (n : ℕ). AreSteps origin.policy (after origin before) n during) zero_first (parts_behind origin.policy (first_state origin.records) 0 before during legal) in
     let joined : after origin (before ++ during) ≡ after_entries origin.policy (after origin before) (length before) during =
-    after_joined origin.policy (start origin.records) 0 before during ∙ ap (λ (n : ℕ). after_entries origin.policy (after origin before) n during) zero_first in
-    let more = more_after origin.policy name during (length before) (after origin before) new steps none (sym (ap (λ (s : State). words_of (record_at name s.records)) joined) ∙ is) in
+    after_joined origin.policy (first_state origin.records) 0 before during ∙ ap (λ (n : ℕ). after_entries origin.policy (after origin before) n during) zero_first in
+    let more = more_after origin.policy name during (length before) (after origin before) new steps none (sym (ap (λ (s : State). otp_in_record (record_at name s.records)) joined) ∙ is) in
     let e : old ≡ more.otp = some_same (sym was ∙ more.is) in
     more.sum ∙ sym (ap (λ (o : OtpFields). o.number) e)
   where
@@ -91,7 +91,7 @@ module _ (policy : PolicyView) (s : State) (k : List ℕ) (entry : Entry) (login
       let f = login.1 in
       absurd (cc)
 
-  lowers : (old new : Option Fields) → RecordMoves policy s k entry old new → asks_words old ≡ true → Lowers entry.request (words_of old) (words_of new)
+  lowers : (old new : Option Fields) → RecordMoves policy s k entry old new → asks_words old ≡ true → Lowers entry.request (otp_in_record old) (otp_in_record new)
   lowers old new (same _ out) asks = absurd (out login)
   lowers old new (made long group session is there to) asks = no_request (requests.Adduser k long) is refl
   lowers old new (removed f session is reply there power) asks = no_request (requests.Deluser k) is refl
@@ -104,7 +104,7 @@ module _ (policy : PolicyView) (s : State) (k : List ℕ) (entry : Entry) (login
       record { word = w; given = word; otp = otp; old_is = chain.otp_is; left = eqb-false otp.number 0 chain.left; chained = chain.chained; new_is = refl }
 
 pub word_lowers : (origin : Origin) (before : List Entry) (entry : Entry) (name : List ℕ) → IsLegal origin (before ++ entry ∷ []) → IsAcceptance name (after origin before) entry
-    → Lowers entry.request (words_of (record_at name (after origin before).records)) (words_of (record_at name (after origin (before ++ entry ∷ [])).records))
+    → Lowers entry.request (otp_in_record (record_at name (after origin before).records)) (otp_in_record (record_at name (after origin (before ++ entry ∷ [])).records))
 word_lowers origin before entry name legal acceptance =
     lowers origin.policy (at_moment entry.at (after origin before)) name entry (acceptance.waits, acceptance.responds, acceptance.reply) _ _
     (last_moves origin before entry name legal) acceptance.by_words

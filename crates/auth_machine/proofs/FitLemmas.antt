@@ -17,7 +17,7 @@ use Rattle.auth_machine.specs.Answer.Answer.{Opened, Password, Challenged, Shown
 use Rattle.auth_machine.specs.Answers.{IsOwnDenial, full_answer, is_unkept_answer}
 use Rattle.auth_machine.specs.Login.{authenticate, respond}
 use Rattle.auth_machine.specs.Policy.{PolicyView}
-use Rattle.auth_machine.specs.Powers.{add_user, by_super, by_user, by_wizard, deletes, disabled, done_with, enabled, list, lists, operation, over_all, own_power, power_of, reached, sees, shows, shows_some, stores, with_group, with_otp, with_password, with_proto, with_wiz}
+use Rattle.auth_machine.specs.Powers.{add_user, by_super, by_user, by_wizard, deletes, disabled, done_with, enabled, list, lists, asks_operation, over_all, own_power, power_of, reachable, sees, shows, shows_some, stores, with_group, with_otp, with_password, with_proto, with_wiz}
 use Rattle.auth_machine.specs.State.{State, Change, record_at, session_of}
 use Rattle.auth_machine.specs.Step.{change_of, closes, in_session}
 use Rattle.auth_machine.specs.declared.power.Power.{Power}
@@ -162,7 +162,7 @@ own_in_session : (request : Request) (place : ℕ) (s : State) (sid : ℕ) (act 
 own_in_session request place s sid act h = of_session (IsOwn request place) (own_denied request place) (session_of sid s.sessions) act h
 
 own_reached : (request : Request) (place : ℕ) (power : Option Power) (target : Option Fields) (act : Fields → Change) → ((f : Fields) → IsOwn request place (act f).answer)
-    → IsOwn request place (done_with (reached power target) act).answer
+    → IsOwn request place (done_with (reachable power target) act).answer
 own_reached request place power target act h = of_reached (IsOwn request place) (own_denied request place) act h power target
 
 own_authenticate : (policy : PolicyView) (s : State) (session : Session) (name : List ℕ) (place : ℕ) → IsOwn (requests.Authenticate name) place (authenticate policy s session name).answer
@@ -182,7 +182,7 @@ own_answer policy s place sid (requests.Response hash word) =
     own_in_session (requests.Response hash word) place s sid (λ session. respond policy s session hash word)
     (λ session. of_respond (IsOwn (requests.Response hash word) place) (own_denied (requests.Response hash word) place) (own_done (requests.Response hash word) place tt) policy s session hash word)
 own_answer policy s place sid (requests.Operation service host) =
-    own_in_session (requests.Operation service host) place s sid (λ session. operation policy s session service host)
+    own_in_session (requests.Operation service host) place s sid (λ session. asks_operation policy s session service host)
     (λ session. of_operation (IsOwn (requests.Operation service host) place) (own_denied (requests.Operation service host) place) (own_done (requests.Operation service host) place tt) policy s session service host)
 own_answer policy s place sid (requests.Adduser name long) =
     own_in_session (requests.Adduser name long) place s sid (λ session. add_user s session name long)

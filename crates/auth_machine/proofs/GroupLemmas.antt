@@ -12,7 +12,7 @@ use Rattle.auth_machine.specs.History.{IsLegal, Origin, after}
 use Rattle.auth_machine.specs.Laws.{HasRankOf, IsGroupWizard, IsNewcomer, IsOutOfReach}
 use Rattle.auth_machine.specs.Logins.{phase_of}
 use Rattle.auth_machine.specs.Policy.{PolicyView}
-use Rattle.auth_machine.specs.Powers.{covers, is_name_in, is_super, name_in, over_all, own_power, power_of, reached, record_of, same_group, user_of, wizard_power}
+use Rattle.auth_machine.specs.Powers.{covers, is_name_in, is_super, name_in_phase, over_all, own_power, power_of, reachable, record_of, same_group, user_of, wizard_power}
 use Rattle.auth_machine.specs.State.{State, at_moment, record_at, session_of}
 use Rattle.auth_machine.specs.declared.power.Power.TheVariants.{Nobody, Members, Everybody}
 use Rattle.auth_machine.specs.declared.session.Phase.{Phase}
@@ -27,13 +27,13 @@ use Rattle.auth_machine.proofs.RecordLemmas.RecordMoves.{becomes, enters, fails,
 wizard_is : (s : State) (sid : ℕ) (user : List ℕ) (group : Option (List ℕ)) (wizard : IsGroupWizard s sid user group) → power_of s wizard.session ≡ Some (Members group)
 wizard_is s sid user group wizard =
     ap (λ (b : Bool). cond b (Some Everybody) (option_map (λ u. wizard_power u.wiz u.group) (user_of s wizard.session))) wizard.console
-    ∙ ap (λ (phase : Phase). option_map (λ u. wizard_power u.wiz u.group) (record_of (name_in phase) s.records)) wizard.phase
+    ∙ ap (λ (phase : Phase). option_map (λ u. wizard_power u.wiz u.group) (record_of (name_in_phase phase) s.records)) wizard.phase
     ∙ ap (λ (found : Option Fields). option_map (λ u. wizard_power u.wiz u.group) found) wizard.own_there
     ∙ ap (λ w. Some (wizard_power w wizard.own.group)) wizard.wiz
     ∙ ap (λ (g : Option (List ℕ)). Some (Members g)) wizard.group_is
 
 -- over which records a session with the power over a group has it
-covered : (group : Option (List ℕ)) (f g : Fields) → reached (Some (Members group)) (Some f) ≡ common.Ok g → covers (Members group) f ≡ true
+covered : (group : Option (List ℕ)) (f g : Fields) → reachable (Some (Members group)) (Some f) ≡ common.Ok g → covers (Members group) f ≡ true
 covered group f g is = choose (covers (Members group) f) refl is
   where
     choose : (b : Bool) → covers (Members group) f ≡ b → cond b (common.Ok f) (Err denials.NotWizard) ≡ common.Ok g → covers (Members group) f ≡ true
@@ -41,20 +41,20 @@ covered group f g is = choose (covers (Members group) f) refl is
     choose false e h = absurd (cc)
 
 module _ (s : State) (session : Session) (user : List ℕ) (group : Option (List ℕ)) (phase : session.phase ≡ In user) (power : power_of s session ≡ Some (Members group)) where
-  by_power : (f : Fields) → reached (power_of s session) (Some f) ≡ common.Ok f → covers (Members group) f ≡ true
-  by_power f is = covered group f f (subst (λ p. reached p (Some f) ≡ common.Ok f) power is)
+  by_power : (f : Fields) → reachable (power_of s session) (Some f) ≡ common.Ok f → covers (Members group) f ≡ true
+  by_power f is = covered group f f (subst (λ p. reachable p (Some f) ≡ common.Ok f) power is)
 
-  never_super : {A : Type 0} → (f : Fields) → reached (option_map over_all (power_of s session)) (Some f) ≡ common.Ok f → A
+  never_super : {A : Type 0} → (f : Fields) → reachable (option_map over_all (power_of s session)) (Some f) ≡ common.Ok f → A
   never_super f is =
-      let e : reached (Some Nobody) (Some f) ≡ common.Ok f = subst (λ p. reached (option_map over_all p) (Some f) ≡ common.Ok f) power is in
+      let e : reachable (Some Nobody) (Some f) ≡ common.Ok f = subst (λ p. reachable (option_map over_all p) (Some f) ≡ common.Ok f) power is in
       absurd (cc)
 
-  by_own : (k : List ℕ) (f : Fields) → bytes_eq user k ≡ false → reached (own_power s session k) (Some f) ≡ common.Ok f → covers (Members group) f ≡ true
+  by_own : (k : List ℕ) (f : Fields) → bytes_eq user k ≡ false → reachable (own_power s session k) (Some f) ≡ common.Ok f → covers (Members group) f ≡ true
   by_own k f other is =
       let named : is_name_in session.phase k ≡ false = ap (λ (p : Phase). is_name_in p k) phase ∙ other in
-      by_power f (subst (λ (b : Bool). reached (cond b (option_map (λ p. Everybody) (power_of s session)) (power_of s session)) (Some f) ≡ common.Ok f) named is)
+      by_power f (subst (λ (b : Bool). reachable (cond b (option_map (λ p. Everybody) (power_of s session)) (power_of s session)) (Some f) ≡ common.Ok f) named is)
 
-  by_request : (request : Request) (k : List ℕ) (f : Fields) → bytes_eq user k ≡ false → reached (power_for s session request k) (Some f) ≡ common.Ok f → covers (Members group) f ≡ true
+  by_request : (request : Request) (k : List ℕ) (f : Fields) → bytes_eq user k ≡ false → reachable (power_for s session request k) (Some f) ≡ common.Ok f → covers (Members group) f ≡ true
   by_request (requests.Group _ _) k f other is = never_super f is
   by_request (requests.Wiz _) k f other is = never_super f is
   by_request (requests.Unwiz _) k f other is = never_super f is
@@ -63,7 +63,7 @@ module _ (s : State) (session : Session) (user : List ℕ) (group : Option (List
   by_request (requests.Otp _ _ _ _) k f other is = by_own k f other is
   by_request _ k f other is = by_power f is
 
-  same_rank : (request : Request) (k : List ℕ) (f : Fields) → reached (power_for s session request k) (Some f) ≡ common.Ok f → HasRankOf f (altered request f)
+  same_rank : (request : Request) (k : List ℕ) (f : Fields) → reachable (power_for s session request k) (Some f) ≡ common.Ok f → HasRankOf f (altered request f)
   same_rank (requests.Group _ _) k f is = never_super f is
   same_rank (requests.Wiz _) k f is = never_super f is
   same_rank (requests.Unwiz _) k f is = never_super f is

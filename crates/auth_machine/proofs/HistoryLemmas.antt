@@ -3,7 +3,7 @@ use Rattle.std.proofs.Common.{arith, ◌≡◌, ap, ◌∙◌, subst, ℕ, suc, 
 use Rattle.auth_events.specs.declared.entry.Entry.{Entry}
 use Rattle.auth_machine.specs.History.{AreSteps, IsLegal, IsStep, Origin, after, after_entries, after_entry, unkept}
 use Rattle.auth_machine.specs.Policy.{PolicyView}
-use Rattle.auth_machine.specs.State.{State, start}
+use Rattle.auth_machine.specs.State.{State, first_state}
 
 after_more : (policy : PolicyView) (s : State) (place : ℕ) (h : List Entry) (entry : Entry)
     → after_entries policy s place (h ++ entry ∷ []) ≡ after_entry policy (after_entries policy s place h) (place + length h) entry
@@ -15,7 +15,7 @@ after_more policy s place (e ∷ h) entry =
 -- the state after one entry more
 pub after_one_more : (origin : Origin) (h : List Entry) (entry : Entry) → after origin (h ++ entry ∷ []) ≡ after_entry origin.policy (after origin h) (length h) entry
 after_one_more origin h entry =
-    after_more origin.policy (start origin.records) 0 h entry
+    after_more origin.policy (first_state origin.records) 0 h entry
     ∙ ap (λ (n : ℕ). after_entry origin.policy (after origin h) n entry) (omega (arith))
 
 steps_more : (policy : PolicyView) (s : State) (place : ℕ) (h : List Entry) (entry : Entry)
@@ -30,7 +30,7 @@ steps_more policy s place (e ∷ h) entry steps step = (
 -- a legal history with one step more is legal
 pub legal_one_more : (origin : Origin) (h : List Entry) (entry : Entry) → IsLegal origin h → IsStep origin.policy (after origin h) (length h) entry → IsLegal origin (h ++ entry ∷ [])
 legal_one_more origin h entry legal step =
-    steps_more origin.policy (start origin.records) 0 h entry legal
+    steps_more origin.policy (first_state origin.records) 0 h entry legal
     (subst (λ (n : ℕ). IsStep origin.policy (after origin h) n entry) (omega (arith)) step)
 
 pub unkept_one_more : (h : List Entry) (entry : Entry) → unkept (h ++ entry ∷ []) ≡ unkept h + (cond entry.kept 0 1)
@@ -49,4 +49,4 @@ last_of policy s place (e ∷ h) entry steps =
 -- the last entry of a legal history is a step
 pub last_step : (origin : Origin) (h : List Entry) (entry : Entry) → IsLegal origin (h ++ entry ∷ []) → IsStep origin.policy (after origin h) (length h) entry
 last_step origin h entry legal =
-    subst (λ (n : ℕ). IsStep origin.policy (after origin h) n entry) (omega (arith)) (last_of origin.policy (start origin.records) 0 h entry legal)
+    subst (λ (n : ℕ). IsStep origin.policy (after origin h) n entry) (omega (arith)) (last_of origin.policy (first_state origin.records) 0 h entry legal)

@@ -14,7 +14,7 @@ use Rattle.auth_machine.specs.Laws.{IsGroupWizard}
 use Rattle.auth_machine.specs.Logins.{IsLocked, LoginStands, phase_of}
 use Rattle.auth_machine.specs.Chains.{accepted}
 use Rattle.auth_machine.specs.Login.{authenticate, respond}
-use Rattle.auth_machine.specs.State.{start}
+use Rattle.auth_machine.specs.State.{first_state}
 use Rattle.auth_machine.specs.Step.{proposed}
 use Rattle.auth_machine.specs.declared.session.Phase.TheVariants.{In}
 use Rattle.auth_machine.proofs.Runs.{ask, bad_sleep, in_group, last_word, left, mjr, names, no_lines, opens, other, otp1, says, says_word, secret, with_secret}
@@ -47,11 +47,11 @@ abbrev word_run : List Entry
 word_run = entry 0 10 opens true (replies.Opened 0) ∷ entry 0 10 (names (codes "otp1")) true (replies.Challenge 0 (codes "test"))
     ∷ entry 0 11 (says_word last_word) true replies.Ok ∷ []
 
-one_word : accepted no_lines (codes "otp1") (start (otp1 ∷ [])) 0 word_run ≡ last_word ∷ []
+one_word : accepted no_lines (codes "otp1") (first_state (otp1 ∷ [])) 0 word_run ≡ last_word ∷ []
 unfolding proposed authenticate respond next_of folded md5 digest_bytes hash_after compress rounds block_words spelling
 one_word = refl
 
-no_word : accepted no_lines (codes "mjr") (start (otp1 ∷ mjr ∷ [])) 0 word_run ≡ []
+no_word : accepted no_lines (codes "mjr") (first_state (otp1 ∷ mjr ∷ [])) 0 word_run ≡ []
 unfolding proposed authenticate respond next_of folded md5 digest_bytes hash_after compress rounds block_words spelling
 no_word = refl
 

@@ -5,8 +5,8 @@ use Rattle.std.specs.List.{AllByRecursion}
 use Rattle.std.specs.Ordering.{ordering_reverse}
 use Rattle.std.specs.Str.{bytes_eq}
 use Rattle.std.proofs.lemmas.Map.Text.{is_eq-slice_cmp}
-use Rattle.fw_outside.specs.Keyed.{Ascends}
-use Rattle.fw_outside.specs.Name.{is_before}
+use Rattle.fw_types.specs.Keyed.{Ascends}
+use Rattle.fw_types.specs.Name.{is_before}
 use Rattle.auth_records.specs.Spelling.{Fields}
 use Rattle.auth_events.specs.declared.denial.Denial.TheVariants as denials
 use Rattle.auth_events.specs.declared.entry.Entry.{Entry}
@@ -20,7 +20,7 @@ use Rattle.auth_machine.specs.History.{IsLegal, Origin, after}
 use Rattle.auth_machine.specs.Laws.{IsLeastSeen, SeesNone, ShowsLeast, ShowsNone}
 use Rattle.auth_machine.specs.Policy.{PolicyView}
 use Rattle.auth_machine.specs.Powers.{is_next_seen, list, lists, power_of, shows_some}
-use Rattle.auth_machine.specs.State.{State, at_moment, name_of, record_at, session_of}
+use Rattle.auth_machine.specs.State.{State, at_moment, record_name, record_at, session_of}
 use Rattle.auth_machine.specs.Step.{in_session, proposed}
 use Rattle.auth_machine.specs.declared.power.Power.{Power}
 use Rattle.auth_machine.specs.declared.power.Power.TheVariants.{Nobody, Members, Everybody}
@@ -57,7 +57,7 @@ all_under P (x ∷ xs) name g all is = choose (bytes_eq x.name name) is (all_und
 
 module _ (power : Power) (told : Option (List ℕ)) where
   -- one more record in front, that is seen or isn't
-  front : (b : Bool) (x g : Fields) (xs : List Fields) → bytes_eq x.name g.name ≡ b → Ascends name_of (x ∷ xs) → record_at g.name (x ∷ xs) ≡ Some g
+  front : (b : Bool) (x g : Fields) (xs : List Fields) → bytes_eq x.name g.name ≡ b → Ascends record_name (x ∷ xs) → record_at g.name (x ∷ xs) ≡ Some g
       → (Q : Fields → Type 0) → Q x → (is_before x.name g.name ≡ true → record_at g.name xs ≡ Some g → Q g) → Q g
   front true x g xs e ordered is Q here there =
       let same : x ≡ g = choose (bytes_eq x.name g.name) e is in subst Q same here
@@ -73,7 +73,7 @@ module _ (power : Power) (told : Option (List ℕ)) where
       choose true e is = absurd (cc)
       choose false e is = is
 
-  pub found_least : (xs : List Fields) (f : Fields) → Ascends name_of xs → find (is_next_seen power told) xs ≡ Some f → IsLeastSeen power told xs f
+  pub found_least : (xs : List Fields) (f : Fields) → Ascends record_name xs → find (is_next_seen power told) xs ≡ Some f → IsLeastSeen power told xs f
   found_least [] f ordered is = absurd (cc)
   found_least (x ∷ xs) f ordered is = choose (is_next_seen power told x) refl is (found_least xs f ordered.1)
     where
@@ -97,7 +97,7 @@ module _ (power : Power) (told : Option (List ℕ)) where
                 (λ s. absurd (cc)) (λ early behind s. rest.least g behind s) shown;
           }
 
-  pub found_none : (xs : List Fields) → Ascends name_of xs → find (is_next_seen power told) xs ≡ None → SeesNone power told xs
+  pub found_none : (xs : List Fields) → Ascends record_name xs → find (is_next_seen power told) xs ≡ None → SeesNone power told xs
   found_none [] ordered is = λ g there. absurd (cc)
   found_none (x ∷ xs) ordered is = λ g there. choose (is_next_seen power told x) refl is (found_none xs ordered.1) g there
     where
@@ -117,7 +117,7 @@ shown_none : (found : Option Fields) → (shows_some found).answer ≡ Denied de
 shown_none None is = refl
 shown_none (Some f) is = absurd (cc)
 
-listed : (s : State) (sid : ℕ) (session : Session) (told : Option (List ℕ)) (profile : Profile) (power : Option Power) → Ascends name_of s.records
+listed : (s : State) (sid : ℕ) (session : Session) (told : Option (List ℕ)) (profile : Profile) (power : Option Power) → Ascends record_name s.records
     → session_of sid s.sessions ≡ Some session → power_of s session ≡ power → (lists power told s.records).answer ≡ Shown profile → ShowsLeast s sid told profile
 listed s sid session told profile None ordered there is shown = absurd (cc)
 listed s sid session told profile (Some Nobody) ordered there is shown = absurd (cc)
@@ -128,7 +128,7 @@ listed s sid session told profile (Some Everybody) ordered there is shown =
     let found = shown_some (find (is_next_seen Everybody told) s.records) profile shown in
     record { power = Everybody; has_power = record { session = session; there = there; is = is }; f = found.0; shown = found.2; least = found_least Everybody told s.records found.0 ordered found.1 }
 
-none_listed : (s : State) (sid : ℕ) (session : Session) (told : Option (List ℕ)) (power : Option Power) → Ascends name_of s.records
+none_listed : (s : State) (sid : ℕ) (session : Session) (told : Option (List ℕ)) (power : Option Power) → Ascends record_name s.records
     → session_of sid s.sessions ≡ Some session → power_of s session ≡ power → (lists power told s.records).answer ≡ Denied denials.NoSuch → ShowsNone s sid told
 none_listed s sid session told None ordered there is none = absurd (cc)
 none_listed s sid session told (Some Nobody) ordered there is none = absurd (cc)
@@ -137,33 +137,33 @@ none_listed s sid session told (Some (Members group)) ordered there is none =
 none_listed s sid session told (Some Everybody) ordered there is none =
     record { power = Everybody; has_power = record { session = session; there = there; is = is }; none = found_none Everybody told s.records ordered (shown_none _ none) }
 
-in_list : (s : State) (at sid : ℕ) (found : Option Session) (told : Option (List ℕ)) (profile : Profile) → Ascends name_of s.records → session_of sid s.sessions ≡ found
+in_list : (s : State) (at sid : ℕ) (found : Option Session) (told : Option (List ℕ)) (profile : Profile) → Ascends record_name s.records → session_of sid s.sessions ≡ found
     → (in_session found (λ session. list (at_moment at s) session told)).answer ≡ Shown profile → ShowsLeast s sid told profile
 unfolding list
 in_list s at sid None told profile ordered there shown = absurd (cc)
 in_list s at sid (Some session) told profile ordered there shown = listed s sid session told profile (power_of s session) ordered there refl shown
 
-none_in_list : (s : State) (at sid : ℕ) (found : Option Session) (told : Option (List ℕ)) → Ascends name_of s.records → session_of sid s.sessions ≡ found
+none_in_list : (s : State) (at sid : ℕ) (found : Option Session) (told : Option (List ℕ)) → Ascends record_name s.records → session_of sid s.sessions ≡ found
     → (in_session found (λ session. list (at_moment at s) session told)).answer ≡ Denied denials.NoSuch → ShowsNone s sid told
 unfolding list
 none_in_list s at sid None told ordered there none = absurd (cc)
 none_in_list s at sid (Some session) told ordered there none = none_listed s sid session told (power_of s session) ordered there refl none
 
-step_lists : (policy : PolicyView) (s : State) (place sid at : ℕ) (request : Request) (told : Option (List ℕ)) (profile : Profile) → Ascends name_of s.records → request ≡ requests.List told
+step_lists : (policy : PolicyView) (s : State) (place sid at : ℕ) (request : Request) (told : Option (List ℕ)) (profile : Profile) → Ascends record_name s.records → request ≡ requests.List told
     → (proposed policy s place sid at request).answer ≡ Shown profile → ShowsLeast s sid told profile
 unfolding proposed
 step_lists policy s place sid at request told profile ordered is shown =
     let e = ap (λ r. (proposed policy s place sid at r).answer) is in
     in_list s at sid (session_of sid s.sessions) told profile ordered refl (sym e ∙ shown)
 
-step_lists_none : (policy : PolicyView) (s : State) (place sid at : ℕ) (request : Request) (told : Option (List ℕ)) → Ascends name_of s.records → request ≡ requests.List told
+step_lists_none : (policy : PolicyView) (s : State) (place sid at : ℕ) (request : Request) (told : Option (List ℕ)) → Ascends record_name s.records → request ≡ requests.List told
     → (proposed policy s place sid at request).answer ≡ Denied denials.NoSuch → ShowsNone s sid told
 unfolding proposed
 step_lists_none policy s place sid at request told ordered is none =
     let e = ap (λ r. (proposed policy s place sid at r).answer) is in
     none_in_list s at sid (session_of sid s.sessions) told ordered refl (sym e ∙ none)
 
-pub shows_least : (origin : Origin) (before : List Entry) (entry : Entry) (told : Option (List ℕ)) (summary : Summary) → Ascends name_of origin.records → IsLegal origin (before ++ entry ∷ [])
+pub shows_least : (origin : Origin) (before : List Entry) (entry : Entry) (told : Option (List ℕ)) (summary : Summary) → Ascends record_name origin.records → IsLegal origin (before ++ entry ∷ [])
     → entry.request ≡ requests.List told → entry.reply ≡ replies.Shown summary → ShowsLeast (after origin before) entry.sid told (summary_profile summary)
 shows_least origin before entry told summary ordered legal request reply =
     let step = last_step origin before entry legal in
@@ -171,7 +171,7 @@ shows_least origin before entry told summary ordered legal request reply =
     step_lists origin.policy (after origin before) _ entry.sid entry.at entry.request told (summary_profile summary)
     (after_ascends origin before ordered (parts_before origin.policy _ 0 before (entry ∷ []) legal)) request answer.1
 
-pub shows_none : (origin : Origin) (before : List Entry) (entry : Entry) (told : Option (List ℕ)) → Ascends name_of origin.records → IsLegal origin (before ++ entry ∷ [])
+pub shows_none : (origin : Origin) (before : List Entry) (entry : Entry) (told : Option (List ℕ)) → Ascends record_name origin.records → IsLegal origin (before ++ entry ∷ [])
     → entry.request ≡ requests.List told → entry.reply ≡ replies.Denied denials.NoSuch → ShowsNone (after origin before) entry.sid told
 shows_none origin before entry told ordered legal request reply =
     let step = last_step origin before entry legal in

@@ -18,8 +18,8 @@ use Rattle.auth_machine.specs.History.{AreSteps, IsLegal, IsStep, Origin, after,
 use Rattle.auth_machine.specs.Logins.{FreesNone, HasLockOf, IsDenied, IsLockDenial, IsLocked, LocksAt, is_freeing, is_ok, phase_of, tries}
 use Rattle.auth_machine.specs.Login.{authenticate, drops, has_password, later, lockout, refusal, respond, respond_in}
 use Rattle.auth_machine.specs.Policy.{PolicyView}
-use Rattle.auth_machine.specs.State.{Change, State, at_moment, changed, record_at, session_of, start}
-use Rattle.auth_machine.specs.Step.{change_of, in_session, is_edit, proposed}
+use Rattle.auth_machine.specs.State.{Change, State, at_moment, changed, record_at, session_of, first_state}
+use Rattle.auth_machine.specs.Step.{change_of, in_session, is_record_change, proposed}
 use Rattle.auth_machine.specs.declared.session.Phase.{Phase}
 use Rattle.auth_machine.specs.declared.session.Phase.TheVariants.{Bogus, Idle, In, Waiting}
 use Rattle.auth_machine.specs.declared.session.Session.{Session}
@@ -111,7 +111,7 @@ dropped_denies : (policy : PolicyView) (s : State) (place : ℕ) (entry : Entry)
     → proposed_at policy s place entry ≡ drops session (Denied d) Idle → entry.reply ≡ replies.Denied d
 dropped_denies policy s place entry session d step is =
     refused_answer (refused_at policy s place entry) entry.reply d
-    (λ e. sym (ap (λ change. is_edit change.records s.records) is) ∙ edits policy s place entry step e)
+    (λ e. sym (ap (λ change. is_record_change change.records s.records) is) ∙ edits policy s place entry step e)
     (step.reply ∙ ap (λ change. cond (refused_at policy s place entry) (Denied NotKept) change.answer) is)
 
 step_denies : (policy : PolicyView) (s : State) (place : ℕ) (entry : Entry) (name : List ℕ) (f : Fields) → IsStep policy s place entry → record_at name s.records ≡ Some f
@@ -217,10 +217,10 @@ at_first f found is = record { g = f; there = is; fails = refl; since = refl }
 kept_through : (origin : Origin) (before during : List Entry) (name : List ℕ) (f : Fields) (m : ℕ) → IsLegal origin (before ++ during) → record_at name (after origin before).records ≡ Some f
     → IsLocked origin.policy m f → (after origin (before ++ during)).moment ≤ m → FreesNone name during → Kept f (record_at name (after origin (before ++ during)).records)
 kept_through origin before during name f m legal there locked most none =
-    let joined = after_joined origin.policy (start origin.records) 0 before during in
+    let joined = after_joined origin.policy (first_state origin.records) 0 before during in
     let most2 : (after_entries origin.policy (after origin before) (0 + length before) during).moment ≤ m = subst (λ (s : State). s.moment ≤ m) joined most in
     subst (λ (s : State). Kept f (record_at name s.records)) (sym joined)
-    (kept_after origin.policy f name m locked during (0 + length before) (after origin before) (parts_behind origin.policy (start origin.records) 0 before during legal) most2 none
+    (kept_after origin.policy f name m locked during (0 + length before) (after origin before) (parts_behind origin.policy (first_state origin.records) 0 before during legal) most2 none
     (at_first f (record_at name (after origin before).records) there))
 
 pub lock_stays : (origin : Origin) (before during : List Entry) (name : List ℕ) (f : Fields) → IsLegal origin (before ++ during) → record_at name (after origin before).records ≡ Some f
@@ -234,7 +234,7 @@ pub lock_denies : (origin : Origin) (before during : List Entry) (entry : Entry)
     → tries name (phase_of entry.sid (after origin (before ++ during))) entry.request ≡ true → IsDenied (IsLockDenial origin.policy.bad_sleep f.since) entry.reply
 lock_denies origin before during entry name f legal there locked none tried =
     let all : IsLegal origin ((before ++ during) ++ entry ∷ []) = subst (IsLegal origin) (sym (append_assoc before during (entry ∷ []))) legal in
-    let first : IsLegal origin (before ++ during) = parts_before origin.policy (start origin.records) 0 (before ++ during) (entry ∷ []) all in
+    let first : IsLegal origin (before ++ during) = parts_before origin.policy (first_state origin.records) 0 (before ++ during) (entry ∷ []) all in
     let m = max (after origin (before ++ during)).moment entry.at in
     let most : (after origin (before ++ during)).moment ≤ m = omega arith in
     let kept = kept_through origin before during name f m first there locked most none in

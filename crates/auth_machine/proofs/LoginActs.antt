@@ -9,7 +9,7 @@ use Rattle.auth_events.specs.declared.denial.Denial.{Denial}
 use Rattle.auth_events.specs.declared.denial.Denial.TheVariants as denials
 use Rattle.otp_md5.specs.Passwords.{next_of}
 use Rattle.auth_machine.specs.Answer.Answer.{Denied, Password}
-use Rattle.auth_machine.specs.Login.{answers_only, asks, asks_word, authenticate, authenticate_as, challenges, checks, checks_otp, checks_plain, checks_word, drops, guarded, is_own, is_password, logged_in, refusal, respond, respond_as, respond_in, right, turns, unless_refused, used, wrong}
+use Rattle.auth_machine.specs.Login.{answers_only, asks, asks_word, authenticate, authenticate_as, challenges, checks, checks_otp, checks_plain, checks_word, drops, guarded, is_own_challenge, is_password, logged_in, refusal, respond, respond_as, respond_in, right, turns, unless_refused, used, wrong}
 use Rattle.auth_machine.specs.Policy.{PolicyView}
 use Rattle.auth_machine.specs.State.{State, Change, challenge_at, record_at}
 use Rattle.auth_machine.specs.declared.session.Phase.{Phase}
@@ -105,7 +105,7 @@ module _ (policy : PolicyView) (s : State) (session : Session) (hash : List ℕ)
     of_checks_otp : (otp : Option OtpFields) → f.otp ≡ otp → f.proto ≡ protos.Otp → Responds policy s session word (checks_otp s session name f word otp)
     of_checks_otp None is proto = dropped denials.Disabled not_in
     of_checks_otp (Some otp) is proto =
-        either_responds (not (is_own (challenge_at name s.challenges) session.sid)) _ _ (λ e. turned_down denials.NoChallenge not_in)
+        either_responds (not (is_own_challenge (challenge_at name s.challenges) session.sid)) _ _ (λ e. turned_down denials.NoChallenge not_in)
         (λ own. either_responds (nat_eq otp.number 0) _ _ (λ e. dropped denials.Exhausted not_in) (λ left. of_checks_word word otp refl proto is left))
 
     of_checks : (proto : Proto) → f.proto ≡ proto → Responds policy s session word (checks s session name f hash word proto)

@@ -3,9 +3,9 @@ use Rattle.std.proofs.Common.{◌≡◌, ℕ, suc, ◌+◌, ◌<◌, true, false
 use Rattle.auth_events.specs.declared.entry.Entry.{Entry}
 use Rattle.auth_events.specs.declared.request.Request.TheVariants as requests
 use Rattle.auth_machine.specs.History.{AreSteps, IsLegal, Origin, after, after_entries, after_entry}
-use Rattle.auth_machine.specs.Logins.{HasNone, IsLogin, IsNaming, LoginStands, SomeLoginStands, is_end, is_naming, is_own, phase_of}
+use Rattle.auth_machine.specs.Logins.{HasNone, IsLogin, IsNaming, LoginStands, SomeLoginStands, is_end, is_naming, is_own_request, phase_of}
 use Rattle.auth_machine.specs.Policy.{PolicyView}
-use Rattle.auth_machine.specs.State.{State, start}
+use Rattle.auth_machine.specs.State.{State, first_state}
 use Rattle.auth_machine.specs.declared.session.Phase.{Phase}
 use Rattle.auth_machine.specs.declared.session.Phase.TheVariants.{In, Waiting}
 use Rattle.auth_machine.proofs.EntriesLemmas.{after_joined, parts_before, parts_behind}
@@ -41,7 +41,7 @@ module _ (sid : ℕ) (name : List ℕ) (place : ℕ) (entry : Entry) where
   -- after the session named the user
   named_next : (p q : Option Phase) → Moves sid place entry p q → IsNaming sid name entry → OnlyNames name q
   unfolding OnlyNames
-  named_next p q (same _ end out) named = let e : is_own sid is_end entry ≡ true = naming_end sid entry (own_naming sid name entry named) in absurd (cc)
+  named_next p q (same _ end out) named = let e : is_own_request sid is_end entry ≡ true = naming_end sid entry (own_naming sid name entry named) in absurd (cc)
   named_next p q (missing out) named = tt
   named_next p q (opened _ is out) named = tt
   named_next p q (turned_away _ naming) named = tt
@@ -55,7 +55,7 @@ module _ (sid : ℕ) (name : List ℕ) (place : ℕ) (entry : Entry) where
   named_next p q (closed _ end out) named = tt
 
   -- while it names nobody else
-  only_next : (p q : Option Phase) → Moves sid place entry p q → is_own sid is_naming entry ≡ false → OnlyNames name p → OnlyNames name q
+  only_next : (p q : Option Phase) → Moves sid place entry p q → is_own_request sid is_naming entry ≡ false → OnlyNames name p → OnlyNames name q
   unfolding OnlyNames
   only_next p q (same _ end out) none only = only
   only_next p q (missing out) none only = tt
@@ -84,7 +84,7 @@ module _ (sid : ℕ) (name : List ℕ) (place : ℕ) (entry : Entry) where
   login_next p q (closed _ end out) login only = let e = login.1 in absurd (cc)
 
   -- while nothing ends the login
-  stands_next : (p q : Option Phase) → Moves sid place entry p q → is_own sid is_end entry ≡ false → p ≡ Some (In name) → sid < place → q ≡ Some (In name)
+  stands_next : (p q : Option Phase) → Moves sid place entry p q → is_own_request sid is_end entry ≡ false → p ≡ Some (In name) → sid < place → q ≡ Some (In name)
   stands_next p q (same _ end out) none is early = is
   stands_next p q (missing out) none is early = absurd (cc)
   stands_next p q (opened _ here out) none is early = absurd (omega (arith, here))
@@ -144,11 +144,11 @@ none_first sid = λ some. absurd (cc)
 pub login_is_so : (origin : Origin) (history : List Entry) (sid : ℕ) (name : List ℕ) → IsLegal origin history → LoginStands sid name history → phase_of sid (after origin history) ≡ Some (In name)
 login_is_so origin history sid name legal said =
     let rest = said.naming ∷ (said.between ++ (said.response ∷ said.since)) in
-    let legal2 : AreSteps origin.policy (start origin.records) 0 (said.before ++ rest) = subst (IsLegal origin) said.is legal in
-    let first = parts_before origin.policy (start origin.records) 0 said.before rest legal2 in
-    let behind = parts_behind origin.policy (start origin.records) 0 said.before rest legal2 in
-    let early = earlier_after origin.policy sid name said.before 0 (start origin.records) (none_first sid) first in
-    ap (λ h. phase_of sid (after origin h)) said.is ∙ ap (phase_of sid) (after_joined origin.policy (start origin.records) 0 said.before rest)
+    let legal2 : AreSteps origin.policy (first_state origin.records) 0 (said.before ++ rest) = subst (IsLegal origin) said.is legal in
+    let first = parts_before origin.policy (first_state origin.records) 0 said.before rest legal2 in
+    let behind = parts_behind origin.policy (first_state origin.records) 0 said.before rest legal2 in
+    let early = earlier_after origin.policy sid name said.before 0 (first_state origin.records) (none_first sid) first in
+    ap (λ h. phase_of sid (after origin h)) said.is ∙ ap (phase_of sid) (after_joined origin.policy (first_state origin.records) 0 said.before rest)
     ∙ from_naming origin.policy sid name said.naming said.between said.response said.since (0 + length said.before) (after origin said.before) early behind said.named said.named_last said.answered said.stands
 
 -- ---- who it is
@@ -182,12 +182,12 @@ from_login policy sid response since place s early steps login stands =
 pub login_is_someone : (origin : Origin) (history : List Entry) (sid : ℕ) → IsLegal origin history → SomeLoginStands sid history → (name : List ℕ) × LoginStands sid name history
 login_is_someone origin history sid legal said =
     let rest = said.response ∷ said.since in
-    let legal2 : AreSteps origin.policy (start origin.records) 0 (said.before ++ rest) = subst (IsLegal origin) said.is legal in
-    let first = parts_before origin.policy (start origin.records) 0 said.before rest legal2 in
-    let behind = parts_behind origin.policy (start origin.records) 0 said.before rest legal2 in
-    let early = earlier_after origin.policy sid [] said.before 0 (start origin.records) (none_first sid) first in
+    let legal2 : AreSteps origin.policy (first_state origin.records) 0 (said.before ++ rest) = subst (IsLegal origin) said.is legal in
+    let first = parts_before origin.policy (first_state origin.records) 0 said.before rest legal2 in
+    let behind = parts_behind origin.policy (first_state origin.records) 0 said.before rest legal2 in
+    let early = earlier_after origin.policy sid [] said.before 0 (first_state origin.records) (none_first sid) first in
     let someone = from_login origin.policy sid said.response said.since (0 + length said.before) (after origin said.before) early behind said.answered said.stands in (
       someone.0,
       login_is_said origin history sid someone.0 legal
-          (ap (λ h. phase_of sid (after origin h)) said.is ∙ ap (phase_of sid) (after_joined origin.policy (start origin.records) 0 said.before rest) ∙ someone.1),
+          (ap (λ h. phase_of sid (after origin h)) said.is ∙ ap (phase_of sid) (after_joined origin.policy (first_state origin.records) 0 said.before rest) ∙ someone.1),
     )

@@ -12,7 +12,7 @@ use Rattle.auth_machine.specs.Answers.{full_answer, is_unkept_answer}
 use Rattle.auth_machine.specs.History.{AreSteps, IsLegal, IsStep, Origin, after_entry}
 use Rattle.auth_machine.specs.Laws.{SaysIfKept}
 use Rattle.auth_machine.specs.Policy.{PolicyView}
-use Rattle.auth_machine.specs.State.{State, start}
+use Rattle.auth_machine.specs.State.{State, first_state}
 use Rattle.auth_machine.specs.Step.{keeps}
 use Rattle.auth_machine.proofs.BookLemmas.{own_proposal}
 use Rattle.auth_machine.proofs.StepLemmas.{proposed_at}
@@ -58,4 +58,4 @@ all_say policy [] place s steps = tt
 all_say policy (entry ∷ entries) place s steps = (step_says policy s place entry steps.0, all_say policy entries (suc place) (after_entry policy s place entry) steps.1)
 
 pub entries_say : (origin : Origin) (history : List Entry) → IsLegal origin history → AllByRecursion SaysIfKept history
-entries_say origin history legal = all_say origin.policy history 0 (start origin.records) legal
+entries_say origin history legal = all_say origin.policy history 0 (first_state origin.records) legal

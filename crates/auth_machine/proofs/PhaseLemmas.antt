@@ -11,13 +11,13 @@ use Rattle.auth_events.specs.declared.request.Request.TheVariants as requests
 use Rattle.auth_machine.specs.Answer.{Answer, answer_of}
 use Rattle.auth_machine.specs.Answer.Answer.{Denied, Ok}
 use Rattle.auth_machine.specs.History.{IsStep, after_entry}
-use Rattle.auth_machine.specs.Logins.{IsLogin, is_end, is_naming, is_own, is_response, phase_of}
+use Rattle.auth_machine.specs.Logins.{IsLogin, is_end, is_naming, is_own_request, is_response, phase_of}
 use Rattle.auth_machine.specs.Login.{in_phase}
 use Rattle.auth_machine.specs.Policy.{PolicyView}
-use Rattle.auth_machine.specs.State.{Change, State, at_moment, changed, session_of, turned}
-use Rattle.auth_machine.specs.Step.{is_edit, keeps, proposed}
-use Rattle.auth_machine.specs.declared.edit.Turn.{Turn}
-use Rattle.auth_machine.specs.declared.edit.Turn.TheVariants.{Become, End, Stay}
+use Rattle.auth_machine.specs.State.{Change, State, at_moment, changed, session_of, sessions_after}
+use Rattle.auth_machine.specs.Step.{is_record_change, keeps, proposed}
+use Rattle.auth_machine.specs.declared.record_change.SessionChange.{SessionChange}
+use Rattle.auth_machine.specs.declared.record_change.SessionChange.TheVariants.{Become, End, Stay}
 use Rattle.auth_machine.specs.declared.session.Phase.{Phase}
 use Rattle.auth_machine.specs.declared.session.Phase.TheVariants.{Bogus, Idle, In, Waiting}
 use Rattle.auth_machine.specs.declared.session.Session.{Session}
@@ -34,15 +34,15 @@ use Rattle.auth_machine.proofs.SessionLemmas.{became_other, became_own, ended_ot
 
 -- the phase of the session of this number before and after an entry at this place
 pub data Moves (sid place : ℕ) (entry : Entry) : Option Phase → Option Phase → Type 0 where
-  same : (p : Option Phase) → is_own sid is_end entry ≡ false → (IsLogin sid entry → ⊥) → Moves sid place entry p p
+  same : (p : Option Phase) → is_own_request sid is_end entry ≡ false → (IsLogin sid entry → ⊥) → Moves sid place entry p p
   missing : (IsLogin sid entry → ⊥) → Moves sid place entry None None
   opened : (p : Option Phase) → place ≡ sid → (IsLogin sid entry → ⊥) → Moves sid place entry p (Some Idle)
-  turned_away : (p : Phase) → is_own sid is_naming entry ≡ true → Moves sid place entry (Some p) (Some Idle)
+  turned_away : (p : Phase) → is_own_request sid is_naming entry ≡ true → Moves sid place entry (Some p) (Some Idle)
   failed : (p : Phase) → ((name : List ℕ) → p ≢ In name) → (IsLogin sid entry → ⊥) → Moves sid place entry (Some p) (Some Idle)
   waits : (p : Phase) (name : List ℕ) → entry.sid ≡ sid → entry.request ≡ requests.Authenticate name → Moves sid place entry (Some p) (Some (Waiting name))
-  fooled : (p : Phase) → is_own sid is_naming entry ≡ true → Moves sid place entry (Some p) (Some Bogus)
+  fooled : (p : Phase) → is_own_request sid is_naming entry ≡ true → Moves sid place entry (Some p) (Some Bogus)
   logs_in : (name : List ℕ) → IsLogin sid entry → Moves sid place entry (Some (Waiting name)) (Some (In name))
-  closed : (p : Phase) → is_own sid is_end entry ≡ true → is_response entry.request ≡ false → Moves sid place entry (Some p) None
+  closed : (p : Phase) → is_own_request sid is_end entry ≡ true → is_response entry.request ≡ false → Moves sid place entry (Some p) None
 
 abbrev phase_in : Option Session → Option Phase
 phase_in found = option_map (λ session. session.phase) found
@@ -81,7 +81,7 @@ pub no_edit : {A : Type 0} → (true ≡ true → false ≡ true) → A
 no_edit h = let e = h refl in absurd (cc)
 
 module _ (policy : PolicyView) (s : State) (place : ℕ) (entry : Entry) where
-  owns : (is_kind : Request → Bool) (request : Request) → entry.request ≡ request → is_own entry.sid is_kind entry ≡ is_kind request
+  owns : (is_kind : Request → Bool) (request : Request) → entry.request ≡ request → is_own_request entry.sid is_kind entry ≡ is_kind request
   owns is_kind request is = ap (λ (b : Bool). b && is_kind entry.request) (itself entry.sid) ∙ ap is_kind is
 
   no_response : (sid : ℕ) (request : Request) → entry.request ≡ request → is_response request ≡ false → IsLogin sid entry → ⊥
@@ -95,17 +95,17 @@ module _ (policy : PolicyView) (s : State) (place : ℕ) (entry : Entry) where
 
   module _ (k : ℕ) (k_is : k ≡ entry.sid) where
     moved : (session : Session) (q : Phase) → session_of entry.sid s.sessions ≡ Some session → Moves entry.sid place entry (Some session.phase) (Some q)
-        → Moves entry.sid place entry (phase_of entry.sid s) (phase_in (session_of entry.sid (turned (Become (in_phase q session)) k s.sessions)))
+        → Moves entry.sid place entry (phase_of entry.sid s) (phase_in (session_of entry.sid (sessions_after (Become (in_phase q session)) k s.sessions)))
     moved session q there move =
         let own : session.sid ≡ entry.sid = found_sid entry.sid s.sessions session there in
-        let new : phase_in (session_of entry.sid (turned (Become (in_phase q session)) k s.sessions)) ≡ Some q =
+        let new : phase_in (session_of entry.sid (sessions_after (Become (in_phase q session)) k s.sessions)) ≡ Some q =
         ap phase_in (became_own (in_phase q session) entry.sid k s.sessions own) in
         let old : phase_of entry.sid s ≡ Some session.phase = ap phase_in there in
-        subst (λ p. Moves entry.sid place entry p (phase_in (session_of entry.sid (turned (Become (in_phase q session)) k s.sessions)))) (sym old)
+        subst (λ p. Moves entry.sid place entry p (phase_in (session_of entry.sid (sessions_after (Become (in_phase q session)) k s.sessions)))) (sym old)
         (subst (λ p. Moves entry.sid place entry (Some session.phase) p) (sym new) move)
 
     own_asks : (name : List ℕ) (session : Session) (change : Change) → session_of entry.sid s.sessions ≡ Some session → Asks policy s session name change
-        → entry.request ≡ requests.Authenticate name → (refused : Bool) → (refused ≡ true → is_edit change.records s.records ≡ true)
+        → entry.request ≡ requests.Authenticate name → (refused : Bool) → (refused ≡ true → is_record_change change.records s.records ≡ true)
         → Moves entry.sid place entry (phase_of entry.sid s) (phase_of entry.sid (cond refused s (changed k change s)))
     own_asks name session change there (asks_denied d) is true edit = no_edit edit
     own_asks name session change there (asks_denied d) is false edit = moved session Idle there (turned_away session.phase (owns is_naming _ is))
@@ -116,7 +116,7 @@ module _ (policy : PolicyView) (s : State) (place : ℕ) (entry : Entry) where
     own_asks name session change there (asks_a_word otp) is true edit = no_edit edit
     own_asks name session change there (asks_a_word otp) is false edit = moved session (Waiting name) there (waits session.phase name refl is)
 
-    no_end : (hash : List ℕ) (word : Option ℕ) → entry.request ≡ requests.Response hash word → is_own entry.sid is_end entry ≡ false
+    no_end : (hash : List ℕ) (word : Option ℕ) → entry.request ≡ requests.Response hash word → is_own_request entry.sid is_end entry ≡ false
     no_end hash word is = owns is_end (requests.Response hash word) is
 
     logged : (hash : List ℕ) (word : Option ℕ) (name : List ℕ) (session : Session) → entry.request ≡ requests.Response hash word → session.phase ≡ Waiting name → answer_of entry.reply ≡ Ok
@@ -125,7 +125,7 @@ module _ (policy : PolicyView) (s : State) (place : ℕ) (entry : Entry) where
         subst (λ (p : Phase). Moves entry.sid place entry (Some p) (Some (In name))) (sym phase) (logs_in name (refl, ap is_response is, ok_reply entry.reply reply))
 
     own_responds : (hash : List ℕ) (word : Option ℕ) (session : Session) (change : Change) → session_of entry.sid s.sessions ≡ Some session → Responds policy s session word change
-        → entry.request ≡ requests.Response hash word → (refused : Bool) → (refused ≡ true → is_edit change.records s.records ≡ true)
+        → entry.request ≡ requests.Response hash word → (refused : Bool) → (refused ≡ true → is_record_change change.records s.records ≡ true)
         → answer_of entry.reply ≡ cond refused (Denied denials.NotKept) change.answer
         → Moves entry.sid place entry (phase_of entry.sid s) (phase_of entry.sid (cond refused s (changed k change s)))
     own_responds hash word session change there stays is true edit reply = no_edit edit
@@ -144,10 +144,10 @@ module _ (policy : PolicyView) (s : State) (place : ℕ) (entry : Entry) where
 
     stayed : (change : Change) (refused : Bool) → change.session ≡ Stay → phase_of entry.sid (cond refused s (changed k change s)) ≡ phase_of entry.sid s
     stayed change true is = refl
-    stayed change false is = ap (λ turn. phase_in (session_of entry.sid (turned turn k s.sessions))) is
+    stayed change false is = ap (λ turn. phase_in (session_of entry.sid (sessions_after turn k s.sessions))) is
 
     own_move : (request : Request) (change : Change) → Happens policy s place entry.sid request change → entry.request ≡ request → session_at request place entry.sid ≡ entry.sid
-        → (refused : Bool) → (refused ≡ true → is_edit change.records s.records ≡ true) → answer_of entry.reply ≡ cond refused (Denied denials.NotKept) change.answer
+        → (refused : Bool) → (refused ≡ true → is_record_change change.records s.records ≡ true) → answer_of entry.reply ≡ cond refused (Denied denials.NotKept) change.answer
         → Moves entry.sid place entry (phase_of entry.sid s) (phase_of entry.sid (cond refused s (changed k change s)))
     own_move request change (opening console) is own true edit reply = no_edit edit
     own_move request change (opening console) is own false edit reply =
@@ -164,16 +164,16 @@ module _ (policy : PolicyView) (s : State) (place : ℕ) (entry : Entry) where
         (same (phase_of entry.sid s) (owns is_end request is ∙ other_no_end request other) (no_response entry.sid request is (other_no_response request other)))
     own_move request change (closing session there) is own true edit reply = no_edit edit
     own_move request change (closing session there) is own false edit reply =
-        let new : phase_in (session_of entry.sid (turned End k s.sessions)) ≡ None =
-        ap phase_in (ap (λ (n : ℕ). session_of entry.sid (turned End n s.sessions)) k_is ∙ ended_own entry.sid s.sessions) in
+        let new : phase_in (session_of entry.sid (sessions_after End k s.sessions)) ≡ None =
+        ap phase_in (ap (λ (n : ℕ). session_of entry.sid (sessions_after End n s.sessions)) k_is ∙ ended_own entry.sid s.sessions) in
         let old : phase_of entry.sid s ≡ Some session.phase = ap phase_in there in
-        subst (λ p. Moves entry.sid place entry p (phase_in (session_of entry.sid (turned End k s.sessions)))) (sym old)
+        subst (λ p. Moves entry.sid place entry p (phase_in (session_of entry.sid (sessions_after End k s.sessions)))) (sym old)
         (subst (λ p. Moves entry.sid place entry (Some session.phase) p) (sym new)
         (closed session.phase (owns is_end requests.Close is) (ap is_response is)))
 
 -- ---- the sessions of other numbers
 
-data IsOwnTurn (own : ℕ) : Turn → Type 0 where
+data IsOwnTurn (own : ℕ) : SessionChange → Type 0 where
   own_stay : IsOwnTurn own Stay
   own_become : (x : Session) → x.sid ≡ own → IsOwnTurn own (Become x)
   own_end : IsOwnTurn own End
@@ -202,7 +202,7 @@ module _ (policy : PolicyView) (s : State) (own : ℕ) where
       subst (IsOwnTurn own) (sym (administers_stay s session request change administers)) own_stay
   own_turn place request change (closing session there) is = own_end
 
-untouched : (own sid k : ℕ) (turn : Turn) (xs : List Session) → nat_eq own sid ≡ false → k ≡ own → IsOwnTurn own turn → session_of sid (turned turn k xs) ≡ session_of sid xs
+untouched : (own sid k : ℕ) (turn : SessionChange) (xs : List Session) → nat_eq own sid ≡ false → k ≡ own → IsOwnTurn own turn → session_of sid (sessions_after turn k xs) ≡ session_of sid xs
 untouched own sid k turn xs other is own_stay = refl
 untouched own sid k turn xs other is (own_become x x_is) = became_other x sid k xs (ap (λ (n : ℕ). nat_eq n sid) x_is ∙ other)
 untouched own sid k turn xs other is own_end = ended_other k sid xs (ap (λ (n : ℕ). nat_eq n sid) is ∙ other)
@@ -224,7 +224,7 @@ module _ (policy : PolicyView) (s : State) (place : ℕ) (entry : Entry) (step :
   unfolding proposed
   proposed_happens = happens policy (at_moment entry.at s) place entry.sid entry.request
 
-  pub edits : refused_at policy s place entry ≡ true → is_edit (proposed_at policy s place entry).records s.records ≡ true
+  pub edits : refused_at policy s place entry ≡ true → is_record_change (proposed_at policy s place entry).records s.records ≡ true
   edits e = was_edit (keeps policy s place entry.sid entry.at entry.request) entry.kept e
 
   pub step_moves : (sid : ℕ) → Moves sid place entry (phase_of sid s) (phase_of sid (after_entry policy s place entry))

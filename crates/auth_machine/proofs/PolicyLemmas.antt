@@ -8,16 +8,16 @@ use Rattle.std.specs.Str.{bytes_eq}
 use Rattle.std.proofs.lemmas.Slice.Eq.{bytes_eq-Decides}
 use Rattle.gate_rules.specs.Attribute.{attribute_of, is_operation}
 use Rattle.gate_rules.specs.Lists.{mapped}
-use Rattle.gate_rules.specs.Operation.{is_holder, is_name_or_star, operation, operation_of}
+use Rattle.gate_rules.specs.Operation.{is_holder, is_name_or_star, read_operation, operation_of}
 use Rattle.gate_rules.specs.OperationHosts.{hosts_of_operation, is_about_operations}
-use Rattle.gate_rules.specs.Reading.{RuleBook, book_of, closed, is_of, operation_said, rules_of, said_as, said_by, said_then}
+use Rattle.gate_rules.specs.Reading.{RuleBook, book_of, closed, is_of, operation_effect, rules_of, effect_as, effect_of, effect_then}
 use Rattle.gate_rules.specs.Service.{keyword}
 use Rattle.gate_rules.specs.declared.attribute.Attribute.TheVariants.{Operation}
 use Rattle.gate_rules.specs.declared.fault.RuleFault.{RuleFault}
 use Rattle.gate_rules.specs.declared.fault.Why.{Why}
 use Rattle.gate_rules.specs.declared.fault.Why.TheVariants.{MissingValue, BadWord}
-use Rattle.gate_rules.specs.declared.said.Said.{Said}
-use Rattle.gate_rules.specs.declared.said.Said.TheVariants.{Nothing}
+use Rattle.gate_rules.specs.declared.line_effect.LineEffect.{LineEffect}
+use Rattle.gate_rules.specs.declared.line_effect.LineEffect.TheVariants.{Nothing}
 use Rattle.gate_rules.specs.declared.service.Service.TheVariants.{Authsrv}
 use Rattle.host_pattern.specs.Pattern.{Written}
 use Rattle.host_pattern.specs.declared.word.Word.{Word}
@@ -43,12 +43,12 @@ operation_attribute text h =
     either (attribute_of Authsrv text ≡ Operation) (bytes_eq text (codes "permit-operation")) (bytes_eq text (codes "deny-operation")) h
     (λ e. at_text text (codes "permit-operation") e refl) (λ e. at_text text (codes "deny-operation") e refl)
 
-said_operation : (line : Line) → is_operation line.attribute ≡ true → said_by Authsrv line ≡ operation_said line.words
-unfolding said_by
-said_operation line h = ap (λ a. said_as a Authsrv line.number line.words) (operation_attribute line.attribute h)
+said_operation : (line : Line) → is_operation line.attribute ≡ true → effect_of Authsrv line ≡ operation_effect line.words
+unfolding effect_of
+said_operation line h = ap (λ a. effect_as a Authsrv line.number line.words) (operation_attribute line.attribute h)
 
-words_read : (words : List Word) → is_ok (operation_said words) ≡ true → is_ok (operation words) ≡ true
-words_read words h = by (operation words) h
+words_read : (words : List Word) → is_ok (operation_effect words) ≡ true → is_ok (read_operation words) ≡ true
+words_read words h = by (read_operation words) h
   where
     by : (r : Result (List Written) Why) → is_ok (mapped (λ hosts. Nothing) r) ≡ true → is_ok r ≡ true
     by (Ok hosts) h = refl
@@ -65,13 +65,13 @@ unless_bad : (P : Type 0) (a : Bool) (r : Result (List Written) Why) → (is_ok 
 unless_bad P true r f h = f h
 unless_bad P false r f h = absurd (cc)
 
-has_number : (number : ℕ) (permits : Bool) (words : List Word) → is_ok (operation words) ≡ true
-    → option_map (λ said. said.number) (line_by number permits words (result_ok (operation words))) ≡ Some number
+has_number : (number : ℕ) (permits : Bool) (words : List Word) → is_ok (read_operation words) ≡ true
+    → option_map (λ said. said.number) (line_by number permits words (result_ok (read_operation words))) ≡ Some number
 has_number number permits [] h = absurd (cc)
 has_number number permits (a ∷ []) h = unless_bad _ (is_holder a.text) (Err MissingValue) (λ e. absurd (cc)) h
 has_number number permits (a ∷ b ∷ []) h =
     unless_bad _ (is_holder a.text) (operation_of (b ∷ [])) (λ e. unless_bad _ (is_name_or_star b.text) (Err MissingValue) (λ f. absurd (cc)) e) h
-has_number number permits (a ∷ b ∷ c ∷ words) h = with_hosts number permits a b c words (operation (a ∷ b ∷ c ∷ words)) h
+has_number number permits (a ∷ b ∷ c ∷ words) h = with_hosts number permits a b c words (read_operation (a ∷ b ∷ c ∷ words)) h
 
 -- lines
 
@@ -79,11 +79,11 @@ other : (line : Line) → is_about_operations line ≡ false → operation_line 
 unfolding hosts_of_operation
 other line e = rw e refl
 
-ours : (line : Line) → is_about_operations line ≡ true → is_ok (said_by Authsrv line) ≡ true → option_map (λ said. said.number) (operation_line line) ≡ Some line.number
+ours : (line : Line) → is_about_operations line ≡ true → is_ok (effect_of Authsrv line) ≡ true → option_map (λ said. said.number) (operation_line line) ≡ Some line.number
 unfolding hosts_of_operation
 ours line e h =
     let about : is_operation line.attribute ≡ true = (both _ _ e).1 in
-    let read : is_ok (operation_said line.words) ≡ true = ap is_ok (sym (said_operation line about)) ∙ h in
+    let read : is_ok (operation_effect line.words) ≡ true = ap is_ok (sym (said_operation line about)) ∙ h in
     rw e (has_number line.number (bytes_eq line.attribute (codes "permit-operation")) line.words (words_read line.words read))
 
 with_one : (said : Option OperationLine) (number : ℕ) (more : List OperationLine) → option_map (λ line. line.number) said ≡ Some number
@@ -91,17 +91,17 @@ with_one : (said : Option OperationLine) (number : ℕ) (more : List OperationLi
 with_one None number more h = absurd (cc)
 with_one (Some line) number more h = let e : line.number ≡ number = cc in rw e refl
 
-good_so_far : (number : ℕ) (said : Result Said Why) (book : Result RuleBook RuleFault) → is_ok (said_then number said book) ≡ true → (is_ok said ≡ true) × (is_ok book ≡ true)
+good_so_far : (number : ℕ) (said : Result LineEffect Why) (book : Result RuleBook RuleFault) → is_ok (effect_then number said book) ≡ true → (is_ok said ≡ true) × (is_ok book ≡ true)
 good_so_far number (Err why) book h = absurd (cc)
 good_so_far number (Ok said) (Err fault) h = absurd (cc)
 good_so_far number (Ok said) (Ok book) h = (refl, refl)
 
 rest_read : (here : Bool) (line : Line) (rest : List Line) → is_ok (book_of Authsrv (cond here (line ∷ rest) rest)) ≡ true → is_ok (book_of Authsrv rest) ≡ true
-rest_read true line rest h = (good_so_far line.number (said_by Authsrv line) (book_of Authsrv rest) h).1
+rest_read true line rest h = (good_so_far line.number (effect_of Authsrv line) (book_of Authsrv rest) h).1
 rest_read false line rest h = h
 
-line_read : (here : Bool) (line : Line) (rest : List Line) → here ≡ true → is_ok (book_of Authsrv (cond here (line ∷ rest) rest)) ≡ true → is_ok (said_by Authsrv line) ≡ true
-line_read true line rest e h = (good_so_far line.number (said_by Authsrv line) (book_of Authsrv rest) h).0
+line_read : (here : Bool) (line : Line) (rest : List Line) → here ≡ true → is_ok (book_of Authsrv (cond here (line ∷ rest) rest)) ≡ true → is_ok (effect_of Authsrv line) ≡ true
+line_read true line rest e h = (good_so_far line.number (effect_of Authsrv line) (book_of Authsrv rest) h).0
 line_read false line rest e h = absurd (cc)
 
 each_by : (line : Line) (lines : List Line) (about : Bool) → is_about_operations line ≡ about → is_ok (book_of Authsrv (filter (is_of (keyword Authsrv)) (line ∷ lines))) ≡ true

@@ -15,10 +15,10 @@ use Rattle.auth_machine.proofs.HistoryLemmas.{last_step}
 use Rattle.auth_machine.proofs.TableLemmas.{clash}
 use Rattle.auth_machine.specs.Answer.{answer_of}
 use Rattle.auth_machine.specs.Answers.{full_of}
-use Rattle.auth_machine.specs.Book.{Asked, BookView, Enters, IsFull, Replies, refused_after, refused_by}
+use Rattle.auth_machine.specs.Book.{Asked, BookView, AddsEntry, IsFullAt, EntersReply, refused_after, refused_by}
 use Rattle.auth_machine.specs.History.{IsLegal, Origin, after}
 use Rattle.auth_machine.specs.Policy.{PolicyView}
-use Rattle.auth_machine.specs.Port.{Ground, full_at, port_of}
+use Rattle.auth_machine.specs.Port.{BookOrigin, book_origin, full_at, book_port}
 use Rattle.auth_machine.specs.State.{State}
 use Rattle.auth_machine.specs.Step.{answer, is_refused, proposed}
 
@@ -31,7 +31,7 @@ some_clash {A} {n} same = clash (sym (ap is_there same))
     is_there None = false
     is_there (Some m) = true
 
-entered : {sid at : ℕ} {request : Request} {old new : Port Ground} (reply : Reply) → full_of reply ≡ None → ports.Enters sid at request reply old new → ports.Replies sid at request reply old new
+entered : {sid at : ℕ} {request : Request} {old new : Port BookOrigin} (reply : Reply) → full_of reply ≡ None → ports.Enters sid at request reply old new → ports.Replies sid at request reply old new
 entered (replies.Opened sid) not_full h = h
 entered replies.Password not_full h = h
 entered (replies.Challenge n word_seed) not_full h = h
@@ -57,7 +57,7 @@ abbrev told_of : Option ℕ → ℕ
 told_of None = 0
 told_of (Some n) = n
 
-refused : (sid at : ℕ) (request : Request) {told : ℕ} {old new : Port Ground} (reply : Reply) → full_of reply ≡ Some told → ports.IsFull told old new → ports.Replies sid at request reply old new
+refused : (sid at : ℕ) (request : Request) {told : ℕ} {old new : Port BookOrigin} (reply : Reply) → full_of reply ≡ Some told → ports.IsFull told old new → ports.Replies sid at request reply old new
 refused sid at request (replies.Opened number) full h = some_clash (sym full)
 refused sid at request replies.Password full h = some_clash (sym full)
 refused sid at request (replies.Challenge n word_seed) full h = some_clash (sym full)
@@ -92,20 +92,17 @@ fits_last origin h entry legal =
 
 -- ---- the port
 
-abbrev made : List Entry → List ℕ → Option ℕ → Bool → Ground → Port Ground
+abbrev made : List Entry → List ℕ → Option ℕ → Bool → BookOrigin → Port BookOrigin
 made seen mine full refused origin = record { seen = seen; mine = mine; full = full; refused = refused; faults = 0; odd = 0; origin = origin; home = [] }
 
-same_port : (seen more : List Entry) (mine others : List ℕ) (full told : Option ℕ) (refused known : Bool) (origin other : Ground) → seen ≡ more → mine ≡ others → full ≡ told → refused ≡ known → origin ≡ other
+same_port : (seen more : List Entry) (mine others : List ℕ) (full told : Option ℕ) (refused known : Bool) (origin other : BookOrigin) → seen ≡ more → mine ≡ others → full ≡ told → refused ≡ known → origin ≡ other
     → made seen mine full refused origin ≡ made more others told known other
 same_port seen more mine others full told refused known origin other a b c d e =
     ap (λ (x : List Entry). made x mine full refused origin) a ∙ ap (λ (x : List ℕ). made more x full refused origin) b ∙ ap (λ (x : Option ℕ). made more others x refused origin) c
-    ∙ ap (λ (x : Bool). made more others told x origin) d ∙ ap (λ (x : Ground). made more others told known x) e
+    ∙ ap (λ (x : Bool). made more others told x origin) d ∙ ap (λ (x : BookOrigin). made more others told known x) e
 
-abbrev ground : BookView → Ground
-ground book = (book.origin, book.limit, book.failed_before)
-
-same_ground : (new old : BookView) → new.limit ≡ old.limit → new.origin ≡ old.origin → new.failed_before ≡ old.failed_before → ground new ≡ ground old
-same_ground new old limit origin failed = cc
+same_book_origin : (new old : BookView) → new.limit ≡ old.limit → new.origin ≡ old.origin → new.failed_before ≡ old.failed_before → book_origin new ≡ book_origin old
+same_book_origin new old limit origin failed = cc
 
 nothing_more : (h : List Entry) → h ++ [] ≡ h
 nothing_more h = search rules
@@ -136,7 +133,7 @@ next_place h entry =
     ap places more
 
 port_entered : (sid at : ℕ) (request : Request) (reply : Reply) (old new : BookView) → new.limit ≡ old.limit → new.origin ≡ old.origin → new.failed_before ≡ old.failed_before → new.refused ≡ old.refused
-    → Enters sid at request reply old.limit old.history new.history → IsLegal old.origin new.history → ports.Enters sid at request reply (port_of old) (port_of new)
+    → AddsEntry sid at request reply old.limit old.history new.history → IsLegal old.origin new.history → ports.Enters sid at request reply (book_port old) (book_port new)
 port_entered sid at request reply old new limit origin failed refused enters legal =
     let entry : Entry = record { sid = session_at request (length old.history) sid; at = at; request = request; kept = enters.kept; reply = reply } in
     let same : old.history ++ [] ≡ old.history = nothing_more old.history in
@@ -151,10 +148,10 @@ port_entered sid at request reply old new limit origin failed refused enters leg
       is = same_port _ _ _ _ _ _ _ _ _ _
           (enters.is ∙ ap (λ (h : List Entry). h ++ entry ∷ []) (sym same))
           (ap (λ (h : List Entry). places (length h)) enters.is ∙ next_place old.history entry)
-          refl refused (same_ground new old limit origin failed);
+          refl refused (same_book_origin new old limit origin failed);
     }
 
-port_full : (told : ℕ) (old new : BookView) → new.limit ≡ old.limit → new.origin ≡ old.origin → new.failed_before ≡ old.failed_before → new.refused ≡ true → IsFull told old.limit old.history new.history → ports.IsFull told (port_of old) (port_of new)
+port_full : (told : ℕ) (old new : BookView) → new.limit ≡ old.limit → new.origin ≡ old.origin → new.failed_before ≡ old.failed_before → new.refused ≡ true → IsFullAt told old.limit old.history new.history → ports.IsFull told (book_port old) (book_port new)
 port_full told old new limit origin failed refused full =
     let at_limit : full_at old.limit old.history ≡ Some told = is_full old.limit old.history full.full ∙ ap (λ (n : ℕ). Some n) (sym full.limit_is) in
     record {
@@ -163,10 +160,10 @@ port_full told old new limit origin failed refused full =
       is = same_port _ _ _ _ _ _ _ _ _ _
           (full.is ∙ sym (nothing_more old.history))
           (ap (λ (h : List Entry). places (length h)) full.is)
-          (ap (λ (n : ℕ). full_at n new.history) limit ∙ ap (full_at old.limit) full.is ∙ at_limit) refused (same_ground new old limit origin failed);
+          (ap (λ (n : ℕ). full_at n new.history) limit ∙ ap (full_at old.limit) full.is ∙ at_limit) refused (same_book_origin new old limit origin failed);
     }
 
-pub port_lacks : (old new : BookView) → new.limit ≡ old.limit → new.origin ≡ old.origin → new.failed_before ≡ old.failed_before → new.refused ≡ old.refused → new.history ≡ old.history → ports.Lacks (port_of old) (port_of new)
+pub port_lacks : (old new : BookView) → new.limit ≡ old.limit → new.origin ≡ old.origin → new.failed_before ≡ old.failed_before → new.refused ≡ old.refused → new.history ≡ old.history → ports.RanOutOfMemory (book_port old) (book_port new)
 port_lacks old new limit origin failed refused same = record {
   others = [];
   full = full_at old.limit old.history;
@@ -174,14 +171,14 @@ port_lacks old new limit origin failed refused same = record {
   is = same_port _ _ _ _ _ _ _ _ _ _
       (same ∙ sym (nothing_more old.history))
       (ap (λ (h : List Entry). places (length h)) same)
-      (ap (λ (n : ℕ). full_at n new.history) limit ∙ ap (full_at old.limit) same) refused (same_ground new old limit origin failed);
+      (ap (λ (n : ℕ). full_at n new.history) limit ∙ ap (full_at old.limit) same) refused (same_book_origin new old limit origin failed);
 }
 
 replied : (sid at : ℕ) (request : Request) (reply : Reply) (full : Option ℕ) (old new : BookView) → full_of reply ≡ full → new.limit ≡ old.limit → new.origin ≡ old.origin → new.failed_before ≡ old.failed_before → new.refused ≡ refused_after full old.refused
-    → Replies full sid at request reply old.limit old.history new.history → IsLegal old.origin new.history → ports.Replies sid at request reply (port_of old) (port_of new)
+    → EntersReply full sid at request reply old.limit old.history new.history → IsLegal old.origin new.history → ports.Replies sid at request reply (book_port old) (book_port new)
 replied sid at request reply None old new is limit origin failed same enters legal = entered reply is (port_entered sid at request reply old new limit origin failed same enters legal)
 replied sid at request reply (Some told) old new is limit origin failed noted full legal = refused sid at request reply is (port_full told old new limit origin failed noted full)
 
 pub port_replies : (sid at : ℕ) (request : Request) (reply : Reply) (old new : BookView) → new.limit ≡ old.limit → new.origin ≡ old.origin → new.failed_before ≡ old.failed_before → new.refused ≡ refused_by (Ok reply) old.refused
-    → Asked sid at request old.limit old.origin old.history (Ok reply) new.history → ports.Replies sid at request reply (port_of old) (port_of new)
+    → Asked sid at request old.limit old.origin old.history (Ok reply) new.history → ports.Replies sid at request reply (book_port old) (book_port new)
 port_replies sid at request reply old new limit origin failed refused asked = replied sid at request reply (full_of reply) old new refl limit origin failed refused asked.answers asked.legal

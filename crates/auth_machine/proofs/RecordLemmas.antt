@@ -3,8 +3,8 @@ use Rattle.std.proofs.Common.{◌≡◌, ◌≢◌, ℕ, ◌+◌, Bool, true, fa
 use Rattle.std.proofs.Common as common
 use Rattle.std.specs.Str.{bytes_eq}
 use Rattle.std.proofs.lemmas.Slice.Eq.{bytes_eq-Decides}
-use Rattle.fw_outside.specs.Keyed.{under, without}
-use Rattle.fw_outside.specs.KeyedLemmas.{under_placed, under_without}
+use Rattle.fw_types.specs.Keyed.{under, without}
+use Rattle.fw_types.proofs.KeyedLemmas.{under_placed, under_without}
 use Rattle.auth_records.specs.Spelling.{Fields, OtpFields}
 use Rattle.auth_records.specs.declared.record.Proto.TheVariants as protos
 use Rattle.auth_events.specs.Port.{session_at}
@@ -17,13 +17,13 @@ use Rattle.auth_machine.specs.Answer.{Answer, answer_of}
 use Rattle.auth_machine.specs.Answer.Answer.{Denied, Ok}
 use Rattle.auth_machine.specs.History.{IsLegal, IsStep, Origin, after, after_entry}
 use Rattle.auth_machine.specs.Logins.{is_response, phase_of}
-use Rattle.auth_machine.specs.Chains.{word_of}
+use Rattle.auth_machine.specs.Chains.{response_word}
 use Rattle.auth_machine.specs.Login.{failed, logged_in, refusal, used}
 use Rattle.auth_machine.specs.Policy.{PolicyView}
-use Rattle.auth_machine.specs.Powers.{new_user, power_of, reached}
-use Rattle.auth_machine.specs.State.{Change, State, at_moment, changed, edited, name_of, record_at, session_of, start}
-use Rattle.auth_machine.specs.Step.{is_edit}
-use Rattle.auth_machine.specs.declared.edit.Edit.TheVariants.{Put, Delete}
+use Rattle.auth_machine.specs.Powers.{new_user, power_of, reachable}
+use Rattle.auth_machine.specs.State.{Change, State, at_moment, changed, records_after, record_name, record_at, session_of, first_state}
+use Rattle.auth_machine.specs.Step.{is_record_change}
+use Rattle.auth_machine.specs.declared.record_change.RecordChange.TheVariants.{Put, Delete}
 use Rattle.auth_machine.specs.declared.session.Phase.{Phase}
 use Rattle.auth_machine.specs.declared.session.Phase.TheVariants.{Waiting}
 use Rattle.auth_machine.specs.declared.session.Session.{Session}
@@ -52,16 +52,16 @@ twice : (b : Bool) (x : Fields) (found : Option Fields) → cond b (Some x) (con
 twice true x found = refl
 twice false x found = refl
 
-pub put_at : (g : Fields) (xs : List Fields) (k : List ℕ) → record_at k (edited (Put g) xs) ≡ cond (bytes_eq k g.name) (Some g) (record_at k xs)
+pub put_at : (g : Fields) (xs : List Fields) (k : List ℕ) → record_at k (records_after (Put g) xs) ≡ cond (bytes_eq k g.name) (Some g) (record_at k xs)
 put_at g xs k =
-    let none : under name_of g.name (without name_of g.name xs) ≡ None =
-    under_without name_of g.name xs g.name ∙ ap (λ (b : Bool). cond b None (under name_of g.name xs)) (itself g.name) in
-    under_placed name_of g (without name_of g.name xs) k (ap is_some none)
-    ∙ ap (λ (found : Option Fields). cond (bytes_eq k g.name) (Some g) found) (under_without name_of g.name xs k)
+    let none : under record_name g.name (without record_name g.name xs) ≡ None =
+    under_without record_name g.name xs g.name ∙ ap (λ (b : Bool). cond b None (under record_name g.name xs)) (itself g.name) in
+    under_placed record_name g (without record_name g.name xs) k (ap is_some none)
+    ∙ ap (λ (found : Option Fields). cond (bytes_eq k g.name) (Some g) found) (under_without record_name g.name xs k)
     ∙ twice (bytes_eq k g.name) g (record_at k xs)
 
-pub delete_at : (name : List ℕ) (xs : List Fields) (k : List ℕ) → record_at k (edited (Delete name) xs) ≡ cond (bytes_eq k name) None (record_at k xs)
-delete_at name xs k = under_without name_of name xs k
+pub delete_at : (name : List ℕ) (xs : List Fields) (k : List ℕ) → record_at k (records_after (Delete name) xs) ≡ cond (bytes_eq k name) None (record_at k xs)
+delete_at name xs k = under_without record_name name xs k
 
 -- ---- moves
 
@@ -81,12 +81,12 @@ pub data RecordMoves (policy : PolicyView) (s : State) (k : List ℕ) (entry : E
   made : (long : List ℕ) (group : Option (List ℕ)) (session : Session) → entry.request ≡ requests.Adduser k long → session_of entry.sid s.sessions ≡ Some session
       → AddsTo (power_of s session) group → RecordMoves policy s k entry None (Some (new_user k long group))
   removed : (f : Fields) (session : Session) → entry.request ≡ requests.Deluser k → entry.reply ≡ replies.Ok → session_of entry.sid s.sessions ≡ Some session
-      → reached (power_of s session) (Some f) ≡ common.Ok f → RecordMoves policy s k entry (Some f) None
+      → reachable (power_of s session) (Some f) ≡ common.Ok f → RecordMoves policy s k entry (Some f) None
   becomes : (f : Fields) (session : Session) → target entry.request ≡ Some k → entry.reply ≡ replies.Ok → session_of entry.sid s.sessions ≡ Some session
-      → reached (power_for s session entry.request k) (Some f) ≡ common.Ok f → RecordMoves policy s k entry (Some f) (Some (altered entry.request f))
+      → reachable (power_for s session entry.request k) (Some f) ≡ common.Ok f → RecordMoves policy s k entry (Some f) (Some (altered entry.request f))
   fails : (f : Fields) → Awaited policy s k entry f → (LogsInAs s k entry → ⊥) → RecordMoves policy s k entry (Some f) (Some (failed s.moment f))
   enters : (f : Fields) → Awaited policy s k entry f → entry.reply ≡ replies.Ok → f.proto ≡ protos.Plain → RecordMoves policy s k entry (Some f) (Some (logged_in f))
-  uses : (f : Fields) (otp : OtpFields) (w : ℕ) → Awaited policy s k entry f → entry.reply ≡ replies.Ok → word_of entry.request ≡ Some w → IsWord f otp w
+  uses : (f : Fields) (otp : OtpFields) (w : ℕ) → Awaited policy s k entry f → entry.reply ≡ replies.Ok → response_word entry.request ≡ Some w → IsWord f otp w
       → RecordMoves policy s k entry (Some f) (Some (used f otp w))
 
 altered_name : (request : Request) (f : Fields) → (altered request f).name ≡ f.name
@@ -124,7 +124,7 @@ module _ (policy : PolicyView) (s : State) (k : List ℕ) (entry : Entry) where
 
   -- the record under a name is put anew
   put_move : (n : List ℕ) (old : Option Fields) (g : Fields) → record_at n s.records ≡ old → g.name ≡ n → (k ≡ n → RecordMoves policy s k entry old (Some g))
-      → (bytes_eq k n ≡ false → LogsInAs s k entry → ⊥) → RecordMoves policy s k entry (record_at k s.records) (record_at k (edited (Put g) s.records))
+      → (bytes_eq k n ≡ false → LogsInAs s k entry → ⊥) → RecordMoves policy s k entry (record_at k s.records) (record_at k (records_after (Put g) s.records))
   put_move n old g there named here elsewhere =
       subst (λ found. RecordMoves policy s k entry (record_at k s.records) found) (sym (put_at g s.records k)) (choose (bytes_eq k g.name) refl)
     where
@@ -135,7 +135,7 @@ module _ (policy : PolicyView) (s : State) (k : List ℕ) (entry : Entry) where
       choose false e = same (record_at k s.records) (elsewhere (subst (λ (name : List ℕ). bytes_eq k name ≡ false) named e))
 
   delete_move : (n : List ℕ) (f : Fields) → record_at n s.records ≡ Some f → (k ≡ n → RecordMoves policy s k entry (Some f) None)
-      → (LogsInAs s k entry → ⊥) → RecordMoves policy s k entry (record_at k s.records) (record_at k (edited (Delete f.name) s.records))
+      → (LogsInAs s k entry → ⊥) → RecordMoves policy s k entry (record_at k s.records) (record_at k (records_after (Delete f.name) s.records))
   delete_move n f there here elsewhere =
       subst (λ found. RecordMoves policy s k entry (record_at k s.records) found) (sym (delete_at f.name s.records k)) (choose (bytes_eq k f.name) refl)
     where
@@ -151,7 +151,7 @@ module _ (policy : PolicyView) (s : State) (k : List ℕ) (entry : Entry) where
       record { phase = waits session n there awaits.phase ∙ ap (λ (name : List ℕ). Some (Waiting name)) (sym one); usable = awaits.usable; responds = responds }
 
   on_asks : (name : List ℕ) (session : Session) (change : Change) (j : ℕ) → Asks policy s session name change → entry.request ≡ requests.Authenticate name
-      → (refused : Bool) → (refused ≡ true → is_edit change.records s.records ≡ true)
+      → (refused : Bool) → (refused ≡ true → is_record_change change.records s.records ≡ true)
       → RecordMoves policy s k entry (record_at k s.records) (record_at k (cond refused s (changed j change s)).records)
   on_asks name session change j (asks_denied d) is true edit = no_edit edit
   on_asks name session change j (asks_denied d) is false edit = same _ (no_response (requests.Authenticate name) is refl)
@@ -177,7 +177,7 @@ module _ (policy : PolicyView) (s : State) (k : List ℕ) (entry : Entry) where
       (λ one. enters f (awaited session n f there awaits (ap is_response is) one) (ok_reply entry.reply reply) proto) (another session n there awaits.phase)
   on_responds hash word session change j there (right_word n f otp w awaits given chain) is false reply =
       put_move n (Some f) (used f otp w) awaits.there (found_name n s.records f awaits.there)
-      (λ one. uses f otp w (awaited session n f there awaits (ap is_response is) one) (ok_reply entry.reply reply) (ap word_of is ∙ given) chain) (another session n there awaits.phase)
+      (λ one. uses f otp w (awaited session n f there awaits (ap is_response is) one) (ok_reply entry.reply reply) (ap response_word is ∙ given) chain) (another session n there awaits.phase)
 
   on_administers : (request : Request) (session : Session) (change : Change) (j : ℕ) → session_of entry.sid s.sessions ≡ Some session → is_other request ≡ true
       → Administers s session request change → entry.request ≡ request → (refused : Bool) → answer_of entry.reply ≡ cond refused (Denied denials.NotKept) change.answer
@@ -191,18 +191,18 @@ module _ (policy : PolicyView) (s : State) (k : List ℕ) (entry : Entry) where
   on_administers request session change j there other (removes n f found power) is false reply =
       delete_move n f found
       (λ one. subst (λ (name : List ℕ). RecordMoves policy s name entry (Some f) None) (sym one)
-      (removed f session is (ok_reply entry.reply reply) there (subst (λ r. reached (power_of s session) r ≡ common.Ok f) found power)))
+      (removed f session is (ok_reply entry.reply reply) there (subst (λ r. reachable (power_of s session) r ≡ common.Ok f) found power)))
       (no_response (requests.Deluser n) is refl)
   on_administers request session change j there other (alters _ n f to found power) is false reply =
       put_move n (Some f) (altered request f) found (altered_name request f ∙ found_name n s.records f found)
       (λ one. subst (λ (name : List ℕ). RecordMoves policy s name entry (Some f) (Some (altered request f))) (sym one)
       (subst (λ r. RecordMoves policy s n entry (Some f) (Some (altered r f))) is
       (becomes f session (ap target is ∙ to) (ok_reply entry.reply reply) there
-      (subst (λ r. reached (power_for s session r n) (Some f) ≡ common.Ok f) (sym is) (subst (λ r. reached (power_for s session request n) r ≡ common.Ok f) found power)))))
+      (subst (λ r. reachable (power_for s session r n) (Some f) ≡ common.Ok f) (sym is) (subst (λ r. reachable (power_for s session request n) r ≡ common.Ok f) found power)))))
       (λ e. no_response request is (other_no_response request other))
 
   on_happens : (place j : ℕ) (request : Request) (change : Change) → Happens policy s place entry.sid request change → entry.request ≡ request
-      → (refused : Bool) → (refused ≡ true → is_edit change.records s.records ≡ true) → answer_of entry.reply ≡ cond refused (Denied denials.NotKept) change.answer
+      → (refused : Bool) → (refused ≡ true → is_record_change change.records s.records ≡ true) → answer_of entry.reply ≡ cond refused (Denied denials.NotKept) change.answer
       → RecordMoves policy s k entry (record_at k s.records) (record_at k (cond refused s (changed j change s)).records)
   on_happens place j request change (opening console) is true edit reply = no_edit edit
   on_happens place j request change (opening console) is false edit reply = same _ (no_response (requests.Open console) is refl)
@@ -225,5 +225,5 @@ pub last_moves : (origin : Origin) (before : List Entry) (entry : Entry) (k : Li
     → RecordMoves origin.policy (at_moment entry.at (after origin before)) k entry (record_at k (after origin before).records) (record_at k (after origin (before ++ entry ∷ [])).records)
 last_moves origin before entry k legal =
     subst (λ (t : State). RecordMoves origin.policy (at_moment entry.at (after origin before)) k entry (record_at k (after origin before).records) (record_at k t.records))
-    (sym (after_joined origin.policy (start origin.records) 0 before (entry ∷ [])))
+    (sym (after_joined origin.policy (first_state origin.records) 0 before (entry ∷ [])))
     (record_moves origin.policy (after origin before) (0 + length before) entry (last_step origin before entry legal) k)

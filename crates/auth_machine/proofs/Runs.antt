@@ -8,8 +8,8 @@ use Rattle.auth_events.specs.declared.request.Request.{Request}
 use Rattle.auth_events.specs.declared.request.Request.TheVariants.{Authenticate, Open, Response}
 use Rattle.auth_machine.specs.Answer.{Answer}
 use Rattle.auth_machine.specs.Policy.{PolicyView}
-use Rattle.auth_machine.specs.State.{State, start}
-use Rattle.auth_machine.specs.Step.{answer, keeps, next}
+use Rattle.auth_machine.specs.State.{State, first_state}
+use Rattle.auth_machine.specs.Step.{answer, keeps, next_state}
 
 -- ---- runs
 
@@ -28,7 +28,7 @@ abbrev pub failing : ℕ → ℕ → Request → Ask
 failing sid at request = record { sid = sid; at = at; request = request; kept = false }
 
 abbrev pub after_ask : PolicyView → State → ℕ → Ask → State
-after_ask policy s place a = next policy s place a.sid a.at a.request a.kept
+after_ask policy s place a = next_state policy s place a.sid a.at a.request a.kept
 
 abbrev pub answers_from : PolicyView → State → ℕ → List Ask → List Answer
 answers_from policy s place [] = []
@@ -46,13 +46,13 @@ state_from policy s place (a ∷ asks) = state_from policy (after_ask policy s p
 
 -- the answers, for which of the requests the keeper is called, and the state that is left
 abbrev pub answers : PolicyView → List Fields → List Ask → List Answer
-answers policy records asks = answers_from policy (start records) 0 asks
+answers policy records asks = answers_from policy (first_state records) 0 asks
 
 abbrev pub calls : PolicyView → List Fields → List Ask → List Bool
-calls policy records asks = calls_from policy (start records) 0 asks
+calls policy records asks = calls_from policy (first_state records) 0 asks
 
 abbrev pub left : PolicyView → List Fields → List Ask → State
-left policy records asks = state_from policy (start records) 0 asks
+left policy records asks = state_from policy (first_state records) 0 asks
 
 -- ---- policies
 

@@ -6,8 +6,8 @@ use Rattle.auth_events.specs.declared.entry.Entry.{Entry}
 use Rattle.auth_events.specs.declared.request.Request.{Request}
 use Rattle.auth_events.specs.declared.request.Request.TheVariants as requests
 use Rattle.auth_machine.specs.History.{IsLegal, Origin, after, after_entry}
-use Rattle.auth_machine.specs.Logins.{HasNone, IsLogin, IsNaming, LoginStands, is_end, is_naming, is_own, is_response, phase_of}
-use Rattle.auth_machine.specs.State.{start}
+use Rattle.auth_machine.specs.Logins.{HasNone, IsLogin, IsNaming, LoginStands, is_end, is_naming, is_own_request, is_response, phase_of}
+use Rattle.auth_machine.specs.State.{first_state}
 use Rattle.auth_machine.specs.declared.session.Phase.{Phase}
 use Rattle.auth_machine.specs.declared.session.Phase.TheVariants.{Bogus, Idle, In, Waiting}
 use Rattle.auth_machine.proofs.EntriesLemmas.{reaches}
@@ -16,7 +16,7 @@ use Rattle.auth_machine.proofs.PhaseLemmas.Moves.{closed, failed, fooled, logs_i
 
 -- ---- kinds of entries
 
-unnamed_end : (sid : ℕ) (entry : Entry) → is_own sid is_end entry ≡ false → is_own sid is_naming entry ≡ false
+unnamed_end : (sid : ℕ) (entry : Entry) → is_own_request sid is_end entry ≡ false → is_own_request sid is_naming entry ≡ false
 unnamed_end sid entry h = choose (nat_eq entry.sid sid) entry.request h
   where
     choose : (b : Bool) (request : Request) → b && is_end request ≡ false → b && is_naming request ≡ false
@@ -25,7 +25,7 @@ unnamed_end sid entry h = choose (nat_eq entry.sid sid) entry.request h
     choose true (requests.Close) h = refl
     choose true _ h = refl
 
-pub naming_end : (sid : ℕ) (entry : Entry) → is_own sid is_naming entry ≡ true → is_own sid is_end entry ≡ true
+pub naming_end : (sid : ℕ) (entry : Entry) → is_own_request sid is_naming entry ≡ true → is_own_request sid is_end entry ≡ true
 naming_end sid entry h = choose (nat_eq entry.sid sid) entry.request h
   where
     choose : (b : Bool) (request : Request) → b && is_naming request ≡ true → b && is_end request ≡ true
@@ -34,11 +34,11 @@ naming_end sid entry h = choose (nat_eq entry.sid sid) entry.request h
     choose true (requests.Close) h = refl
     choose true _ h = absurd (cc)
 
-pub own_naming : (sid : ℕ) (name : List ℕ) (entry : Entry) → IsNaming sid name entry → is_own sid is_naming entry ≡ true
+pub own_naming : (sid : ℕ) (name : List ℕ) (entry : Entry) → IsNaming sid name entry → is_own_request sid is_naming entry ≡ true
 own_naming sid name entry named =
     ap (λ (b : Bool). b && is_naming entry.request) (eq-eqb entry.sid sid named.0) ∙ ap is_naming named.1
 
-pub login_no_naming : (sid : ℕ) (entry : Entry) → IsLogin sid entry → is_own sid is_naming entry ≡ false
+pub login_no_naming : (sid : ℕ) (entry : Entry) → IsLogin sid entry → is_own_request sid is_naming entry ≡ false
 login_no_naming sid entry login = ap (λ (b : Bool). b && is_naming entry.request) (eq-eqb entry.sid sid login.0) ∙ choose entry.request login.1
   where
     choose : (request : Request) → is_response request ≡ true → is_naming request ≡ false
@@ -69,7 +69,7 @@ module _ (sid place : ℕ) (entry : Entry) (done : List Entry) where
   longer : (before : List Entry) (naming : Entry) (between : List Entry) → done ≡ before ++ (naming ∷ between) → done ++ entry ∷ [] ≡ before ++ (naming ∷ (between ++ entry ∷ []))
   longer before naming between is = ap (λ xs. xs ++ entry ∷ []) is ∙ append_assoc before (naming ∷ between) (entry ∷ [])
 
-  says_more : (p : Option Phase) → is_own sid is_end entry ≡ false → Says sid done p → Says sid (done ++ entry ∷ []) p
+  says_more : (p : Option Phase) → is_own_request sid is_end entry ≡ false → Says sid done p → Says sid (done ++ entry ∷ []) p
   unfolding Says
   says_more None end says = tt
   says_more (Some Idle) end says = tt
@@ -81,7 +81,7 @@ module _ (sid place : ℕ) (entry : Entry) (done : List Entry) where
         between = says.between ++ entry ∷ [];
         is = longer says.before says.naming says.between says.is;
         named = says.named;
-        named_last = all_more (λ e. is_own sid is_naming e ≡ false) says.between entry says.named_last (unnamed_end sid entry end);
+        named_last = all_more (λ e. is_own_request sid is_naming e ≡ false) says.between entry says.named_last (unnamed_end sid entry end);
       }
   says_more (Some (In name)) end says =
       record {
@@ -95,7 +95,7 @@ module _ (sid place : ℕ) (entry : Entry) (done : List Entry) where
         named = says.named;
         named_last = says.named_last;
         answered = says.answered;
-        stands = all_more (λ e. is_own sid is_end e ≡ false) says.since entry says.stands end;
+        stands = all_more (λ e. is_own_request sid is_end e ≡ false) says.since entry says.stands end;
       }
 
   says_next : (p q : Option Phase) → Moves sid place entry p q → Says sid done p → Says sid (done ++ entry ∷ []) q
@@ -135,5 +135,5 @@ pub login_is_said : (origin : Origin) (history : List Entry) (sid : ℕ) (name :
 login_is_said origin history sid name legal is =
     let all = reaches origin.policy (λ done place s. Says sid done (phase_of sid s))
     (λ done place s entry says step. says_next sid place entry done (phase_of sid s) (phase_of sid (after_entry origin.policy s place entry)) (step_moves origin.policy s place entry step sid) says)
-    [] history 0 (start origin.records) (says_first sid) legal in
+    [] history 0 (first_state origin.records) (says_first sid) legal in
     says_read sid name history (phase_of sid (after origin history)) is all.1

@@ -1,8 +1,8 @@
 -- Sessions by their numbers.
 use Rattle.std.proofs.Common.{◌≡◌, ℕ, Bool, true, false, cond, not, List, [], ◌∷◌, ◌++◌, Option, Some, None, nat_eq, refl, sym, ap, subst, ◌∙◌, eq-eqb}
 use Rattle.std.proofs.lemmas.Bool.{eqb-true}
-use Rattle.auth_machine.specs.State.{session_of, turned, without_session}
-use Rattle.auth_machine.specs.declared.edit.Turn.TheVariants.{Become, End}
+use Rattle.auth_machine.specs.State.{session_of, sessions_after, without_session}
+use Rattle.auth_machine.specs.declared.record_change.SessionChange.TheVariants.{Become, End}
 use Rattle.auth_machine.specs.declared.session.Session.{Session}
 
 -- ---- sessions by their numbers
@@ -47,16 +47,16 @@ pub itself : (n : ℕ) → nat_eq n n ≡ true
 itself n = eq-eqb n n refl
 
 -- what the session of a number becomes
-pub became_own : (x : Session) (sid k : ℕ) (xs : List Session) → x.sid ≡ sid → session_of sid (turned (Become x) k xs) ≡ Some x
+pub became_own : (x : Session) (sid k : ℕ) (xs : List Session) → x.sid ≡ sid → session_of sid (sessions_after (Become x) k xs) ≡ Some x
 became_own x sid k xs is =
     subst (λ (n : ℕ). session_of n (without_session x.sid xs ++ (x ∷ [])) ≡ Some x) is
     (own_gone x.sid xs (x ∷ []) ∙ ap (λ (b : Bool). cond b (Some x) None) (itself x.sid))
 
-pub became_other : (x : Session) (sid k : ℕ) (xs : List Session) → nat_eq x.sid sid ≡ false → session_of sid (turned (Become x) k xs) ≡ session_of sid xs
+pub became_other : (x : Session) (sid k : ℕ) (xs : List Session) → nat_eq x.sid sid ≡ false → session_of sid (sessions_after (Become x) k xs) ≡ session_of sid xs
 became_other x sid k xs other = others_stay x.sid sid xs (x ∷ []) other (ap (λ (b : Bool). cond b (Some x) None) other)
 
-pub ended_own : (sid : ℕ) (xs : List Session) → session_of sid (turned End sid xs) ≡ None
+pub ended_own : (sid : ℕ) (xs : List Session) → session_of sid (sessions_after End sid xs) ≡ None
 ended_own sid xs = rw (without_is sid xs) (own_gone sid xs [])
 
-pub ended_other : (k sid : ℕ) (xs : List Session) → nat_eq k sid ≡ false → session_of sid (turned End k xs) ≡ session_of sid xs
+pub ended_other : (k sid : ℕ) (xs : List Session) → nat_eq k sid ≡ false → session_of sid (sessions_after End k xs) ≡ session_of sid xs
 ended_other k sid xs other = rw (without_is k xs) (others_stay k sid xs [] other refl)

@@ -7,7 +7,7 @@ use Rattle.auth_machine.specs.Answer.{Answer, answer_of}
 use Rattle.auth_machine.specs.Answer.Answer.{Denied}
 use Rattle.auth_machine.specs.History.{IsLegal, IsStep, Origin, after, after_entry}
 use Rattle.auth_machine.specs.Policy.{PolicyView}
-use Rattle.auth_machine.specs.State.{Change, State, at_moment, changed, start}
+use Rattle.auth_machine.specs.State.{Change, State, at_moment, changed, first_state}
 use Rattle.auth_machine.specs.Step.{is_refused, proposed}
 use Rattle.auth_machine.proofs.EntriesLemmas.{parts_behind}
 
@@ -38,4 +38,4 @@ step_made policy s place entry e = made (refused_at policy s place entry) _ _ e
 
 -- the last entry of a legal history is a step from what the others left
 pub last_step : (origin : Origin) (before : List Entry) (entry : Entry) → IsLegal origin (before ++ entry ∷ []) → IsStep origin.policy (after origin before) (0 + length before) entry
-last_step origin before entry legal = (parts_behind origin.policy (start origin.records) 0 before (entry ∷ []) legal).0
+last_step origin before entry legal = (parts_behind origin.policy (first_state origin.records) 0 before (entry ∷ []) legal).0

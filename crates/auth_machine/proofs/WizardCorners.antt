@@ -9,11 +9,11 @@ use Rattle.auth_events.specs.declared.denial.Denial.TheVariants.{NoChallenge, No
 use Rattle.auth_events.specs.declared.request.OpService.TheVariants.{Telnet}
 use Rattle.auth_events.specs.declared.request.Request.TheVariants.{Adduser, Deluser, Disable, Display, Enable, Group, Operation, Proto, Superwiz, Unwiz}
 use Rattle.auth_events.specs.declared.request.Request.TheVariants as requests
-use Rattle.fw_outside.specs.declared.host.Host.TheVariants.{Addr}
+use Rattle.fw_types.specs.declared.host.Host.TheVariants.{Addr}
 use Rattle.auth_machine.specs.Answer.Answer.{Opened, Password, Ok, Shown, Denied}
 use Rattle.auth_machine.specs.Answer.{Answer, profile_of}
 use Rattle.auth_machine.specs.Login.{authenticate, respond}
-use Rattle.auth_machine.specs.Powers.{add_user, list, operation}
+use Rattle.auth_machine.specs.Powers.{add_user, list, asks_operation}
 use Rattle.auth_machine.specs.Step.{proposed}
 use Rattle.auth_machine.proofs.Runs.{Ask, answers, ask, bare, calls, console, failing, in_group, left, mjr, names, no_lines, opens, other, otp1, salt, says, secret, with_secret}
 
@@ -45,7 +45,7 @@ own_record_gone : answers no_lines (mjr ∷ []) (mjr_logs_in
     ++ ask 9 11 console ∷ ask 3 11 (Deluser (codes "mjr")) ∷ ask 0 11 (Display (codes "mjr"))
     ∷ ask 0 11 (Operation Telnet (Addr (10 ∷ 0 ∷ 0 ∷ 1 ∷ []))) ∷ ask 3 11 (Display (codes "mjr")) ∷ [])
     ≡ mjr_in ++ Opened 3 ∷ Ok ∷ Denied NotIn ∷ Denied NotIn ∷ Denied NoSuch ∷ []
-unfolding proposed authenticate respond operation md5 digest_bytes hash_after compress rounds block_words spelling
+unfolding proposed authenticate respond asks_operation md5 digest_bytes hash_after compress rounds block_words spelling
 own_record_gone = refl
 
 -- who is deleted and added again is logged in as the new user

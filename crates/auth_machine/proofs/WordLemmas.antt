@@ -12,10 +12,10 @@ use Rattle.auth_events.specs.declared.request.Request.TheVariants as requests
 use Rattle.otp_md5.specs.Passwords.{next_of}
 use Rattle.auth_machine.specs.History.{AreSteps, IsLegal, Origin, after, after_entry}
 use Rattle.auth_machine.specs.Logins.{is_ok, is_response, phase_of}
-use Rattle.auth_machine.specs.Chains.{AreLeft, GoesDown, SetsNone, accepted, asks_words, is_about, is_by_words, is_setting, later_word, waits_for, with_first, word_of, words_of}
+use Rattle.auth_machine.specs.Chains.{AreLeft, GoesDown, SetsNone, accepted, asks_words, is_about, is_by_words, is_setting, later_word, waits_for, with_first, response_word, otp_in_record}
 use Rattle.auth_machine.specs.Login.{lowered}
 use Rattle.auth_machine.specs.Policy.{PolicyView}
-use Rattle.auth_machine.specs.State.{State, at_moment, record_at, start}
+use Rattle.auth_machine.specs.State.{State, at_moment, record_at, first_state}
 use Rattle.auth_machine.specs.declared.session.Phase.{Phase}
 use Rattle.auth_machine.specs.declared.session.Phase.TheVariants.{Bogus, Idle, In, Waiting}
 use Rattle.auth_machine.proofs.ActLemmas.{altered, target}
@@ -37,7 +37,7 @@ waiting_is name (Some Bogus) h = absurd (cc)
 waiting_is name (Some (In one)) h = absurd (cc)
 waiting_is name None h = absurd (cc)
 
-word_responds : (request : Request) (w : ℕ) → word_of request ≡ Some w → is_response request ≡ true
+word_responds : (request : Request) (w : ℕ) → response_word request ≡ Some w → is_response request ≡ true
 word_responds (requests.Response hash word) w h = refl
 word_responds _ w h = absurd (cc)
 
@@ -80,31 +80,31 @@ one_less otp w words left chain h =
 
 module _ (s : State) (k : List ℕ) (entry : Entry) where
   abbrev pub accepted_of : Option Fields → Option ℕ
-  accepted_of found = cond (is_ok entry.reply && (waits_for k (phase_of entry.sid s) && asks_words found)) (word_of entry.request) None
+  accepted_of found = cond (is_ok entry.reply && (waits_for k (phase_of entry.sid s) && asks_words found)) (response_word entry.request) None
 
   pub not_accepted : (found : Option Fields) → (LogsInAs s k entry → ⊥) → accepted_of found ≡ None
   not_accepted found out =
-      none_unless (is_ok entry.reply) (waits_for k (phase_of entry.sid s)) (asks_words found) (word_of entry.request)
+      none_unless (is_ok entry.reply) (waits_for k (phase_of entry.sid s)) (asks_words found) (response_word entry.request)
       (λ w ok waits word. out (waiting_is k (phase_of entry.sid s) waits, word_responds entry.request w word, ok_is entry.reply ok))
 
   pub not_by_words : (f : Fields) → f.proto ≡ protos.Plain → accepted_of (Some f) ≡ None
   not_by_words f proto =
-      ap (λ p. cond (is_ok entry.reply && (waits_for k (phase_of entry.sid s) && is_by_words p)) (word_of entry.request) None) proto
-      ∙ choose (is_ok entry.reply) (waits_for k (phase_of entry.sid s)) (word_of entry.request)
+      ap (λ p. cond (is_ok entry.reply && (waits_for k (phase_of entry.sid s) && is_by_words p)) (response_word entry.request) None) proto
+      ∙ choose (is_ok entry.reply) (waits_for k (phase_of entry.sid s)) (response_word entry.request)
     where
       choose : (a b : Bool) (word : Option ℕ) → cond (a && (b && false)) word None ≡ None
       choose false b word = refl
       choose true false word = refl
       choose true true word = refl
 
-  pub is_accepted : (f : Fields) (w : ℕ) → entry.reply ≡ replies.Ok → phase_of entry.sid s ≡ Some (Waiting k) → f.proto ≡ protos.Otp → word_of entry.request ≡ Some w → accepted_of (Some f) ≡ Some w
+  pub is_accepted : (f : Fields) (w : ℕ) → entry.reply ≡ replies.Ok → phase_of entry.sid s ≡ Some (Waiting k) → f.proto ≡ protos.Otp → response_word entry.request ≡ Some w → accepted_of (Some f) ≡ Some w
   is_accepted f w reply phase proto word =
       let a : is_ok entry.reply ≡ true = ap is_ok reply in
       let b : waits_for k (phase_of entry.sid s) ≡ true = ap (waits_for k) phase ∙ itself k in
       let c : is_by_words f.proto ≡ true = ap is_by_words proto in
       choose (is_ok entry.reply) (waits_for k (phase_of entry.sid s)) (is_by_words f.proto) a b c ∙ word
     where
-      choose : (a b c : Bool) → a ≡ true → b ≡ true → c ≡ true → cond (a && (b && c)) (word_of entry.request) None ≡ word_of entry.request
+      choose : (a b c : Bool) → a ≡ true → b ≡ true → c ≡ true → cond (a && (b && c)) (response_word entry.request) None ≡ response_word entry.request
       choose true true true ea eb ec = refl
       choose true true false ea eb ec = absurd (cc)
       choose true false c ea eb ec = absurd (cc)
@@ -120,8 +120,8 @@ module _ (s : State) (k : List ℕ) (entry : Entry) where
       cc
 
   left_before : (policy : PolicyView) (old new : Option Fields) (words : List ℕ) → RecordMoves policy (at_moment entry.at s) k entry old new → is_setting k entry ≡ false
-      → AreLeft (words_of new) words → AreLeft (words_of old) (with_first (accepted_of old) words)
-  left_before policy old new words (same _ out) none left = none_first old (words_of old) words (not_accepted old out) left
+      → AreLeft (otp_in_record new) words → AreLeft (otp_in_record old) (with_first (accepted_of old) words)
+  left_before policy old new words (same _ out) none left = none_first old (otp_in_record old) words (not_accepted old out) left
   left_before policy old new words (made long group session is there to) none left =
       none_first None None words (not_accepted None (unanswered (requests.Adduser k long) is refl)) left
   left_before policy old new words (removed f session is reply there power) none left =
@@ -140,17 +140,17 @@ module _ (s : State) (k : List ℕ) (entry : Entry) where
       (one_less otp w words chain.left chain.chained left))
 
 left_after : (policy : PolicyView) (k : List ℕ) (entries : List Entry) (place : ℕ) (s : State) → AreSteps policy s place entries → SetsNone k entries
-    → AreLeft (words_of (record_at k s.records)) (accepted policy k s place entries)
-left_after policy k [] place s steps none = nothing_left (words_of (record_at k s.records))
+    → AreLeft (otp_in_record (record_at k s.records)) (accepted policy k s place entries)
+left_after policy k [] place s steps none = nothing_left (otp_in_record (record_at k s.records))
 left_after policy k (entry ∷ entries) place s steps none =
     left_before s k entry policy (record_at k s.records) (record_at k (after_entry policy s place entry).records) (accepted policy k (after_entry policy s place entry) (suc place) entries)
     (record_moves policy s place entry steps.0 k) none.0 (left_after policy k entries (suc place) (after_entry policy s place entry) steps.1 none.1)
 
 pub words_go_down : (origin : Origin) (before during : List Entry) (name : List ℕ) → IsLegal origin (before ++ during) → SetsNone name during
-    → AreLeft (words_of (record_at name (after origin before).records)) (accepted origin.policy name (after origin before) (length before) during)
+    → AreLeft (otp_in_record (record_at name (after origin before).records)) (accepted origin.policy name (after origin before) (length before) during)
 words_go_down origin before during name legal none =
     let zero_first : 0 + length before ≡ length before = omega arith in
-    let steps = subst (λ (n : ℕ). AreSteps origin.policy (after origin before) n during) zero_first (parts_behind origin.policy (start origin.records) 0 before during legal) in
+    let steps = subst (λ (n : ℕ). AreSteps origin.policy (after origin before) n during) zero_first (parts_behind origin.policy (first_state origin.records) 0 before during legal) in
     left_after origin.policy name during (length before) (after origin before) steps none
 
 -- ---- once
@@ -172,5 +172,5 @@ pub words_once : (origin : Origin) (before during : List Entry) (name : List ℕ
     → (first between rest : List ℕ) (word : ℕ) → accepted origin.policy name (after origin before) (length before) during ≡ first ++ (word ∷ (between ++ (word ∷ rest)))
     → later_word (suc (length between)) word ≡ word
 words_once origin before during name legal none first between rest word is =
-    left_once (words_of (record_at name (after origin before).records)) first between rest word
-    (subst (AreLeft (words_of (record_at name (after origin before).records))) is (words_go_down origin before during name legal none))
+    left_once (otp_in_record (record_at name (after origin before).records)) first between rest word
+    (subst (AreLeft (otp_in_record (record_at name (after origin before).records))) is (words_go_down origin before during name legal none))

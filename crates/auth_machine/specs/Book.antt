@@ -1,15 +1,15 @@
 -- The book: a history, what it stands on, and the keeper of its records.
 use Rattle.std.specs.Prelude.{◌≡◌, ℕ, ◌<◌, ◌≤◌, Bool, true, Option, Some, None, List, [], ◌∷◌, ◌++◌, length, Result, Ok, Err}
 use Rattle.fw_outside.specs.Counts.{Rose}
-use Rattle.fw_outside.specs.Vault.{Vault}
-use Rattle.fw_outside.specs.declared.no_memory.NoMemory.{NoMemory}
+use Rattle.fw_outside.specs.KeeperView.{KeeperView}
+use Rattle.fw_types.specs.declared.no_memory.NoMemory.{NoMemory}
 use Rattle.auth_events.specs.Port.{session_at}
 use Rattle.auth_events.specs.declared.entry.Entry.{Entry}
 use Rattle.auth_events.specs.declared.reply.Reply.{Reply}
 use Rattle.auth_events.specs.declared.request.Request.{Request}
 use Rattle.auth_machine.specs.Answers.{full_of, is_unkept}
 use Rattle.auth_machine.specs.History.{CountsUnkept, HasRecords, IsLegal, Origin, after}
-use Rattle.auth_machine.specs.Keeping.{Keeps}
+use Rattle.auth_machine.specs.Keeping.{KeepsChange}
 use Rattle.auth_machine.specs.Policy.{PolicyView}
 use Rattle.auth_machine.specs.State.{State}
 use Rattle.auth_machine.specs.Step.{keeps, proposed}
@@ -20,47 +20,47 @@ pub record BookView : Type 0 where
   pub history : List Entry
   pub limit : ℕ
   pub origin : Origin
-  pub vault : Vault
+  pub keeper : KeeperView
   pub failed_before : ℕ
   pub refused : Bool
 
 -- the history is legal and fits, and is full where a request was refused for that; the state is that after it; the keeper
 -- has the records, where it tells; and since the opening it failed at least as often as entries were not kept
-pub record Stands (history : List Entry) (limit : ℕ) (refused : Bool) (origin : Origin) (failed_before : ℕ) (vault : Vault) (policy : PolicyView) (s : State) : Type 0 where
+pub record Stands (history : List Entry) (limit : ℕ) (refused : Bool) (origin : Origin) (failed_before : ℕ) (keeper : KeeperView) (policy : PolicyView) (s : State) : Type 0 where
   pub policy_is : policy ≡ origin.policy
   pub state_is : s ≡ after origin history
   pub legal : IsLegal origin history
   pub within : length history ≤ limit
   pub full : refused ≡ true → length history ≡ limit
-  pub records : HasRecords origin history vault
-  pub faults : CountsUnkept failed_before history vault
+  pub records : HasRecords origin history keeper
+  pub faults : CountsUnkept failed_before history keeper
 
 -- ---- what asking does
 
 -- one entry more, with this session, moment, request and reply
-pub record Enters (sid at : ℕ) (request : Request) (reply : Reply) (limit : ℕ) (before now : List Entry) : Type 0 where
+pub record AddsEntry (sid at : ℕ) (request : Request) (reply : Reply) (limit : ℕ) (before now : List Entry) : Type 0 where
   pub kept : Bool
   pub fits : length before < limit
   pub is : now ≡ before ++ record { sid = session_at request (length before) sid; at = at; request = request; kept = kept; reply = reply } ∷ []
 
 -- nothing was entered, since so many entries are there as fit
-pub record IsFull (told limit : ℕ) (before now : List Entry) : Type 0 where
+pub record IsFullAt (told limit : ℕ) (before now : List Entry) : Type 0 where
   pub limit_is : told ≡ limit
   pub full : length before ≡ limit
   pub is : now ≡ before
 
 -- a reply is entered, unless it says that the history is full
-abbrev pub Replies : Option ℕ → ℕ → ℕ → Request → Reply → ℕ → List Entry → List Entry → Type 0
-Replies None sid at request reply limit before now = Enters sid at request reply limit before now
-Replies (Some told) sid at request reply limit before now = IsFull told limit before now
+abbrev pub EntersReply : Option ℕ → ℕ → ℕ → Request → Reply → ℕ → List Entry → List Entry → Type 0
+EntersReply None sid at request reply limit before now = AddsEntry sid at request reply limit before now
+EntersReply (Some told) sid at request reply limit before now = IsFullAt told limit before now
 
-abbrev pub Answers : ℕ → ℕ → Request → Result Reply NoMemory → ℕ → List Entry → List Entry → Type 0
-Answers sid at request (Ok reply) limit before now = Replies (full_of reply) sid at request reply limit before now
-Answers sid at request (Err _) limit before now = now ≡ before
+abbrev pub EntersAnswer : ℕ → ℕ → Request → Result Reply NoMemory → ℕ → List Entry → List Entry → Type 0
+EntersAnswer sid at request (Ok reply) limit before now = EntersReply (full_of reply) sid at request reply limit before now
+EntersAnswer sid at request (Err _) limit before now = now ≡ before
 
 -- what asking answers and leaves of a history: it is legal and fits, whatever the answer
 pub record Asked (sid at : ℕ) (request : Request) (limit : ℕ) (origin : Origin) (before : List Entry) (result : Result Reply NoMemory) (now : List Entry) : Type 0 where
-  pub answers : Answers sid at request result limit before now
+  pub answers : EntersAnswer sid at request result limit before now
   pub legal : IsLegal origin now
   pub within : length now ≤ limit
 
@@ -77,21 +77,21 @@ refused_by (Err _) before = before
 
 -- where the machine has it keep a record anew or drop one, the keeper has done so or has failed, and the entry says which;
 -- elsewhere it has what it had
-pub record Kept (origin : Origin) (before now : List Entry) (old new : Vault) : Type 0 where
+pub record KeeperFollows (origin : Origin) (before now : List Entry) (old new : KeeperView) : Type 0 where
   pub entry : Entry
   pub is : now ≡ before ++ entry ∷ []
-  pub keeping : Keeps (keeps origin.policy (after origin before) (length before) entry.sid entry.at entry.request)
+  pub keeping : KeepsChange (keeps origin.policy (after origin before) (length before) entry.sid entry.at entry.request)
       (proposed origin.policy (after origin before) (length before) entry.sid entry.at entry.request).records entry.kept old new
 
-abbrev pub RepliesKept : Option ℕ → Origin → List Entry → List Entry → Vault → Vault → Type 0
-RepliesKept None origin before now old new = Kept origin before now old new
-RepliesKept (Some told) origin before now old new = new ≡ old
+abbrev pub KeeperAfterReply : Option ℕ → Origin → List Entry → List Entry → KeeperView → KeeperView → Type 0
+KeeperAfterReply None origin before now old new = KeeperFollows origin before now old new
+KeeperAfterReply (Some told) origin before now old new = new ≡ old
 
-abbrev pub AnswersKept : Result Reply NoMemory → Origin → List Entry → List Entry → Vault → Vault → Type 0
-AnswersKept (Ok reply) origin before now old new = RepliesKept (full_of reply) origin before now old new
-AnswersKept (Err _) origin before now old new = new ≡ old
+abbrev pub KeeperAfter : Result Reply NoMemory → Origin → List Entry → List Entry → KeeperView → KeeperView → Type 0
+KeeperAfter (Ok reply) origin before now old new = KeeperAfterReply (full_of reply) origin before now old new
+KeeperAfter (Err _) origin before now old new = new ≡ old
 
 -- what is not kept the keeper has counted
-abbrev pub RoseIfNotKept : Result Reply NoMemory → Vault → Vault → Type 0
-RoseIfNotKept (Ok reply) old new = is_unkept reply ≡ true → Rose old.faults new.faults
-RoseIfNotKept (Err _) old new = Unit {0}
+abbrev pub RoseIfUnkept : Result Reply NoMemory → KeeperView → KeeperView → Type 0
+RoseIfUnkept (Ok reply) old new = is_unkept reply ≡ true → Rose old.faults new.faults
+RoseIfUnkept (Err _) old new = Unit {0}

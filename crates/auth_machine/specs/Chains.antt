@@ -20,9 +20,9 @@ use Rattle.auth_machine.specs.Logins.{is_ok, is_response, phase_of}
 -- ---- one-time passwords
 
 -- the one-time password of a response, if it was one
-abbrev pub word_of : Request → Option ℕ
-word_of (requests.Response hash word) = word
-word_of _ = None
+abbrev pub response_word : Request → Option ℕ
+response_word (requests.Response hash word) = word
+response_word _ = None
 
 abbrev pub waits_for : List ℕ → Option Phase → Bool
 waits_for name (Some (Waiting one)) = bytes_eq one name
@@ -41,7 +41,7 @@ asks_words (Some f) = is_by_words f.proto
 -- the one-time password of this user that an entry accepts, if it does
 abbrev pub accepted_in : List ℕ → State → Entry → Option ℕ
 accepted_in name s entry =
-    if is_ok entry.reply && (waits_for name (phase_of entry.sid s) && asks_words (record_at name s.records)) then word_of entry.request else None
+    if is_ok entry.reply && (waits_for name (phase_of entry.sid s) && asks_words (record_at name s.records)) then response_word entry.request else None
 
 abbrev pub with_first : Option ℕ → List ℕ → List ℕ
 with_first None words = words
@@ -64,9 +64,9 @@ abbrev pub SetsNone : List ℕ → List Entry → Type 0
 SetsNone name entries = AllByRecursion (λ entry. is_setting name entry ≡ false) entries
 
 -- the one-time passwords that are kept for a user
-abbrev pub words_of : Option Fields → Option OtpFields
-words_of None = None
-words_of (Some f) = f.otp
+abbrev pub otp_in_record : Option Fields → Option OtpFields
+otp_in_record None = None
+otp_in_record (Some f) = f.otp
 
 -- each is the one before the last: the next of the first is the kept one, and the next of each other is the one accepted
 -- before it
@@ -89,7 +89,7 @@ pub record IsAcceptance (name : List ℕ) (s : State) (entry : Entry) : Type 0 w
 -- it was a one-time password whose next is the kept one; it is kept now, and the number of those left fell by one
 pub record Lowers (request : Request) (old new : Option OtpFields) : Type 0 where
   pub word : ℕ
-  pub given : word_of request ≡ Some word
+  pub given : response_word request ≡ Some word
   pub otp : OtpFields
   pub old_is : old ≡ Some otp
   pub left : otp.number ≢ 0

@@ -1,6 +1,6 @@
 -- What lists, the wizards of groups and entries come to.
 use Rattle.std.specs.Prelude.{◌≡◌, ◌≢◌, ℕ, true, false, List, Option, Some, ◌⊎◌, IsTrue}
-use Rattle.fw_outside.specs.Name.{is_before}
+use Rattle.fw_types.specs.Name.{is_before}
 use Rattle.auth_records.specs.Spelling.{Fields}
 use Rattle.auth_records.specs.declared.record.Wiz.TheVariants as wizards
 use Rattle.auth_events.specs.declared.denial.Denial.TheVariants.{Full, NotKept}

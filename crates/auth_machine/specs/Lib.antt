@@ -6,7 +6,7 @@ pub mod Login
 pub mod Powers
 pub mod Step
 pub mod History
-pub mod Standing
+pub mod MachineState
 pub mod Keeping
 pub mod Stepping
 pub mod Book

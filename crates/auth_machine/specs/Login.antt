@@ -13,9 +13,9 @@ use Rattle.auth_machine.specs.Answer.{Answer}
 use Rattle.auth_machine.specs.Answer.Answer.{Password, Challenged, Ok, Denied}
 use Rattle.auth_machine.specs.Policy.{PolicyView}
 use Rattle.auth_machine.specs.State.{State, Change, challenge_at, record_at}
-use Rattle.auth_machine.specs.declared.edit.Edit.TheVariants.{Leave, Put}
-use Rattle.auth_machine.specs.declared.edit.Hold.TheVariants.{Same, Drop, Take}
-use Rattle.auth_machine.specs.declared.edit.Turn.TheVariants.{Become, Stay}
+use Rattle.auth_machine.specs.declared.record_change.RecordChange.TheVariants.{Leave, Put}
+use Rattle.auth_machine.specs.declared.record_change.ChallengeChange.TheVariants.{Same, Drop, Take}
+use Rattle.auth_machine.specs.declared.record_change.SessionChange.TheVariants.{Become, Stay}
 use Rattle.auth_machine.specs.declared.session.Challenge.{Challenge}
 use Rattle.auth_machine.specs.declared.session.Phase.{Phase}
 use Rattle.auth_machine.specs.declared.session.Phase.TheVariants.{Idle, Waiting, Bogus, In}
@@ -40,7 +40,8 @@ lockout None since moment = Some Disabled
 lockout (Some seconds) since moment =
     if nat_lt 0 seconds && nat_lt moment (later since seconds) then Some (Sleeping (later since seconds)) else None
 
--- why the record can't be used now, if so
+-- why the record can't be used now, if so. Kept by `Book::ask` (`asked`), through `IsLegal`; body: src/login.rt. That a
+-- lock holds is the law `a_lock_holds`.
 abbrev pub refusal : PolicyView → ℕ → Fields → Option Denial
 refusal policy moment f =
     if not f.enabled || not (has_password f.proto f) then Some Disabled
@@ -118,7 +119,8 @@ authenticate policy s session name = authenticate_as policy s session name (reco
 abbrev pub one_more : ℕ → ℕ
 one_more fails = if fails == 5 then 1 else fails + 1
 
--- the record after a wrong response: the fifth in a row sets the moment from which it sleeps
+-- the record after a wrong response: the fifth in a row sets the moment from which it sleeps. Kept by `Book::ask`
+-- (`asked`), through `IsLegal`; body: src/response.rt.
 abbrev pub failed : ℕ → Fields → Fields
 failed moment f = record f { fails = one_more f.fails; since = if one_more f.fails == 5 then moment else f.since }
 
@@ -155,14 +157,14 @@ checks_word s session name f otp (Some word) =
     if next_of word == otp.kept then right session name (used f otp word) else wrong s session f
 
 -- the challenge is the session's
-abbrev pub is_own : Option Challenge → ℕ → Bool
-is_own None sid = false
-is_own (Some challenge) sid = challenge.sid == sid
+abbrev pub is_own_challenge : Option Challenge → ℕ → Bool
+is_own_challenge None sid = false
+is_own_challenge (Some challenge) sid = challenge.sid == sid
 
 abbrev pub checks_otp : State → Session → List ℕ → Fields → Option ℕ → Option OtpFields → Change
 checks_otp s session name f word None = drops session (Denied Disabled) Idle
 checks_otp s session name f word (Some otp) =
-    if not (is_own (challenge_at name s.challenges) session.sid) then turns session (Denied NoChallenge) Idle
+    if not (is_own_challenge (challenge_at name s.challenges) session.sid) then turns session (Denied NoChallenge) Idle
     else if otp.number == 0 then drops session (Denied Exhausted) Idle
     else checks_word s session name f otp word
 

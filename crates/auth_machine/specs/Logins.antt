@@ -41,11 +41,11 @@ is_end requests.Close = true
 is_end _ = false
 
 -- a request of the session of this number that is of this kind
-abbrev pub is_own : ℕ → (Request → Bool) → Entry → Bool
-is_own sid is_kind entry = entry.sid == sid && is_kind entry.request
+abbrev pub is_own_request : ℕ → (Request → Bool) → Entry → Bool
+is_own_request sid is_kind entry = entry.sid == sid && is_kind entry.request
 
 abbrev pub HasNone : ℕ → (Request → Bool) → List Entry → Type 0
-HasNone sid is_kind entries = AllByRecursion (λ entry. is_own sid is_kind entry ≡ false) entries
+HasNone sid is_kind entries = AllByRecursion (λ entry. is_own_request sid is_kind entry ≡ false) entries
 
 -- the session names this user
 abbrev pub IsNaming : ℕ → List ℕ → Entry → Type 0

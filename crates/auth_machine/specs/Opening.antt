@@ -1,7 +1,7 @@
 -- Opening a book: what the records are that a keeper has, or which is the first bad one.
 use Rattle.std.specs.Prelude.{◌≡◌, ℕ, List, [], ◌∷◌, Result, Ok, Err, if◌then◌else◌}
 use Rattle.std.specs.Str.{bytes_eq}
-use Rattle.fw_outside.specs.Vault.{AreLoaded, Missed, Table, Vault}
+use Rattle.fw_outside.specs.KeeperView.{AreLoaded, KeeperFailed, NamedBytes, KeeperView}
 use Rattle.auth_records.specs.Reading.{decoded}
 use Rattle.auth_records.specs.Spelling.{Fields}
 use Rattle.auth_machine.specs.declared.open_fault.OpenFault.{OpenFault}
@@ -23,24 +23,24 @@ in_front name (Ok f) (Ok others) = Ok (f ∷ others)
 
 -- the records that all entries are, or the name of the first bad one with the place of its first bad byte; in a table in the
 -- order of names the first has the least name
-abbrev pub records_in : Table → Result (List Fields) (List ℕ × ℕ)
+abbrev pub records_in : NamedBytes → Result (List Fields) (List ℕ × ℕ)
 records_in [] = Ok []
 records_in (entry ∷ entries) = in_front entry.0 (record_in entry) (records_in entries)
 
 -- the fault that reading these entries ends with
-abbrev pub IsBadIn : Table → OpenFault → Type 0
+abbrev pub IsBadIn : NamedBytes → OpenFault → Type 0
 IsBadIn entries LoadFault = ⊥
 IsBadIn entries (BadRecord name at) = records_in entries ≡ Err (name, at)
 IsBadIn entries NoMemory = Unit {0}
 
 -- all that the keeper has was loaded, and is read so
-pub record ReadsAs (read : Result (List Fields) (List ℕ × ℕ)) (old new : Vault) : Type 0 where
-  pub loaded : Table
+pub record ReadsAs (read : Result (List Fields) (List ℕ × ℕ)) (old new : KeeperView) : Type 0 where
+  pub loaded : NamedBytes
   pub are : AreLoaded loaded old new
   pub is : records_in loaded ≡ read
 
--- why a book isn't opened, and how it leaves the keeper
-abbrev pub Refuses : OpenFault → Vault → Vault → Type 0
-Refuses LoadFault old new = Missed old new
-Refuses (BadRecord name at) old new = ReadsAs (Err (name, at)) old new
-Refuses NoMemory old new = new ≡ old
+-- why a book isn't opened, and how it leaves the keeper. Kept by `Book::open` (`fault`); body: src/opening.rt.
+abbrev pub RefusesBook : OpenFault → KeeperView → KeeperView → Type 0
+RefusesBook LoadFault old new = KeeperFailed old new
+RefusesBook (BadRecord name at) old new = ReadsAs (Err (name, at)) old new
+RefusesBook NoMemory old new = new ≡ old

@@ -4,10 +4,10 @@ use Rattle.std.specs.List.{filter_map}
 use Rattle.std.specs.Str.{bytes_eq}
 use Rattle.auth_events.specs.declared.request.OpService.{OpService}
 use Rattle.auth_events.specs.declared.request.OpService.TheVariants.{Telnet, Rlogin, Ftp}
-use Rattle.fw_outside.specs.Dest.{party_at}
-use Rattle.fw_outside.specs.Name.{name_of}
-use Rattle.fw_outside.specs.declared.host.Host.{Host}
-use Rattle.fw_outside.specs.declared.peer.Peer.{Peer}
+use Rattle.fw_types.specs.Dest.{party_at}
+use Rattle.fw_types.specs.Name.{name_of}
+use Rattle.fw_types.specs.declared.host.Host.{Host}
+use Rattle.fw_types.specs.declared.peer.Peer.{Peer}
 use Rattle.gate_rules.specs.OperationHosts.{hosts_of_operation}
 use Rattle.gate_rules.specs.declared.verdict.Verdict.{Verdict}
 use Rattle.gate_rules.specs.declared.verdict.Verdict.TheVariants.{Permit, Deny}
@@ -25,27 +25,27 @@ abbrev pub holder_of : List ℕ → Holder
 holder_of text = if bytes_eq text (codes "group") then Group else User
 
 -- none for `*`
-abbrev pub service_of : List ℕ → Option OpService
-service_of text =
+abbrev pub line_service_of : List ℕ → Option OpService
+line_service_of text =
     if bytes_eq text (codes "tn-gw") then Some Telnet
     else if bytes_eq text (codes "rlogin-gw") then Some Rlogin
     else if bytes_eq text (codes "ftp-gw") then Some Ftp
     else None
 
-abbrev pub line_with : ℕ → Bool → List Word → List Written → Option OperationLine
-line_with number permits (holder ∷ name ∷ service ∷ words) hosts = Some (record {
+abbrev pub operation_line_with : ℕ → Bool → List Word → List Written → Option OperationLine
+operation_line_with number permits (holder ∷ name ∷ service ∷ words) hosts = Some (record {
   number = number;
   permits = permits;
   holder = holder_of holder.text;
   name = name_of name.text;
-  service = service_of service.text;
+  service = line_service_of service.text;
   hosts = hosts;
 })
-line_with number permits _ hosts = None
+operation_line_with number permits _ hosts = None
 
 abbrev pub line_by : ℕ → Bool → List Word → Option (List Written) → Option OperationLine
 line_by number permits words None = None
-line_by number permits words (Some hosts) = line_with number permits words hosts
+line_by number permits words (Some hosts) = operation_line_with number permits words hosts
 
 -- what a line of the table says of operations, where it does
 abbrev pub operation_line : Line → Option OperationLine
@@ -56,15 +56,15 @@ abbrev pub operation_lines : List Line → List OperationLine
 operation_lines lines = filter_map operation_line lines
 
 -- the name is the user's, or the user's group's
-abbrev pub is_named : Holder → List ℕ → List ℕ → Option (List ℕ) → Bool
-is_named User name user group = bytes_eq name user
-is_named Group name user None = false
-is_named Group name user (Some its) = bytes_eq name its
+abbrev pub is_about_user : Holder → List ℕ → List ℕ → Option (List ℕ) → Bool
+is_about_user User name user group = bytes_eq name user
+is_about_user Group name user None = false
+is_about_user Group name user (Some its) = bytes_eq name its
 
 -- `*` is anybody's name
 abbrev pub is_whose : Holder → Option (List ℕ) → List ℕ → Option (List ℕ) → Bool
 is_whose holder None user group = true
-is_whose holder (Some name) user group = is_named holder name user group
+is_whose holder (Some name) user group = is_about_user holder name user group
 
 abbrev pub service_place : OpService → ℕ
 service_place Telnet = 0

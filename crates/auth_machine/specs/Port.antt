@@ -9,19 +9,27 @@ use Rattle.auth_machine.specs.History.{Origin}
 abbrev pub full_at : ℕ → List Entry → Option ℕ
 full_at limit history = if length history == limit then Some limit else None
 
--- what stays as it was when the book was opened: its origin, how many entries fit, and how often the keeper had failed then
-abbrev pub Ground : Type 0
-Ground = Origin × ℕ × ℕ
+-- what stays as it was when the book was opened
+pub record BookOrigin : Type 0 where
+  -- the policy, and the records that were loaded
+  pub origin : Origin
+  -- how many entries fit
+  pub limit : ℕ
+  -- how often the keeper had failed
+  pub failed_before : ℕ
+
+abbrev pub book_origin : BookView → BookOrigin
+book_origin book = record { origin = book.origin; limit = book.limit; failed_before = book.failed_before }
 
 -- all entries are its own, it doesn't fail, and its history is its own
-abbrev pub port_of : BookView → Port Ground
-port_of book = record {
+abbrev pub book_port : BookView → Port BookOrigin
+book_port book = record {
   seen = book.history;
   mine = places (length book.history);
   full = full_at book.limit book.history;
   refused = book.refused;
   faults = 0;
   odd = 0;
-  origin = (book.origin, book.limit, book.failed_before);
+  origin = book_origin book;
   home = [];
 }

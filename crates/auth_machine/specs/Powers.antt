@@ -4,7 +4,7 @@ use Rattle.std.specs.Prelude as prelude
 use Rattle.std.specs.Option.{option_map}
 use Rattle.std.specs.Str.{bytes_eq}
 use Rattle.md5.specs.Md5.{md5}
-use Rattle.fw_outside.specs.declared.host.Host.{Host}
+use Rattle.fw_types.specs.declared.host.Host.{Host}
 use Rattle.auth_records.specs.Spelling.{Fields, OtpFields}
 use Rattle.auth_records.specs.declared.record.Proto.{Proto}
 use Rattle.auth_records.specs.declared.record.Proto.TheVariants as protos
@@ -22,9 +22,9 @@ use Rattle.gate_rules.specs.declared.verdict.Verdict.{Verdict}
 use Rattle.gate_rules.specs.declared.verdict.Verdict.TheVariants.{Permit, Deny}
 use Rattle.auth_machine.specs.Policy.{PolicyView}
 use Rattle.auth_machine.specs.State.{State, Change, record_at}
-use Rattle.auth_machine.specs.declared.edit.Edit.TheVariants.{Put, Delete}
-use Rattle.auth_machine.specs.declared.edit.Hold.TheVariants.{Same, Free}
-use Rattle.auth_machine.specs.declared.edit.Turn.TheVariants.{Stay}
+use Rattle.auth_machine.specs.declared.record_change.RecordChange.TheVariants.{Put, Delete}
+use Rattle.auth_machine.specs.declared.record_change.ChallengeChange.TheVariants.{Same, Free}
+use Rattle.auth_machine.specs.declared.record_change.SessionChange.TheVariants.{Stay}
 use Rattle.auth_machine.specs.declared.power.Power.{Power}
 use Rattle.auth_machine.specs.declared.power.Power.TheVariants.{Nobody, Members, Everybody}
 use Rattle.auth_machine.specs.declared.session.Phase.{Phase}
@@ -34,11 +34,11 @@ use Rattle.auth_machine.specs.declared.session.Session.{Session}
 -- ---- who is logged in
 
 -- the user's name in this phase
-abbrev pub name_in : Phase → Option (List ℕ)
-name_in (In name) = Some name
-name_in Idle = None
-name_in Bogus = None
-name_in (Waiting name) = None
+abbrev pub name_in_phase : Phase → Option (List ℕ)
+name_in_phase (In name) = Some name
+name_in_phase Idle = None
+name_in_phase Bogus = None
+name_in_phase (Waiting name) = None
 
 abbrev pub record_of : Option (List ℕ) → List Fields → Option Fields
 record_of None records = None
@@ -46,7 +46,7 @@ record_of (Some name) records = record_at name records
 
 -- the record of the user who is logged in, while it is there
 abbrev pub user_of : State → Session → Option Fields
-user_of s session = record_of (name_in session.phase) s.records
+user_of s session = record_of (name_in_phase session.phase) s.records
 
 -- ---- Operation
 
@@ -58,8 +58,8 @@ abbrev pub operation_by : PolicyView → OpService → Host → Option Fields �
 operation_by policy service host None = answers_only (Denied NotIn)
 operation_by policy service host (Some user) = answers_only (operation_answer (operation_verdict policy.operations user.name user.group service host))
 
-unfoldable pub operation : PolicyView → State → Session → OpService → Host → Change
-operation policy s session service host = operation_by policy service host (user_of s session)
+unfoldable pub asks_operation : PolicyView → State → Session → OpService → Host → Change
+asks_operation policy s session service host = operation_by policy service host (user_of s session)
 
 -- ---- power
 
@@ -105,13 +105,13 @@ over_all Nobody = Nobody
 -- ---- requests about one record
 
 -- the record that may be changed, or why it may not, by the refusals in their order
-abbrev pub reached : Option Power → Option Fields → Result Fields Denial
-reached None target = Err NotIn
-reached (Some Nobody) target = Err NotWizard
-reached (Some (Members group)) None = Err NoSuch
-reached (Some Everybody) None = Err NoSuch
-reached (Some (Members group)) (Some f) = if covers (Members group) f then prelude.Ok f else Err NotWizard
-reached (Some Everybody) (Some f) = prelude.Ok f
+abbrev pub reachable : Option Power → Option Fields → Result Fields Denial
+reachable None target = Err NotIn
+reachable (Some Nobody) target = Err NotWizard
+reachable (Some (Members group)) None = Err NoSuch
+reachable (Some Everybody) None = Err NoSuch
+reachable (Some (Members group)) (Some f) = if covers (Members group) f then prelude.Ok f else Err NotWizard
+reachable (Some Everybody) (Some f) = prelude.Ok f
 
 abbrev pub done_with : Result Fields Denial → (Fields → Change) → Change
 done_with (Err denial) act = answers_only (Denied denial)
@@ -131,13 +131,13 @@ own_power s session name =
 
 -- what a wizard, a user or a wizard over all does with the record of this name
 abbrev pub by_wizard : State → Session → List ℕ → (Fields → Change) → Change
-by_wizard s session name act = done_with (reached (power_of s session) (record_at name s.records)) act
+by_wizard s session name act = done_with (reachable (power_of s session) (record_at name s.records)) act
 
 abbrev pub by_user : State → Session → List ℕ → (Fields → Change) → Change
-by_user s session name act = done_with (reached (own_power s session name) (record_at name s.records)) act
+by_user s session name act = done_with (reachable (own_power s session name) (record_at name s.records)) act
 
 abbrev pub by_super : State → Session → List ℕ → (Fields → Change) → Change
-by_super s session name act = done_with (reached (option_map over_all (power_of s session)) (record_at name s.records)) act
+by_super s session name act = done_with (reachable (option_map over_all (power_of s session)) (record_at name s.records)) act
 
 -- the record becomes this one
 abbrev pub stores : Fields → Change

@@ -11,12 +11,12 @@ use Rattle.auth_machine.specs.Answer.{Answer}
 use Rattle.auth_machine.specs.Answer.Answer.{Opened, Ok, Denied}
 use Rattle.auth_machine.specs.Login.{answers_only, authenticate, respond}
 use Rattle.auth_machine.specs.Policy.{PolicyView}
-use Rattle.auth_machine.specs.Powers.{add_user, by_super, by_user, by_wizard, deletes, disabled, enabled, list, operation, shows, stores, with_group, with_otp, with_password, with_proto, with_wiz}
-use Rattle.auth_machine.specs.declared.edit.Edit.{Edit}
+use Rattle.auth_machine.specs.Powers.{add_user, by_super, by_user, by_wizard, deletes, disabled, enabled, list, asks_operation, shows, stores, with_group, with_otp, with_password, with_proto, with_wiz}
+use Rattle.auth_machine.specs.declared.record_change.RecordChange.{RecordChange}
 use Rattle.auth_machine.specs.State.{Change, State, at_moment, changed, record_at, session_of}
-use Rattle.auth_machine.specs.declared.edit.Edit.TheVariants.{Leave, Put, Delete}
-use Rattle.auth_machine.specs.declared.edit.Hold.TheVariants.{Same, Drop}
-use Rattle.auth_machine.specs.declared.edit.Turn.TheVariants.{Become, End}
+use Rattle.auth_machine.specs.declared.record_change.RecordChange.TheVariants.{Leave, Put, Delete}
+use Rattle.auth_machine.specs.declared.record_change.ChallengeChange.TheVariants.{Same, Drop}
+use Rattle.auth_machine.specs.declared.record_change.SessionChange.TheVariants.{Become, End}
 use Rattle.auth_machine.specs.declared.session.Phase.TheVariants.{Idle}
 use Rattle.auth_machine.specs.declared.session.Session.{Session}
 
@@ -43,7 +43,7 @@ abbrev pub change_of : PolicyView → State → ℕ → ℕ → Request → Chan
 change_of policy s place sid (requests.Open console) = opens place console
 change_of policy s place sid (requests.Authenticate name) = in_session (session_of sid s.sessions) (λ session. authenticate policy s session name)
 change_of policy s place sid (requests.Response hash word) = in_session (session_of sid s.sessions) (λ session. respond policy s session hash word)
-change_of policy s place sid (requests.Operation service host) = in_session (session_of sid s.sessions) (λ session. operation policy s session service host)
+change_of policy s place sid (requests.Operation service host) = in_session (session_of sid s.sessions) (λ session. asks_operation policy s session service host)
 change_of policy s place sid (requests.Adduser name long) = in_session (session_of sid s.sessions) (λ session. add_user s session name long)
 change_of policy s place sid (requests.Deluser name) = in_session (session_of sid s.sessions) (λ session. by_wizard s session name deletes)
 change_of policy s place sid (requests.Enable name) = in_session (session_of sid s.sessions) (λ session. by_wizard s session name (λ f. stores (enabled f)))
@@ -65,10 +65,10 @@ is_record f None = false
 is_record f (Some old) = bytes_eq (spelling f) (spelling old)
 
 -- whether a record changes, is made or is deleted
-abbrev pub is_edit : Edit → List Fields → Bool
-is_edit Leave records = false
-is_edit (Put f) records = not (is_record f (record_at f.name records))
-is_edit (Delete name) records = true
+abbrev pub is_record_change : RecordChange → List Fields → Bool
+is_record_change Leave records = false
+is_record_change (Put f) records = not (is_record f (record_at f.name records))
+is_record_change (Delete name) records = true
 
 -- ---- the step
 
@@ -78,7 +78,7 @@ proposed policy s place sid at request = change_of policy (at_moment at s) place
 
 -- whether the records must be kept anew
 abbrev pub keeps : PolicyView → State → ℕ → ℕ → ℕ → Request → Bool
-keeps policy s place sid at request = is_edit (proposed policy s place sid at request).records s.records
+keeps policy s place sid at request = is_record_change (proposed policy s place sid at request).records s.records
 
 -- a change of the records that isn't kept is refused
 abbrev pub is_refused : PolicyView → State → ℕ → ℕ → ℕ → Request → Bool → Bool
@@ -91,7 +91,7 @@ answer policy s place sid at request kept =
     else (proposed policy s place sid at request).answer
 
 -- the state that it leaves: only the moment counts of what is refused
-abbrev pub next : PolicyView → State → ℕ → ℕ → ℕ → Request → Bool → State
-next policy s place sid at request kept =
+abbrev pub next_state : PolicyView → State → ℕ → ℕ → ℕ → Request → Bool → State
+next_state policy s place sid at request kept =
     if is_refused policy s place sid at request kept then at_moment at s
     else changed (session_at request place sid) (proposed policy s place sid at request) (at_moment at s)

@@ -3,65 +3,65 @@ ghost use Rattle.std.specs.Prelude.{◌≡◌, ◌≤◌, ◌<◌, ◌++◌, ◌
 ghost use Rattle.std.specs.List.{position, position_or_len};
 ghost use Rattle.std.specs.Str.{bytes_eq};
 ghost use Rattle.std.specs.Vec.{vec_capacity, vec_len};
-ghost use Rattle.fw_outside.specs.Keyed.{is_named, placed, without};
-ghost use Rattle.fw_outside.specs.Name.{is_before};
-ghost use Rattle.auth_machine.specs.State.{edited, held, name_of, turned, without_name, without_own, without_session};
+ghost use Rattle.fw_types.specs.Keyed.{is_named, placed, without};
+ghost use Rattle.fw_types.specs.Name.{is_before};
+ghost use Rattle.auth_machine.specs.State.{records_after, challenges_after, record_name, sessions_after, without_name, without_own, without_session};
 
-use crate::edit::{Edit, Hold, Turn};
-use crate::kept::Kept;
-use crate::machine::{is_challenge_of, is_named};
+use crate::machine_ref::{is_challenge_of, is_named};
+use crate::record_change::{ChallengeChange, RecordChange, SessionChange};
+use crate::user_record::UserRecord;
 use crate::{Challenge, Session};
-use fw_outside::Name;
+use fw_types::Name;
 
-fn without_record(records: &mut Vec<Kept>, name: &Name)
-    ensures is { records.new.items ≡ without name_of name.now records.old.items }
+fn without_record(records: &mut Vec<UserRecord>, name: &Name)
+    ensures is { records.new.items ≡ without record_name name.now records.old.items }
     ensures len { vec_len records.new ≤ vec_len records.old }
     ensures room { vec_capacity records.new ≡ vec_capacity records.old }
 {
-    records.retain(|kept| !is_named(kept, name));
+    records.retain(|user| !is_named(user, name));
 }
 
-fn is_before(kept: &Kept, name: &Name) -> bool
-    ensures { result ≡ is_before kept.now.name name.now }
+fn is_before(user: &UserRecord, name: &Name) -> bool
+    ensures { result ≡ is_before user.now.name name.now }
 {
-    kept.record.name.is_before(name)
+    user.record.name.is_before(name)
 }
 
-fn first_not_before(records: &[Kept], name: &Name) -> Option<usize>
-    ensures { result ≡ position (λ kept. not (is_before kept.name name.now)) records.now }
+fn first_not_before(records: &[UserRecord], name: &Name) -> Option<usize>
+    ensures { result ≡ position (λ user. not (is_before user.name name.now)) records.now }
 {
-    records.iter().position(|kept| !is_before(kept, name))
+    records.iter().position(|user| !is_before(user, name))
 }
 
 // How many records, in order, have names before this one.
-fn count_before(records: &[Kept], name: &Name) -> usize
-    ensures count { result ≡ position_or_len (λ kept. not (is_before kept.name name.now)) records.now }
+fn count_before(records: &[UserRecord], name: &Name) -> usize
+    ensures count { result ≡ position_or_len (λ user. not (is_before user.name name.now)) records.now }
     ensures within { result ≤ length records.now }
 {
     first_not_before(records, name).unwrap_or(records.len())
 }
 
-fn put_record(records: &mut Vec<Kept>, kept: Kept)
+fn put_record(records: &mut Vec<UserRecord>, user: UserRecord)
     requires { vec_len records.old < vec_capacity records.old }
-    ensures { records.new.items ≡ placed name_of kept (without name_of kept.name records.old.items) }
+    ensures { records.new.items ≡ placed record_name user (without record_name user.name records.old.items) }
 {
-    let name = kept.record.name.twin();
+    let name = user.record.name.twin();
     without_record(records, &name);
     let at = count_before(records, &name);
-    if records.insert(at, kept).is_err() {
+    if records.insert(at, user).is_err() {
         unreachable!();
     }
 }
 
 // Carries out what becomes of the records.
-pub(crate) fn edit(records: &mut Vec<Kept>, edit: Edit)
+pub(crate) fn change_records(records: &mut Vec<UserRecord>, change: RecordChange)
     requires { vec_len records.old < vec_capacity records.old }
-    ensures { records.new.items ≡ edited edit records.old.items }
+    ensures { records.new.items ≡ records_after change records.old.items }
 {
-    match edit {
-        Edit::Leave => (),
-        Edit::Put(kept) => put_record(records, kept),
-        Edit::Delete(name) => without_record(records, &name),
+    match change {
+        RecordChange::Leave => (),
+        RecordChange::Put(user) => put_record(records, user),
+        RecordChange::Delete(name) => without_record(records, &name),
     }
 }
 
@@ -74,17 +74,17 @@ fn without_session(sessions: &mut Vec<Session>, sid: u64)
 }
 
 // Carries out what becomes of the session.
-pub(crate) fn turn(sessions: &mut Vec<Session>, turn: Turn, sid: u64)
+pub(crate) fn change_sessions(sessions: &mut Vec<Session>, change: SessionChange, sid: u64)
     requires { vec_len sessions.old < vec_capacity sessions.old }
-    ensures { sessions.new.items ≡ turned turn sid sessions.old.items }
+    ensures { sessions.new.items ≡ sessions_after change sid sessions.old.items }
 {
-    match turn {
-        Turn::Stay => (),
-        Turn::Become(session) => {
+    match change {
+        SessionChange::Stay => (),
+        SessionChange::Become(session) => {
             without_session(sessions, session.sid);
             sessions.push_reserved(session);
         }
-        Turn::End => without_session(sessions, sid),
+        SessionChange::End => without_session(sessions, sid),
     }
 }
 
@@ -105,14 +105,19 @@ fn without_name(challenges: &mut Vec<Challenge>, name: &Name)
 }
 
 // Carries out what becomes of the challenges.
-pub(crate) fn hold(challenges: &mut Vec<Challenge>, hold: Hold, sid: u64, moment: u64)
+pub(crate) fn change_challenges(
+    challenges: &mut Vec<Challenge>,
+    change: ChallengeChange,
+    sid: u64,
+    moment: u64,
+)
     requires { vec_len challenges.old < vec_capacity challenges.old }
-    ensures { challenges.new.items ≡ held hold sid moment challenges.old.items }
+    ensures { challenges.new.items ≡ challenges_after change sid moment challenges.old.items }
 {
-    match hold {
-        Hold::Same => (),
-        Hold::Drop => without_own(challenges, sid),
-        Hold::Take(name) => {
+    match change {
+        ChallengeChange::Same => (),
+        ChallengeChange::Drop => without_own(challenges, sid),
+        ChallengeChange::Take(name) => {
             without_own(challenges, sid);
             without_name(challenges, &name);
             challenges.push_reserved(Challenge {
@@ -121,6 +126,6 @@ pub(crate) fn hold(challenges: &mut Vec<Challenge>, hold: Hold, sid: u64, moment
                 at: moment,
             });
         }
-        Hold::Free(name) => without_name(challenges, &name),
+        ChallengeChange::Free(name) => without_name(challenges, &name),
     }
 }

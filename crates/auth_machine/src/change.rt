@@ -1,20 +1,23 @@
 ghost use Rattle.std.specs.Prelude.{◌≡◌};
 ghost use Rattle.auth_machine.specs.Answer.{answer_of};
 ghost use Rattle.auth_machine.specs.Login.{answers_only, drops, in_phase, settles, turns};
+ghost use Rattle.auth_machine.specs.Powers.{stores};
+ghost use Rattle.auth_records.specs.Spelling.{fields};
 
-use crate::edit::{Edit, Hold, Turn};
-use crate::kept::Kept;
+use crate::record_change::{ChallengeChange, RecordChange, SessionChange};
+use crate::user_record::UserRecord;
 use crate::{Phase, Session};
 use auth_events::{Denial, Reply};
+use auth_records::Record;
 use std::marker::Model;
 
 /// What a request is answered, and what it changes.
 #[derive(Drop)]
 pub(crate) struct Change {
     pub(crate) reply: Reply,
-    pub(crate) records: Edit,
-    pub(crate) session: Turn,
-    pub(crate) challenge: Hold,
+    pub(crate) records: RecordChange,
+    pub(crate) session: SessionChange,
+    pub(crate) challenge: ChallengeChange,
 }
 
 impl Model for Change {
@@ -23,7 +26,13 @@ impl Model for Change {
 
     ghost Value = { Change };
 
-    ghost view = { λ c. record { answer = answer_of c.reply; records = c.records; session = c.session; challenge = c.challenge } };
+    ghost view = { λ c. record {
+      answer = answer_of c.reply;
+      records = c.records;
+      session = c.session;
+      challenge =
+          c.challenge;
+    } };
 }
 
 // The session in this phase.
@@ -44,9 +53,9 @@ impl Change {
     {
         Change {
             reply,
-            records: Edit::Leave,
-            session: Turn::Stay,
-            challenge: Hold::Same,
+            records: RecordChange::Leave,
+            session: SessionChange::Stay,
+            challenge: ChallengeChange::Same,
         }
     }
 
@@ -63,9 +72,9 @@ impl Change {
     {
         Change {
             reply,
-            records: Edit::Leave,
-            session: Turn::Become(in_phase(session, phase)),
-            challenge: Hold::Same,
+            records: RecordChange::Leave,
+            session: SessionChange::Become(in_phase(session, phase)),
+            challenge: ChallengeChange::Same,
         }
     }
 
@@ -75,21 +84,33 @@ impl Change {
     {
         Change {
             reply,
-            records: Edit::Leave,
-            session: Turn::Become(in_phase(session, phase)),
-            challenge: Hold::Drop,
+            records: RecordChange::Leave,
+            session: SessionChange::Become(in_phase(session, phase)),
+            challenge: ChallengeChange::Drop,
         }
     }
 
     // The same, and the record becomes this one.
-    pub(crate) fn settles(session: &Session, reply: Reply, phase: Phase, kept: Kept) -> Change
-        ensures { result ≡ settles session.now (answer_of reply) phase kept }
+    pub(crate) fn settles(session: &Session, reply: Reply, phase: Phase, user: UserRecord) -> Change
+        ensures { result ≡ settles session.now (answer_of reply) phase user }
     {
         Change {
             reply,
-            records: Edit::Put(kept),
-            session: Turn::Become(in_phase(session, phase)),
-            challenge: Hold::Drop,
+            records: RecordChange::Put(user),
+            session: SessionChange::Become(in_phase(session, phase)),
+            challenge: ChallengeChange::Drop,
         }
+    }
+}
+
+// The record becomes this one.
+pub(crate) fn stores(user: Record) -> Change
+    ensures { result ≡ stores (fields user) }
+{
+    Change {
+        reply: Reply::Ok,
+        records: RecordChange::Put(UserRecord { record: user }),
+        session: SessionChange::Stay,
+        challenge: ChallengeChange::Same,
     }
 }

@@ -2,25 +2,27 @@
 ghost use Rattle.std.specs.Prelude.{◌≡◌, IfOk, OnErr};
 ghost use Rattle.std.specs.Option.{option_copied};
 ghost use Rattle.auth_records.specs.Spelling.{Fields, spelling};
-ghost use Rattle.auth_machine.specs.Keeping.{Calls, Keeps, kept_by};
+ghost use Rattle.auth_machine.specs.Keeping.{Calls, KeepsChange, kept_by};
 ghost use Rattle.auth_machine.specs.State.{record_at};
-ghost use Rattle.auth_machine.specs.Step.{is_edit, is_record};
+ghost use Rattle.auth_machine.specs.Step.{is_record_change, is_record};
 
-use crate::edit::Edit;
-use crate::kept::Kept;
-use crate::machine::record_at;
+use crate::machine_ref::record_at;
+use crate::record_change::RecordChange;
+use crate::user_record::UserRecord;
 use auth_records::encode;
-use fw_outside::{KeepFault, Keeper, Name, NoMemory};
+use fw_outside::{KeepFault, Keeper};
+use fw_types::{Name, NoMemory};
 use std::alloc::Global;
 
 // Whether the bytes are those of the record that stands.
-fn is_record(alloc: Global, bytes: &[u8], standing: Option<&Kept>) -> Result<bool, NoMemory>
-    ensures { IfOk result (λ same. (f : Fields) → bytes.now ≡ spelling f → same ≡ is_record f (option_copied standing.entry)) }
+fn is_record(alloc: Global, bytes: &[u8], current: Option<&UserRecord>) -> Result<bool, NoMemory>
+    ensures { IfOk result (λ same. (f : Fields) → bytes.now ≡ spelling f →
+        same ≡ is_record f (option_copied current.entry)) }
 {
-    match standing {
+    match current {
         None => Ok(false),
-        Some(kept) => {
-            let old = encode(alloc, &kept.record)?;
+        Some(user) => {
+            let old = encode(alloc, &user.record)?;
             Ok(bytes == old.bytes())
         }
     }
@@ -40,33 +42,37 @@ fn is_kept(answer: Result<(), KeepFault>) -> Result<bool, NoMemory>
 fn put<K: Keeper>(
     alloc: Global,
     keeper: &mut K,
-    records: &[Kept],
-    kept: &Kept,
+    records: &[UserRecord],
+    user: &UserRecord,
 ) -> Result<bool, NoMemory>
-    ensures keeps { IfOk result (λ done. Keeps (is_edit (Edit.Put kept.now) records.now) (Edit.Put kept.now) done (K.vault keeper.old) (K.vault keeper.new)) }
-    ensures same { OnErr result (K.vault keeper.new ≡ K.vault keeper.old) }
+    ensures keeps { IfOk result (λ done.
+        KeepsChange (is_record_change (RecordChange.Put user.now) records.now) (RecordChange.Put user.now) done
+        (K.keeper_view keeper.old) (K.keeper_view keeper.new)) }
+    ensures same { OnErr result (K.keeper_view keeper.new ≡ K.keeper_view keeper.old) }
 {
-    let bytes = encode(alloc, &kept.record)?;
-    let standing = record_at(records, &kept.record.name);
-    if is_record(alloc, bytes.bytes(), standing)? {
+    let bytes = encode(alloc, &user.record)?;
+    let current = record_at(records, &user.record.name);
+    if is_record(alloc, bytes.bytes(), current)? {
         return Ok(true);
     }
-    is_kept(keeper.put(&kept.record.name, bytes.bytes()))
+    is_kept(keeper.put(&user.record.name, bytes.bytes()))
 }
 
 // Keeps what becomes of the records, where anything does; answers whether it was kept.
 pub(crate) fn keep<K: Keeper>(
     alloc: Global,
     keeper: &mut K,
-    records: &[Kept],
-    edit: &Edit,
+    records: &[UserRecord],
+    change: &RecordChange,
 ) -> Result<bool, NoMemory>
-    ensures keeps { IfOk result (λ kept. Keeps (is_edit edit.now records.now) edit.now kept (K.vault keeper.old) (K.vault keeper.new)) }
-    ensures same { OnErr result (K.vault keeper.new ≡ K.vault keeper.old) }
+    ensures keeps { IfOk result (λ kept.
+        KeepsChange (is_record_change change.now records.now) change.now kept (K.keeper_view keeper.old) (K.keeper_view
+        keeper.new)) }
+    ensures same { OnErr result (K.keeper_view keeper.new ≡ K.keeper_view keeper.old) }
 {
-    match edit {
-        Edit::Leave => Ok(true),
-        Edit::Put(kept) => put(alloc, keeper, records, kept),
-        Edit::Delete(name) => is_kept(keeper.drop_name(name)),
+    match change {
+        RecordChange::Leave => Ok(true),
+        RecordChange::Put(user) => put(alloc, keeper, records, user),
+        RecordChange::Delete(name) => is_kept(keeper.drop_name(name)),
     }
 }

@@ -2,7 +2,7 @@
 ghost use Rattle.std.specs.Prelude.{◌≡◌, ℕ, suc, ◌+◌, max, ◌∷◌, ◌++◌, [], List, length, Option, Some, None, true, false, IfSome};
 ghost use Rattle.std.specs.List.{AllByRecursion};
 ghost use Rattle.std.specs.Str.{bytes_eq};
-ghost use Rattle.fw_outside.specs.Keyed.{Ascends};
+ghost use Rattle.fw_types.specs.Keyed.{Ascends};
 ghost use Rattle.auth_records.specs.Spelling.{Fields, OtpFields};
 ghost use Rattle.auth_events.specs.declared.denial.Denial.TheVariants as denials;
 ghost use Rattle.auth_events.specs.declared.entry.Entry.{Entry};
@@ -13,29 +13,32 @@ ghost use Rattle.auth_machine.specs.Answer.{summary_profile};
 ghost use Rattle.auth_machine.specs.History.{IsLegal, Origin, after};
 ghost use Rattle.auth_machine.specs.Laws.{HasRankOf, IsGroupWizard, IsNewcomer, IsOutOfReach, SaysIfKept, ShowsLeast, ShowsNone};
 ghost use Rattle.auth_machine.specs.Logins.{FreesNone, HasLockOf, IsDenied, IsLockDenial, IsLocked, LoginStands, SomeLoginStands, phase_of, tries};
-ghost use Rattle.auth_machine.specs.Chains.{AreLeft, IsAcceptance, Lowers, SetsNone, accepted, later_word, words_of};
-ghost use Rattle.auth_machine.specs.State.{name_of, record_at};
+ghost use Rattle.auth_machine.specs.Chains.{AreLeft, IsAcceptance, Lowers, SetsNone, accepted, later_word, otp_in_record};
+ghost use Rattle.auth_machine.specs.State.{record_name, record_at};
 ghost use Rattle.auth_machine.specs.declared.session.Phase.TheVariants.{In};
 
 /// The records stand in the order of their names, each name once, where those that were loaded do.
 pub fn names_stay_in_order()
-    ensures { (origin : Origin) (history : List Entry) → Ascends name_of origin.records → IsLegal origin history
-        → Ascends name_of (after origin history).records }
+    ensures { (origin : Origin) (history : List Entry) → Ascends record_name origin.records → IsLegal origin history
+        → Ascends record_name (after origin history).records }
 {}
 
 /// What `List` shows is the least record of those that come after the name and that the session's power shows; where it
 /// finds no such record, there is none.
 pub fn the_least_is_listed()
     ensures least { (origin : Origin) (before : List Entry) (entry : Entry) (told : Option (List ℕ)) (summary : Summary)
-        → Ascends name_of origin.records → IsLegal origin (before ++ entry ∷ []) → entry.request ≡ requests.List told
-        → entry.reply ≡ replies.Shown summary → ShowsLeast (after origin before) entry.sid told (summary_profile summary) }
+        → Ascends record_name origin.records → IsLegal origin (before ++ entry ∷ []) →
+        entry.request ≡ requests.List told
+        → entry.reply ≡ replies.Shown summary →
+        ShowsLeast (after origin before) entry.sid told (summary_profile summary) }
     ensures none { (origin : Origin) (before : List Entry) (entry : Entry) (told : Option (List ℕ))
-        → Ascends name_of origin.records → IsLegal origin (before ++ entry ∷ []) → entry.request ≡ requests.List told
+        → Ascends record_name origin.records → IsLegal origin (before ++ entry ∷ []) →
+        entry.request ≡ requests.List told
         → entry.reply ≡ replies.Denied denials.NoSuch → ShowsNone (after origin before) entry.sid told }
 {}
 
-/// A session is logged in as a user exactly where the entries alone say so. Each response that is answered Ok logs somebody
-/// in (`is_someone`).
+/// A session is logged in as a user exactly where the entries alone say so. Each response that is answered Ok logs
+/// somebody in (`is_someone`).
 pub fn login_stands()
     ensures is_said { (origin : Origin) (history : List Entry) (sid : ℕ) (name : List ℕ) → IsLegal origin history
         → phase_of sid (after origin history) ≡ Some (In name) → LoginStands sid name history }
@@ -45,27 +48,36 @@ pub fn login_stands()
         → SomeLoginStands sid history → (name : List ℕ) × LoginStands sid name history }
 {}
 
-/// While no new ones are set for a user, the one-time passwords that are accepted go down the chain from the one that was
-/// kept, and there are no more than were left then (`go_down`). Each acceptance lowers the number by one (`lowers`), and
-/// nothing else changes it (`counted`), so each has a number of its own. As numbers of 64 bits two of them are the same only
-/// where the chain runs into a cycle there (`once`).
+/// While no new ones are set for a user, the one-time passwords that are accepted go down the chain from the one that
+/// was kept, and there are no more than were left then (`go_down`). Each acceptance lowers the number by one
+/// (`lowers`), and nothing else changes it (`counted`), so each has a number of its own. As numbers of 64 bits two of
+/// them are the same only where the chain runs into a cycle there (`once`).
 pub fn words_are_used_once()
-    ensures lowers { (origin : Origin) (before : List Entry) (entry : Entry) (name : List ℕ) → IsLegal origin (before ++ entry ∷ [])
+    ensures lowers { (origin : Origin) (before : List Entry) (entry : Entry) (name : List ℕ) →
+        IsLegal origin (before ++ entry ∷ [])
         → IsAcceptance name (after origin before) entry
-        → Lowers entry.request (words_of (record_at name (after origin before).records)) (words_of (record_at name (after origin (before ++ entry ∷ [])).records)) }
-    ensures go_down { (origin : Origin) (before during : List Entry) (name : List ℕ) → IsLegal origin (before ++ during) → SetsNone name during
-        → AreLeft (words_of (record_at name (after origin before).records)) (accepted origin.policy name (after origin before) (length before) during) }
-    ensures counted { (origin : Origin) (before during : List Entry) (name : List ℕ) (old new : OtpFields) → IsLegal origin (before ++ during) → SetsNone name during
-        → words_of (record_at name (after origin before).records) ≡ Some old → words_of (record_at name (after origin (before ++ during)).records) ≡ Some new
+        → Lowers entry.request (otp_in_record (record_at name (after origin before).records)) (otp_in_record (record_at
+        name (after origin (before ++ entry ∷ [])).records)) }
+    ensures go_down { (origin : Origin) (before during : List Entry) (name : List ℕ) →
+        IsLegal origin (before ++ during) → SetsNone name during
+        → AreLeft (otp_in_record (record_at name (after origin before).records)) (accepted origin.policy name (after
+        origin before) (length before) during) }
+    ensures counted { (origin : Origin) (before during : List Entry) (name : List ℕ) (old new : OtpFields) →
+        IsLegal origin (before ++ during) → SetsNone name during
+        → otp_in_record (record_at name (after origin before).records) ≡ Some old →
+        otp_in_record (record_at name (after origin (before ++ during)).records) ≡ Some new
         → new.number + length (accepted origin.policy name (after origin before) (length before) during) ≡ old.number }
-    ensures once { (origin : Origin) (before during : List Entry) (name : List ℕ) → IsLegal origin (before ++ during) → SetsNone name during
+    ensures once { (origin : Origin) (before during : List Entry) (name : List ℕ) → IsLegal origin (before ++ during) →
+        SetsNone name during
         → (first between rest : List ℕ) (word : ℕ)
-        → accepted origin.policy name (after origin before) (length before) during ≡ first ++ (word ∷ (between ++ (word ∷ rest)))
+        → accepted origin.policy name (after origin before) (length before) during ≡ first ++ (word ∷ (between ++ (word
+        ∷ rest)))
         → later_word (suc (length between)) word ≡ word }
 {}
 
-/// While a record is locked, and no wizard enables or deletes the user, each try to log in as the user is denied, the right
-/// password too, and the lock stays as it is: whatever else is changed of the record, it is neither longer nor shorter.
+/// While a record is locked, and no wizard enables or deletes the user, each try to log in as the user is denied, the
+/// right password too, and the lock stays as it is: whatever else is changed of the record, it is neither longer nor
+/// shorter.
 pub fn a_lock_holds()
     ensures denied { (origin : Origin) (before during : List Entry) (entry : Entry) (name : List ℕ) (f : Fields)
         → IsLegal origin (before ++ (during ++ entry ∷ [])) → record_at name (after origin before).records ≡ Some f
@@ -78,19 +90,22 @@ pub fn a_lock_holds()
         → HasLockOf f name (after origin (before ++ during)).records }
 {}
 
-/// What the wizard of a group asks for, whatever it is, leaves every record as it is but the wizard's own and those of the
-/// group's users who are no wizards over all (`others`); who is new is in the group, is no wizard and can't log in yet
-/// (`new_ones`); and nobody's rank or group changes, the wizard's own neither (`ranks`).
+/// What the wizard of a group asks for, whatever it is, leaves every record as it is but the wizard's own and those of
+/// the group's users who are no wizards over all (`others`); who is new is in the group, is no wizard and can't log in
+/// yet (`new_ones`); and nobody's rank or group changes, not even the wizard's own (`ranks`).
 pub fn group_wizards_stay_in_their_group()
-    ensures others { (origin : Origin) (before : List Entry) (entry : Entry) (user name : List ℕ) (group : Option (List ℕ)) (f : Fields)
+    ensures others { (origin : Origin) (before : List Entry) (entry : Entry) (user name : List ℕ) (group : Option (List
+        ℕ)) (f : Fields)
         → IsLegal origin (before ++ entry ∷ []) → IsGroupWizard (after origin before) entry.sid user group
         → record_at name (after origin before).records ≡ Some f → bytes_eq name user ≡ false → IsOutOfReach group f
         → record_at name (after origin (before ++ entry ∷ [])).records ≡ Some f }
-    ensures new_ones { (origin : Origin) (before : List Entry) (entry : Entry) (user name : List ℕ) (group : Option (List ℕ))
+    ensures new_ones { (origin : Origin) (before : List Entry) (entry : Entry) (user name : List ℕ) (group : Option
+        (List ℕ))
         → IsLegal origin (before ++ entry ∷ []) → IsGroupWizard (after origin before) entry.sid user group
         → record_at name (after origin before).records ≡ None
         → IfSome (record_at name (after origin (before ++ entry ∷ [])).records) (IsNewcomer group) }
-    ensures ranks { (origin : Origin) (before : List Entry) (entry : Entry) (user name : List ℕ) (group : Option (List ℕ)) (f : Fields)
+    ensures ranks { (origin : Origin) (before : List Entry) (entry : Entry) (user name : List ℕ) (group : Option (List
+        ℕ)) (f : Fields)
         → IsLegal origin (before ++ entry ∷ []) → IsGroupWizard (after origin before) entry.sid user group
         → record_at name (after origin before).records ≡ Some f
         → IfSome (record_at name (after origin (before ++ entry ∷ [])).records) (HasRankOf f) }

@@ -3,17 +3,17 @@ ghost use Rattle.std.specs.Prelude.{◌≡◌, Some, None};
 ghost use Rattle.std.specs.Option.{option_copied};
 ghost use Rattle.auth_records.specs.Spelling.{fields, otp_fields};
 ghost use Rattle.auth_machine.specs.Answer.{answer_of};
-ghost use Rattle.auth_machine.specs.Login.{asks, asks_word, authenticate, authenticate_as, challenges, checks, checks_otp, checks_plain, checks_word, failed, guarded, has_password, is_own, is_password, later, lockout, logged_in, one_more, refusal, respond, respond_as, respond_in, right, unless_refused, used, wrong};
+ghost use Rattle.auth_machine.specs.Login.{asks, asks_word, authenticate, authenticate_as, challenges, checks, checks_otp, checks_plain, checks_word, failed, guarded, has_password, is_own_challenge, is_password, later, lockout, logged_in, one_more, refusal, respond, respond_as, respond_in, right, unless_refused, used, wrong};
 ghost use Rattle.auth_machine.specs.State.{record_at};
 
 use crate::change::{Change, in_phase};
-use crate::edit::{Edit, Hold, Turn};
-use crate::kept::Kept;
-use crate::machine::{Machine, challenge_at, record_at};
+use crate::machine_ref::{MachineRef, challenge_at, record_at};
+use crate::record_change::{ChallengeChange, RecordChange, SessionChange};
+use crate::user_record::UserRecord;
 use crate::{Challenge, Phase, Policy, Session};
 use auth_events::{Denial, Reply};
 use auth_records::{Otp, Plain, Proto, Record};
-use fw_outside::Name;
+use fw_types::Name;
 
 fn later(at: u64, seconds: u64) -> u64
     ensures { result ≡ later at seconds }
@@ -21,13 +21,13 @@ fn later(at: u64, seconds: u64) -> u64
     at.saturating_add(seconds)
 }
 
-fn has_password(kept: &Kept) -> bool
-    ensures { result ≡ has_password kept.now.proto kept.now }
+fn has_password(user: &UserRecord) -> bool
+    ensures { result ≡ has_password user.now.proto user.now }
 {
-    match kept.record.proto {
+    match user.record.proto {
         Proto::None => false,
-        Proto::Plain => kept.record.plain.is_some(),
-        Proto::Otp => kept.record.otp.is_some(),
+        Proto::Plain => user.record.plain.is_some(),
+        Proto::Otp => user.record.otp.is_some(),
     }
 }
 
@@ -46,14 +46,14 @@ fn lockout(bad_sleep: Option<u64>, since: u64, moment: u64) -> Option<Denial>
     }
 }
 
-pub(crate) fn refusal(policy: &Policy, moment: u64, kept: &Kept) -> Option<Denial>
-    ensures { result ≡ refusal policy.now moment kept.now }
+pub(crate) fn refusal(policy: &Policy, moment: u64, user: &UserRecord) -> Option<Denial>
+    ensures { result ≡ refusal policy.now moment user.now }
 {
-    if !kept.record.enabled || !has_password(kept) {
+    if !user.record.enabled || !has_password(user) {
         return Some(Denial::Disabled);
     }
-    if kept.record.fails == 5 {
-        return lockout(policy.bad_sleep(), kept.record.since, moment);
+    if user.record.fails == 5 {
+        return lockout(policy.bad_sleep(), user.record.since, moment);
     }
     None
 }
@@ -84,29 +84,29 @@ fn challenges(session: &Session, name: &Name, otp: &Otp) -> Change
             number: otp.number.saturating_sub(1),
             word_seed: otp.word_seed.twin(),
         },
-        records: Edit::Leave,
-        session: Turn::Become(in_phase(session, Phase::Waiting { name: name.twin() })),
-        challenge: Hold::Take(name.twin()),
+        records: RecordChange::Leave,
+        session: SessionChange::Become(in_phase(session, Phase::Waiting { name: name.twin() })),
+        challenge: ChallengeChange::Take(name.twin()),
     }
 }
 
-fn asks_word(machine: &Machine, session: &Session, name: &Name, otp: &Otp) -> Change
+fn asks_word(machine: &MachineRef, session: &Session, name: &Name, otp: &Otp) -> Change
     ensures { result ≡ asks_word machine.now session.now name.now (otp_fields otp.now) }
 {
     if otp.number == 0 {
         return Change::drops(session, Reply::Denied(Denial::Exhausted), Phase::Idle);
     }
-    let standing = challenge_at(machine.challenges, name);
-    match guarded(standing, session.sid, machine.moment) {
+    let current = challenge_at(machine.challenges, name);
+    match guarded(current, session.sid, machine.moment) {
         Some(denial) => Change::drops(session, Reply::Denied(denial), Phase::Idle),
         None => challenges(session, name, otp),
     }
 }
 
-fn asks(machine: &Machine, session: &Session, name: &Name, kept: &Kept) -> Change
-    ensures { result ≡ asks machine.now session.now name.now kept.now.proto kept.now.otp }
+fn asks(machine: &MachineRef, session: &Session, name: &Name, user: &UserRecord) -> Change
+    ensures { result ≡ asks machine.now session.now name.now user.now.proto user.now.otp }
 {
-    match (kept.record.proto, &kept.record.otp) {
+    match (user.record.proto, &user.record.otp) {
         (Proto::Plain, _) => Change::drops(
             session,
             Reply::Password,
@@ -123,7 +123,7 @@ fn asks(machine: &Machine, session: &Session, name: &Name, kept: &Kept) -> Chang
 
 fn authenticate_unknown(
     policy: &Policy,
-    machine: &Machine,
+    machine: &MachineRef,
     session: &Session,
     name: &Name,
 ) -> Change
@@ -137,16 +137,16 @@ fn authenticate_unknown(
 
 fn authenticate_as(
     policy: &Policy,
-    machine: &Machine,
+    machine: &MachineRef,
     session: &Session,
     name: &Name,
-    kept: &Kept,
+    user: &UserRecord,
 ) -> Change
-    ensures { result ≡ authenticate_as policy.now machine.now session.now name.now (Some kept.now) }
+    ensures { result ≡ authenticate_as policy.now machine.now session.now name.now (Some user.now) }
 {
-    match refusal(policy, machine.moment, kept) {
+    match refusal(policy, machine.moment, user) {
         Some(denial) => Change::drops(session, Reply::Denied(denial), Phase::Idle),
-        None => asks(machine, session, name, kept),
+        None => asks(machine, session, name, user),
     }
 }
 
@@ -154,7 +154,7 @@ fn authenticate_as(
 #[tactic(auto, unfolding(crate::specs::Login::authenticate))]
 pub(crate) fn authenticate(
     policy: &Policy,
-    machine: &Machine,
+    machine: &MachineRef,
     session: &Session,
     name: &Name,
 ) -> Change
@@ -162,6 +162,6 @@ pub(crate) fn authenticate(
 {
     match record_at(machine.records, name) {
         None => authenticate_unknown(policy, machine, session, name),
-        Some(kept) => authenticate_as(policy, machine, session, name, kept),
+        Some(user) => authenticate_as(policy, machine, session, name, user),
     }
 }

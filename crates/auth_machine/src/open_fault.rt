@@ -1,4 +1,4 @@
-use fw_outside::Name;
+use fw_types::Name;
 
 /// Why a book isn't opened.
 #[derive(Drop)]

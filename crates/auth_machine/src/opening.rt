@@ -1,24 +1,25 @@
 //! Reading all records that a keeper has.
 ghost use Rattle.std.specs.Prelude.{◌≡◌, Err, IfErr, IfOk, IfSome, MatchResult, Ok};
-ghost use Rattle.fw_outside.specs.Keyed.{Ascends};
-ghost use Rattle.fw_outside.specs.Vault.{AreSame};
-ghost use Rattle.auth_machine.specs.History.{kept_bytes, table_of};
-ghost use Rattle.auth_machine.specs.Opening.{IsBadIn, ReadsAs, Refuses, record_in, records_in};
-ghost use Rattle.auth_machine.specs.State.{name_of};
+ghost use Rattle.fw_types.specs.Keyed.{Ascends};
+ghost use Rattle.fw_outside.specs.KeeperView.{AreSame};
+ghost use Rattle.auth_machine.specs.History.{record_entry, entries_of};
+ghost use Rattle.auth_machine.specs.Opening.{IsBadIn, ReadsAs, RefusesBook, record_in, records_in};
+ghost use Rattle.auth_machine.specs.State.{record_name};
 
 use crate::OpenFault;
-use crate::kept::Kept;
+use crate::user_record::UserRecord;
 use auth_records::decode;
-use fw_outside::{KeepFault, Keeper, Name, Octets};
+use fw_outside::{KeepFault, Keeper};
+use fw_types::{Name, Octets};
 use std::alloc::Global;
 
 // The place of a name in the bytes of a record.
 const NAME_AT: usize = 14;
 
 // The record that an entry is, or the place of its first bad byte.
-fn read_entry(entry: &(Name, Octets)) -> Result<Kept, usize>
-    ensures reads { MatchResult result (λ kept. record_in entry.now ≡ Ok kept) (λ at. record_in entry.now ≡ Err at) }
-    ensures bytes { IfOk result (λ kept. kept_bytes kept ≡ entry.now) }
+fn read_entry(entry: &(Name, Octets)) -> Result<UserRecord, usize>
+    ensures reads { MatchResult result (λ user. record_in entry.now ≡ Ok user) (λ at. record_in entry.now ≡ Err at) }
+    ensures bytes { IfOk result (λ user. record_entry user ≡ entry.now) }
 {
     match decode(entry.1.bytes()) {
         Err(fault) => Err(fault.at),
@@ -26,22 +27,22 @@ fn read_entry(entry: &(Name, Octets)) -> Result<Kept, usize>
             if record.name.text() != entry.0.text() {
                 return Err(NAME_AT);
             }
-            Ok(Kept { record })
+            Ok(UserRecord { record })
         }
     }
 }
 
 // The records that all entries are, in order.
-fn read_entries(alloc: Global, entries: &[(Name, Octets)]) -> Result<Vec<Kept>, OpenFault>
+fn read_entries(alloc: Global, entries: &[(Name, Octets)]) -> Result<Vec<UserRecord>, OpenFault>
     ensures reads { IfOk result (λ records. records_in entries.now ≡ Ok records.items) }
-    ensures bytes { IfOk result (λ records. table_of records.items ≡ entries.now) }
+    ensures bytes { IfOk result (λ records. entries_of records.items ≡ entries.now) }
     ensures fault { IfErr result (IsBadIn entries.now) }
 {
     let mut records = Vec::new(alloc);
     for entry in entries {
         match read_entry(entry) {
-            Ok(kept) => {
-                if records.push(kept).is_err() {
+            Ok(user) => {
+                if records.push(user).is_err() {
                     return Err(OpenFault::NoMemory);
                 }
             }
@@ -57,12 +58,14 @@ fn read_entries(alloc: Global, entries: &[(Name, Octets)]) -> Result<Vec<Kept>, 
 }
 
 // All records that the keeper has, in the order of names.
-pub(crate) fn load<K: Keeper>(alloc: Global, keeper: &mut K) -> Result<Vec<Kept>, OpenFault>
-    ensures reads { IfOk result (λ records. ReadsAs (Ok records.items) (K.vault keeper.old) (K.vault keeper.new)) }
-    ensures ordered { IfOk result (λ records. Ascends name_of records.items) }
-    ensures told { IfOk result (λ records. IfSome (K.vault keeper.new).table (λ table. AreSame table (table_of records.items))) }
-    ensures same { IfOk result (λ records. K.vault keeper.new ≡ K.vault keeper.old) }
-    ensures refused { IfErr result (λ fault. Refuses fault (K.vault keeper.old) (K.vault keeper.new)) }
+pub(crate) fn load<K: Keeper>(alloc: Global, keeper: &mut K) -> Result<Vec<UserRecord>, OpenFault>
+    ensures reads { IfOk result (λ records.
+        ReadsAs (Ok records.items) (K.keeper_view keeper.old) (K.keeper_view keeper.new)) }
+    ensures ordered { IfOk result (λ records. Ascends record_name records.items) }
+    ensures told { IfOk result (λ records. IfSome (K.keeper_view keeper.new).table (λ table.
+        AreSame table (entries_of records.items))) }
+    ensures same { IfOk result (λ records. K.keeper_view keeper.new ≡ K.keeper_view keeper.old) }
+    ensures refused { IfErr result (λ fault. RefusesBook fault (K.keeper_view keeper.old) (K.keeper_view keeper.new)) }
 {
     match keeper.load() {
         Ok(loaded) => read_entries(alloc, &loaded),

@@ -1,6 +1,6 @@
 //! Lines about operations, one by one.
 use auth_events::OpService;
-use fw_outside::Name;
+use fw_types::Name;
 use host_pattern::PatternList;
 
 /// Whose name a line about operations has.

@@ -1,12 +1,12 @@
 //! Reading the lines about operations, and what they decide.
 ghost use Rattle.std.specs.Prelude.{◌≡◌, ◌<◌, List, ◌∷◌, filter, IfOk};
-ghost use Rattle.fw_outside.specs.Dest.{party_at};
+ghost use Rattle.fw_types.specs.Dest.{party_at};
 ghost use Rattle.auth_machine.specs.declared.operation.OperationLine.{OperationLine};
-ghost use Rattle.auth_machine.specs.Operations.{first_decides, fits, holder_of, is_named, is_through, is_whose, line_by, line_with, operation_line, operation_lines, operation_verdict, service_of, service_place};
+ghost use Rattle.auth_machine.specs.Operations.{first_decides, fits, holder_of, is_about_user, is_through, is_whose, line_by, operation_line_with, operation_line, operation_lines, operation_verdict, line_service_of, service_place};
 
 use crate::operation::{Holder, OperationLine};
 use auth_events::OpService;
-use fw_outside::{Dest, Host, Name, NoMemory, Peer};
+use fw_types::{Dest, Host, Name, NoMemory, Peer};
 use gate_rules::{Verdict, hosts_of_operation};
 use host_pattern::{PatternList, Steps, Word};
 use netperm_table::Line;
@@ -24,8 +24,8 @@ fn holder_of(text: &[u8]) -> Holder
     }
 }
 
-fn service_of(text: &[u8]) -> Option<OpService>
-    ensures { result ≡ service_of text.now }
+fn line_service_of(text: &[u8]) -> Option<OpService>
+    ensures { result ≡ line_service_of text.now }
 {
     if text == b"tn-gw".as_slice() {
         return Some(OpService::Telnet);
@@ -40,13 +40,13 @@ fn service_of(text: &[u8]) -> Option<OpService>
 }
 
 // The line with these words and this host list.
-fn line_with(
+fn operation_line_with(
     number: u32,
     permits: bool,
     words: &[Word],
     hosts: PatternList,
 ) -> Option<OperationLine>
-    ensures { result ≡ line_with number permits words.now hosts }
+    ensures { result ≡ operation_line_with number permits words.now hosts }
 {
     match words {
         [holder, name, service, ..] => Some(OperationLine {
@@ -54,7 +54,7 @@ fn line_with(
             permits,
             holder: holder_of(holder.text.bytes()),
             name: Name::read(name.text.bytes()),
-            service: service_of(service.text.bytes()),
+            service: line_service_of(service.text.bytes()),
             hosts,
         }),
         _ => None,
@@ -71,7 +71,7 @@ fn line_by(
     ensures { result ≡ line_by number permits words.now hosts }
 {
     match hosts {
-        Some(hosts) => line_with(number, permits, words, hosts),
+        Some(hosts) => operation_line_with(number, permits, words, hosts),
         None => None,
     }
 }
@@ -98,8 +98,8 @@ pub(crate) fn operation_lines(alloc: Global, lines: &[Line]) -> Result<Vec<Opera
     Ok(said)
 }
 
-fn is_named(holder: Holder, name: &Name, user: &Name, group: &Option<Name>) -> bool
-    ensures { result ≡ is_named holder name.now user.now group.now }
+fn is_about_user(holder: Holder, name: &Name, user: &Name, group: &Option<Name>) -> bool
+    ensures { result ≡ is_about_user holder name.now user.now group.now }
 {
     match holder {
         Holder::User => name.text() == user.text(),
@@ -114,7 +114,7 @@ fn is_whose(holder: Holder, name: &Option<Name>, user: &Name, group: &Option<Nam
     ensures { result ≡ is_whose holder name.now user.now group.now }
 {
     match name {
-        Some(name) => is_named(holder, name, user, group),
+        Some(name) => is_about_user(holder, name, user, group),
         None => true,
     }
 }

@@ -7,7 +7,7 @@ ghost use Rattle.gate_rules.specs.declared.service.Service.TheVariants.{Authsrv}
 use crate::operation::OperationLine;
 use crate::operations::{operation_lines, operation_verdict};
 use auth_events::OpService;
-use fw_outside::{Host, Name};
+use fw_types::{Host, Name};
 use gate_rules::{Rules, RulesFault, Service, Setting, Verdict};
 use netperm_table::Table;
 use std::alloc::Global;
@@ -27,7 +27,12 @@ impl Model for Policy {
 
     ghost Value = { PolicyView };
 
-    ghost view = { λ policy. record { bad_sleep = policy.bad_sleep; no_bogus = policy.no_bogus; operations = policy.operations.items } };
+    ghost view = { λ policy. record {
+      bad_sleep = policy.bad_sleep;
+      no_bogus = policy.no_bogus;
+      operations =
+          policy.operations.items;
+    } };
 }
 
 fn is_one(set: Option<(u64, u32)>) -> bool

@@ -1,4 +1,4 @@
-use fw_outside::Name;
+use fw_types::Name;
 
 /// Over which records a session has power.
 #[derive(Drop)]

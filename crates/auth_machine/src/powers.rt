@@ -1,19 +1,19 @@
 //! What those who are logged in may do.
 ghost use Rattle.std.specs.Prelude.{◌≡◌, Some, None, option_map, MatchResult, Ok, Err};
 ghost use Rattle.std.specs.Option.{option_copied};
-ghost use Rattle.auth_machine.specs.Powers.{covers, is_name_in, is_super, name_in, over_all, own_power, power_of, reached, record_of, same_group, sees, user_of, wizard_power};
+ghost use Rattle.auth_machine.specs.Powers.{covers, is_name_in, is_super, name_in_phase, over_all, own_power, power_of, reachable, record_of, same_group, sees, user_of, wizard_power};
 ghost use Rattle.auth_machine.specs.State.{record_at};
 
-use crate::kept::Kept;
-use crate::machine::{Machine, record_at};
+use crate::machine_ref::{MachineRef, record_at};
+use crate::user_record::UserRecord;
 use crate::{Phase, Power, Session};
 use auth_events::Denial;
 use auth_records::Wiz;
-use fw_outside::Name;
+use fw_types::Name;
 
 // The name of the user who is logged in.
-fn name_in(phase: &Phase) -> Option<&Name>
-    ensures { option_copied result ≡ name_in phase.entry.now }
+fn name_in_phase(phase: &Phase) -> Option<&Name>
+    ensures { option_copied result ≡ name_in_phase phase.entry.now }
 {
     match phase {
         Phase::In { name } => Some(name),
@@ -22,10 +22,10 @@ fn name_in(phase: &Phase) -> Option<&Name>
 }
 
 // The record of the user who is logged in.
-pub(crate) fn user_of<'a>(machine: &Machine<'a>, session: &Session) -> Option<&'a Kept>
+pub(crate) fn user_of<'a>(machine: &MachineRef<'a>, session: &Session) -> Option<&'a UserRecord>
     ensures { option_copied result ≡ user_of machine.now session.now }
 {
-    match name_in(&session.phase) {
+    match name_in_phase(&session.phase) {
         None => None,
         Some(name) => record_at(machine.records, name),
     }
@@ -40,18 +40,18 @@ pub(crate) fn group_twin(group: &Option<Name>) -> Option<Name>
     }
 }
 
-fn wizard_power(kept: &Kept) -> Power
-    ensures { result ≡ wizard_power kept.now.wiz kept.now.group }
+fn wizard_power(user: &UserRecord) -> Power
+    ensures { result ≡ wizard_power user.now.wiz user.now.group }
 {
-    match kept.record.wiz {
+    match user.record.wiz {
         Wiz::None => Power::Nobody,
-        Wiz::Group => Power::Members(group_twin(&kept.record.group)),
+        Wiz::Group => Power::Members(group_twin(&user.record.group)),
         Wiz::Super => Power::Everybody,
     }
 }
 
 // The power of the session, where somebody is logged in.
-pub(crate) fn power_of(machine: &Machine, session: &Session) -> Option<Power>
+pub(crate) fn power_of(machine: &MachineRef, session: &Session) -> Option<Power>
     ensures { result ≡ power_of machine.now session.now }
 {
     if session.console {
@@ -59,7 +59,7 @@ pub(crate) fn power_of(machine: &Machine, session: &Session) -> Option<Power>
     }
     match user_of(machine, session) {
         None => None,
-        Some(kept) => Some(wizard_power(kept)),
+        Some(user) => Some(wizard_power(user)),
     }
 }
 
@@ -82,20 +82,20 @@ fn is_super(wiz: Wiz) -> bool
 }
 
 // The power to list the record.
-pub(crate) fn sees(power: &Power, kept: &Kept) -> bool
-    ensures { result ≡ sees power.now kept.now }
+pub(crate) fn sees(power: &Power, user: &UserRecord) -> bool
+    ensures { result ≡ sees power.now user.now }
 {
     match power {
         Power::Nobody => false,
-        Power::Members(group) => same_group(group, &kept.record.group),
+        Power::Members(group) => same_group(group, &user.record.group),
         Power::Everybody => true,
     }
 }
 
-fn is_covered(group: &Option<Name>, kept: &Kept) -> bool
-    ensures { result ≡ covers (Power.Members group.now) kept.now }
+fn is_covered(group: &Option<Name>, user: &UserRecord) -> bool
+    ensures { result ≡ covers (Power.Members group.now) user.now }
 {
-    same_group(group, &kept.record.group) && !is_super(kept.record.wiz)
+    same_group(group, &user.record.group) && !is_super(user.record.wiz)
 }
 
 fn over_all(power: Option<Power>) -> Option<Power>
@@ -108,14 +108,19 @@ fn over_all(power: Option<Power>) -> Option<Power>
     }
 }
 
-fn reached_by_group<'a>(group: &Option<Name>, target: Option<&'a Kept>) -> Result<&'a Kept, Denial>
-    ensures { MatchResult result (λ kept. reached (Some (Power.Members group.now)) (option_copied target.entry) ≡ Ok kept.now) (λ denial. reached (Some (Power.Members group.now)) (option_copied target.entry) ≡ Err denial) }
+fn reached_by_group<'a>(
+    group: &Option<Name>,
+    target: Option<&'a UserRecord>,
+) -> Result<&'a UserRecord, Denial>
+    ensures { MatchResult result (λ user.
+        reachable (Some (Power.Members group.now)) (option_copied target.entry) ≡ Ok user.now) (λ denial.
+        reachable (Some (Power.Members group.now)) (option_copied target.entry) ≡ Err denial) }
 {
     match target {
         None => Err(Denial::NoSuch),
-        Some(kept) => {
-            if is_covered(group, kept) {
-                return Ok(kept);
+        Some(user) => {
+            if is_covered(group, user) {
+                return Ok(user);
             }
             Err(Denial::NotWizard)
         }
@@ -123,8 +128,12 @@ fn reached_by_group<'a>(group: &Option<Name>, target: Option<&'a Kept>) -> Resul
 }
 
 // The record that may be changed, or why it may not.
-fn reached<'a>(power: &Option<Power>, target: Option<&'a Kept>) -> Result<&'a Kept, Denial>
-    ensures { MatchResult result (λ kept. reached power.now (option_copied target.entry) ≡ Ok kept.now) (λ denial. reached power.now (option_copied target.entry) ≡ Err denial) }
+fn reachable<'a>(
+    power: &Option<Power>,
+    target: Option<&'a UserRecord>,
+) -> Result<&'a UserRecord, Denial>
+    ensures { MatchResult result (λ user. reachable power.now (option_copied target.entry) ≡ Ok user.now) (λ denial.
+        reachable power.now (option_copied target.entry) ≡ Err denial) }
 {
     match power {
         None => Err(Denial::NotIn),
@@ -152,7 +161,7 @@ fn raised(power: Option<Power>) -> Option<Power>
     }
 }
 
-fn own_power(machine: &Machine, session: &Session, name: &Name) -> Option<Power>
+fn own_power(machine: &MachineRef, session: &Session, name: &Name) -> Option<Power>
     ensures { result ≡ own_power machine.now session.now name.now }
 {
     let power = power_of(machine, session);
@@ -164,13 +173,15 @@ fn own_power(machine: &Machine, session: &Session, name: &Name) -> Option<Power>
 
 // The record of this name, where a wizard may change it.
 pub(crate) fn by_wizard<'a>(
-    machine: &Machine<'a>,
+    machine: &MachineRef<'a>,
     session: &Session,
     name: &Name,
-) -> Result<&'a Kept, Denial>
-    ensures { MatchResult result (λ kept. reached (power_of machine.now session.now) (record_at name.now machine.now.records) ≡ Ok kept.now) (λ denial. reached (power_of machine.now session.now) (record_at name.now machine.now.records) ≡ Err denial) }
+) -> Result<&'a UserRecord, Denial>
+    ensures { MatchResult result (λ user.
+        reachable (power_of machine.now session.now) (record_at name.now machine.now.records) ≡ Ok user.now) (λ denial.
+        reachable (power_of machine.now session.now) (record_at name.now machine.now.records) ≡ Err denial) }
 {
-    reached(
+    reachable(
         &power_of(machine, session),
         record_at(machine.records, name),
     )
@@ -178,13 +189,16 @@ pub(crate) fn by_wizard<'a>(
 
 // The record of this name, where its own user or a wizard may change it.
 pub(crate) fn by_user<'a>(
-    machine: &Machine<'a>,
+    machine: &MachineRef<'a>,
     session: &Session,
     name: &Name,
-) -> Result<&'a Kept, Denial>
-    ensures { MatchResult result (λ kept. reached (own_power machine.now session.now name.now) (record_at name.now machine.now.records) ≡ Ok kept.now) (λ denial. reached (own_power machine.now session.now name.now) (record_at name.now machine.now.records) ≡ Err denial) }
+) -> Result<&'a UserRecord, Denial>
+    ensures { MatchResult result (λ user.
+        reachable (own_power machine.now session.now name.now) (record_at name.now machine.now.records) ≡ Ok user.now)
+        (λ denial. reachable (own_power machine.now session.now name.now) (record_at name.now machine.now.records) ≡
+        Err denial) }
 {
-    reached(
+    reachable(
         &own_power(machine, session, name),
         record_at(machine.records, name),
     )
@@ -192,13 +206,16 @@ pub(crate) fn by_user<'a>(
 
 // The record of this name, where a wizard over all may change it.
 pub(crate) fn by_super<'a>(
-    machine: &Machine<'a>,
+    machine: &MachineRef<'a>,
     session: &Session,
     name: &Name,
-) -> Result<&'a Kept, Denial>
-    ensures { MatchResult result (λ kept. reached (option_map over_all (power_of machine.now session.now)) (record_at name.now machine.now.records) ≡ Ok kept.now) (λ denial. reached (option_map over_all (power_of machine.now session.now)) (record_at name.now machine.now.records) ≡ Err denial) }
+) -> Result<&'a UserRecord, Denial>
+    ensures { MatchResult result (λ user.
+        reachable (option_map over_all (power_of machine.now session.now)) (record_at name.now machine.now.records) ≡
+        Ok user.now) (λ denial. reachable (option_map over_all (power_of machine.now session.now)) (record_at name.now
+        machine.now.records) ≡ Err denial) }
 {
-    reached(
+    reachable(
         &over_all(power_of(machine, session)),
         record_at(machine.records, name),
     )

@@ -5,16 +5,16 @@ ghost use Rattle.std.specs.Option.{option_copied};
 ghost use Rattle.auth_records.specs.Spelling.{fields, otp_fields};
 ghost use Rattle.auth_machine.specs.Answer.{answer_of};
 ghost use Rattle.auth_machine.specs.State.{record_at};
-ghost use Rattle.auth_machine.specs.Login.{checks, checks_otp, checks_plain, checks_word, failed, is_own, is_password, logged_in, one_more, respond, respond_as, respond_in, right, used, wrong};
+ghost use Rattle.auth_machine.specs.Login.{checks, checks_otp, checks_plain, checks_word, failed, is_own_challenge, is_password, logged_in, one_more, respond, respond_as, respond_in, right, used, wrong};
 
 use crate::change::Change;
-use crate::kept::Kept;
 use crate::login::refusal;
-use crate::machine::{Machine, challenge_at, record_at};
+use crate::machine_ref::{MachineRef, challenge_at, record_at};
+use crate::user_record::UserRecord;
 use crate::{Challenge, Phase, Policy, Session};
 use auth_events::{Denial, Reply};
 use auth_records::{Otp, Plain, Proto, Record};
-use fw_outside::Name;
+use fw_types::Name;
 use md5::{Digest, Md5};
 use otp_md5::next;
 
@@ -26,50 +26,50 @@ fn one_more(fails: u8) -> u8
     if fails == 5 { 1 } else { fails + 1 }
 }
 
-fn failed(moment: u64, kept: &Kept) -> Kept
-    ensures { result ≡ failed moment kept.now }
+fn failed(moment: u64, user: &UserRecord) -> UserRecord
+    ensures { result ≡ failed moment user.now }
 {
-    let mut record = kept.record.twin();
+    let mut record = user.record.twin();
     let fails = one_more(record.fails);
     if fails == 5 {
         record.since = moment;
     }
     record.fails = fails;
-    Kept { record }
+    UserRecord { record }
 }
 
-fn logged_in(kept: &Kept) -> Kept
-    ensures { result ≡ logged_in kept.now }
+fn logged_in(user: &UserRecord) -> UserRecord
+    ensures { result ≡ logged_in user.now }
 {
-    let mut record = kept.record.twin();
+    let mut record = user.record.twin();
     record.fails = 0;
-    Kept { record }
+    UserRecord { record }
 }
 
-fn used(kept: &Kept, otp: &Otp, word: u64) -> Kept
-    ensures { result ≡ used kept.now (otp_fields otp.now) word }
+fn used(user: &UserRecord, otp: &Otp, word: u64) -> UserRecord
+    ensures { result ≡ used user.now (otp_fields otp.now) word }
 {
-    let mut record = kept.record.twin();
+    let mut record = user.record.twin();
     record.fails = 0;
     record.otp = Some(Otp {
         number: otp.number.saturating_sub(1),
         word_seed: otp.word_seed.twin(),
         kept: word,
     });
-    Kept { record }
+    UserRecord { record }
 }
 
-fn wrong(machine: &Machine, session: &Session, kept: &Kept) -> Change
-    ensures { result ≡ wrong machine.now session.now kept.now }
+fn wrong(machine: &MachineRef, session: &Session, user: &UserRecord) -> Change
+    ensures { result ≡ wrong machine.now session.now user.now }
 {
-    let kept = failed(machine.moment, kept);
-    Change::settles(session, Reply::Denied(Denial::Wrong), Phase::Idle, kept)
+    let user = failed(machine.moment, user);
+    Change::settles(session, Reply::Denied(Denial::Wrong), Phase::Idle, user)
 }
 
-fn right(session: &Session, name: &Name, kept: Kept) -> Change
-    ensures { result ≡ right session.now name.now kept }
+fn right(session: &Session, name: &Name, user: UserRecord) -> Change
+    ensures { result ≡ right session.now name.now user }
 {
-    Change::settles(session, Reply::Ok, Phase::In { name: name.twin() }, kept)
+    Change::settles(session, Reply::Ok, Phase::In { name: name.twin() }, user)
 }
 
 // The digest of a text behind the salt.
@@ -89,48 +89,48 @@ fn is_password(hash: &[u8; 16], plain: &Plain) -> bool
 }
 
 fn checks_plain(
-    machine: &Machine,
+    machine: &MachineRef,
     session: &Session,
     name: &Name,
-    kept: &Kept,
+    user: &UserRecord,
     hash: &[u8; 16],
 ) -> Change
-    ensures { result ≡ checks_plain machine.now session.now name.now kept.now hash.now kept.now.plain }
+    ensures { result ≡ checks_plain machine.now session.now name.now user.now hash.now user.now.plain }
 {
-    match &kept.record.plain {
+    match &user.record.plain {
         None => Change::drops(session, Reply::Denied(Denial::Disabled), Phase::Idle),
         Some(plain) => {
             if is_password(hash, plain) {
-                return right(session, name, logged_in(kept));
+                return right(session, name, logged_in(user));
             }
-            wrong(machine, session, kept)
+            wrong(machine, session, user)
         }
     }
 }
 
 fn checks_word(
-    machine: &Machine,
+    machine: &MachineRef,
     session: &Session,
     name: &Name,
-    kept: &Kept,
+    user: &UserRecord,
     otp: &Otp,
     word: Option<u64>,
 ) -> Change
-    ensures { result ≡ checks_word machine.now session.now name.now kept.now (otp_fields otp.now) word }
+    ensures { result ≡ checks_word machine.now session.now name.now user.now (otp_fields otp.now) word }
 {
     match word {
-        None => wrong(machine, session, kept),
+        None => wrong(machine, session, user),
         Some(word) => {
             if next(word) == otp.kept {
-                return right(session, name, used(kept, otp, word));
+                return right(session, name, used(user, otp, word));
             }
-            wrong(machine, session, kept)
+            wrong(machine, session, user)
         }
     }
 }
 
-fn is_own(challenge: Option<&Challenge>, sid: u64) -> bool
-    ensures { result ≡ is_own (option_copied challenge.entry) sid }
+fn is_own_challenge(challenge: Option<&Challenge>, sid: u64) -> bool
+    ensures { result ≡ is_own_challenge (option_copied challenge.entry) sid }
 {
     match challenge {
         None => false,
@@ -139,75 +139,76 @@ fn is_own(challenge: Option<&Challenge>, sid: u64) -> bool
 }
 
 fn checks_otp(
-    machine: &Machine,
+    machine: &MachineRef,
     session: &Session,
     name: &Name,
-    kept: &Kept,
+    user: &UserRecord,
     word: Option<u64>,
 ) -> Change
-    ensures { result ≡ checks_otp machine.now session.now name.now kept.now word kept.now.otp }
+    ensures { result ≡ checks_otp machine.now session.now name.now user.now word user.now.otp }
 {
-    match &kept.record.otp {
+    match &user.record.otp {
         None => Change::drops(session, Reply::Denied(Denial::Disabled), Phase::Idle),
         Some(otp) => {
-            if !is_own(challenge_at(machine.challenges, name), session.sid) {
+            if !is_own_challenge(challenge_at(machine.challenges, name), session.sid) {
                 return Change::turns(session, Reply::Denied(Denial::NoChallenge), Phase::Idle);
             }
             if otp.number == 0 {
                 return Change::drops(session, Reply::Denied(Denial::Exhausted), Phase::Idle);
             }
-            checks_word(machine, session, name, kept, otp, word)
+            checks_word(machine, session, name, user, otp, word)
         }
     }
 }
 
 fn checks(
-    machine: &Machine,
+    machine: &MachineRef,
     session: &Session,
     name: &Name,
-    kept: &Kept,
+    user: &UserRecord,
     hash: &[u8; 16],
     word: Option<u64>,
 ) -> Change
-    ensures { result ≡ checks machine.now session.now name.now kept.now hash.now word kept.now.proto }
+    ensures { result ≡ checks machine.now session.now name.now user.now hash.now word user.now.proto }
 {
-    match kept.record.proto {
-        Proto::Plain => checks_plain(machine, session, name, kept, hash),
-        Proto::Otp => checks_otp(machine, session, name, kept, word),
+    match user.record.proto {
+        Proto::Plain => checks_plain(machine, session, name, user, hash),
+        Proto::Otp => checks_otp(machine, session, name, user, word),
         Proto::None => Change::drops(session, Reply::Denied(Denial::Disabled), Phase::Idle),
     }
 }
 
 fn respond_known(
     policy: &Policy,
-    machine: &Machine,
+    machine: &MachineRef,
     session: &Session,
     name: &Name,
     hash: &[u8; 16],
     word: Option<u64>,
-    kept: &Kept,
+    user: &UserRecord,
 ) -> Change
-    ensures { result ≡ respond_as policy.now machine.now session.now name.now hash.now word (Some kept.now) }
+    ensures { result ≡ respond_as policy.now machine.now session.now name.now hash.now word (Some user.now) }
 {
-    match refusal(policy, machine.moment, kept) {
+    match refusal(policy, machine.moment, user) {
         Some(denial) => Change::drops(session, Reply::Denied(denial), Phase::Idle),
-        None => checks(machine, session, name, kept, hash, word),
+        None => checks(machine, session, name, user, hash, word),
     }
 }
 
 fn respond_as(
     policy: &Policy,
-    machine: &Machine,
+    machine: &MachineRef,
     session: &Session,
     name: &Name,
     hash: &[u8; 16],
     word: Option<u64>,
 ) -> Change
-    ensures { result ≡ respond_as policy.now machine.now session.now name.now hash.now word (record_at name.now machine.now.records) }
+    ensures { result ≡ respond_as policy.now machine.now session.now name.now hash.now word (record_at name.now
+        machine.now.records) }
 {
     match record_at(machine.records, name) {
         None => Change::turns(session, Reply::Denied(Denial::Wrong), Phase::Idle),
-        Some(kept) => respond_known(policy, machine, session, name, hash, word, kept),
+        Some(user) => respond_known(policy, machine, session, name, hash, word, user),
     }
 }
 
@@ -215,7 +216,7 @@ fn respond_as(
 #[tactic(auto, unfolding(crate::specs::Login::respond))]
 pub(crate) fn respond(
     policy: &Policy,
-    machine: &Machine,
+    machine: &MachineRef,
     session: &Session,
     hash: &[u8; 16],
     word: Option<u64>,

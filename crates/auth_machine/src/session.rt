@@ -1,4 +1,4 @@
-use fw_outside::Name;
+use fw_types::Name;
 
 /// How far a session is.
 #[derive(Drop)]

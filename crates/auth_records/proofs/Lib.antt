@@ -1,8 +1,5 @@
 pub mod SeedLemmas
-pub mod ReaderLemmas
-pub mod FieldLemmas
 pub mod NumberLemmas
-pub mod CountedLemmas
 pub mod TextLemmas
 pub mod RecordLemmas
 pub mod WholeLemmas

@@ -3,42 +3,11 @@ use Rattle.std.proofs.Common.{◌≡◌, ℕ, zero, suc, ◌+◌, ◌*◌, ◌/�
 use Rattle.std.specs.Int.{w32, w64, from_be_bytes, to_be_bytes}
 use Rattle.std.proofs.lemmas.Bool.Decides.{nat_tests}
 use Rattle.std.proofs.lemmas.Nat.{be_bytes_8, from_be_bytes-to_be_bytes_8}
-use Rattle.auth_records.specs.Spelling.{IsBytes}
-use Rattle.auth_records.specs.Reading.{Read, ◌>>=◌, byte_at, bytes_at, long_number_at, small_number_at}
-use Rattle.auth_records.proofs.ReaderLemmas.{Reads, reads_same, through, Sees, reads_through, both, FitBoth, spell_both, reads_both, bind_both}
-use Rattle.auth_records.proofs.FieldLemmas.{InRange, one, itself, IsBytesOf, reads_byte, reads_bytes}
-
--- ---- numbers
-
-bytes_below : (bytes : List ℕ) (i : ℕ) → IsBytes bytes → get_or bytes i 0 < 256
-bytes_below [] i fits = omega arith
-bytes_below (b ∷ bytes) zero fits = fits.0
-bytes_below (b ∷ bytes) (suc i) fits = bytes_below bytes i fits.1
-
-pub all_bytes : (bytes : List ℕ) → ((i : ℕ) → get_or bytes i 0 < 256) → IsBytes bytes
-all_bytes [] fits = tt
-all_bytes (b ∷ bytes) fits = (fits 0, all_bytes bytes (λ i. fits (suc i)))
-
-abbrev pub IsLong : ℕ → Type 0
-IsLong n = n < 2 ^ 64
-
-abbrev pub long_bytes : ℕ → List ℕ
-long_bytes n = to_be_bytes w64 n
-
-long_seen : Sees (List ℕ) ℕ (IsBytesOf 8) itself (from_be_bytes w64) IsLong long_bytes
-long_seen = record {
-  to = λ bytes is.
-      let at : (i : ℕ) → get_or bytes i 0 < 256 = λ i. bytes_below bytes i is.bytes in
-      (omega (arith, at 0, at 1, at 2, at 3, at 4, at 5, at 6, at 7), be_bytes_8 bytes (from_be_bytes w64 bytes) is.len at refl);
-  from = λ n lt. (to_be_bytes w64 n, record { len = refl; bytes = (omega arith, (omega arith, (omega arith, (omega arith, (omega arith, (omega arith, (omega arith, (omega arith, tt)))))))) }, from_be_bytes-to_be_bytes_8 n lt);
-}
-
-long_same : (bytes : List ℕ) → long_number_at bytes ≡ through (List ℕ) ℕ (bytes_at 8) (from_be_bytes w64) bytes
-unfolding long_number_at
-long_same bytes = refl
-
-pub reads_long_number : Reads ℕ long_number_at IsLong long_bytes
-reads_long_number = reads_same ℕ (through (List ℕ) ℕ (bytes_at 8) (from_be_bytes w64)) long_number_at IsLong long_bytes long_same (reads_through (List ℕ) ℕ (bytes_at 8) (IsBytesOf 8) itself (from_be_bytes w64) IsLong long_bytes (reads_bytes 8) long_seen)
+use Rattle.byte_reader.specs.Reading.{IsBytes, Read, ◌>>=◌, byte_at, bytes_at, long_number_at}
+use Rattle.byte_reader.specs.Exact.{ReadsExactly, InRange, one, itself, IsBytesOf}
+use Rattle.byte_reader.proofs.ReaderLemmas.{reads_same, through, Sees, reads_through, both, FitBoth, spell_both, reads_both, bind_both}
+use Rattle.byte_reader.proofs.FieldLemmas.{reads_byte, reads_bytes}
+use Rattle.auth_records.specs.Reading.{small_number_at}
 
 -- the four bytes of a number of at most 9,999
 abbrev last_most : ℕ → ℕ
@@ -89,7 +58,7 @@ spell_three = spell_both Two ℕ spell_two (λ p. one)
 abbrev spell_four : Four → List ℕ
 spell_four = spell_both Three ℕ spell_three (λ q. one)
 
-reads_four : Reads Four four FitsFour spell_four
+reads_four : ReadsExactly Four four FitsFour spell_four
 reads_four =
     let two = reads_both ℕ ℕ (byte_at 0 0) (λ a. byte_at 0 0) (InRange 0 0) one (λ a. InRange 0 0) (λ a. one) (reads_byte 0 0 (omega arith)) (λ a h. reads_byte 0 0 (omega arith)) in
     let three_read = reads_both Two ℕ zeros (λ p. byte_at 0 39) FitsTwo spell_two (λ p. InRange 0 39) (λ p. one) two (λ p h. reads_byte 0 39 (lit≤ tt)) in
@@ -129,5 +98,5 @@ small_same bytes =
     ∙ bind_both Two ℕ (ℕ × List ℕ) zeros (λ p. byte_at 0 39) (λ q rest. byte_at 0 (last_most q.1) rest >>= λ fourth. Ok (256 * q.1 + fourth.0, fourth.1)) bytes
     ∙ bind_both Three ℕ (ℕ × List ℕ) three (λ q. byte_at 0 (last_most q.1)) (λ x rest. Ok (small_of x, rest)) bytes
 
-pub reads_small_number : Reads ℕ small_number_at IsSmall small_bytes
+pub reads_small_number : ReadsExactly ℕ small_number_at IsSmall small_bytes
 reads_small_number = reads_same ℕ (through Four ℕ four small_of) small_number_at IsSmall small_bytes small_same (reads_through Four ℕ four FitsFour spell_four small_of IsSmall small_bytes reads_four (record { to = four_to; from = four_from }))

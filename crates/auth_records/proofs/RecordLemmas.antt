@@ -2,16 +2,19 @@
 use Rattle.std.proofs.Common.{◌≡◌, ℕ, zero, suc, ◌<◌, ◌≤◌, ◌^◌, Bool, true, false, nat_eq, lit≤, List, [], ◌∷◌, ◌++◌, Option, Some, None, Result, Ok, refl, subst, ◌∙◌, arith, bit_and}
 use Rattle.std.specs.Prelude.{IfSome, is_some}
 use Rattle.std.specs.Int.{w32, w64, to_be_bytes}
+use Rattle.byte_reader.specs.Reading.{IsBytes, Read, ◌>>=◌, byte_at, bytes_at, long_number_at}
+use Rattle.byte_reader.specs.Exact.{with_length, ReadsExactly, InRange, one, IsBytesOf, itself, IsLong, long_bytes}
+use Rattle.byte_reader.proofs.ReaderLemmas.{ok_is, reads_same, through, reads_through, both, FitBoth, spell_both, reads_both, bind_both}
+use Rattle.byte_reader.proofs.FieldLemmas.{reads_byte, reads_bytes}
+use Rattle.byte_reader.proofs.NumberLemmas.{reads_long_number}
 use Rattle.auth_records.specs.declared.record.Proto.{Proto}
 use Rattle.auth_records.specs.declared.record.Proto.TheVariants as protos
 use Rattle.auth_records.specs.declared.record.Wiz.{Wiz}
 use Rattle.auth_records.specs.declared.record.Wiz.TheVariants as wizards
 use Rattle.auth_records.specs.declared.record.Plain.{Plain}
-use Rattle.auth_records.specs.Spelling.{OtpFields, IsGroup, IsPlain, IsOtp, IsBytes, counted, flags, proto_byte, wiz_byte, or_empty}
-use Rattle.auth_records.specs.Reading.{Read, ◌>>=◌, Head, Names, byte_at, bytes_at, long_number_at, small_number_at, name_at, long_at, group_at, seed_at, head_at, names_at, plain_at, otp_at, optional_at, head_of, proto_of, wiz_of}
-use Rattle.auth_records.proofs.ReaderLemmas.{ok_is, Reads, reads_same, through, reads_through, both, FitBoth, spell_both, reads_both, bind_both}
-use Rattle.auth_records.proofs.FieldLemmas.{InRange, one, reads_byte, IsBytesOf, itself, reads_bytes}
-use Rattle.auth_records.proofs.NumberLemmas.{IsLong, long_bytes, reads_long_number, IsSmall, small_bytes, reads_small_number}
+use Rattle.auth_records.specs.Spelling.{OtpFields, IsGroup, IsPlain, IsOtp, flags, proto_byte, wiz_byte, or_empty}
+use Rattle.auth_records.specs.Reading.{Head, Names, small_number_at, name_at, long_at, group_at, seed_at, head_at, names_at, plain_at, otp_at, optional_at, head_of, proto_of, wiz_of}
+use Rattle.auth_records.proofs.NumberLemmas.{IsSmall, small_bytes, reads_small_number}
 use Rattle.auth_records.proofs.TextLemmas.{IsName, IsLongName, IsSeed, group_bytes, reads_name, reads_long, reads_group, reads_seed}
 
 -- ---- a field that stands only where a flag says so
@@ -35,7 +38,7 @@ none_again : (A : Type 0) (IsA : A → Type 0) (spell : A → List ℕ) (x : Opt
 none_again A IsA spell None rest fits = refl
 none_again A IsA spell (Some a) rest fits = absurd (cc (fits.0))
 
-pub reads_none : (A : Type 0) (read : List ℕ → Read A) (IsA : A → Type 0) (spell : A → List ℕ) → Reads (Option A) (optional_at false read) (FitsWhere A IsA false) (spell_where A spell)
+pub reads_none : (A : Type 0) (read : List ℕ → Read A) (IsA : A → Type 0) (spell : A → List ℕ) → ReadsExactly (Option A) (optional_at false read) (FitsWhere A IsA false) (spell_where A spell)
 unfolding optional_at
 reads_none A read IsA spell = record {
   sound = none_sound A IsA spell;
@@ -55,7 +58,7 @@ some_same : (A : Type 0) (read : List ℕ → Read A) (bytes : List ℕ) → opt
 unfolding optional_at
 some_same A read bytes = refl
 
-pub reads_where : (A : Type 0) (read : List ℕ → Read A) (IsA : A → Type 0) (spell : A → List ℕ) → Reads A read IsA spell → (flag : Bool) → Reads (Option A) (optional_at flag read) (FitsWhere A IsA flag) (spell_where A spell)
+pub reads_where : (A : Type 0) (read : List ℕ → Read A) (IsA : A → Type 0) (spell : A → List ℕ) → ReadsExactly A read IsA spell → (flag : Bool) → ReadsExactly (Option A) (optional_at flag read) (FitsWhere A IsA flag) (spell_where A spell)
 reads_where A read IsA spell r false = reads_none A read IsA spell
 reads_where A read IsA spell r true = reads_same (Option A) (through A (Option A) read (λ a. Some a)) (optional_at true read) (FitsWhere A IsA true) (spell_where A spell) (some_same A read)
     (reads_through A (Option A) read IsA spell (λ a. Some a) (FitsWhere A IsA true) (spell_where A spell) r (record { to = some_to A IsA spell; from = some_from A IsA }))
@@ -117,7 +120,7 @@ spell4 = spell_both H3 ℕ spell3 (λ p. one)
 abbrev spell5 : H5 → List ℕ
 spell5 = spell_both H4 ℕ spell4 (λ p. long_bytes)
 
-reads_h5 : Reads H5 h5 Fits5 spell5
+reads_h5 : ReadsExactly H5 h5 Fits5 spell5
 reads_h5 =
     let two = reads_both ℕ ℕ (byte_at 0 7) (λ a. byte_at 0 2) (InRange 0 7) one (λ a. InRange 0 2) (λ a. one) (reads_byte 0 7 (lit≤ tt)) (λ a h. reads_byte 0 2 (lit≤ tt)) in
     let three = reads_both H2 ℕ h2 (λ p. byte_at 0 2) Fits2 spell2 (λ p. InRange 0 2) (λ p. one) two (λ p h. reads_byte 0 2 (lit≤ tt)) in
@@ -216,7 +219,7 @@ head_same bytes =
     ∙ bind_both H3 ℕ (Head × List ℕ) h3 (λ p. byte_at 0 5) (λ x rest. long_number_at rest >>= λ since. Ok (head_of x.0.0.0 x.0.0.1 x.0.1 x.1 since.0, since.1)) bytes
     ∙ bind_both H4 ℕ (Head × List ℕ) h4 (λ p. long_number_at) (λ x rest. Ok (head_in x, rest)) bytes
 
-pub reads_head : Reads Head head_at FitsHead head_bytes
+pub reads_head : ReadsExactly Head head_at FitsHead head_bytes
 reads_head = reads_same Head (through H5 Head h5 head_in) head_at FitsHead head_bytes head_same (reads_through H5 Head h5 Fits5 spell5 head_in FitsHead head_bytes reads_h5 (record { to = head_to; from = head_from }))
 
 -- ---- the names
@@ -227,7 +230,7 @@ pub record FitsNames (n : Names) : Type 0 where
   pub group : IsGroup n.group
 
 abbrev pub names_bytes : Names → List ℕ
-names_bytes n = counted n.name ++ counted n.long ++ counted (or_empty n.group)
+names_bytes n = with_length n.name ++ with_length n.long ++ with_length (or_empty n.group)
 
 abbrev N2 : Type 0
 N2 = List ℕ × List ℕ
@@ -248,14 +251,14 @@ abbrev FitsN3 : N3 → Type 0
 FitsN3 = FitBoth N2 (Option (List ℕ)) FitsN2 (λ p. IsGroup)
 
 abbrev spell_n2 : N2 → List ℕ
-spell_n2 = spell_both (List ℕ) (List ℕ) counted (λ a. counted)
+spell_n2 = spell_both (List ℕ) (List ℕ) with_length (λ a. with_length)
 
 abbrev spell_n3 : N3 → List ℕ
 spell_n3 = spell_both N2 (Option (List ℕ)) spell_n2 (λ p. group_bytes)
 
-reads_n3 : Reads N3 n3 FitsN3 spell_n3
+reads_n3 : ReadsExactly N3 n3 FitsN3 spell_n3
 reads_n3 =
-    let two = reads_both (List ℕ) (List ℕ) name_at (λ a. long_at) IsName counted (λ a. IsLongName) (λ a. counted) reads_name (λ a h. reads_long) in
+    let two = reads_both (List ℕ) (List ℕ) name_at (λ a. long_at) IsName with_length (λ a. IsLongName) (λ a. with_length) reads_name (λ a h. reads_long) in
     reads_both N2 (Option (List ℕ)) n2 (λ p. group_at) FitsN2 spell_n2 (λ p. IsGroup) (λ p. group_bytes) two (λ p h. reads_group)
 
 abbrev names_in : N3 → Names
@@ -267,7 +270,7 @@ names_same bytes =
     bind_both (List ℕ) (List ℕ) (Names × List ℕ) name_at (λ a. long_at) (λ x rest. group_at rest >>= λ group. Ok (record { name = x.0; long = x.1; group = group.0 }, group.1)) bytes
     ∙ bind_both N2 (Option (List ℕ)) (Names × List ℕ) n2 (λ p. group_at) (λ x rest. Ok (names_in x, rest)) bytes
 
-pub reads_names : Reads Names names_at FitsNames names_bytes
+pub reads_names : ReadsExactly Names names_at FitsNames names_bytes
 reads_names = reads_same Names (through N3 Names n3 names_in) names_at FitsNames names_bytes names_same (reads_through N3 Names n3 FitsN3 spell_n3 names_in FitsNames names_bytes reads_n3 (record {
   to = λ x fits. (record { name = fits.0.0; long = fits.0.1; group = fits.1 }, refl);
   from = λ n fits. (((n.name, n.long), n.group), ((fits.name, fits.long), fits.group), refl);
@@ -297,7 +300,7 @@ plain_same : (bytes : List ℕ) → plain_at bytes ≡ through P2 Plain p2 plain
 unfolding plain_at
 plain_same bytes = bind_both (List ℕ) (List ℕ) (Plain × List ℕ) (bytes_at 8) (λ a. bytes_at 16) (λ x rest. Ok (plain_in x, rest)) bytes
 
-pub reads_plain : Reads Plain plain_at IsPlain one_plain
+pub reads_plain : ReadsExactly Plain plain_at IsPlain one_plain
 reads_plain = reads_same Plain (through P2 Plain p2 plain_in) plain_at IsPlain one_plain plain_same (reads_through P2 Plain p2 FitsP2 spell_p2 plain_in IsPlain one_plain
     (reads_both (List ℕ) (List ℕ) (bytes_at 8) (λ a. bytes_at 16) (IsBytesOf 8) itself (λ a. IsBytesOf 16) (λ a. itself) (reads_bytes 8) (λ a h. reads_bytes 16)) (record {
       to = λ x fits. (record { salt_len = fits.0.len; salt = fits.0.bytes; hash_len = fits.1.len; hash = fits.1.bytes }, refl);
@@ -307,7 +310,7 @@ reads_plain = reads_same Plain (through P2 Plain p2 plain_in) plain_at IsPlain o
 -- ---- one-time passwords
 
 abbrev pub one_otp : OtpFields → List ℕ
-one_otp o = to_be_bytes w32 o.number ++ counted o.word_seed ++ to_be_bytes w64 o.kept
+one_otp o = to_be_bytes w32 o.number ++ with_length o.word_seed ++ to_be_bytes w64 o.kept
 
 abbrev O2 : Type 0
 O2 = ℕ × List ℕ
@@ -328,7 +331,7 @@ abbrev FitsO3 : O3 → Type 0
 FitsO3 = FitBoth O2 ℕ FitsO2 (λ p. IsLong)
 
 abbrev spell_o2 : O2 → List ℕ
-spell_o2 = spell_both ℕ (List ℕ) small_bytes (λ a. counted)
+spell_o2 = spell_both ℕ (List ℕ) small_bytes (λ a. with_length)
 
 abbrev spell_o3 : O3 → List ℕ
 spell_o3 = spell_both O2 ℕ spell_o2 (λ p. long_bytes)
@@ -342,9 +345,9 @@ otp_same bytes =
     bind_both ℕ (List ℕ) (OtpFields × List ℕ) small_number_at (λ a. seed_at) (λ x rest. long_number_at rest >>= λ kept. Ok (record { number = x.0; word_seed = x.1; kept = kept.0 }, kept.1)) bytes
     ∙ bind_both O2 ℕ (OtpFields × List ℕ) o2 (λ p. long_number_at) (λ x rest. Ok (otp_in x, rest)) bytes
 
-pub reads_otp : Reads OtpFields otp_at IsOtp one_otp
+pub reads_otp : ReadsExactly OtpFields otp_at IsOtp one_otp
 reads_otp =
-    let two = reads_both ℕ (List ℕ) small_number_at (λ a. seed_at) IsSmall small_bytes (λ a. IsSeed) (λ a. counted) reads_small_number (λ a h. reads_seed) in
+    let two = reads_both ℕ (List ℕ) small_number_at (λ a. seed_at) IsSmall small_bytes (λ a. IsSeed) (λ a. with_length) reads_small_number (λ a h. reads_seed) in
     let three = reads_both O2 ℕ o2 (λ p. long_number_at) FitsO2 spell_o2 (λ p. IsLong) (λ p. long_bytes) two (λ p h. reads_long_number) in
     reads_same OtpFields (through O3 OtpFields o3 otp_in) otp_at IsOtp one_otp otp_same (reads_through O3 OtpFields o3 FitsO3 spell_o3 otp_in IsOtp one_otp three (record {
       to = λ x fits. (record { number = fits.0.0; word_seed = fits.0.1; kept = fits.1 }, refl);

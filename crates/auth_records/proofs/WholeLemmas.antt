@@ -4,14 +4,16 @@ use Rattle.std.specs.Prelude.{IfSome, is_some, option_map}
 use denote.Struct.Props.{props}
 use Rattle.std.proofs.lemmas.Bool.{eqb-true}
 use Rattle.std.proofs.lemmas.List.{append-nil, nil_from_length, take-append-drop, take_at}
+use Rattle.byte_reader.specs.Reading.{IsBytes, Read, ◌>>=◌, byte_at}
+use Rattle.byte_reader.specs.Exact.{ReadsExactly, StopsAtFirstBad, Begins, InRange, one}
+use Rattle.byte_reader.proofs.ReaderLemmas.{ok_is, bind_ok, bind_err, reads_same, through, reads_through, both, FitBoth, spell_both, reads_both, bind_both, cut_either}
+use Rattle.byte_reader.proofs.FieldLemmas.{reads_byte, chosen}
 use Rattle.auth_records.specs.declared.record.Plain.{Plain}
 use Rattle.auth_records.specs.declared.record.Otp.{Otp}
 use Rattle.auth_records.specs.declared.record.Record.{Record}
-use Rattle.auth_records.specs.Spelling.{Fields, OtpFields, Fits, IsPlain, IsOtp, IsBytes, IsRecord, plain_bytes, otp_bytes, spelling, fields, otp_fields, record_bytes}
-use Rattle.auth_records.specs.Reading.{Read, ◌>>=◌, Head, Names, byte_at, head_at, names_at, plain_at, otp_at, optional_at, record_at, whole, placed, decoded, fields_of}
+use Rattle.auth_records.specs.Spelling.{Fields, OtpFields, HasForm, IsPlain, IsOtp, IsRecord, plain_bytes, otp_bytes, spelling, fields, otp_fields, record_bytes}
+use Rattle.auth_records.specs.Reading.{Head, Names, head_at, names_at, plain_at, otp_at, optional_at, whole_record_at, whole, record_or_place, decoded, fields_of}
 use Rattle.auth_records.specs.Fault.{BeginsRecord, IsLongestBeginning}
-use Rattle.auth_records.proofs.ReaderLemmas.{ok_is, bind_ok, bind_err, Reads, Stops, Begins, reads_same, through, reads_through, both, FitBoth, spell_both, reads_both, bind_both, cut_either}
-use Rattle.auth_records.proofs.FieldLemmas.{InRange, one, reads_byte, chosen}
 use Rattle.auth_records.proofs.RecordLemmas.{FitsWhere, spell_where, reads_where, FitsHead, head_bytes, reads_head, FitsNames, names_bytes, reads_names, one_plain, reads_plain, one_otp, reads_otp}
 
 -- ---- the record
@@ -64,7 +66,7 @@ spell_r4 = spell_both After3 (Option Plain) spell_r3 (λ p. spell_where Plain on
 abbrev spell_r5 : After5 → List ℕ
 spell_r5 = spell_both After4 (Option OtpFields) spell_r4 (λ p. spell_where OtpFields one_otp)
 
-reads_r5 : Reads After5 r5 FitsR5 spell_r5
+reads_r5 : ReadsExactly After5 r5 FitsR5 spell_r5
 reads_r5 =
     let two = reads_both ℕ Head (byte_at 1 1) (λ a. head_at) (InRange 1 1) one (λ a. FitsHead) (λ a. head_bytes) (reads_byte 1 1 (lit≤ tt)) (λ a h. reads_head) in
     let three = reads_both After2 Names r2 (λ p. names_at) FitsR2 spell_r2 (λ p. FitsNames) (λ p. names_bytes) two (λ p h. reads_names) in
@@ -87,7 +89,7 @@ spelled : (form : ℕ) (h : Head) (n : Names) (plain : Option Plain) (otp : Opti
 unfolding spelling
 spelled form h n plain otp e1 e2 e3 = rw (e1, e2, e3, plain_is plain, otp_is otp) refl
 
-record_to : (x : After5) → FitsR5 x → Fits (fields_in x) × (spelling (fields_in x) ≡ spell_r5 x)
+record_to : (x : After5) → FitsR5 x → HasForm (fields_in x) × (spelling (fields_in x) ≡ spell_r5 x)
 record_to x fits =
     let form : x.0.0.0.0 ≡ 1 = omega (arith, fits.0.0.0.0.0, fits.0.0.0.0.1) in
     let head_fits : FitsHead x.0.0.0.1 = fits.0.0.0.1 in
@@ -104,7 +106,7 @@ record_to x fits =
       spelled x.0.0.0.0 x.0.0.0.1 x.0.0.1 x.0.1 x.1 form fits.0.1.0 fits.1.0,
     )
 
-record_from : (f : Fields) → Fits f → (x : After5) × FitsR5 x × (fields_in x ≡ f)
+record_from : (f : Fields) → HasForm f → (x : After5) × FitsR5 x × (fields_in x ≡ f)
 record_from f fits =
     let h : Head = record { enabled = f.enabled; has_plain = is_some f.plain; has_otp = is_some f.otp; proto = f.proto; wiz = f.wiz; fails = f.fails; since = f.since } in
     let n : Names = record { name = f.name; long = f.long; group = f.group } in (
@@ -113,44 +115,44 @@ record_from f fits =
       refl,
     )
 
-record_same : (bytes : List ℕ) → record_at bytes ≡ through After5 Fields r5 fields_in bytes
-unfolding record_at
+record_same : (bytes : List ℕ) → whole_record_at bytes ≡ through After5 Fields r5 fields_in bytes
+unfolding whole_record_at
 record_same bytes =
     bind_both ℕ Head (Fields × List ℕ) (byte_at 1 1) (λ a. head_at) (λ x rest. names_at rest >>= λ n. (optional_at x.1.has_plain plain_at n.1 >>= λ plain. (optional_at x.1.has_otp otp_at plain.1 >>= λ otp. Ok (fields_of x.1 n.0 plain.0 otp.0, otp.1)))) bytes
     ∙ bind_both After2 Names (Fields × List ℕ) r2 (λ p. names_at) (λ x rest. optional_at x.0.1.has_plain plain_at rest >>= λ plain. (optional_at x.0.1.has_otp otp_at plain.1 >>= λ otp. Ok (fields_of x.0.1 x.1 plain.0 otp.0, otp.1))) bytes
     ∙ bind_both After3 (Option Plain) (Fields × List ℕ) r3 (λ p. optional_at p.0.1.has_plain plain_at) (λ x rest. optional_at x.0.0.1.has_otp otp_at rest >>= λ otp. Ok (fields_of x.0.0.1 x.0.1 x.1 otp.0, otp.1)) bytes
     ∙ bind_both After4 (Option OtpFields) (Fields × List ℕ) r4 (λ p. optional_at p.0.0.1.has_otp otp_at) (λ x rest. Ok (fields_in x, rest)) bytes
 
-pub reads_record : Reads Fields record_at Fits spelling
-reads_record = reads_same Fields (through After5 Fields r5 fields_in) record_at Fits spelling record_same (reads_through After5 Fields r5 FitsR5 spell_r5 fields_in Fits spelling reads_r5 (record { to = record_to; from = record_from }))
+pub reads_record : ReadsExactly Fields whole_record_at HasForm spelling
+reads_record = reads_same Fields (through After5 Fields r5 fields_in) whole_record_at HasForm spelling record_same (reads_through After5 Fields r5 FitsR5 spell_r5 fields_in HasForm spelling reads_r5 (record { to = record_to; from = record_from }))
 
 -- ---- all of the bytes
 
 abbrev end_of : Fields × List ℕ → Result Fields ℕ
 end_of x = cond (nat_eq (length x.1) 0) (Ok x.0) (Err (length x.1))
 
-pub whole_sound : (bytes : List ℕ) (f : Fields) → IsBytes bytes → whole bytes ≡ Ok f → Fits f × (bytes ≡ spelling f)
+pub whole_sound : (bytes : List ℕ) (f : Fields) → IsBytes bytes → whole bytes ≡ Ok f → HasForm f × (bytes ≡ spelling f)
 unfolding whole
 whole_sound bytes f fits e =
-    let b = bind_ok (Fields × List ℕ) Fields (record_at bytes) end_of f e in
+    let b = bind_ok (Fields × List ℕ) Fields (whole_record_at bytes) end_of f e in
     let t = reads_record.sound bytes b.0 fits b.1 in
     elim (chosen (Result Fields ℕ) (nat_eq (length b.0.1) 0) (Ok b.0.0) (Err (length b.0.1)) (Ok f) b.2) [
       | inr h ↦ absurd (cc (h.1))
       | inl h ↦
           let nothing : b.0.1 ≡ [] = nil_from_length b.0.1 (eqb-true _ _ h.0) in
           let all : bytes ≡ spelling b.0.0 = t.1 ∙ ap (λ (w : List ℕ). spelling b.0.0 ++ w) nothing ∙ append-nil (spelling b.0.0) in
-          subst (λ (g : Fields). Fits g × (bytes ≡ spelling g)) (ok_is Fields b.0.0 f h.1) (t.0, all)
+          subst (λ (g : Fields). HasForm g × (bytes ≡ spelling g)) (ok_is Fields b.0.0 f h.1) (t.0, all)
     ]
 
-pub whole_again : (f : Fields) → Fits f → whole (spelling f) ≡ Ok f
+pub whole_again : (f : Fields) → HasForm f → whole (spelling f) ≡ Ok f
 unfolding whole
 whole_again f fits =
-    let read : record_at (spelling f) ≡ Ok (f, []) = ap record_at (sym (append-nil (spelling f))) ∙ reads_record.again f [] fits in
+    let read : whole_record_at (spelling f) ≡ Ok (f, []) = ap whole_record_at (sym (append-nil (spelling f))) ∙ reads_record.again f [] fits in
     rw read refl
 
 -- ---- the first bad byte
 
-trailing_stops : (bytes : List ℕ) (f : Fields) (rest : List ℕ) → Fits f → bytes ≡ spelling f ++ rest → Stops Fields Fits spelling bytes (length rest)
+trailing_stops : (bytes : List ℕ) (f : Fields) (rest : List ℕ) → HasForm f → bytes ≡ spelling f ++ rest → StopsAtFirstBad Fields HasForm spelling bytes (length rest)
 trailing_stops bytes f rest fits parts = record {
   front = spelling f;
   tail = rest;
@@ -163,11 +165,11 @@ trailing_stops bytes f rest fits parts = record {
         | inr r ↦
             let g = begun.0 in
             let same : spelling g ++ [] ≡ spelling f ++ (r.0 ++ begun.2) = append-nil (spelling g) ∙ begun.3 ∙ ap (λ (w : List ℕ). w ++ begun.2) r.1 ∙ append_assoc (spelling f) r.0 begun.2 in
-            let read_g : record_at (spelling g ++ []) ≡ Ok (g, []) = reads_record.again g [] begun.1 in
-            let read_f : record_at (spelling f ++ (r.0 ++ begun.2)) ≡ Ok (f, r.0 ++ begun.2) = reads_record.again f (r.0 ++ begun.2) fits in
+            let read_g : whole_record_at (spelling g ++ []) ≡ Ok (g, []) = reads_record.again g [] begun.1 in
+            let read_f : whole_record_at (spelling f ++ (r.0 ++ begun.2)) ≡ Ok (f, r.0 ++ begun.2) = reads_record.again f (r.0 ++ begun.2) fits in
             let pair_g : Fields × List ℕ = (g, []) in
             let pair_f : Fields × List ℕ = (f, r.0 ++ begun.2) in
-            let pairs : pair_g ≡ pair_f = ok_is (Fields × List ℕ) pair_g pair_f (sym read_g ∙ ap record_at same ∙ read_f) in
+            let pairs : pair_g ≡ pair_f = ok_is (Fields × List ℕ) pair_g pair_f (sym read_g ∙ ap whole_record_at same ∙ read_f) in
             let second : [] ≡ r.0 ++ begun.2 = ap (λ (x : Fields × List ℕ). x.1) pairs in
             omega (arith, ap length second, length-append r.0 begun.2, ap length r.2, length-append r.0 q)
       ];
@@ -179,17 +181,17 @@ err left = Err left
 err_is : (m n : ℕ) → err m ≡ err n → m ≡ n
 err_is m n e = cc
 
-pub whole_stops : (bytes : List ℕ) (left : ℕ) → IsBytes bytes → whole bytes ≡ Err left → Stops Fields Fits spelling bytes left
+pub whole_stops : (bytes : List ℕ) (left : ℕ) → IsBytes bytes → whole bytes ≡ Err left → StopsAtFirstBad Fields HasForm spelling bytes left
 unfolding whole
 whole_stops bytes left fits e =
-    elim (bind_err (Fields × List ℕ) Fields (record_at bytes) end_of left e) [
+    elim (bind_err (Fields × List ℕ) Fields (whole_record_at bytes) end_of left e) [
       | inl stop ↦ reads_record.stops bytes left fits stop
       | inr b ↦
           elim (chosen (Result Fields ℕ) (nat_eq (length b.0.1) 0) (Ok b.0.0) (Err (length b.0.1)) (Err left) b.2) [
             | inl h ↦ absurd (cc (h.1))
             | inr h ↦
                 let t = reads_record.sound bytes b.0 fits b.1 in
-                subst (λ (n : ℕ). Stops Fields Fits spelling bytes n) (err_is (length b.0.1) left h.1) (trailing_stops bytes b.0.0 b.0.1 t.0 t.1)
+                subst (λ (n : ℕ). StopsAtFirstBad Fields HasForm spelling bytes n) (err_is (length b.0.1) left h.1) (trailing_stops bytes b.0.0 b.0.1 t.0 t.1)
           ]
     ]
 
@@ -250,7 +252,7 @@ otp_ranges None fits = tt
 otp_ranges (Some o) fits = fits.number
 
 -- some record has these fields
-pub has_record : (f : Fields) → Fits f → (r : Record) × (fields r ≡ f)
+pub has_record : (f : Fields) → HasForm f → (r : Record) × (fields r ≡ f)
 has_record f fits =
     let ranges_fit : RangesFit f = (fits.fails, otp_ranges f.otp fits.otp) in
     (made f ranges_fit, made_seen f ranges_fit)
@@ -262,12 +264,12 @@ one_record r s fits_r fits_s e =
     let read : whole (record_bytes r) ≡ whole (record_bytes s) = ap whole e in
     same_record r s (ok_is Fields (fields r) (fields s) (sym (whole_again (fields r) fits_r) ∙ read ∙ whole_again (fields s) fits_s))
 
-begins_record : (front : List ℕ) → Begins Fields Fits spelling front → BeginsRecord front
+begins_record : (front : List ℕ) → Begins Fields HasForm spelling front → BeginsRecord front
 begins_record front b =
     let r = has_record b.0 b.1 in
-    (r.0, subst Fits (sym r.1) b.1, b.2, ap spelling r.1 ∙ b.3)
+    (r.0, subst HasForm (sym r.1) b.1, b.2, ap spelling r.1 ∙ b.3)
 
-pub longest_beginning : (bytes : List ℕ) (left : ℕ) → Stops Fields Fits spelling bytes left → (left ≤ length bytes) × IsLongestBeginning bytes (length bytes - left)
+pub longest_beginning : (bytes : List ℕ) (left : ℕ) → StopsAtFirstBad Fields HasForm spelling bytes left → (left ≤ length bytes) × IsLongestBeginning bytes (length bytes - left)
 longest_beginning bytes left s =
     let total : length bytes ≡ length s.front + length s.tail = ap length s.parts ∙ length-append s.front s.tail in
     let tail : length s.tail ≡ left = s.len in
@@ -276,7 +278,7 @@ longest_beginning bytes left s =
       omega arith,
       record {
         within = omega arith;
-        begins = begins_record (take (length bytes - left) bytes) (subst (Begins Fields Fits spelling) (sym front) s.begins);
+        begins = begins_record (take (length bytes - left) bytes) (subst (Begins Fields HasForm spelling) (sym front) s.begins);
         longest = λ n le b.
             let more : left ≤ length (drop n bytes) = s.longest (take n bytes) (drop n bytes) (sym (take-append-drop n bytes)) (fields b.0, b.1, b.2, b.3) in
             omega (arith, length-drop n bytes);
@@ -293,13 +295,13 @@ no_record bytes left s read fits e = let again = whole_again (fields s) fits in 
 
 -- ---- the place of the first bad byte
 
-pub placed_err : (len : ℕ) (r : Result Fields ℕ) (at : ℕ) → placed len r ≡ Err at → (left : ℕ) × (r ≡ Err left) × (len - left ≡ at)
+pub placed_err : (len : ℕ) (r : Result Fields ℕ) (at : ℕ) → record_or_place len r ≡ Err at → (left : ℕ) × (r ≡ Err left) × (len - left ≡ at)
 placed_err len (Ok f) at e = absurd cc
 placed_err len (Err left) at e = (left, refl, err_is (len - left) at e)
 
-pub decoded_again : (f : Fields) → Fits f → decoded (spelling f) ≡ Ok f
+pub decoded_again : (f : Fields) → HasForm f → decoded (spelling f) ≡ Ok f
 unfolding decoded
-decoded_again f fits = ap (placed (length (spelling f))) (whole_again f fits)
+decoded_again f fits = ap (record_or_place (length (spelling f))) (whole_again f fits)
 
 pub decoded_longest : (bytes : List ℕ) (at : ℕ) → IsBytes bytes → decoded bytes ≡ Err at → IsLongestBeginning bytes at
 unfolding decoded
@@ -315,11 +317,11 @@ decoded_none bytes at s e fits same =
 
 pub no_longer : (r s : Record) (rest : List ℕ) → IsRecord r → IsRecord s → record_bytes r ≡ record_bytes s ++ rest → r ≡ s
 no_longer r s rest fits_r fits_s e =
-    let read_r : record_at (record_bytes r) ≡ Ok (fields r, []) = ap record_at (sym (append-nil (record_bytes r))) ∙ reads_record.again (fields r) [] fits_r in
-    let read_s : record_at (record_bytes s ++ rest) ≡ Ok (fields s, rest) = reads_record.again (fields s) rest fits_s in
+    let read_r : whole_record_at (record_bytes r) ≡ Ok (fields r, []) = ap whole_record_at (sym (append-nil (record_bytes r))) ∙ reads_record.again (fields r) [] fits_r in
+    let read_s : whole_record_at (record_bytes s ++ rest) ≡ Ok (fields s, rest) = reads_record.again (fields s) rest fits_s in
     let pair_r : Fields × List ℕ = (fields r, []) in
     let pair_s : Fields × List ℕ = (fields s, rest) in
-    let pairs : pair_r ≡ pair_s = ok_is (Fields × List ℕ) pair_r pair_s (sym read_r ∙ ap record_at e ∙ read_s) in
+    let pairs : pair_r ≡ pair_s = ok_is (Fields × List ℕ) pair_r pair_s (sym read_r ∙ ap whole_record_at e ∙ read_s) in
     same_record r s (ap (λ (x : Fields × List ℕ). x.0) pairs)
 
 pub one_place : (bytes : List ℕ) (m n : ℕ) → IsLongestBeginning bytes m → IsLongestBeginning bytes n → m ≡ n

@@ -7,7 +7,7 @@ use Rattle.auth_records.specs.Spelling.{IsRecord, record_bytes}
 abbrev pub BeginsRecord : List ℕ → Type 0
 BeginsRecord front = (r : Record) × IsRecord r × (rest : List ℕ) × (record_bytes r ≡ front ++ rest)
 
--- the longest prefix that begins some record's bytes has this length
+-- the longest prefix that begins some record's bytes has this length. Kept by `decode` (`at`); body: src/decoding.rt.
 pub record IsLongestBeginning (bytes : List ℕ) (at : ℕ) : Type 0 where
   pub within : at ≤ length bytes
   pub begins : BeginsRecord (take at bytes)

@@ -1,46 +1,14 @@
--- Reading a record from left to right. A reader answers what it read and the bytes after it. Where it can't, it answers
--- how many bytes there are from the first bad one on, which is 0 where the bytes end too early.
-use Rattle.std.specs.Prelude.{◌≡◌, ℕ, zero, suc, ◌+◌, ◌-◌, ◌*◌, Bool, true, false, ◌&&◌, not, ◌==◌, nat_le, nat_lt, List, [], ◌∷◌, length, take, drop, Option, Some, None, Result, Ok, Err, bit_and, if◌then◌else◌}
-use Rattle.std.specs.Int.{w64, from_be_bytes}
-use Rattle.std.specs.List.{prefix_len}
-use Rattle.fw_outside.specs.Bytes.{is_name_byte}
+-- Reading a record from left to right, by the readers of `byte_reader`.
+use Rattle.std.specs.Prelude.{◌≡◌, ℕ, zero, suc, ◌+◌, ◌-◌, ◌*◌, Bool, true, false, ◌&&◌, not, ◌==◌, List, [], ◌∷◌, length, Option, Some, None, Result, Ok, Err, bit_and, if◌then◌else◌}
+use Rattle.byte_reader.specs.Reading.{Read, ◌>>=◌, byte_at, bytes_at, long_number_at, counted_at}
+use Rattle.fw_types.specs.Bytes.{is_name_byte}
 use Rattle.auth_records.specs.Texts.{is_printable, is_seed_byte}
 use Rattle.auth_records.specs.Spelling.{OtpFields, Fields}
-use Rattle.auth_records.specs.declared.fault.Stop.{Stop}
 use Rattle.auth_records.specs.declared.record.Proto.{Proto}
 use Rattle.auth_records.specs.declared.record.Proto.TheVariants as protos
 use Rattle.auth_records.specs.declared.record.Wiz.{Wiz}
 use Rattle.auth_records.specs.declared.record.Wiz.TheVariants as wizards
 use Rattle.auth_records.specs.declared.record.Plain.{Plain}
-
-abbrev pub Read : Type 0 → Type 0
-Read A = Result (A × List ℕ) ℕ
-
-infixl 10 ◌>>=◌
-abbrev pub ◌>>=◌ : {A B : Type 0} → Result A ℕ → (A → Result B ℕ) → Result B ℕ
-(Ok x) >>= f = f x
-(Err left) >>= f = Err left
-
--- ---- a byte, bytes, numbers, texts
-
--- a byte from the least to the most
-abbrev pub byte_at : ℕ → ℕ → List ℕ → Read ℕ
-byte_at least most [] = Err 0
-byte_at least most (b ∷ rest) = if nat_le least b && nat_le b most then Ok (b, rest) else Err (length rest + 1)
-
--- n bytes that each pass a test
-abbrev pub text_at : (ℕ → Bool) → ℕ → List ℕ → Read (List ℕ)
-text_at test n bytes = if nat_lt (prefix_len test bytes) n then Err (length bytes - prefix_len test bytes) else Ok (take n bytes, drop n bytes)
-
--- n bytes
-abbrev pub bytes_at : ℕ → List ℕ → Read (List ℕ)
-bytes_at n bytes = if nat_lt (length bytes) n then Err 0 else Ok (take n bytes, drop n bytes)
-
--- eight bytes as a number, the greatest first
-unfoldable pub long_number_at : List ℕ → Read ℕ
-long_number_at bytes = do
-  eight ← bytes_at 8 bytes
-  Ok (from_be_bytes w64 eight.0, eight.1)
 
 -- a number of at most 9,999 in four bytes, the greatest first
 unfoldable pub small_number_at : List ℕ → Read ℕ
@@ -50,20 +18,6 @@ small_number_at bytes = do
   third ← byte_at 0 39 second.1
   fourth ← byte_at 0 (if third.0 == 39 then 15 else 255) third.1
   Ok (256 * third.0 + fourth.0, fourth.1)
-
--- a text behind its length in one byte, from the least length to the most; which bytes may stand in it may depend on
--- the length
-unfoldable pub counted_at : ℕ → ℕ → (ℕ → ℕ → Bool) → List ℕ → Read (List ℕ)
-counted_at least most test bytes = do
-  n ← byte_at least most bytes
-  text_at (test n.0) n.0 n.1
-
--- ---- what a function returned
-
--- is what reading gives, seen by a view of what was read
-abbrev pub Gives : {X Y : Type 0} → (X → Y) → Result X Stop → Result Y ℕ → Type 0
-Gives view (Ok x) read = read ≡ Ok (view x)
-Gives view (Err stop) read = read ≡ Err stop.left
 
 -- ---- the head
 
@@ -169,8 +123,8 @@ optional_at true read bytes = do
 abbrev pub fields_of : Head → Names → Option Plain → Option OtpFields → Fields
 fields_of h n plain otp = record { name = n.name; long = n.long; group = n.group; proto = h.proto; enabled = h.enabled; wiz = h.wiz; fails = h.fails; since = h.since; plain = plain; otp = otp }
 
-unfoldable pub record_at : List ℕ → Read Fields
-record_at bytes = do
+unfoldable pub whole_record_at : List ℕ → Read Fields
+whole_record_at bytes = do
   form ← byte_at 1 1 bytes
   head ← head_at form.1
   names ← names_at head.1
@@ -181,13 +135,13 @@ record_at bytes = do
 -- all of the bytes
 unfoldable pub whole : List ℕ → Result Fields ℕ
 whole bytes = do
-  x ← record_at bytes
+  x ← whole_record_at bytes
   if length x.1 == 0 then Ok x.0 else Err (length x.1)
 
 -- the record's fields, or the place of the first bad byte
-abbrev pub placed : ℕ → Result Fields ℕ → Result Fields ℕ
-placed len (Ok f) = Ok f
-placed len (Err left) = Err (len - left)
+abbrev pub record_or_place : ℕ → Result Fields ℕ → Result Fields ℕ
+record_or_place len (Ok f) = Ok f
+record_or_place len (Err left) = Err (len - left)
 
 unfoldable pub decoded : List ℕ → Result Fields ℕ
-decoded bytes = placed (length bytes) (whole bytes)
+decoded bytes = record_or_place (length bytes) (whole bytes)

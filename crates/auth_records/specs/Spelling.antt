@@ -1,8 +1,9 @@
 -- The fields of a record, and the one spelling of each record as bytes, from left to right.
 use Rattle.std.specs.Prelude.{◌≡◌, ℕ, ◌+◌, ◌<◌, ◌≤◌, ◌^◌, Bool, IsTrue, List, [], ◌∷◌, ◌++◌, length, Option, Some, None, is_some, option_map, IfSome, if◌then◌else◌}
 use Rattle.std.specs.Int.{w32, w64, to_be_bytes}
-use Rattle.std.specs.List.{AllByRecursion}
-use Rattle.fw_outside.specs.Name.{is_name}
+pub use Rattle.byte_reader.specs.Reading.{IsBytes}
+pub use Rattle.byte_reader.specs.Exact.{with_length}
+use Rattle.fw_types.specs.Name.{is_name}
 use Rattle.auth_records.specs.Texts.{is_long_name, is_seed}
 use Rattle.auth_records.specs.declared.record.Proto.{Proto}
 use Rattle.auth_records.specs.declared.record.Proto.TheVariants as protos
@@ -39,9 +40,6 @@ fields r = record { name = r.name; long = r.long; group = r.group; proto = r.pro
 
 -- ---- what the type says of them
 
-abbrev pub IsBytes : List ℕ → Type 0
-IsBytes bytes = AllByRecursion (λ b. b < 256) bytes
-
 abbrev pub IsGroup : Option (List ℕ) → Type 0
 IsGroup group = IfSome group (λ name. IsTrue (is_name name))
 
@@ -56,7 +54,7 @@ pub record IsOtp (o : OtpFields) : Type 0 where
   pub word_seed : IsTrue (is_seed o.word_seed)
   pub kept : o.kept < 2 ^ 64
 
-pub record Fits (f : Fields) : Type 0 where
+pub record HasForm (f : Fields) : Type 0 where
   pub name : IsTrue (is_name f.name)
   pub long : IsTrue (is_long_name f.long)
   pub group : IsGroup f.group
@@ -67,13 +65,9 @@ pub record Fits (f : Fields) : Type 0 where
 
 -- what every value of the type `Record` is
 abbrev pub IsRecord : Record → Type 0
-IsRecord r = Fits (fields r)
+IsRecord r = HasForm (fields r)
 
 -- ---- the bytes
-
--- a text behind its length in one byte
-abbrev pub counted : List ℕ → List ℕ
-counted text = length text ∷ text
 
 abbrev pub proto_byte : Proto → ℕ
 proto_byte protos.None = 0
@@ -100,7 +94,7 @@ plain_bytes (Some p) = p.salt ++ p.hash
 
 abbrev pub otp_bytes : Option OtpFields → List ℕ
 otp_bytes None = []
-otp_bytes (Some o) = to_be_bytes w32 o.number ++ counted o.word_seed ++ to_be_bytes w64 o.kept
+otp_bytes (Some o) = to_be_bytes w32 o.number ++ with_length o.word_seed ++ to_be_bytes w64 o.kept
 
 -- Byte 0 says the form of the head. What follows the head doesn't depend on the form, so another form of record is
 -- another first byte with another head.
@@ -108,7 +102,7 @@ abbrev pub head : Fields → List ℕ
 head f = 1 ∷ flags f.enabled (is_some f.plain) (is_some f.otp) ∷ proto_byte f.proto ∷ wiz_byte f.wiz ∷ f.fails ∷ to_be_bytes w64 f.since
 
 abbrev pub names : Fields → List ℕ
-names f = counted f.name ++ counted f.long ++ counted (or_empty f.group)
+names f = with_length f.name ++ with_length f.long ++ with_length (or_empty f.group)
 
 unfoldable pub spelling : Fields → List ℕ
 spelling f = head f ++ names f ++ plain_bytes f.plain ++ otp_bytes f.otp

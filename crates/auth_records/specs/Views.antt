@@ -1,4 +1,5 @@
 -- What reading sees of the parts of a record.
+-- No public clause cites these: they say what private functions answer.
 use Rattle.auth_records.specs.declared.decoding.Head as heads
 use Rattle.auth_records.specs.declared.decoding.Names as name_lists
 use Rattle.auth_records.specs.Reading.{Head, Names}

@@ -2,16 +2,15 @@
 ghost use Rattle.std.specs.Prelude.{◌≡◌, ◌≢◌, ◌≤◌, ◌^◌, Bool, List, Option, IsTrue, IfOk, IfErr, MatchResult, Ok, Err, option_map};
 ghost use Rattle.auth_records.specs.declared.record.Record.{Record};
 ghost use Rattle.auth_records.specs.Spelling.{IsRecord, fields, otp_fields, record_bytes};
-ghost use Rattle.auth_records.specs.Reading.{Gives, Head, Names, head_at, names_at, plain_at, otp_at, optional_at, record_at, whole, decoded, proto_of, wiz_of};
+ghost use Rattle.auth_records.specs.Reading.{Head, Names, head_at, names_at, plain_at, otp_at, optional_at, whole_record_at, whole, decoded, proto_of, wiz_of};
+ghost use Rattle.byte_reader.specs.Reading.{IsReadAs};
 ghost use Rattle.auth_records.specs.Fault.{IsLongestBeginning};
 ghost use Rattle.auth_records.specs.Views.{head_view, names_view};
 
-use crate::fault::Stop;
-use crate::fields::{
-    byte_of, bytes_of, group_of, long_number_of, long_of, name_of, seed_of, small_number_of,
-};
+use crate::fields::{group_of, long_of, name_of, seed_of, small_number_of};
 use crate::{LongName, Otp, Plain, Proto, Record, RecordFault, Wiz};
-use fw_outside::Name;
+use byte_reader::{Stop, byte_of, bytes_of, long_number_of};
+use fw_types::Name;
 
 /// What stands in front of the names.
 #[derive(Drop)]
@@ -55,7 +54,7 @@ fn wiz_of(byte: u8) -> Wiz
 
 #[tactic(auto, unfolding(crate::specs::Reading::head_at))]
 fn head_of(bytes: &[u8]) -> Result<(Head, &[u8]), Stop>
-    ensures gives { Gives (λ x. (head_view x.0, x.1.now)) result (head_at bytes.now) }
+    ensures gives { IsReadAs (λ x. (head_view x.0, x.1.now)) result (head_at bytes.now) }
     ensures fails { IfOk result (λ x. x.0.fails ≤ 5) }
 {
     let (flags, rest) = byte_of(0, 7, bytes)?;
@@ -77,7 +76,7 @@ fn head_of(bytes: &[u8]) -> Result<(Head, &[u8]), Stop>
 
 #[tactic(auto, unfolding(crate::specs::Reading::names_at))]
 fn names_of(bytes: &[u8]) -> Result<(Names, &[u8]), Stop>
-    ensures { Gives (λ x. (names_view x.0, x.1.now)) result (names_at bytes.now) }
+    ensures { IsReadAs (λ x. (names_view x.0, x.1.now)) result (names_at bytes.now) }
 {
     let (name, rest) = name_of(bytes)?;
     let (long, rest) = long_of(rest)?;
@@ -87,7 +86,7 @@ fn names_of(bytes: &[u8]) -> Result<(Names, &[u8]), Stop>
 
 #[tactic(auto, unfolding(crate::specs::Reading::plain_at))]
 fn plain_of(bytes: &[u8]) -> Result<(Plain, &[u8]), Stop>
-    ensures { Gives (λ x. (x.0, x.1.now)) result (plain_at bytes.now) }
+    ensures { IsReadAs (λ x. (x.0, x.1.now)) result (plain_at bytes.now) }
 {
     let (eight, rest) = bytes_of(8, bytes)?;
     let (sixteen, rest) = bytes_of(16, rest)?;
@@ -100,7 +99,7 @@ fn plain_of(bytes: &[u8]) -> Result<(Plain, &[u8]), Stop>
 
 #[tactic(auto, unfolding(crate::specs::Reading::otp_at))]
 fn otp_of(bytes: &[u8]) -> Result<(Otp, &[u8]), Stop>
-    ensures { Gives (λ x. (otp_fields x.0, x.1.now)) result (otp_at bytes.now) }
+    ensures { IsReadAs (λ x. (otp_fields x.0, x.1.now)) result (otp_at bytes.now) }
 {
     let (number, rest) = small_number_of(bytes)?;
     let (word_seed, rest) = seed_of(rest)?;
@@ -117,7 +116,7 @@ fn otp_of(bytes: &[u8]) -> Result<(Otp, &[u8]), Stop>
 
 #[tactic(auto, unfolding(crate::specs::Reading::optional_at))]
 fn plain_where(flag: bool, bytes: &[u8]) -> Result<(Option<Plain>, &[u8]), Stop>
-    ensures { Gives (λ x. (x.0, x.1.now)) result (optional_at flag plain_at bytes.now) }
+    ensures { IsReadAs (λ x. (x.0, x.1.now)) result (optional_at flag plain_at bytes.now) }
 {
     if !flag {
         return Ok((None, bytes));
@@ -128,7 +127,7 @@ fn plain_where(flag: bool, bytes: &[u8]) -> Result<(Option<Plain>, &[u8]), Stop>
 
 #[tactic(auto, unfolding(crate::specs::Reading::optional_at))]
 fn otp_where(flag: bool, bytes: &[u8]) -> Result<(Option<Otp>, &[u8]), Stop>
-    ensures { Gives (λ x. (option_map otp_fields x.0, x.1.now)) result (optional_at flag otp_at bytes.now) }
+    ensures { IsReadAs (λ x. (option_map otp_fields x.0, x.1.now)) result (optional_at flag otp_at bytes.now) }
 {
     if !flag {
         return Ok((None, bytes));
@@ -137,9 +136,9 @@ fn otp_where(flag: bool, bytes: &[u8]) -> Result<(Option<Otp>, &[u8]), Stop>
     Ok((Some(otp), rest))
 }
 
-#[tactic(auto, unfolding(crate::specs::Reading::record_at))]
+#[tactic(auto, unfolding(crate::specs::Reading::whole_record_at))]
 fn record_of(bytes: &[u8]) -> Result<(Record, &[u8]), Stop>
-    ensures { Gives (λ x. (fields x.0, x.1.now)) result (record_at bytes.now) }
+    ensures { IsReadAs (λ x. (fields x.0, x.1.now)) result (whole_record_at bytes.now) }
 {
     let (_, rest) = byte_of(1, 1, bytes)?;
     let (head, rest) = head_of(rest)?;
@@ -163,7 +162,7 @@ fn record_of(bytes: &[u8]) -> Result<(Record, &[u8]), Stop>
 
 #[tactic(auto, unfolding(crate::specs::Reading::whole))]
 fn whole_record(bytes: &[u8]) -> Result<Record, Stop>
-    ensures { Gives fields result (whole bytes.now) }
+    ensures { IsReadAs fields result (whole bytes.now) }
 {
     let (record, rest) = record_of(bytes)?;
     if !rest.is_empty() {

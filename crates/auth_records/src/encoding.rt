@@ -1,11 +1,11 @@
 //! Writing a record as bytes.
 ghost use Rattle.std.specs.Prelude.{◌≡◌, ◌≤◌, ◌<◌, ◌^◌, ◌++◌, ◌∷◌, length, option_map, is_some, IsTrue, IfOk, OnOk, IfSome};
-ghost use Rattle.fw_outside.specs.Name.{is_name};
+ghost use Rattle.fw_types.specs.Name.{is_name};
 ghost use Rattle.auth_records.specs.Texts.{is_long_name};
-ghost use Rattle.auth_records.specs.Spelling.{IsRecord, IsBytes, IsGroup, IsPlain, IsOtp, fields, otp_fields, record_bytes, head, names, counted, or_empty, flags, proto_byte, wiz_byte, plain_bytes, otp_bytes};
+ghost use Rattle.auth_records.specs.Spelling.{IsRecord, IsBytes, IsGroup, IsPlain, IsOtp, fields, otp_fields, record_bytes, head, names, with_length, or_empty, flags, proto_byte, wiz_byte, plain_bytes, otp_bytes};
 
 use crate::{Otp, Plain, Proto, Record, Wiz};
-use fw_outside::{Name, NoMemory, Octets};
+use fw_types::{Name, NoMemory, Octets};
 use std::alloc::{AllocError, Global};
 
 fn proto_byte(proto: Proto) -> u8
@@ -59,7 +59,7 @@ fn put_head(out: &mut Vec<u8>, rec: &Record) -> Result<(), AllocError>
 
 fn put_counted(out: &mut Vec<u8>, text: &[u8]) -> Result<(), AllocError>
     requires { length text.now < 256 }
-    ensures { OnOk result (out.new.items ≡ out.old.items ++ counted text.now) }
+    ensures { OnOk result (out.new.items ≡ out.old.items ++ with_length text.now) }
 {
     out.extend_from_slice(&[text.len() as u8])?;
     out.extend_from_slice(text)

@@ -8,10 +8,3 @@ pub struct RecordFault {
     /// bytes' length where they end too early.
     pub at: usize,
 }
-
-/// Where reading stopped.
-#[derive(Drop)]
-pub(crate) struct Stop {
-    /// How many bytes there are from the first bad one on: 0 where the bytes end too early.
-    pub(crate) left: usize,
-}

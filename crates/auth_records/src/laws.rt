@@ -1,7 +1,7 @@
 //! What holds of all records and all bytes.
 ghost use Rattle.std.specs.Prelude.{◌≡◌, ◌≢◌, ◌++◌, List, ℕ, Ok, Err};
 ghost use Rattle.auth_records.specs.declared.record.Record.{Record};
-ghost use Rattle.auth_records.specs.Spelling.{IsBytes, IsRecord, Fields, Fits, fields, record_bytes};
+ghost use Rattle.auth_records.specs.Spelling.{IsBytes, IsRecord, Fields, HasForm, fields, record_bytes};
 ghost use Rattle.auth_records.specs.Reading.{decoded};
 ghost use Rattle.auth_records.specs.Fault.{IsLongestBeginning};
 
@@ -10,19 +10,21 @@ ghost use Rattle.auth_records.specs.Fault.{IsLongestBeginning};
 pub fn inverse()
     ensures read_again { (r : Record) → IsRecord r → decoded (record_bytes r) ≡ Ok (fields r) }
     ensures one_record { (r s : Record) → IsRecord r → IsRecord s → record_bytes r ≡ record_bytes s → r ≡ s }
-    ensures no_longer { (r s : Record) (rest : List ℕ) → IsRecord r → IsRecord s → record_bytes r ≡ record_bytes s ++ rest → r ≡ s }
+    ensures no_longer { (r s : Record) (rest : List ℕ) → IsRecord r → IsRecord s →
+        record_bytes r ≡ record_bytes s ++ rest → r ≡ s }
 {}
 
 /// The place at which reading from left to right stops is the length of the longest prefix that begins some record's
 /// bytes, and reading stops at no record's bytes.
 pub fn first_bad_byte()
     ensures longest { (bytes : List ℕ) (at : ℕ) → IsBytes bytes → decoded bytes ≡ Err at → IsLongestBeginning bytes at }
-    ensures none { (bytes : List ℕ) (at : ℕ) (r : Record) → IsBytes bytes → decoded bytes ≡ Err at → IsRecord r → bytes ≢ record_bytes r }
+    ensures none { (bytes : List ℕ) (at : ℕ) (r : Record) → IsBytes bytes → decoded bytes ≡ Err at → IsRecord r →
+        bytes ≢ record_bytes r }
     ensures one { (bytes : List ℕ) (m n : ℕ) → IsLongestBeginning bytes m → IsLongestBeginning bytes n → m ≡ n }
 {}
 
 /// A record is its fields: records with the same fields are one, and fields that fit are some record's.
 pub fn plain_data()
     ensures same { (r s : Record) → fields r ≡ fields s → r ≡ s }
-    ensures some { (f : Fields) → Fits f → (r : Record) × (fields r ≡ f) }
+    ensures some { (f : Fields) → HasForm f → (r : Record) × (fields r ≡ f) }
 {}

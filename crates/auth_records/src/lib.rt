@@ -21,6 +21,3 @@ pub use fault::RecordFault;
 pub use long_name::LongName;
 pub use record::{Otp, Plain, Proto, Record, Wiz};
 pub use seed::Seed;
-
-#[cfg(test)]
-mod tests;

@@ -3,7 +3,7 @@ ghost use Rattle.std.specs.List.{list_all};
 ghost use Rattle.auth_records.specs.Texts.{is_printable, is_long_name, long_name_of};
 
 use arrayvec::ArrayVec;
-use fw_outside::copy_of;
+use fw_types::copy_of;
 use std::marker::Model;
 
 /// The long name of a user: 0 to 64 bytes, each from the space to `~` (32 to 126).

@@ -1,7 +1,7 @@
 ghost use Rattle.std.specs.Prelude.{◌≡◌, ◌≤◌};
 
 use crate::{LongName, Seed};
-use fw_outside::Name;
+use fw_types::Name;
 
 /// How a user proves who they are.
 #[derive(Clone, Copy, Debug, PartialEq, Eq)]

@@ -4,7 +4,7 @@ ghost use Rattle.std.specs.Char.{is_ascii_alphanumeric};
 ghost use Rattle.auth_records.specs.Texts.{is_seed_byte, is_seed, is_seed_text, seed_of};
 
 use arrayvec::ArrayVec;
-use fw_outside::{copy_of, lower_copy_of};
+use fw_types::{copy_of, lower_copy_of};
 use std::marker::Model;
 
 /// The seed of one-time passwords: 1 to 16 lower-case letters and digits (RFC 2289, 6.0).

@@ -1,182 +1,100 @@
-//! Books over a table and records, and what they are asked.
+//! The book, and what is done with it.
 
-use arrayvec::ArrayVec;
-use auth_events::{Reply, Request};
-use auth_machine::{Book, Policy};
-use auth_records::{LongName, Otp, Plain, Proto, Record, Seed, Wiz, encode};
-use authsrv_lines::{Wire, read_request, reply_text};
-use fw_outside::{Calls, MemKeeper, MemSource, Name, Octets};
-use md5::{Digest, Md5};
-use netperm_table::Table;
+use crate::setup::{Setup, policy_of};
+use auth_events::{Entry, Reply, Request};
+use auth_machine::{Book, OpenFault, Policy};
+use authsrv_gate::authsrv_session;
+use fw_memory::{Calls, MemClock, MemDice, MemKeeper, MemSink, MemSource};
+use fw_outside::Keeper;
+use fw_types::{Ending, Name, NoMemory, Octets};
 use std::alloc::Global;
-use std::test::Fail;
 
-/// The number of a session, a moment, what is asked, and what is told. Beside the lines of `authsrv`, `open`,
-/// `open console` and `after NAME` are asked, the last for the record that follows in a list.
-pub(crate) type Row = (u64, u64, &'static str, &'static str);
-
-/// An enabled user.
-#[derive(Clone, Copy)]
-pub(crate) struct User {
-    pub(crate) name: &'static str,
-    pub(crate) long: &'static str,
-    /// Empty for none.
-    pub(crate) group: &'static str,
-    pub(crate) wiz: Wiz,
-    /// The plain password. Empty for one-time passwords, of which one is left.
-    pub(crate) password: &'static str,
+/// A book over a keeper in memory.
+#[derive(Drop)]
+pub(crate) struct Stage {
+    book: Book<MemKeeper>,
 }
 
-/// What a book is opened with, and what it is asked.
-#[derive(Clone, Copy)]
-pub(crate) struct Scene {
-    pub(crate) table: &'static str,
-    pub(crate) users: &'static [User],
-    /// The calls at which the keeper fails. Call 0 is that which opens the book.
-    pub(crate) fails: &'static [u64],
-    pub(crate) rows: &'static [Row],
+/// The devices of a session but its dice.
+#[derive(Drop)]
+pub(crate) struct Devices {
+    pub(crate) from: MemSource,
+    pub(crate) to: MemSink,
+    pub(crate) clock: MemClock,
 }
 
-const SALT: [u8; 8] = [1, 2, 3, 4, 5, 6, 7, 8];
-
-pub(crate) fn name_of(text: &str) -> Result<Name, Fail> {
-    Ok(Name::read(text.as_bytes()).ok_or("no name")?)
-}
-
-fn digest(text: &[u8]) -> [u8; 16] {
-    let mut hasher = Md5::new();
-    hasher.update(text);
-    hasher.finalize()
-}
-
-fn plain_of(password: &str) -> Plain {
-    let mut hasher = Md5::new();
-    hasher.update(&SALT);
-    hasher.update(&digest(password.as_bytes()));
-    Plain {
-        salt: SALT,
-        hash: hasher.finalize(),
-    }
-}
-
-fn word_of() -> Result<Otp, Fail> {
-    Ok(Otp {
-        number: 1,
-        word_seed: Seed::read(b"test").ok_or("no seed")?,
-        kept: 0x7965_E054_36F5_029F,
-    })
-}
-
-fn record_of(user: &User) -> Result<Record, Fail> {
-    let has_word = user.password.is_empty();
-    Ok(Record {
-        name: name_of(user.name)?,
-        long: LongName::read(user.long.as_bytes()).ok_or("no long name")?,
-        group: Name::read(user.group.as_bytes()),
-        proto: if has_word { Proto::Otp } else { Proto::Plain },
-        enabled: true,
-        wiz: user.wiz,
-        fails: 0,
-        since: 0,
-        plain: if has_word {
-            None
-        } else {
-            Some(plain_of(user.password))
-        },
-        otp: if has_word { Some(word_of()?) } else { None },
-    })
-}
-
-fn keeper_of(alloc: Global, users: &[User], fails: Calls) -> Result<MemKeeper, Fail> {
-    let mut entries = Vec::new(alloc);
-    for user in users {
-        let bytes = encode(alloc, &record_of(user)?)?;
-        entries.push((name_of(user.name)?, bytes))?;
-    }
-    Ok(MemKeeper::new(alloc, entries, fails))
-}
-
-pub(crate) fn policy_of(alloc: Global, text: &str) -> Result<Policy, Fail> {
-    let bytes = Octets::copy(alloc, text.as_bytes())?;
-    let mut source = MemSource::new(bytes, 64, Calls::none(), Calls::none());
-    let Ok(table) = Table::read(alloc, &mut source) else {
-        return Err(Fail::from("the table isn't read"));
-    };
-    match Policy::of(alloc, &table) {
-        Ok(policy) => Ok(policy),
-        Err(_) => Err(Fail::from("the table gives no policy")),
-    }
-}
-
-/// The book of the scene, for so many requests, whose keeper fails at these calls.
-pub(crate) fn book_of(
+// Opens a book.
+fn open(
     alloc: Global,
-    scene: &Scene,
-    fails: &[u64],
+    keeper: MemKeeper,
+    policy: Policy,
     limit: u64,
-) -> Result<Book<MemKeeper>, Fail> {
-    let keeper = keeper_of(alloc, scene.users, Calls::of(alloc, fails)?)?;
-    let policy = policy_of(alloc, scene.table)?;
-    match Book::open(alloc, keeper, policy, limit) {
-        Ok(book) => Ok(book),
-        Err(_) => Err(Fail::from("the book isn't opened")),
+) -> Result<Book<MemKeeper>, (MemKeeper, OpenFault)> {
+    Book::open(alloc, keeper, policy, limit)
+}
+
+fn copy_of(alloc: Global, entries: &[(Name, Octets)]) -> Result<Vec<(Name, Octets)>, NoMemory> {
+    let mut copy = Vec::new(alloc);
+    for entry in entries {
+        let bytes = Octets::copy(alloc, entry.1.bytes())?;
+        copy.push((entry.0.twin(), bytes))?;
+    }
+    Ok(copy)
+}
+
+/// Opens the book whose keeper fails at these calls, or says why it isn't opened. Nothing where the table gives
+/// no policy.
+pub(crate) fn open_book(
+    alloc: Global,
+    setup: &Setup,
+    fails: &[u64],
+) -> Result<Option<Result<Stage, (MemKeeper, OpenFault)>>, NoMemory> {
+    let Some(policy) = policy_of(alloc, &setup.table) else {
+        return Ok(None);
+    };
+    let entries = copy_of(alloc, &setup.entries)?;
+    let keeper = MemKeeper::new(alloc, entries, Calls::of(alloc, fails)?);
+    match open(alloc, keeper, policy, setup.limit) {
+        Ok(book) => Ok(Some(Ok(Stage { book }))),
+        Err(refused) => Ok(Some(Err(refused))),
     }
 }
 
-fn request_in(wire: Wire) -> Request {
-    match wire {
-        Wire::Ask(request) => request,
-        Wire::Password { name, hash } => Request::Password {
-            name,
-            salt: SALT,
-            hash,
-        },
-        Wire::List => Request::List { after: None },
-        Wire::Quit => Request::Close,
+impl Stage {
+    /// Asks a request, whose moment this is.
+    pub(crate) fn ask(&mut self, sid: u64, at: u64, request: Request) -> Result<Reply, NoMemory> {
+        self.book.ask(sid, at, request)
+    }
+
+    /// Holds a session.
+    pub(crate) fn hold(&mut self, console: bool, devices: &mut Devices) -> Ending {
+        let mut dice = MemDice::new(0x0102_0304_0506_0708);
+        authsrv_session(
+            console,
+            &mut self.book,
+            &mut devices.from,
+            &mut devices.to,
+            &mut devices.clock,
+            &mut dice,
+        )
+    }
+
+    /// All entries so far.
+    pub(crate) fn history(&self) -> &[Entry] {
+        self.book.history()
+    }
+
+    /// Ends it: the keeper and all entries.
+    pub(crate) fn close(self) -> (MemKeeper, Vec<Entry>) {
+        let Stage { book } = self;
+        book.close()
     }
 }
 
-fn request_of(line: &str) -> Result<Request, Fail> {
-    if line == "open" || line == "open console" {
-        let console = line == "open console";
-        return Ok(Request::Open { console });
+/// What the keeper loads. Nothing where it fails.
+pub(crate) fn load(alloc: Global, mut keeper: MemKeeper) -> Vec<(Name, Octets)> {
+    match keeper.load() {
+        Ok(loaded) => loaded,
+        Err(_) => Vec::new(alloc),
     }
-    if let Some(name) = line.strip_prefix("after ") {
-        let after = Some(name_of(name)?);
-        return Ok(Request::List { after });
-    }
-    match read_request(line.as_bytes()) {
-        Ok(wire) => Ok(request_in(wire)),
-        Err(_) => Err(Fail::from("the line asks for nothing")),
-    }
-}
-
-/// Whether the reply has this text; `opened N` is that of a new session of this number.
-pub(crate) fn is_told(reply: &Reply, told: &str) -> bool {
-    if let Reply::Opened { sid } = reply {
-        let number = told.strip_prefix("opened ").unwrap_or("");
-        return number.parse().ok() == Some(*sid);
-    }
-    let mut text = ArrayVec::new();
-    reply_text(reply, &mut text);
-    text.as_slice() == told.as_bytes()
-}
-
-/// Asks what the row asks; whether the row's reply came.
-pub(crate) fn is_answered(book: &mut Book<MemKeeper>, row: &Row) -> Result<bool, Fail> {
-    let (sid, at, line, told) = *row;
-    let reply = book.ask(sid, at, request_of(line)?)?;
-    Ok(is_told(&reply, told))
-}
-
-/// Asks the rows in order; the place of the first that is answered otherwise, after which no more are asked.
-pub(crate) fn first_other(book: &mut Book<MemKeeper>, rows: &[Row]) -> Result<Option<usize>, Fail> {
-    let mut place = 0usize;
-    for row in rows {
-        if !is_answered(book, row)? {
-            return Ok(Some(place));
-        }
-        place = place.saturating_add(1);
-    }
-    Ok(None)
 }

@@ -8,7 +8,7 @@ use Rattle.std.specs.Str.{bytes_eq, str_to_ascii_lowercase}
 use denote.Struct.Props.{props}
 use Rattle.std.proofs.lemmas.Bool.Decides.{nat_tests}
 use Rattle.std.proofs.lemmas.Slice.Eq.{bytes_eq-Decides}
-use Rattle.fw_outside.specs.Name.{is_name, name_of}
+use Rattle.fw_types.specs.Name.{is_name, name_of}
 use Rattle.auth_records.specs.Texts.{is_long_name, is_seed, is_seed_byte, long_name_of, seed_of}
 use Rattle.auth_records.specs.declared.record.Proto.{Proto}
 use Rattle.auth_records.specs.declared.record.Proto.TheVariants as protos
@@ -22,8 +22,8 @@ use Rattle.auth_events.specs.declared.reply.Reply.{Reply}
 use Rattle.auth_events.specs.declared.reply.Reply.TheVariants as replies
 use Rattle.authsrv_lines.specs.Number.{number_up_to}
 use Rattle.authsrv_lines.specs.Request.{proto_named}
-use Rattle.authsrv_lines.specs.Reply.{Answers, IsDenial, IsReply, IsSummary, Says, cause, counts, group_text, identity, is_whole, proto_text, reply_line, rights, state_text, summary_line, wiz_text}
-use Rattle.authsrv_lines.specs.ReplyReading.{Fields, Spoken, behind, busy, challenge_of, challenge_with, denial_of, field, fields, group_in, guessed, longest, next, of_fields, of_other, spoken, state_in, summary_of, wiz_in}
+use Rattle.authsrv_lines.specs.Reply.{ReadsReply, IsDenial, IsReply, IsSummary, Says, cause, counts, group_text, identity, is_whole, proto_text, reply_line, rights, state_text, summary_line, wiz_text}
+use Rattle.authsrv_lines.specs.ReplyReading.{SummaryFields, Spoken, behind, busy, challenge_of, challenge_with, denial_of, field, summary_fields, group_in, guessed, longest, after_two_spaces, of_fields, of_other, spoken, state_in, summary_of, wiz_in}
 use Rattle.authsrv_lines.proofs.NumberLemmas.{decimal_read}
 use Rattle.authsrv_lines.proofs.SpaceLemmas.{IsWord, both, decimal_word, field_is, behind_is, name_word, next_is, piece}
 
@@ -46,7 +46,7 @@ seven a b c d e f g = append_assoc (a ++ b ++ c ++ d ++ e) f g ∙ six a b c d e
 busy_both : (sid until : ℕ) (x y : Option ℕ) → x ≡ Some sid → y ≡ Some until → busy x y ≡ Some (Busy sid until)
 busy_both sid until x y e f = rw (e, f) refl
 
-busy_from : (t : List ℕ) → denial_of (codes "busy " ++ t) ≡ busy (number_up_to longest (field t)) (number_up_to longest (next t))
+busy_from : (t : List ℕ) → denial_of (codes "busy " ++ t) ≡ busy (number_up_to longest (field t)) (number_up_to longest (after_two_spaces t))
 unfolding denial_of
 busy_from t = refl
 
@@ -97,7 +97,7 @@ challenge_both : (number : ℕ) (word_seed : List ℕ) (x : Option ℕ) (y : Opt
 challenge_both number word_seed x y e f = rw (e, f) refl
 
 challenge_from : (t : List ℕ) → challenge_of (codes "otp-md5 " ++ t) ≡ challenge_with (number_up_to 4294967295 (field t)) (seed_of (behind t))
-unfolding challenge_of next
+unfolding challenge_of after_two_spaces
 challenge_from t = refl
 
 challenge_read : (number : ℕ) (word_seed : List ℕ) → number < 2 ^ 32 → IsTrue (is_seed word_seed) → challenge_of (challenge number word_seed) ≡ Some (replies.Challenge number word_seed)
@@ -181,14 +181,14 @@ line_is s =
     whole ∙ (front ∙ ap (λ x. codes "user " ++ (s.name ++ (codes " group " ++ (group_text s.group ++ x)))) from_middle)
 
 -- the parts' values, each read from its own field
-record Reads (x : Fields) (a b c d e f g h : List ℕ) : Type 0 where
-  ab : next a ≡ b
-  bc : next b ≡ c
-  cd : next c ≡ d
-  de : next d ≡ e
-  ef : next e ≡ f
-  fg : next f ≡ g
-  gh : next g ≡ h
+record Reads (x : SummaryFields) (a b c d e f g h : List ℕ) : Type 0 where
+  ab : after_two_spaces a ≡ b
+  bc : after_two_spaces b ≡ c
+  cd : after_two_spaces c ≡ d
+  de : after_two_spaces d ≡ e
+  ef : after_two_spaces e ≡ f
+  fg : after_two_spaces f ≡ g
+  gh : after_two_spaces g ≡ h
   name : name_of (field a) ≡ Some x.name
   group : group_in (field b) ≡ Some x.group
   proto : proto_named (field c) ≡ Some x.proto
@@ -198,11 +198,11 @@ record Reads (x : Fields) (a b c d e f g h : List ℕ) : Type 0 where
   number : number_up_to 9999 (field g) ≡ Some x.number
   long : long_name_of h ≡ Some x.long
 
-read_by : (x : Fields) (a b c d e f g h : List ℕ) → Reads x a b c d e f g h → summary_of a ≡ Some x
+read_by : (x : SummaryFields) (a b c d e f g h : List ℕ) → Reads x a b c d e f g h → summary_of a ≡ Some x
 unfolding summary_of
 read_by x a b c d e f g h r = rw (r.ab, r.bc, r.cd, r.de, r.ef, r.fg, r.gh, r.name, r.group, r.proto, r.enabled, r.wiz, r.fails, r.number, r.long) refl
 
-summary_read : (s : Summary) → IsSummary s → summary_of (t0 s) ≡ Some (fields s)
+summary_read : (s : Summary) → IsSummary s → summary_of (t0 s) ≡ Some (summary_fields s)
 summary_read s is =
     let name = name_word s.name is.name in
     let group = group_word s.group is.group in
@@ -211,7 +211,7 @@ summary_read s is =
     let wiz = wiz_read s.wiz in
     let fails = decimal_word s.fails (omega (arith, is.fails)) in
     let number = decimal_word s.number (omega (arith, is.number)) in
-    read_by (fields s) (t0 s) (t1 s) (t2 s) (t3 s) (t4 s) (t5 s) (t6 s) s.long (record {
+    read_by (summary_fields s) (t0 s) (t1 s) (t2 s) (t3 s) (t4 s) (t5 s) (t6 s) s.long (record {
       ab = next_is s.name (codes "group") (t1 s) name refl;
       bc = next_is (group_text s.group) (codes "proto") (t2 s) group refl;
       cd = next_is (proto_text s.proto) (codes "state") (t3 s) proto.1 refl;
@@ -257,19 +257,19 @@ reply_read (replies.Denied denial) is whole =
 
 -- ---- a reply is what it says
 
-abbrev RangesFit : Fields → Type 0
+abbrev RangesFit : SummaryFields → Type 0
 RangesFit f = (f.fails ≤ 5) × (f.number ≤ 9999)
 
-abbrev made : (f : Fields) → RangesFit f → Summary
+abbrev made : (f : SummaryFields) → RangesFit f → Summary
 made f fits = record { name = f.name; group = f.group; proto = f.proto; enabled = f.enabled; wiz = f.wiz; fails = f.fails; number = f.number; long = f.long; fails_range = fits.0; number_range = fits.1 }
 
-ranges_one : (f : Fields) → IsProp (RangesFit f)
+ranges_one : (f : SummaryFields) → IsProp (RangesFit f)
 ranges_one f = hlevel props
 
-same_summary : (a b : Summary) → fields a ≡ fields b → a ≡ b
+same_summary : (a b : Summary) → summary_fields a ≡ summary_fields b → a ≡ b
 same_summary a b e =
-    let P : Fields → Type 0 = λ f. (fits : RangesFit f) → made f fits ≡ b in
-    let base : P (fields b) = λ fits. ap (made (fields b)) (ranges_one (fields b) fits (b.fails_range, b.number_range)) in
+    let P : SummaryFields → Type 0 = λ f. (fits : RangesFit f) → made f fits ≡ b in
+    let base : P (summary_fields b) = λ fits. ap (made (summary_fields b)) (ranges_one (summary_fields b) fits (b.fails_range, b.number_range)) in
     subst P (sym e) base (a.fails_range, a.number_range)
 
 other_same : (r s : Reply) → Some r ≡ (spoken s).other → r ≡ s
@@ -280,7 +280,7 @@ other_same r replies.Ok e = cc
 other_same r (replies.Shown summary) e = absurd (cc)
 other_same r (replies.Denied denial) e = cc
 
-shown_same : (a : Summary) (s : Reply) → Some (fields a) ≡ (spoken s).shown → replies.Shown a ≡ s
+shown_same : (a : Summary) (s : Reply) → Some (summary_fields a) ≡ (spoken s).shown → replies.Shown a ≡ s
 shown_same a (replies.Opened sid) e = absurd (cc)
 shown_same a replies.Password e = absurd (cc)
 shown_same a (replies.Challenge number word_seed) e = absurd (cc)
@@ -303,7 +303,7 @@ pub one_reply : (r s : Reply) → IsReply r → IsReply s → IsTrue (is_whole r
 one_reply r s is_r is_s whole_r whole_s e =
     same_reply r s (some_is (spoken r) (spoken s) (sym (reply_read r is_r whole_r) ∙ (ap guessed e ∙ reply_read s is_s whole_s)))
 
-pub answer_is : (r : Reply) (answer : Option Reply) → IsReply r → IsTrue (is_whole r) → Answers (reply_line r) answer → answer ≡ Some r
+pub answer_is : (r : Reply) (answer : Option Reply) → IsReply r → IsTrue (is_whole r) → ReadsReply (reply_line r) answer → answer ≡ Some r
 answer_is r None is whole says = absurd (says r (record { whole = whole; is_reply = is; text = refl }))
 answer_is r (Some s) is whole says = ap Some (one_reply s r says.is_reply is says.whole whole says.text)
 

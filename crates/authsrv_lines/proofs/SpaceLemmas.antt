@@ -7,9 +7,9 @@ use Rattle.std.specs.Char.{digit_value}
 use Rattle.std.specs.Str.Parse.{AllDigits}
 use Rattle.std.proofs.lemmas.Bool.Decides.{nat_tests}
 use Rattle.std.proofs.lemmas.Fmt.{decimal_is_IsNumeral}
-use Rattle.fw_outside.specs.Bytes.{is_name_byte}
-use Rattle.fw_outside.specs.Name.{is_name}
-use Rattle.authsrv_lines.specs.ReplyReading.{to_space, field, behind, next}
+use Rattle.fw_types.specs.Bytes.{is_name_byte}
+use Rattle.fw_types.specs.Name.{is_name}
+use Rattle.authsrv_lines.specs.ReplyReading.{to_space, field, behind, after_two_spaces}
 
 abbrev pub is_other : ℕ → Bool
 is_other b = not (b == 32)
@@ -44,8 +44,8 @@ behind_is (b ∷ word) rest h =
 abbrev pub piece : List ℕ → List ℕ → List ℕ → List ℕ
 piece word key rest = word ++ 32 ∷ (key ++ 32 ∷ rest)
 
-pub next_is : (word key rest : List ℕ) → IsWord word → IsWord key → next (piece word key rest) ≡ rest
-unfolding next
+pub next_is : (word key rest : List ℕ) → IsWord word → IsWord key → after_two_spaces (piece word key rest) ≡ rest
+unfolding after_two_spaces
 next_is word key rest h k = ap behind (behind_is word (key ++ 32 ∷ rest) h) ∙ behind_is key rest k
 
 -- ---- what has no space

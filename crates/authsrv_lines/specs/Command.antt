@@ -43,8 +43,8 @@ abbrev pub named_or : Option Named → Option Command → Option Command
 named_or (Some named) other = Some (commands.Named named)
 named_or None other = other
 
-abbrev pub command_of : List ℕ → Option Command
-command_of word = named_or (named_of word) (other_of word)
+abbrev pub wire_command_of : List ℕ → Option Command
+wire_command_of word = named_or (named_of word) (other_of word)
 
 abbrev pub named_request : Named → List ℕ → Request
 named_request Authenticate name = requests.Authenticate name

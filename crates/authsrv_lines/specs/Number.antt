@@ -1,4 +1,5 @@
 -- Numbers in decimal, without leading zeros.
+-- No public clause cites these: they say what private functions answer.
 use Rattle.std.specs.Prelude.{ℕ, ◌&&◌, nat_le, List, Option, Some, None, if◌then◌else◌}
 use Rattle.std.specs.Fmt.{decimal}
 use Rattle.std.specs.Str.{bytes_eq}

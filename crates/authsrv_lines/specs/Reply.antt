@@ -1,7 +1,7 @@
 -- The text of each reply, without the line's end.
 use Rattle.std.specs.Prelude.{◌≡◌, ℕ, ◌<◌, ◌≤◌, ◌^◌, Bool, true, false, IsTrue, List, ◌++◌, Option, Some, None, IfSome, codes}
 use Rattle.std.specs.Fmt.{decimal}
-use Rattle.fw_outside.specs.Name.{is_name}
+use Rattle.fw_types.specs.Name.{is_name}
 use Rattle.auth_records.specs.Texts.{is_long_name, is_seed}
 use Rattle.auth_records.specs.declared.record.Proto.{Proto}
 use Rattle.auth_records.specs.declared.record.Proto.TheVariants as protos
@@ -120,6 +120,6 @@ pub record Says (line : List ℕ) (reply : Reply) : Type 0 where
   pub text : reply_line reply ≡ line
 
 -- what reading a line answers: the reply that it says, or nothing where it says none
-abbrev pub Answers : List ℕ → Option Reply → Type 0
-Answers line (Some reply) = Says line reply
-Answers line None = (reply : Reply) → ¬ (Says line reply)
+abbrev pub ReadsReply : List ℕ → Option Reply → Type 0
+ReadsReply line (Some reply) = Says line reply
+ReadsReply line None = (reply : Reply) → ¬ (Says line reply)

@@ -1,9 +1,10 @@
 -- Which reply a line seems to say. Words are cut at single spaces, and only those that tell values are read: whether the
 -- line is the text of that reply is seen by writing it.
+-- No public clause cites these: they say what private functions answer.
 use Rattle.std.specs.Prelude.{ℕ, ◌==◌, Bool, true, false, not, List, take, drop, Option, Some, None, option_map, codes, nat_eq, if◌then◌else◌}
 use Rattle.std.specs.List.{prefix_len, starts_with}
 use Rattle.std.specs.Str.{bytes_eq}
-use Rattle.fw_outside.specs.Name.{name_of}
+use Rattle.fw_types.specs.Name.{name_of}
 use Rattle.auth_records.specs.Texts.{long_name_of, seed_of}
 use Rattle.auth_records.specs.declared.record.Proto.{Proto}
 use Rattle.auth_records.specs.declared.record.Wiz.{Wiz}
@@ -28,8 +29,8 @@ abbrev pub behind : List ℕ → List ℕ
 behind text = drop 1 (drop (to_space text) text)
 
 -- the bytes behind the second space
-unfoldable pub next : List ℕ → List ℕ
-next text = behind (behind text)
+unfoldable pub after_two_spaces : List ℕ → List ℕ
+after_two_spaces text = behind (behind text)
 
 -- ---- denials, behind `denied `
 
@@ -64,7 +65,7 @@ limited_denial text =
 abbrev pub counted_denial : List ℕ → Option Denial
 counted_denial text =
     if starts_with nat_eq text (codes "sleeping until ") then option_map (λ n. Sleeping n) (number_up_to longest (drop 15 text))
-    else if starts_with nat_eq text (codes "busy ") then busy (number_up_to longest (field (drop 5 text))) (number_up_to longest (next (drop 5 text)))
+    else if starts_with nat_eq text (codes "busy ") then busy (number_up_to longest (field (drop 5 text))) (number_up_to longest (after_two_spaces (drop 5 text)))
     else limited_denial text
 
 abbrev pub or_counted : Option Denial → Option Denial → Option Denial
@@ -81,11 +82,11 @@ challenge_with (Some number) (Some word_seed) = Some (replies.Challenge number w
 challenge_with _ _ = None
 
 unfoldable pub challenge_of : List ℕ → Option Reply
-challenge_of text = challenge_with (number_up_to 4294967295 (field (behind text))) (seed_of (next text))
+challenge_of text = challenge_with (number_up_to 4294967295 (field (behind text))) (seed_of (after_two_spaces text))
 
 -- ---- what is shown of a user, behind `user `
 
-pub record Fields : Type 0 where
+pub record SummaryFields : Type 0 where
   pub name : List ℕ
   pub group : Option (List ℕ)
   pub proto : Proto
@@ -95,8 +96,8 @@ pub record Fields : Type 0 where
   pub number : ℕ
   pub long : List ℕ
 
-abbrev pub fields : Summary → Fields
-fields s = record { name = s.name; group = s.group; proto = s.proto; enabled = s.enabled; wiz = s.wiz; fails = s.fails; number = s.number; long = s.long }
+abbrev pub summary_fields : Summary → SummaryFields
+summary_fields s = record { name = s.name; group = s.group; proto = s.proto; enabled = s.enabled; wiz = s.wiz; fails = s.fails; number = s.number; long = s.long }
 
 abbrev pub group_in : List ℕ → Option (Option (List ℕ))
 group_in text = if bytes_eq text (codes "-") then Some None else option_map (λ name. Some name) (name_of text)
@@ -111,36 +112,36 @@ wiz_in text =
     else if bytes_eq text (codes "super") then Some wizards.Super
     else None
 
-abbrev pub fields_with : Option (List ℕ) → Option (Option (List ℕ)) → Option Proto → Option Bool → Option Wiz → Option ℕ → Option ℕ → Option (List ℕ) → Option Fields
+abbrev pub fields_with : Option (List ℕ) → Option (Option (List ℕ)) → Option Proto → Option Bool → Option Wiz → Option ℕ → Option ℕ → Option (List ℕ) → Option SummaryFields
 fields_with (Some name) (Some group) (Some proto) (Some enabled) (Some wiz) (Some fails) (Some number) (Some long) = Some (record { name = name; group = group; proto = proto; enabled = enabled; wiz = wiz; fails = fails; number = number; long = long })
 fields_with _ _ _ _ _ _ _ _ = None
 
-unfoldable pub summary_of : List ℕ → Option Fields
+unfoldable pub summary_of : List ℕ → Option SummaryFields
 summary_of t0 =
-    let t1 = next t0 in
-    let t2 = next t1 in
-    let t3 = next t2 in
-    let t4 = next t3 in
-    let t5 = next t4 in
-    let t6 = next t5 in
-    let t7 = next t6 in
+    let t1 = after_two_spaces t0 in
+    let t2 = after_two_spaces t1 in
+    let t3 = after_two_spaces t2 in
+    let t4 = after_two_spaces t3 in
+    let t5 = after_two_spaces t4 in
+    let t6 = after_two_spaces t5 in
+    let t7 = after_two_spaces t6 in
     fields_with (name_of (field t0)) (group_in (field t1)) (proto_named (field t2)) (state_in (field t3)) (wiz_in (field t4)) (number_up_to 5 (field t5)) (number_up_to 9999 (field t6)) (long_name_of t7)
 
 -- ---- any reply
 
 -- a reply without what its type says of it: what is shown of a user, or any other reply
 pub record Spoken : Type 0 where
-  pub shown : Option Fields
+  pub shown : Option SummaryFields
   pub other : Option Reply
 
-abbrev pub of_fields : Fields → Spoken
+abbrev pub of_fields : SummaryFields → Spoken
 of_fields f = record { shown = Some f; other = None }
 
 abbrev pub of_other : Reply → Spoken
 of_other reply = record { shown = None; other = Some reply }
 
 abbrev pub spoken : Reply → Spoken
-spoken (replies.Shown summary) = of_fields (fields summary)
+spoken (replies.Shown summary) = of_fields (summary_fields summary)
 spoken reply = of_other reply
 
 unfoldable pub guessed : List ℕ → Option Spoken

@@ -1,9 +1,9 @@
 ghost use Rattle.std.specs.Prelude.{◌≡◌};
 ghost use Rattle.std.specs.Str.{str_eq_ignore_ascii_case};
-ghost use Rattle.authsrv_lines.specs.Command.{command_of, named_of, named_request, other_of};
+ghost use Rattle.authsrv_lines.specs.Command.{wire_command_of, named_of, named_request, other_of};
 
 use auth_events::Request;
-use fw_outside::Name;
+use fw_types::Name;
 
 /// A command that is followed by the name of a user alone.
 #[derive(Clone, Copy, Debug, PartialEq, Eq)]
@@ -112,7 +112,7 @@ fn other_of(word: &[u8]) -> Option<Command>
 impl Command {
     /// The command that the word is, in any case, or nothing.
     pub(crate) fn read(word: &[u8]) -> Option<Command>
-        ensures { result ≡ command_of word.now }
+        ensures { result ≡ wire_command_of word.now }
     {
         match named_of(word) {
             Some(named) => Some(Command::Named(named)),

@@ -2,13 +2,13 @@ ghost use Rattle.std.specs.Prelude.{◌≡◌, ◌+◌, ◌≤◌, ◌++◌, opt
 ghost use Rattle.arrayvec.specs.ArrayVec.{array_vec_len};
 ghost use Rattle.authsrv_lines.specs.Number.{number_up_to};
 ghost use Rattle.authsrv_lines.specs.Reply.{IsDenial, cause, denial_line};
-ghost use Rattle.authsrv_lines.specs.ReplyReading.{busy, counted_denial, denial_of, field, limited_denial, longest, next, plain_denial};
+ghost use Rattle.authsrv_lines.specs.ReplyReading.{busy, counted_denial, denial_of, field, limited_denial, longest, after_two_spaces, plain_denial};
 
 use crate::number::{append_u64, read_u32, read_up_to};
-use crate::summary::{field, next};
+use crate::summary::{after_two_spaces, field};
 use arrayvec::ArrayVec;
 use auth_events::Denial;
-use fw_outside::{append, append_u32};
+use fw_types::{append, append_u32};
 
 // Appends the numbers of a session and of a moment to the words.
 fn append_busy(out: &mut ArrayVec<u8, 512>, sid: u64, until: u64)
@@ -87,10 +87,10 @@ fn plain_denial(text: &[u8]) -> Option<Denial>
 }
 
 fn busy(text: &[u8]) -> Option<Denial>
-    ensures { result ≡ busy (number_up_to longest (field text.now)) (number_up_to longest (next text.now)) }
+    ensures { result ≡ busy (number_up_to longest (field text.now)) (number_up_to longest (after_two_spaces text.now)) }
 {
     let sid = read_up_to(u64::MAX, field(text))?;
-    let until = read_up_to(u64::MAX, next(text))?;
+    let until = read_up_to(u64::MAX, after_two_spaces(text))?;
     Some(Denial::Busy { sid, until })
 }
 

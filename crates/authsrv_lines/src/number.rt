@@ -6,7 +6,7 @@ ghost use Rattle.arrayvec.specs.ArrayVec.{array_vec_len};
 ghost use Rattle.authsrv_lines.specs.Number.{checked, number_up_to};
 
 use arrayvec::ArrayVec;
-use fw_outside::append_decimal;
+use fw_types::append_decimal;
 use itoa::Buffer;
 use std::str;
 

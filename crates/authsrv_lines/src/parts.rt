@@ -1,21 +1,21 @@
 //! What follows a command, and the request that it makes.
 ghost use Rattle.std.specs.Prelude.{◌≡◌};
-ghost use Rattle.fw_outside.specs.Name.{name_of};
+ghost use Rattle.fw_types.specs.Name.{name_of};
 ghost use Rattle.authsrv_lines.specs.Words.{has_none, one_of, two_of, one_or_two, text_after, words};
-ghost use Rattle.authsrv_lines.specs.Request.{adduser_of, adduser_with, alone, count_of, group_none, group_of, group_some, named_of, operation_of, otp_of, otp_with, password_of, proto_of, proto_named, response_of, service_named};
+ghost use Rattle.authsrv_lines.specs.Request.{adduser_of, adduser_with, wire_alone, count_of, group_none, group_request, group_some, named_request_of, operation_request_of, otp_of, otp_with, password_of, proto_request, proto_named, response_of, service_named};
 
 use crate::command::{Command, Named};
 use crate::words::{behind_blank, has_no_word, next_word, one_or_two_words, one_word, two_words};
 use crate::{Wire, WireFault};
 use auth_events::{OpService, OtpNumber, Request};
 use auth_records::{LongName, Proto, Seed};
-use fw_outside::{Host, Name, read_number};
+use fw_types::{Host, Name, read_number};
 use md5::{Digest, Md5};
 use otp_md5::read_hex;
 
 /// The name of a user alone.
 pub(crate) fn read_named(named: Named, rest: &[u8]) -> Result<Wire, WireFault>
-    ensures { result ≡ named_of named (one_of (words rest.now)) }
+    ensures { result ≡ named_request_of named (one_of (words rest.now)) }
 {
     let Some(text) = one_word(rest) else {
         return Err(WireFault::Words);
@@ -55,7 +55,7 @@ fn read_service(text: &[u8]) -> Option<OpService>
 
 /// A gateway and a host.
 pub(crate) fn read_operation(rest: &[u8]) -> Result<Wire, WireFault>
-    ensures { result ≡ operation_of (two_of (words rest.now)) }
+    ensures { result ≡ operation_request_of (two_of (words rest.now)) }
 {
     let Some((service, host)) = two_words(rest) else {
         return Err(WireFault::Words);
@@ -120,7 +120,7 @@ fn group_some(name: &[u8], group: &[u8]) -> Result<Wire, WireFault>
 
 /// The name of a user, and that of a group or nothing.
 pub(crate) fn read_group(rest: &[u8]) -> Result<Wire, WireFault>
-    ensures { result ≡ group_of (one_or_two (words rest.now)) }
+    ensures { result ≡ group_request (one_or_two (words rest.now)) }
 {
     let Some((name, group)) = one_or_two_words(rest) else {
         return Err(WireFault::Words);
@@ -148,7 +148,7 @@ pub(crate) fn read_proto_name(text: &[u8]) -> Option<Proto>
 
 /// The name of a user, and `plain`, `otp` or `none`.
 pub(crate) fn read_proto(rest: &[u8]) -> Result<Wire, WireFault>
-    ensures { result ≡ proto_of (two_of (words rest.now)) }
+    ensures { result ≡ proto_request (two_of (words rest.now)) }
 {
     let Some((name, proto)) = two_words(rest) else {
         return Err(WireFault::Words);
@@ -234,7 +234,7 @@ pub(crate) fn read_otp(rest: &[u8]) -> Result<Wire, WireFault>
 
 /// Nothing.
 pub(crate) fn read_alone(wire: Wire, rest: &[u8]) -> Result<Wire, WireFault>
-    ensures { result ≡ alone wire (has_none (words rest.now)) }
+    ensures { result ≡ wire_alone wire (has_none (words rest.now)) }
 {
     if has_no_word(rest) {
         Ok(wire)

@@ -1,12 +1,12 @@
 ghost use Rattle.std.specs.Prelude.{◌≡◌, IsTrue, IfSome, option_map};
 ghost use Rattle.std.specs.Str.{bytes_eq};
-ghost use Rattle.authsrv_lines.specs.Reply.{Answers, IsReply, is_whole, reply_line};
+ghost use Rattle.authsrv_lines.specs.Reply.{ReadsReply, IsReply, is_whole, reply_line};
 ghost use Rattle.authsrv_lines.specs.ReplyReading.{challenge_of, denial_of, guessed, of_fields, of_other, spoken, summary_of};
 
 use crate::denial::read_denial;
 use crate::number::read_u32;
 use crate::reply_writing::reply_text;
-use crate::summary::{behind, field, next, read_summary};
+use crate::summary::{after_two_spaces, behind, field, read_summary};
 use arrayvec::ArrayVec;
 use auth_events::Reply;
 use auth_records::Seed;
@@ -18,7 +18,7 @@ fn read_challenge(text: &[u8]) -> Option<Reply>
     ensures whole { IfSome result (λ reply. IsTrue (is_whole reply)) }
 {
     let number = read_u32(field(behind(text)))?;
-    let word_seed = Seed::read(next(text))?;
+    let word_seed = Seed::read(after_two_spaces(text))?;
     Some(Reply::Challenge { number, word_seed })
 }
 
@@ -72,7 +72,7 @@ fn has_text(reply: &Reply, line: &[u8]) -> bool
 /// The reply whose text, without the line's end, this is. Nothing where no reply has this text, and for the answer to
 /// an Open, whose text doesn't hold the session's number.
 pub fn read_reply(line: &[u8]) -> Option<Reply>
-    ensures { Answers line.now result }
+    ensures { ReadsReply line.now result }
 {
     match guess(line) {
         Some(reply) => {

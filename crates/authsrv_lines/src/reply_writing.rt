@@ -8,7 +8,7 @@ use crate::summary::summary_text;
 use arrayvec::ArrayVec;
 use auth_events::Reply;
 use auth_records::Seed;
-use fw_outside::append;
+use fw_types::append;
 use otp_md5::challenge_text;
 
 fn set(out: &mut ArrayVec<u8, 512>, text: &[u8])

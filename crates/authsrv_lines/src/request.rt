@@ -30,7 +30,7 @@ fn read_parts(command: Command, rest: &[u8]) -> Result<Wire, WireFault>
 
 /// What the line, without its end, asks for. `LongLine` for more than 512 bytes, then `Empty` for blanks alone, then
 /// `Unknown` for a first word that is no command, then `Words` where the command's words are too few, too many or out
-/// of form, then `BadName` for a name that is none.
+/// of form, then `BadName` for a name that is not valid.
 pub fn read_request(line: &[u8]) -> Result<Wire, WireFault>
     ensures { result ≡ request_of line.now }
 {

@@ -1,18 +1,18 @@
 //! What is shown of a user.
 ghost use Rattle.std.specs.Prelude.{◌≡◌, ◌≤◌, ◌++◌, length, option_map, IsTrue, IfSome};
-ghost use Rattle.fw_outside.specs.Name.{is_name};
+ghost use Rattle.fw_types.specs.Name.{is_name};
 ghost use Rattle.auth_records.specs.Texts.{is_long_name};
 ghost use Rattle.authsrv_lines.specs.Number.{number_up_to};
 ghost use Rattle.arrayvec.specs.ArrayVec.{array_vec_len};
 ghost use Rattle.authsrv_lines.specs.Reply.{IsSummary, counts, group_text, identity, proto_text, rights, state_text, summary_line, wiz_text};
-ghost use Rattle.authsrv_lines.specs.ReplyReading.{behind, field, fields, group_in, next, state_in, summary_of, to_space, wiz_in};
+ghost use Rattle.authsrv_lines.specs.ReplyReading.{behind, field, summary_fields, group_in, after_two_spaces, state_in, summary_of, to_space, wiz_in};
 
 use crate::number::read_up_to;
 use crate::parts::read_proto_name;
 use arrayvec::ArrayVec;
 use auth_events::Summary;
 use auth_records::{LongName, Proto, Wiz};
-use fw_outside::{Name, append, append_u32};
+use fw_types::{Name, append, append_u32};
 
 fn count_to_space(text: &[u8]) -> usize
     ensures count { result ≡ to_space text.now }
@@ -39,9 +39,9 @@ pub(crate) fn behind(text: &[u8]) -> &[u8]
 }
 
 /// The bytes behind the second space.
-#[tactic(auto, unfolding(crate::specs::ReplyReading::next))]
-pub(crate) fn next(text: &[u8]) -> &[u8]
-    ensures { result.now ≡ next text.now }
+#[tactic(auto, unfolding(crate::specs::ReplyReading::after_two_spaces))]
+pub(crate) fn after_two_spaces(text: &[u8]) -> &[u8]
+    ensures { result.now ≡ after_two_spaces text.now }
 {
     behind(behind(text))
 }
@@ -191,22 +191,22 @@ fn read_number(text: &[u8]) -> Option<u32>
 /// What is shown of the user of whom the text, behind `user `, seems to speak.
 #[tactic(auto, unfolding(crate::specs::ReplyReading::summary_of))]
 pub(crate) fn read_summary(text: &[u8]) -> Option<Summary>
-    ensures { option_map fields result ≡ summary_of text.now }
+    ensures { option_map summary_fields result ≡ summary_of text.now }
 {
     let name = Name::read(field(text))?;
-    let text = next(text);
+    let text = after_two_spaces(text);
     let group = read_group(field(text))?;
-    let text = next(text);
+    let text = after_two_spaces(text);
     let proto = read_proto_name(field(text))?;
-    let text = next(text);
+    let text = after_two_spaces(text);
     let enabled = read_state(field(text))?;
-    let text = next(text);
+    let text = after_two_spaces(text);
     let wiz = read_wiz(field(text))?;
-    let text = next(text);
+    let text = after_two_spaces(text);
     let fails = read_fails(field(text))?;
-    let text = next(text);
+    let text = after_two_spaces(text);
     let number = read_number(field(text))?;
-    let long = LongName::read(next(text))?;
+    let long = LongName::read(after_two_spaces(text))?;
     Some(Summary {
         name,
         group,

@@ -1,8 +1,8 @@
 ghost use Rattle.std.specs.Prelude.{◌≡◌};
-ghost use Rattle.authsrv_lines.specs.Fault.{fault_text};
+ghost use Rattle.authsrv_lines.specs.Fault.{wire_fault_text};
 
 use auth_events::Request;
-use fw_outside::Name;
+use fw_types::Name;
 
 /// What a line asks for.
 #[derive(Drop)]
@@ -28,14 +28,14 @@ pub enum WireFault {
     Unknown,
     /// The command's words are too few or too many, or one is out of form.
     Words,
-    /// The name of a user or of a group is none.
+    /// The name of a user or of a group is not a valid name.
     BadName,
 }
 
 impl WireFault {
     /// What the client is told, without the line's end.
     pub fn text(self) -> &'static [u8]
-        ensures { result.now ≡ fault_text self }
+        ensures { result.now ≡ wire_fault_text self }
     {
         match self {
             WireFault::LongLine => b"error long line",

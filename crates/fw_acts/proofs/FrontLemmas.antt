@@ -1,12 +1,12 @@
 -- With the same answers, one of two runs of a row is a front of the other.
 use Rattle.std.proofs.Common.{◌≡◌, List, [], ◌∷◌, ◌++◌, refl, subst, sym, ap, inl, inr, ◌∙◌}
 use mathlib.Core.Path.{subst_refl}
-use Rattle.fw_acts.specs.Acts.{Sig, Step, Row, Table}
+use Rattle.fw_acts.specs.Acts.{Sig, Step, Row, PlaceTable}
 use Rattle.fw_acts.specs.Acts.Row.{Do, At, Over}
 use Rattle.fw_acts.specs.Runs.{Run}
 use Rattle.fw_acts.specs.Fronts.{IsAnsweredBy, Agree, GoesOn, OneGoesOn}
 
-one_behind : {S : Sig} {P : Type 0} {rows : Table S P} (x y : Step S) → x ≡ y → {first : List (Step S)} {s : Row S P} {all : List (Step S)} {t : Row S P}
+one_behind : {S : Sig} {P : Type 0} {rows : PlaceTable S P} (x y : Step S) → x ≡ y → {first : List (Step S)} {s : Row S P} {all : List (Step S)} {t : Row S P}
     → GoesOn rows first s all t → GoesOn rows (x ∷ first) s (y ∷ all) t
 one_behind x y same {all = all} g = record {
   more = g.more;
@@ -14,7 +14,7 @@ one_behind x y same {all = all} g = record {
   run = g.run;
 }
 
-both_behind : {S : Sig} {P : Type 0} {rows : Table S P} (x y : Step S) → x ≡ y → {a b : List (Step S)} {s t : Row S P}
+both_behind : {S : Sig} {P : Type 0} {rows : PlaceTable S P} (x y : Step S) → x ≡ y → {a b : List (Step S)} {s t : Row S P}
     → OneGoesOn rows a s b t → OneGoesOn rows (x ∷ a) s (y ∷ b) t
 both_behind x y same (inl g) = inl (one_behind x y same g)
 both_behind x y same (inr g) = inr (one_behind y x (sym same) g)
@@ -40,7 +40,7 @@ same_answer {S} act p q x y xp yq agree =
     let both = subst (λ (z : Step S). (same : act ≡ z.act) → subst S.Answer same p ≡ z.answer) yq first in
     sym (subst_refl S.Answer p) ∙ both refl
 
-pub one_list : {S : Sig} {P : Type 0} (answers : List (Step S) → (act : S.Act) → S.Answer act) (rows : Table S P) (past : List (Step S)) (r s t : Row S P) (a b : List (Step S))
+pub one_list : {S : Sig} {P : Type 0} (answers : List (Step S) → (act : S.Act) → S.Answer act) (rows : PlaceTable S P) (past : List (Step S)) (r s t : Row S P) (a b : List (Step S))
     → Run rows r a s → IsAnsweredBy answers past a → Run rows r b t → IsAnsweredBy answers past b → OneGoesOn rows a s b t
 one_list answers rows past r s t [] b p h q k =
     inl (record { more = b; joined = refl; run = subst (λ row. Run rows row b t) p q })
@@ -56,7 +56,7 @@ one_list answers rows past (At place) s t (x ∷ a) (y ∷ b) p h q k =
     both_behind x y step (one_list answers rows (past ++ (x ∷ [])) (rows.go place p.0) s t a b p.2 h.1 (subst (λ answer. Run rows (rows.go place answer) b t) (sym same) q.2) (subst (λ z. IsAnsweredBy answers (past ++ (z ∷ [])) b) (sym step) k.1))
 one_list answers rows past Over s t (x ∷ a) (y ∷ b) p h q k = absurd p
 
-pub one_list_agreed : {S : Sig} {P : Type 0} (rows : Table S P) (r s t : Row S P) (a b : List (Step S))
+pub one_list_agreed : {S : Sig} {P : Type 0} (rows : PlaceTable S P) (r s t : Row S P) (a b : List (Step S))
     → Run rows r a s → Run rows r b t → Agree a b → OneGoesOn rows a s b t
 one_list_agreed rows r s t [] b p q h =
     inl (record { more = b; joined = refl; run = subst (λ row. Run rows row b t) p q })

@@ -21,6 +21,6 @@ pub data Row (S : Sig) (P : Type 0) : Type 0 where
   Over : Row S P
 
 -- what is done at each place: an act, and what follows its answer
-pub record Table (S : Sig) (P : Type 0) : Type 0 where
+pub record PlaceTable (S : Sig) (P : Type 0) : Type 0 where
   pub act : P → S.Act
   pub go : (place : P) → S.Answer (act place) → Row S P

@@ -1,6 +1,6 @@
 -- What the rows keep of what was done so far, and which acts they let come next.
 use Rattle.std.specs.Prelude.{List, [], ◌∷◌}
-use Rattle.fw_acts.specs.Acts.{Sig, Step, Row, Table}
+use Rattle.fw_acts.specs.Acts.{Sig, Step, Row, PlaceTable}
 use Rattle.fw_acts.specs.Acts.Row.{Do, At, Over}
 
 -- a watch over a session: what it notes of each act, which act may come after what was noted, and what holds at each place and at the end
@@ -29,6 +29,6 @@ Leaves watch (At place) noted = watch.holds noted place
 Leaves watch Over noted = watch.over noted
 
 -- where what is to hold at a place holds, its act may come, and what follows the answer keeps all this
-abbrev pub Keeps : {S : Sig} {P : Type 0} → Table S P → Watch S P → Type 0
+abbrev pub Keeps : {S : Sig} {P : Type 0} → PlaceTable S P → Watch S P → Type 0
 Keeps {P = P} rows watch =
     (place : P) (noted : watch.Noted) → watch.holds noted place → Leaves watch (Do (rows.act place) (rows.go place)) noted

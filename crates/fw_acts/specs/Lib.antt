@@ -1,12 +1,6 @@
 pub mod Acts
-pub mod Runs
-pub mod Ran
-pub mod Kept
+pub mod Fronts
 pub mod Histories
 pub mod Projections
-pub mod Fronts
-pub mod RunLemmas
-pub mod RanLemmas
-pub mod KeptLemmas
-pub mod HistoryLemmas
-pub mod ProjectionLemmas
+pub mod Ran
+pub mod Runs

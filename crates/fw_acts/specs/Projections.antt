@@ -1,7 +1,7 @@
 -- What a run said, logged or asked: a projection of its acts.
 use Rattle.std.specs.Prelude.{◌≡◌, List, [], ◌∷◌, ◌++◌}
 use Rattle.std.specs.List.{flat_map}
-use Rattle.fw_acts.specs.Acts.{Sig, Step, Row, Table}
+use Rattle.fw_acts.specs.Acts.{Sig, Step, Row, PlaceTable}
 use Rattle.fw_acts.specs.Acts.Row.{Over}
 use Rattle.fw_acts.specs.Runs.{Run}
 
@@ -28,7 +28,7 @@ Cuts S gives Grew =
 
 -- what was given is what the acts give that were done, and then a part of what the next one gives: a front of what each run
 -- gives that goes on with that act; and where none is next, there is no such part
-pub record Gave {S : Sig} {P A : Type 0} (rows : Table S P) (gives : (act : S.Act) → S.Answer act → List A) (Grew : List A → S.World → S.World → Type 0) (steps : List (Step S)) (left : Row S P) (old new : S.World) : Type 0 where
+pub record Gave {S : Sig} {P A : Type 0} (rows : PlaceTable S P) (gives : (act : S.Act) → S.Answer act → List A) (Grew : List A → S.World → S.World → Type 0) (steps : List (Step S)) (left : Row S P) (old new : S.World) : Type 0 where
   pub part : List A
   pub grew : Grew (projection gives steps ++ part) old new
   pub front : (step : Step S) (more : List (Step S)) (t : Row S P) → Run rows left (step ∷ more) t → (rest : List A) × (projection gives (steps ++ (step ∷ more)) ≡ (projection gives steps ++ part) ++ rest)

@@ -1,10 +1,10 @@
 -- Which acts lead from one row to another, and what they do to the world.
 use Rattle.std.specs.Prelude.{◌≡◌, List, [], ◌∷◌}
-use Rattle.fw_acts.specs.Acts.{Sig, Step, Row, Table}
+use Rattle.fw_acts.specs.Acts.{Sig, Step, Row, PlaceTable}
 use Rattle.fw_acts.specs.Acts.Row.{Do, At, Over}
 
 -- these acts, one after another, lead from a row to what is left of it
-abbrev pub Run : {S : Sig} {P : Type 0} → Table S P → Row S P → List (Step S) → Row S P → Type 0
+abbrev pub Run : {S : Sig} {P : Type 0} → PlaceTable S P → Row S P → List (Step S) → Row S P → Type 0
 Run rows r [] s = r ≡ s
 Run {S} rows (Do act go) (step ∷ steps) s =
     (answer : S.Answer act) × (step ≡ record { act = act; answer = answer }) × Run rows (go answer) steps s
@@ -19,13 +19,13 @@ DoesAll {S} (step ∷ steps) old new =
     (mid : S.World) × S.does step.act step.answer old mid × DoesAll steps mid new
 
 -- this act comes next
-abbrev pub Next : {S : Sig} {P : Type 0} → Table S P → Row S P → S.Act → Type 0
+abbrev pub Next : {S : Sig} {P : Type 0} → PlaceTable S P → Row S P → S.Act → Type 0
 Next rows (Do first go) act = first ≡ act
 Next rows (At place) act = rows.act place ≡ act
 Next rows Over act = ⊥
 
 -- a run of acts and then others is a run of the first ones, and then one of the others
-pub record Parted {S : Sig} {P : Type 0} (rows : Table S P) (r : Row S P) (first more : List (Step S)) (t : Row S P) : Type 0 where
+pub record Parted {S : Sig} {P : Type 0} (rows : PlaceTable S P) (r : Row S P) (first more : List (Step S)) (t : Row S P) : Type 0 where
   pub between : Row S P
   pub before : Run rows r first between
   pub after : Run rows between more t

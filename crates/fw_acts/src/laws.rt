@@ -5,7 +5,7 @@
 //! so a type names the one that a law speaks of, and the law holds for each such type.
 
 ghost use Rattle.std.specs.Prelude.{◌≡◌, ℕ, List, [], ◌∷◌, ◌++◌, ◌⊎◌, length};
-ghost use Rattle.fw_acts.specs.Acts.{Sig, Step, Row, Table};
+ghost use Rattle.fw_acts.specs.Acts.{Sig, Step, Row, PlaceTable};
 ghost use Rattle.fw_acts.specs.Acts.Row.{Over};
 ghost use Rattle.fw_acts.specs.Runs.{Run, Next, DoesAll, Parted, DoesParted};
 ghost use Rattle.fw_acts.specs.Fronts.{IsAnsweredBy, Agree, OneGoesOn, IsSettled, Longer};
@@ -36,11 +36,11 @@ pub trait Watcher {
 /// answered the same (`agreed`).
 pub fn one_list<S: Signature, P>()
     ensures answered { (answers : List (Step S.acts) → (act : S.acts.Act) → S.acts.Answer act)
-        (rows : Table S.acts P) (r s t : Row S.acts P) (a b : List (Step S.acts))
+        (rows : PlaceTable S.acts P) (r s t : Row S.acts P) (a b : List (Step S.acts))
         → Run rows r a s → IsAnsweredBy answers [] a
         → Run rows r b t → IsAnsweredBy answers [] b
         → OneGoesOn rows a s b t }
-    ensures agreed { (rows : Table S.acts P) (r s t : Row S.acts P) (a b : List (Step S.acts))
+    ensures agreed { (rows : PlaceTable S.acts P) (r s t : Row S.acts P) (a b : List (Step S.acts))
         → Run rows r a s → Run rows r b t → Agree a b
         → OneGoesOn rows a s b t }
 {}
@@ -48,9 +48,9 @@ pub fn one_list<S: Signature, P>()
 /// A run from one row to another and a run on from there are one run, of which the first is a
 /// front, and a run of acts and then others parts into two. So does what the acts do to the world.
 pub fn runs_join<S: Signature, P>()
-    ensures run { (rows : Table S.acts P) (r s t : Row S.acts P) (first more : List (Step S.acts))
+    ensures run { (rows : PlaceTable S.acts P) (r s t : Row S.acts P) (first more : List (Step S.acts))
         → Run rows r first s → Run rows s more t → Run rows r (first ++ more) t }
-    ensures parted { (rows : Table S.acts P) (r t : Row S.acts P) (first more : List (Step S.acts))
+    ensures parted { (rows : PlaceTable S.acts P) (r t : Row S.acts P) (first more : List (Step S.acts))
         → Run rows r (first ++ more) t → Parted rows r first more t }
     ensures does { (old mid new : S.acts.World) (first more : List (Step S.acts))
         → DoesAll first old mid → DoesAll more mid new → DoesAll (first ++ more) old new }
@@ -63,14 +63,14 @@ pub fn runs_join<S: Signature, P>()
 /// until the session is over (`lasts`). Then nothing more is done (`over`).
 pub fn runs_go_on<S: Signature, P>()
     ensures settles { (answers : List (Step S.acts) → (act : S.acts.Act) → S.acts.Answer act)
-        (rows : Table S.acts P) (r s : Row S.acts P) (first : List (Step S.acts))
+        (rows : PlaceTable S.acts P) (r s : Row S.acts P) (first : List (Step S.acts))
         → Run rows r first s
         → Longer answers rows r first s (λ more left. IsSettled left) }
     ensures lasts { (answers : List (Step S.acts) → (act : S.acts.Act) → S.acts.Answer act)
-        (rows : Table S.acts P) (r s : Row S.acts P) (first : List (Step S.acts)) (count : ℕ)
+        (rows : PlaceTable S.acts P) (r s : Row S.acts P) (first : List (Step S.acts)) (count : ℕ)
         → Run rows r first s
         → Longer answers rows r first s (λ more left. (length more ≡ count) ⊎ (left ≡ Over)) }
-    ensures over { (rows : Table S.acts P) (steps : List (Step S.acts)) (t : Row S.acts P)
+    ensures over { (rows : PlaceTable S.acts P) (steps : List (Step S.acts)) (t : Row S.acts P)
         → Run rows Over steps t → (steps ≡ []) × (t ≡ Over) }
 {}
 
@@ -84,16 +84,16 @@ pub fn projections_join<S: Signature, A>()
 /// What the rows keep holds of every run: at the row that it left, before each of its acts, and
 /// before the act at which it stopped.
 pub fn rows_keep<W: Watcher>()
-    ensures leaves { (rows : Table W.acts W.Place) → Keeps rows W.watch
+    ensures leaves { (rows : PlaceTable W.acts W.Place) → Keeps rows W.watch
         → (r s : Row W.acts W.Place) (noted : W.watch.Noted) (steps : List (Step W.acts))
         → Leaves W.watch r noted → Run rows r steps s
         → Leaves W.watch s (history W.watch noted steps) }
-    ensures each { (rows : Table W.acts W.Place) → Keeps rows W.watch
+    ensures each { (rows : PlaceTable W.acts W.Place) → Keeps rows W.watch
         → (r s : Row W.acts W.Place) (noted : W.watch.Noted)
         → (first : List (Step W.acts)) (step : Step W.acts) (more : List (Step W.acts))
         → Leaves W.watch r noted → Run rows r (first ++ (step ∷ more)) s
         → W.watch.may (history W.watch noted first) step.act }
-    ensures next { (rows : Table W.acts W.Place) → Keeps rows W.watch
+    ensures next { (rows : PlaceTable W.acts W.Place) → Keeps rows W.watch
         → (r s : Row W.acts W.Place) (noted : W.watch.Noted)
         → (steps : List (Step W.acts)) (act : W.acts.Act)
         → Leaves W.watch r noted → Run rows r steps s → Next rows s act

@@ -3,8 +3,8 @@
 //! A session says words, takes lines, asks a server, writes log lines. `Sig` has these acts, with
 //! what each is answered, what it does to the world, and for which causes it may stop. The acts
 //! that follow one another are a `Row`, a finite tree that branches by the answers and ends at a
-//! place, where the session waits, or where it is over. A `Table` has the row of each place. So a
-//! row of a definition reads as the dialogue does:
+//! place, where the session waits, or where it is over. A `PlaceTable` has the row of each place. So
+//! a row of a definition reads as the dialogue does:
 //!
 //! ```text
 //! name_row name = Do (Ask name) (λ known. Do (Say (welcome known)) (λ x. At (guest known)))
@@ -39,5 +39,3 @@
 #![tactic(auto)]
 
 pub mod laws;
-#[cfg(test)]
-mod tests;

@@ -9,7 +9,7 @@ use Rattle.std.proofs.lemmas.List.Folds.{list_any_none}
 use Rattle.std.proofs.lemmas.Bool.{cases_lt}
 use Rattle.fw_outside.specs.declared.heard.Heard.{Heard}
 use Rattle.fw_outside.specs.declared.heard.Heard.TheVariants.{Line, TooLong, Stopped}
-use Rattle.fw_outside.specs.Gathering.{IsText, most}
+use Rattle.fw_outside.specs.LineText.{IsText, most}
 use Rattle.fw_outside.specs.Lines.{IsHeard, first_line, is_lf}
 
 place_on : (lf rest : Bool) (n m : ℕ) → (lf || rest) ≡ false → (rest ≡ false → n ≡ m) → cond (not lf) (1 + n) 0 ≡ suc m

@@ -11,13 +11,13 @@ use Rattle.fw_outside.specs.declared.heard.Heard.{Heard}
 use Rattle.fw_outside.specs.declared.heard.Heard.TheVariants.{Line, TooLong, Stopped}
 use Rattle.fw_outside.specs.declared.heard.Stop.{Stop}
 use Rattle.fw_outside.specs.declared.heard.Stop.TheVariants.{End, Idle, Failed, Spent}
-use Rattle.fw_outside.specs.CountLemmas.{grew_by, grew_none}
+use Rattle.fw_outside.proofs.CountLemmas.{grew_by, grew_none}
 use Rattle.fw_outside.specs.Counts.{Grew}
-use Rattle.fw_outside.specs.Gathering.{Cuts, Drains, Fills, IsText, most}
+use Rattle.fw_outside.specs.LineText.{GathersLine, GathersAll, Fills, IsText, most}
 use Rattle.fw_outside.specs.Lines.{is_lf}
-use Rattle.fw_outside.specs.Spring.{Spring}
-use Rattle.fw_outside.specs.Telling.{grown, preceded}
-use Rattle.fw_outside.specs.Window.{Closes, Listens, Misses, Pulled, Reads, Window, is_spent, rest_of}
+use Rattle.fw_outside.specs.SourceView.{SourceView}
+use Rattle.fw_outside.specs.ToldList.{grown, preceded}
+use Rattle.fw_outside.specs.LineReaderView.{LeavesSource, Listens, TakesNothing, TookBytes, Reads, LineReaderView, stops_at_limit, rest_of}
 use Rattle.fw_outside.proofs.LineLemmas.{heard_kept, heard_line, no_first_line, take_twice}
 
 grown-append : (told : Option (List ℕ)) (a b : List ℕ) → grown (grown told a) b ≡ grown told (a ++ b)
@@ -37,7 +37,7 @@ preceded-nil None = refl
 preceded-nil (Some bytes) = refl
 
 -- bytes that were taken one after another were taken together
-pulled_on : (a b : List ℕ) (first now new : Spring) → Pulled a first now → Pulled b now new → Pulled (a ++ b) first new
+pulled_on : (a b : List ℕ) (first now new : SourceView) → TookBytes a first now → TookBytes b now new → TookBytes (a ++ b) first new
 pulled_on a b first now new one two =
     let left : now.left ≡ one.left = rw one.is refl in
     record {
@@ -48,54 +48,54 @@ pulled_on a b first now new one two =
       is = rw (two.is, one.is, grown-append first.taken a b) refl;
     }
 
-pulled_none : (first : Spring) → Pulled [] first first
+pulled_none : (first : SourceView) → TookBytes [] first first
 pulled_none first = record { left = first.left; next = preceded-nil first.left; count = first.amount; grew = grew_none first.amount; is = rw (grown-nil first.taken) refl }
 
 -- what was read of a line so far
-pub record Going (kept : List ℕ) (old now : Window) (first at : Spring) : Type 0 where
+pub record Going (kept : List ℕ) (old now : LineReaderView) (first at : SourceView) : Type 0 where
   pub bytes : List ℕ
   pub keeps : kept ≡ take most bytes
   pub unended : list_any is_lf bytes ≡ false
   pub reads : Reads bytes old now first at
   pub behind : (now ≡ old) ⊎ (length old.pending ≤ length bytes)
 
-reads_none : (old : Window) (first : Spring) → Reads [] old old first first
-reads_none old first = record { pulled = []; pulls = pulled_none first; window = append-nil old.pending; room = omega arith }
+reads_none : (old : LineReaderView) (first : SourceView) → Reads [] old old first first
+reads_none old first = record { taken_now = []; takes = pulled_none first; reader = append-nil old.pending; room = omega arith }
 
-pub going_from : (old : Window) (first : Spring) → Going [] old old first first
+pub going_from : (old : LineReaderView) (first : SourceView) → Going [] old old first first
 going_from old first = record { bytes = []; keeps = refl; unended = refl; reads = reads_none old first; behind = inl refl }
 
 -- the window's bytes were read
-reads_window : (bytes read rest : List ℕ) (old now new : Window) (first at : Spring) → Reads bytes old now first at → now.pending ≡ read ++ rest → new.pending ≡ rest → new.room ≡ now.room → Reads (bytes ++ read) old new first at
+reads_window : (bytes read rest : List ℕ) (old now new : LineReaderView) (first at : SourceView) → Reads bytes old now first at → now.pending ≡ read ++ rest → new.pending ≡ rest → new.room ≡ now.room → Reads (bytes ++ read) old new first at
 reads_window bytes read rest old now new first at reads cut left room = record {
-  pulled = reads.pulled;
-  pulls = reads.pulls;
-  window = reads.window ∙ ap (λ p. bytes ++ p) cut ∙ sym (append_assoc bytes read rest) ∙ ap (λ p. bytes ++ read ++ p) (sym left);
-  room = reads.room ∙ ap (λ n. length reads.pulled + n) (sym room);
+  taken_now = reads.taken_now;
+  takes = reads.takes;
+  reader = reads.reader ∙ ap (λ p. bytes ++ p) cut ∙ sym (append_assoc bytes read rest) ∙ ap (λ p. bytes ++ read ++ p) (sym left);
+  room = reads.room ∙ ap (λ n. length reads.taken_now + n) (sym room);
 }
 
 -- and the empty window was filled
-reads_filled : (bytes : List ℕ) (old now new : Window) (first at next : Spring) → Reads bytes old now first at → now.pending ≡ [] → Fills now new at next → Reads bytes old new first next
+reads_filled : (bytes : List ℕ) (old now new : LineReaderView) (first at next : SourceView) → Reads bytes old now first at → now.pending ≡ [] → Fills now new at next → Reads bytes old new first next
 reads_filled bytes old now new first at next reads empty fills = record {
-  pulled = reads.pulled ++ new.pending;
-  pulls = pulled_on reads.pulled new.pending first at next reads.pulls fills.pulls;
-  window = sym (append_assoc old.pending reads.pulled new.pending) ∙ ap (λ p. p ++ new.pending) (reads.window ∙ ap (λ p. bytes ++ p) empty ∙ append-nil bytes);
-  room = let long = length-append reads.pulled new.pending in omega (arith, reads.room, fills.room, long);
+  taken_now = reads.taken_now ++ new.pending;
+  takes = pulled_on reads.taken_now new.pending first at next reads.takes fills.takes;
+  reader = sym (append_assoc old.pending reads.taken_now new.pending) ∙ ap (λ p. p ++ new.pending) (reads.reader ∙ ap (λ p. bytes ++ p) empty ∙ append-nil bytes);
+  room = let long = length-append reads.taken_now new.pending in omega (arith, reads.room, fills.room, long);
 }
 
 -- where the window is empty, all that stood in it before was read
-all_read : (bytes : List ℕ) (old now : Window) (first at : Spring) → Reads bytes old now first at → now.pending ≡ [] → length old.pending ≤ length bytes
+all_read : (bytes : List ℕ) (old now : LineReaderView) (first at : SourceView) → Reads bytes old now first at → now.pending ≡ [] → length old.pending ≤ length bytes
 all_read bytes old now first at reads empty =
-    let left = length-append old.pending reads.pulled in
+    let left = length-append old.pending reads.taken_now in
     let right = length-append bytes now.pending in
-    let same = ap length reads.window in
+    let same = ap length reads.reader in
     let none = ap length empty in
     omega (arith, left, right, same, none)
 
 no_end_in : (a b : List ℕ) → list_any is_lf a ≡ false → list_any is_lf b ≡ false → list_any is_lf (a ++ b) ≡ false
 no_end_in a b one two = list_any-append is_lf a b ∙ rw (one, two) refl
 
-pub going_drained : (kept now_kept : List ℕ) (old now new : Window) (first at : Spring) → Going kept old now first at → Drains kept now_kept now new → Going now_kept old new first at
+pub going_drained : (kept now_kept : List ℕ) (old now new : LineReaderView) (first at : SourceView) → Going kept old now first at → GathersAll kept now_kept now new → Going now_kept old new first at
 going_drained kept now_kept old now new first at going drains = record {
   bytes = going.bytes ++ now.pending;
   keeps = drains.gathers ∙ ap (λ k. take most (k ++ now.pending)) going.keeps ∙ take_twice going.bytes now.pending;
@@ -105,7 +105,7 @@ going_drained kept now_kept old now new first at going drains = record {
       (reads_window going.bytes now.pending [] old now new first at going.reads (sym (append-nil now.pending)) drains.empty drains.room) drains.empty);
 }
 
-pub going_filled : (kept : List ℕ) (old now new : Window) (first at next : Spring) → Going kept old now first at → now.pending ≡ [] → Fills now new at next → Going kept old new first next
+pub going_filled : (kept : List ℕ) (old now new : LineReaderView) (first at next : SourceView) → Going kept old now first at → now.pending ≡ [] → Fills now new at next → Going kept old new first next
 going_filled kept old now new first at next going empty fills = record {
   bytes = going.bytes;
   keeps = going.keeps;
@@ -115,19 +115,19 @@ going_filled kept old now new first at next going empty fills = record {
 }
 
 -- what is left behind the window is what is left of it without the bytes that were read
-rest_is : (bytes : List ℕ) (old new : Window) (first at : Spring) → Reads bytes old new first at → rest_of old first ≡ preceded bytes (rest_of new at)
+rest_is : (bytes : List ℕ) (old new : LineReaderView) (first at : SourceView) → Reads bytes old new first at → rest_of old first ≡ preceded bytes (rest_of new at)
 rest_is bytes old new first at reads =
-    let left : at.left ≡ reads.pulls.left = rw reads.pulls.is refl in
-    ap (preceded old.pending) (reads.pulls.next ∙ ap (preceded reads.pulled) (sym left)) ∙ preceded-append old.pending reads.pulled at.left
-    ∙ ap (λ p. preceded p at.left) reads.window ∙ sym (preceded-append bytes new.pending at.left)
+    let left : at.left ≡ reads.takes.left = rw reads.takes.is refl in
+    ap (preceded old.pending) (reads.takes.next ∙ ap (preceded reads.taken_now) (sym left)) ∙ preceded-append old.pending reads.taken_now at.left
+    ∙ ap (λ p. preceded p at.left) reads.reader ∙ sym (preceded-append bytes new.pending at.left)
 
-misses_left : (stop : Stop) (at next : Spring) → Misses stop at next → next.left ≡ at.left
-misses_left End at next misses = ap (λ (s : Spring). s.left) misses.is
-misses_left Idle at next misses = ap (λ (s : Spring). s.left) misses.is
-misses_left Failed at next misses = ap (λ (s : Spring). s.left) misses.is
+misses_left : (stop : Stop) (at next : SourceView) → TakesNothing stop at next → next.left ≡ at.left
+misses_left End at next misses = ap (λ (s : SourceView). s.left) misses.is
+misses_left Idle at next misses = ap (λ (s : SourceView). s.left) misses.is
+misses_left Failed at next misses = ap (λ (s : SourceView). s.left) misses.is
 misses_left Spent at next misses = absurd misses
 
-closes_missed : (stop : Stop) (new : Window) (at next : Spring) → new.pending ≡ [] → Misses stop at next → Closes (Stopped stop) new at next
+closes_missed : (stop : Stop) (new : LineReaderView) (at next : SourceView) → new.pending ≡ [] → TakesNothing stop at next → LeavesSource (Stopped stop) new at next
 closes_missed End new at next empty misses = (empty, misses)
 closes_missed Idle new at next empty misses = (empty, misses)
 closes_missed Failed new at next empty misses = (empty, misses)
@@ -136,14 +136,14 @@ closes_missed Spent new at next empty misses = absurd misses
 never : {A : Type 0} {b : Bool} → b ≡ false → b ≡ true → A
 never not was = absurd (true≢false (sym was ∙ not))
 
-not_spent : (stop : Stop) (at next : Spring) → Misses stop at next → is_spent (Stopped stop) ≡ false
+not_spent : (stop : Stop) (at next : SourceView) → TakesNothing stop at next → stops_at_limit (Stopped stop) ≡ false
 not_spent End at next misses = refl
 not_spent Idle at next misses = refl
 not_spent Failed at next misses = refl
 not_spent Spent at next misses = absurd misses
 
 -- the source stopped before the line's end
-listens_at : (stop : Stop) (kept : List ℕ) (old new : Window) (first at next : Spring) → Going kept old new first at → new.pending ≡ [] → false ≡ (new.room == 0) → Misses stop at next → Listens (Stopped stop) old new first next
+listens_at : (stop : Stop) (kept : List ℕ) (old new : LineReaderView) (first at next : SourceView) → Going kept old new first at → new.pending ≡ [] → false ≡ (new.room == 0) → TakesNothing stop at next → Listens (Stopped stop) old new first next
 listens_at stop kept old new first at next going empty more misses = record {
   bytes = going.bytes;
   middle = at;
@@ -155,17 +155,17 @@ listens_at stop kept old new first at next going empty more misses = record {
   behind = λ was. never (not_spent stop at next misses) was;
 }
 
-pub listens_stopped : (stop : Stop) (kept now_kept : List ℕ) (old now drained new : Window) (first at next : Spring) → Going kept old now first at → false ≡ (now.room == 0) → Drains kept now_kept now drained → new ≡ drained → Misses stop at next → Listens (Stopped stop) old new first next
+pub listens_stopped : (stop : Stop) (kept now_kept : List ℕ) (old now drained new : LineReaderView) (first at next : SourceView) → Going kept old now first at → false ≡ (now.room == 0) → GathersAll kept now_kept now drained → new ≡ drained → TakesNothing stop at next → Listens (Stopped stop) old new first next
 listens_stopped stop kept now_kept old now drained new first at next going more drains same misses =
     let here : Going now_kept old new first at = rw same (going_drained kept now_kept old now drained first at going drains) in
-    listens_at stop now_kept old new first at next here (rw same drains.empty) (more ∙ ap (λ n. n == 0) (sym drains.room ∙ ap (λ (w : Window). w.room) (sym same))) misses
+    listens_at stop now_kept old new first at next here (rw same drains.empty) (more ∙ ap (λ n. n == 0) (sym drains.room ∙ ap (λ (w : LineReaderView). w.room) (sym same))) misses
 
-read_behind : (bytes : List ℕ) (old new : Window) → (new ≡ old) ⊎ (length old.pending ≤ length bytes) → new.room ≡ 0 → 0 < old.room → length old.pending ≤ length bytes
-read_behind bytes old new (inl same) none more = let room = ap (λ (w : Window). w.room) same in absurd (omega (arith, room, none, more))
+read_behind : (bytes : List ℕ) (old new : LineReaderView) → (new ≡ old) ⊎ (length old.pending ≤ length bytes) → new.room ≡ 0 → 0 < old.room → length old.pending ≤ length bytes
+read_behind bytes old new (inl same) none more = let room = ap (λ (w : LineReaderView). w.room) same in absurd (omega (arith, room, none, more))
 read_behind bytes old new (inr all) none more = all
 
 -- no more may be taken
-pub listens_spent : (kept : List ℕ) (old new : Window) (first next : Spring) → Going kept old new first next → true ≡ (new.room == 0) → Listens (Stopped Spent) old new first next
+pub listens_spent : (kept : List ℕ) (old new : LineReaderView) (first next : SourceView) → Going kept old new first next → true ≡ (new.room == 0) → Listens (Stopped Spent) old new first next
 listens_spent kept old new first next going none = record {
   bytes = going.bytes;
   middle = next;
@@ -177,18 +177,18 @@ listens_spent kept old new first next going none = record {
   behind = λ was more. read_behind going.bytes old new going.behind (eqb-true new.room 0 (sym none)) more;
 }
 
-closes_line : (heard : Heard) (text : List ℕ) (new : Window) (at : Spring) → IsText heard text → Closes heard new at at
+closes_line : (heard : Heard) (text : List ℕ) (new : LineReaderView) (at : SourceView) → IsText heard text → LeavesSource heard new at at
 closes_line (Line line) text new at is = refl
 closes_line TooLong text new at is = refl
 closes_line (Stopped stop) text new at is = absurd is
 
-line_not_spent : (heard : Heard) (text : List ℕ) → IsText heard text → is_spent heard ≡ false
+line_not_spent : (heard : Heard) (text : List ℕ) → IsText heard text → stops_at_limit heard ≡ false
 line_not_spent (Line line) text is = refl
 line_not_spent TooLong text is = refl
 line_not_spent (Stopped stop) text is = absurd is
 
 -- the line's end was read
-pub listens_line : (heard : Heard) (kept now_kept : List ℕ) (old now new : Window) (first at : Spring) → Going kept old now first at → false ≡ (now.room == 0) → Cuts kept now_kept now new → IsText heard now_kept → Listens heard old new first at
+pub listens_line : (heard : Heard) (kept now_kept : List ℕ) (old now new : LineReaderView) (first at : SourceView) → Going kept old now first at → false ≡ (now.room == 0) → GathersLine kept now_kept now new → IsText heard now_kept → Listens heard old new first at
 listens_line heard kept now_kept old now new first at going more cuts is =
     let text : List ℕ = going.bytes ++ cuts.text in
     let keeps : now_kept ≡ take most text = cuts.gathers ∙ ap (λ k. take most (k ++ cuts.text)) going.keeps ∙ take_twice going.bytes cuts.text in

@@ -1,11 +1,11 @@
-ghost use Rattle.fw_outside.specs.Hours.{Hours, Strikes};
+ghost use Rattle.fw_outside.specs.ClockView.{ClockView, GaveTime};
 
 /// What time it is.
 pub trait Clock: Drop {
     /// The moments that it gave.
-    ghost hours: { Self → Hours };
+    ghost clock_view: { Self → ClockView };
 
     /// The moment now, in whole seconds. A clock that tells what it gave may stop telling.
     fn now(&mut self) -> u64
-        ensures { Strikes result (hours self.old) (hours self.new) };
+        ensures { GaveTime result (clock_view self.old) (clock_view self.new) };
 }

@@ -1,5 +1,5 @@
 ghost use Rattle.std.specs.Prelude.{IfSome, IfNone};
-ghost use Rattle.fw_outside.specs.Cabinet.{Cabinet, Opens, Misses, TakesBack};
+ghost use Rattle.fw_outside.specs.FilesView.{FilesView, Opens, MissesFile, TakesBack};
 
 use crate::Source;
 
@@ -8,14 +8,15 @@ pub trait Files: Drop {
     type Src: Source;
 
     /// The names with their bytes, and the counts.
-    ghost cabinet: { Self → Cabinet };
+    ghost files_view: { Self → FilesView };
 
     /// A new source of the bytes under a name, so that one more is out, or nothing where there is none to be had.
     fn source(&mut self, name: &[u8]) -> Option<Self::Src>
-        ensures found { IfSome result (λ source. Opens name.now (Self.Src.spring source) (cabinet self.old) (cabinet self.new)) }
-        ensures missing { IfNone result (Misses (cabinet self.old) (cabinet self.new)) };
+        ensures found { IfSome result (λ source.
+            Opens name.now (Self.Src.source_view source) (files_view self.old) (files_view self.new)) }
+        ensures missing { IfNone result (MissesFile (files_view self.old) (files_view self.new)) };
 
     /// Takes a source back, so that one fewer is out, and counts it where it had failed or been idle.
     fn back(&mut self, source: Self::Src)
-        ensures { TakesBack (Self.Src.spring source) (cabinet self.old) (cabinet self.new) };
+        ensures { TakesBack (Self.Src.source_view source) (files_view self.old) (files_view self.new) };
 }

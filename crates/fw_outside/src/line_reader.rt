@@ -1,12 +1,12 @@
 ghost use Rattle.std.specs.Prelude.{◌≡◌, ◌==◌, ◌+◌, ◌-◌, ◌<◌, ◌≤◌, [], ◌++◌, length, take, IfErr, OnOk, OnErr};
 ghost use Rattle.std.specs.Bool.{OnTrue, OnFalse};
-ghost use Rattle.fw_outside.specs.Gathering.{Cuts, Drains, Fills};
-ghost use Rattle.fw_outside.specs.Window.{Listens, Misses};
+ghost use Rattle.fw_outside.specs.LineText.{GathersLine, GathersAll, Fills};
+ghost use Rattle.fw_outside.specs.LineReaderView.{Listens, TakesNothing};
 
-use crate::bytes::copy_of;
 use crate::line_text::LineText;
 use crate::{Got, Heard, Source, Stop};
 use arrayvec::ArrayVec;
+use fw_types::copy_of;
 use std::marker::Model;
 
 /// A reader of lines, each of at most 512 bytes, which takes at most 4,096 bytes ahead of what it gives.
@@ -19,9 +19,9 @@ pub struct LineReader {
 
 impl Model for LineReader {
     ghost use Rattle.std.specs.Prelude.{◌≤◌, length, drop};
-    ghost use Rattle.fw_outside.specs.Window.{Window};
+    ghost use Rattle.fw_outside.specs.LineReaderView.{LineReaderView};
 
-    ghost Value = { Window };
+    ghost Value = { LineReaderView };
 
     ghost view = { λ r. record { pending = drop r.at r.taken.items; room = r.room } };
 
@@ -58,7 +58,7 @@ impl LineReader {
         self.room == 0
     }
 
-    // Puts bytes that were taken into the empty window.
+    // Puts bytes that were taken into the empty buffer.
     fn keep(&mut self, bytes: &[u8])
         requires fits { length bytes.now ≤ 4096 }
         requires room { length bytes.now ≤ self.old.room }
@@ -69,12 +69,12 @@ impl LineReader {
         self.room -= bytes.len() as u64;
     }
 
-    // Takes the next bytes into the empty window.
+    // Takes the next bytes into the empty buffer.
     fn fill<S: Source>(&mut self, from: &mut S) -> Result<(), Stop>
         requires empty { self.old.pending ≡ [] }
         requires more { 0 < self.old.room }
-        ensures fills { OnOk result (Fills self.old self.new (S.spring from.old) (S.spring from.new)) }
-        ensures misses { IfErr result (λ stop. Misses stop (S.spring from.old) (S.spring from.new)) }
+        ensures fills { OnOk result (Fills self.old self.new (S.source_view from.old) (S.source_view from.new)) }
+        ensures misses { IfErr result (λ stop. TakesNothing stop (S.source_view from.old) (S.source_view from.new)) }
         ensures kept { OnErr result (self.new ≡ self.old) }
     {
         let most = self.room.min(4096) as usize;
@@ -90,10 +90,10 @@ impl LineReader {
         }
     }
 
-    // Moves the window's bytes to a text, up to the end of the line if that is there.
+    // Moves the buffer's bytes to a text, up to the end of the line if that is there.
     fn move_on(&mut self, text: &mut LineText) -> bool
-        ensures cuts { OnTrue result (Cuts text.old text.new self.old self.new) }
-        ensures drains { OnFalse result (Drains text.old text.new self.old self.new) }
+        ensures line { OnTrue result (GathersLine text.old text.new self.old self.new) }
+        ensures all { OnFalse result (GathersAll text.old text.new self.old self.new) }
         ensures near { length self.new.pending ≤ 4096 }
     {
         match text.gather(&self.taken[self.at..]) {
@@ -108,10 +108,10 @@ impl LineReader {
         }
     }
 
-    /// The next line, without its end, if one is heard before the source stops. Where as many bytes were taken as may be,
-    /// the reader stops for good: what was taken last, at most 4,096 bytes, isn't heard.
+    /// The next line, without its end, if one is heard before the source stops. Where as many bytes were taken as may
+    /// be, the reader stops for good: what was taken last, at most 4,096 bytes, isn't heard.
     pub fn next<S: Source>(&mut self, from: &mut S) -> Heard
-        ensures listens { Listens result self.old self.new (S.spring from.old) (S.spring from.new) }
+        ensures listens { Listens result self.old self.new (S.source_view from.old) (S.source_view from.new) }
         ensures near { length self.new.pending ≤ 4096 }
     {
         let mut text = LineText::new();

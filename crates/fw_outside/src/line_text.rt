@@ -2,19 +2,19 @@
 ghost use Rattle.std.specs.Prelude.{◌≡◌, ◌==◌, All, ◌<◌, ◌≤◌, ◌+◌, ◌∷◌, [], ◌++◌, false, length, take, drop, IfSome, IfNone};
 ghost use Rattle.std.specs.List.{list_any};
 ghost use Rattle.std.specs.Str.Lines.{strip_carriage_return};
-ghost use Rattle.fw_outside.specs.Gathering.{IsText, most};
+ghost use Rattle.fw_outside.specs.LineText.{IsText, most};
 ghost use Rattle.fw_outside.specs.Lines.{is_lf};
 
 use crate::Heard;
-use crate::bytes::{append, copy_of};
 use arrayvec::ArrayVec;
+use fw_types::{append, copy_of};
 use memchr::memchr;
 use std::marker::Model;
 
 /// At most 514 bytes: one more than the longest line and its CR.
 #[derive(Drop)]
 pub(crate) struct LineText {
-    kept: ArrayVec<u8, 514>,
+    bytes: ArrayVec<u8, 514>,
 }
 
 impl Model for LineText {
@@ -22,7 +22,7 @@ impl Model for LineText {
 
     ghost Value = { List ℕ };
 
-    ghost view = { λ text. text.kept.items };
+    ghost view = { λ text. text.bytes.items };
 }
 
 // The place of the first LF.
@@ -50,7 +50,7 @@ impl LineText {
         ensures { result ≡ [] }
     {
         LineText {
-            kept: ArrayVec::new(),
+            bytes: ArrayVec::new(),
         }
     }
 
@@ -58,8 +58,8 @@ impl LineText {
     fn keep(&mut self, bytes: &[u8])
         ensures { self.new ≡ take most (self.old ++ bytes.now) }
     {
-        let count = self.kept.remaining_capacity().min(bytes.len());
-        append(&mut self.kept, &bytes[..count]);
+        let count = self.bytes.remaining_capacity().min(bytes.len());
+        append(&mut self.bytes, &bytes[..count]);
     }
 
     /// Gathers the bytes up to the first LF, and tells its place, or all of them.
@@ -87,7 +87,7 @@ impl LineText {
     pub(crate) fn heard(&self) -> Heard
         ensures { IsText result self.now }
     {
-        let line = without_return(self.kept.as_slice());
+        let line = without_return(self.bytes.as_slice());
         if line.len() > 512 {
             return Heard::TooLong;
         }

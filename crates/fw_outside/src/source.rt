@@ -1,5 +1,5 @@
 ghost use Rattle.std.specs.Prelude.{◌≡◌, ℕ, ◌<◌, length};
-ghost use Rattle.fw_outside.specs.Spring.{Spring, Pulls, waiting};
+ghost use Rattle.fw_outside.specs.SourceView.{SourceView, Takes, waiting};
 
 use crate::Failed;
 
@@ -17,14 +17,14 @@ pub enum Got {
 /// Bytes that come from outside, once and in order.
 pub trait Source: Drop {
     /// The bytes taken and left, the counts, how many were taken among them, and how long it waits.
-    ghost spring: { Self → Spring };
+    ghost source_view: { Self → SourceView };
 
     /// Takes the next bytes, as many as it likes and as fit. `End`, `Idle` and `Failed` take nothing.
     fn take(&mut self, buf: &mut [u8]) -> Result<Got, Failed>
         requires { 0 < length buf.old }
-        ensures { Pulls result buf.new (spring self.old) (spring self.new) };
+        ensures { Takes result buf.new (source_view self.old) (source_view self.new) };
 
     /// Sets how many seconds it waits before it answers `Idle`: 3,600 in a new source.
     fn patience(&mut self, seconds: u32)
-        ensures { spring self.new ≡ waiting (spring self.old) seconds };
+        ensures { source_view self.new ≡ waiting (source_view self.old) seconds };
 }

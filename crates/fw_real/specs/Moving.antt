@@ -1,18 +1,18 @@
 -- The bytes that a reader has left and a writer holds, where those are known.
 use Rattle.std.specs.Prelude.{ℕ, List, [], take, Option, None, Result, Ok, Err}
 use Rattle.std.specs.Io.KnownBytes.{Appends, Consumes, IsAtEnd, Keeps}
-use Rattle.fw_outside.specs.Drain.{Drain}
-use Rattle.fw_outside.specs.Spring.{Spring}
+use Rattle.fw_outside.specs.SinkView.{SinkView}
+use Rattle.fw_outside.specs.SourceView.{SourceView}
 use Rattle.fw_outside.specs.declared.source.Got.{Got}
 use Rattle.fw_outside.specs.declared.source.Got.TheVariants.{Bytes, End, Idle}
 use Rattle.fw_outside.specs.declared.failed.Failed.{Failed}
 
 -- a source that tells only counts: so many bytes were taken, and so often it failed
-abbrev pub untold : ℕ → ℕ → ℕ → Spring
-untold amount faults waits = record { taken = None; left = None; amount = amount; faults = faults; idles = 0; waits = waits }
+abbrev pub untold_source : ℕ → ℕ → ℕ → SourceView
+untold_source amount faults waits = record { taken = None; left = None; amount = amount; faults = faults; idles = 0; waits = waits }
 
 -- a sink that tells nothing
-abbrev pub unseen : ℕ → Drain
+abbrev pub unseen : ℕ → SinkView
 unseen faults = record { given = None; shut = None; faults = faults }
 
 -- a take hands on the next bytes of the reader, its end, or its failure, at which it loses nothing

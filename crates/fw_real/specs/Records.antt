@@ -3,15 +3,15 @@ use Rattle.std.specs.Prelude.{◌≡◌, ◌⊎◌, ℕ, [], Option, Some, None,
 use Rattle.sqlite.specs.Files.{file_state, IsOpened}
 use Rattle.sqlite.specs.State.{State, HasCleanDisk, Executes}
 use Rattle.fw_outside.specs.Counts.{counted}
-use Rattle.fw_outside.specs.Vault.{Vault}
+use Rattle.fw_outside.specs.KeeperView.{KeeperView}
 use Rattle.fw_outside.specs.declared.keep_fault.KeepFault.{KeepFault}
 use Rattle.fw_outside.specs.declared.keep_fault.KeepFault.TheVariants.{Failed, NoMemory}
-use Rattle.fw_real.specs.Statements.{table_text}
+use Rattle.fw_real.specs.Statements.{create_text}
 use Rattle.fw_real.specs.declared.database.Database.{Database}
 
 -- a keeper that tells nothing
-abbrev pub untold : ℕ → Vault
-untold faults = record { table = None; faults = faults }
+abbrev pub untold_keeper : ℕ → KeeperView
+untold_keeper faults = record { table = None; faults = faults }
 
 -- the count after a refusal: want of memory is no failure
 abbrev pub after_fault : KeepFault → ℕ → ℕ
@@ -27,7 +27,7 @@ pub record IsReady (database : Database) : Type 0 where
   pub first : Database
   pub count : ℕ
   pub opened : IsOpened first.connection
-  pub made : Executes table_text [] (shown_by first) (shown_by database) (Ok count)
+  pub made : Executes create_text [] (shown_by first) (shown_by database) (Ok count)
 
 abbrev pub IsOpen : Database → Type 0
 IsOpen database = HasCleanDisk (shown_by database) → IsReady database

@@ -1,4 +1,5 @@
 -- The time of the system.
+-- No public clause cites these: they say what private functions answer.
 use Rattle.std.specs.Prelude.{ℕ, ◌/◌, Option, Some, None}
 use Rattle.std.specs.Duration.{as_nanos}
 use Rattle.std.specs.declared.time.Duration.{Duration}

@@ -29,7 +29,7 @@ impl<R: Clock> SystemClock<R> {
 }
 
 impl<R: Clock + Drop> fw_outside::Clock for SystemClock<R> {
-    ghost hours = { λ _. record { told = None } };
+    ghost clock_view = { λ _. record { told = None } };
 
     /// The seconds since 1970, rounded down; 0 where the clock stands before that, or can't be read.
     fn now(&mut self) -> u64 {

@@ -3,13 +3,14 @@ ghost use Rattle.std.specs.Prelude.{◌∷◌, [], IfOk, IfErr};
 ghost use Rattle.sqlite.specs.Files.{IsOpened};
 ghost use Rattle.sqlite.specs.State.{HasCleanDisk};
 ghost use Rattle.sqlite.specs.declared.types.Value.TheVariants.{Text, Blob};
-ghost use Rattle.fw_outside.specs.Keyed.{Ascends};
-ghost use Rattle.fw_outside.specs.Vault.{name_of};
+ghost use Rattle.fw_types.specs.Keyed.{Ascends};
+ghost use Rattle.fw_outside.specs.KeeperView.{entry_name};
 ghost use Rattle.fw_real.specs.Records.{IsOpen, shown_by};
-ghost use Rattle.fw_real.specs.Statements.{FailsToLoad, Loads, Runs, drop_text, put_text, table_text};
+ghost use Rattle.fw_real.specs.Statements.{FailsToLoad, Loads, Runs, drop_text, put_text, create_text};
 
-use crate::statements::{self, fault_of};
-use fw_outside::{KeepFault, Name, Octets};
+use crate::statements::{self, keep_fault_of};
+use fw_outside::KeepFault;
+use fw_types::{Name, Octets};
 use sqlite::{Connection, File, FileStore};
 use std::alloc::Global;
 use std::fs::OpenOptions;
@@ -49,7 +50,7 @@ fn connect(system: &HostRuntime, path: &str) -> Result<Database, KeepFault>
 {
     match Connection::open(system, path) {
         Ok(connection) => Ok(Database { connection }),
-        Err(error) => Err(fault_of(error)),
+        Err(error) => Err(keep_fault_of(error)),
     }
 }
 
@@ -72,30 +73,36 @@ impl Database {
     // Makes the table where there is none of its name.
     fn make_table(&mut self) -> Result<(), KeepFault>
         ensures clean { HasCleanDisk (shown_by self.new) → HasCleanDisk (shown_by self.old) }
-        ensures runs { HasCleanDisk (shown_by self.new) → Runs table_text [] (shown_by self.old) (shown_by self.new) result }
+        ensures runs { HasCleanDisk (shown_by self.new) →
+            Runs create_text [] (shown_by self.old) (shown_by self.new) result }
     {
         statements::make_table(&mut self.connection)
     }
 
-    /// Keeps the bytes under the name, in place of those that stood there. They are committed where it answers Ok.
+    /// Runs the statement that keeps the bytes under the name, in place of those that stood there. That the file has
+    /// them where it answers Ok is tested; that they survive a loss of power is trusted.
     pub(crate) fn put(&mut self, name: &Name, bytes: &[u8]) -> Result<(), KeepFault>
-        ensures { HasCleanDisk (shown_by self.new) → Runs put_text (Text name.now ∷ Blob bytes.now ∷ []) (shown_by self.old) (shown_by self.new) result }
+        ensures { HasCleanDisk (shown_by self.new) →
+            Runs put_text (Text name.now ∷ Blob bytes.now ∷ []) (shown_by self.old) (shown_by self.new) result }
     {
         statements::put(&mut self.connection, name, bytes)
     }
 
     /// Keeps nothing under the name.
     pub(crate) fn drop_name(&mut self, name: &Name) -> Result<(), KeepFault>
-        ensures { HasCleanDisk (shown_by self.new) → Runs drop_text (Text name.now ∷ []) (shown_by self.old) (shown_by self.new) result }
+        ensures { HasCleanDisk (shown_by self.new) →
+            Runs drop_text (Text name.now ∷ []) (shown_by self.old) (shown_by self.new) result }
     {
         statements::drop_name(&mut self.connection, name)
     }
 
     /// All names with their bytes, in the order of the names.
     pub(crate) fn load(&mut self, alloc: Global) -> Result<Vec<(Name, Octets)>, KeepFault>
-        ensures ordered { IfOk result (λ loaded. Ascends name_of loaded.items) }
-        ensures loaded { HasCleanDisk (shown_by self.new) → IfOk result (λ loaded. Loads (shown_by self.old) (shown_by self.new) loaded.items) }
-        ensures refused { HasCleanDisk (shown_by self.new) → IfErr result (FailsToLoad (shown_by self.old) (shown_by self.new)) }
+        ensures ordered { IfOk result (λ loaded. Ascends entry_name loaded.items) }
+        ensures loaded { HasCleanDisk (shown_by self.new) → IfOk result (λ loaded.
+            Loads (shown_by self.old) (shown_by self.new) loaded.items) }
+        ensures refused { HasCleanDisk (shown_by self.new) →
+            IfErr result (FailsToLoad (shown_by self.old) (shown_by self.new)) }
     {
         statements::load(alloc, &mut self.connection)
     }

@@ -1,6 +1,6 @@
 ghost use Rattle.std.specs.Prelude.{◌≡◌, ◌+◌, ◌%◌, ◌^◌, None, IfOk};
-ghost use Rattle.fw_outside.specs.Throws.{Falls};
-ghost use Rattle.fw_real.specs.Salts.{salt_of, untold_throws};
+ghost use Rattle.fw_outside.specs.DiceView.{GaveSalt};
+ghost use Rattle.fw_real.specs.Salts.{hashed_salt, untold_throws};
 
 use fw_outside::Dice;
 use std::hash::{BuildHasher, RandomState};
@@ -25,11 +25,11 @@ impl Salts {
 }
 
 impl Dice for Salts {
-    ghost throws = { λ _. untold_throws };
+    ghost dice_view = { λ _. untold_throws };
 
     fn salt(&mut self) -> [u8; 8]
-        ensures falls { Falls result untold_throws untold_throws }
-        ensures answer { result ≡ salt_of self.old.keys self.old.next }
+        ensures gave_salt { GaveSalt result untold_throws untold_throws }
+        ensures answer { result ≡ hashed_salt self.old.keys self.old.next }
         ensures once { self.new ≡ record self.old { next = (self.old.next + 1) % 2 ^ 64 } }
     {
         let number = self.next;

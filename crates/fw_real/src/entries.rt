@@ -1,10 +1,11 @@
 //! Rows of the table as names with their bytes.
 ghost use Rattle.std.specs.Prelude.{◌≡◌, ◌≢◌, ◌∷◌, ◌++◌, [], Some, None, IfOk, IfErr, OnOk, option_map};
-ghost use Rattle.fw_outside.specs.Keyed.{Ascends};
-ghost use Rattle.fw_outside.specs.Vault.{name_of};
+ghost use Rattle.fw_types.specs.Keyed.{Ascends};
+ghost use Rattle.fw_outside.specs.KeeperView.{entry_name};
 ghost use Rattle.fw_real.specs.Entries.{entry_of, is_behind, with_entry, with_row, with_rows};
 
-use fw_outside::{KeepFault, Name, Octets};
+use fw_outside::KeepFault;
+use fw_types::{Name, Octets};
 use sqlite::Row;
 use sqlite::types::ValueRef;
 use std::alloc::Global;
@@ -58,8 +59,8 @@ fn push(entries: &mut Vec<(Name, Octets)>, entry: (Name, Octets)) -> Result<(), 
 
 // Adds an entry at the end, where its name belongs there.
 fn add(entries: &mut Vec<(Name, Octets)>, entry: (Name, Octets)) -> Result<(), KeepFault>
-    requires { Ascends name_of entries.old.items }
-    ensures ordered { OnOk result (Ascends name_of entries.new.items) }
+    requires { Ascends entry_name entries.old.items }
+    ensures ordered { OnOk result (Ascends entry_name entries.new.items) }
     ensures ok { OnOk result (with_entry entries.old.items entry ≡ Some entries.new.items) }
     ensures err { IfErr result (λ fault. fault ≢ KeepFault.NoMemory → with_entry entries.old.items entry ≡ None) }
 {
@@ -72,8 +73,8 @@ fn add(entries: &mut Vec<(Name, Octets)>, entry: (Name, Octets)) -> Result<(), K
 
 // Adds the entry of a row at the end.
 fn add_row(alloc: Global, entries: &mut Vec<(Name, Octets)>, row: &Row) -> Result<(), KeepFault>
-    requires { Ascends name_of entries.old.items }
-    ensures ordered { OnOk result (Ascends name_of entries.new.items) }
+    requires { Ascends entry_name entries.old.items }
+    ensures ordered { OnOk result (Ascends entry_name entries.new.items) }
     ensures ok { OnOk result (with_row entries.old.items row.now ≡ Some entries.new.items) }
     ensures err { IfErr result (λ fault. fault ≢ KeepFault.NoMemory → with_row entries.old.items row.now ≡ None) }
 {
@@ -85,7 +86,7 @@ fn add_row(alloc: Global, entries: &mut Vec<(Name, Octets)>, row: &Row) -> Resul
 
 /// The entries of the rows, each of which has a name that comes behind the one before.
 pub(crate) fn read_all(alloc: Global, rows: &[Row]) -> Result<Vec<(Name, Octets)>, KeepFault>
-    ensures ordered { IfOk result (λ entries. Ascends name_of entries.items) }
+    ensures ordered { IfOk result (λ entries. Ascends entry_name entries.items) }
     ensures ok { IfOk result (λ entries. with_rows [] rows.now ≡ Some entries.items) }
     ensures err { IfErr result (λ fault. fault ≢ KeepFault.NoMemory → with_rows [] rows.now ≡ None) }
 {

@@ -1,20 +1,22 @@
 ghost use Rattle.std.specs.Prelude.{◌≡◌, ◌∷◌, [], Some, None, Ok, Err, IfOk, IfErr, OnOk, OnErr, MatchOption};
 ghost use Rattle.fw_outside.specs.Counts.{counted};
-ghost use Rattle.fw_outside.specs.Keyed.{Ascends};
-ghost use Rattle.fw_outside.specs.Vault.{AreLoaded, Refuses, Sets, name_of};
+ghost use Rattle.fw_types.specs.Keyed.{Ascends};
+ghost use Rattle.fw_outside.specs.KeeperView.{AreLoaded, Refuses, Sets, entry_name};
 ghost use Rattle.sqlite.specs.declared.types.Value.TheVariants.{Text, Blob};
-ghost use Rattle.fw_real.specs.Records.{Did, IsOpen, StaysClosed, StaysClosedOrDid, after_fault, untold};
+ghost use Rattle.fw_real.specs.Records.{Did, IsOpen, StaysClosed, StaysClosedOrDid, after_fault, untold_keeper};
 ghost use Rattle.fw_real.specs.Statements.{FailsToLoad, Loads, Runs, drop_text, put_text};
 
 use crate::database::Database;
-use fw_outside::{KeepFault, Keeper, Name, NoMemory, Octets};
+use fw_outside::{KeepFault, Keeper};
+use fw_types::{Name, NoMemory, Octets};
 
-/// Records in a file, which is a database of SQLite with the table `user (name TEXT PRIMARY KEY NOT NULL, record BLOB NOT NULL)`.
+/// Records in a file, which is a database of SQLite with the table `user (name TEXT PRIMARY KEY NOT NULL, record BLOB
+/// NOT NULL)`.
 ///
-/// The file is opened at the first call, and made where it is missing, for its owner alone. It is locked as long as it is
-/// open, so nobody else can open it, and a file that somebody else has open is a failure. Once it is open it stays open
-/// until the records are dropped, also where a call is refused. A call that couldn't open it leaves it closed, and the next
-/// one tries again. A file that is no database, or a damaged one, is refused and left as it is.
+/// The file is opened at the first call, and made where it is missing, for its owner alone. It is locked as long as it
+/// is open, so nobody else can open it, and a file that somebody else has open is a failure. Once it is open it stays
+/// open until the records are dropped, also where a call is refused. A call that couldn't open it leaves it closed, and
+/// the next one tries again. A file that is no database, or a damaged one, is refused and left as it is.
 #[derive(Drop)]
 pub struct Records {
     system: HostRuntime,
@@ -40,7 +42,8 @@ impl Records {
 
     // The open database, which is taken out, or the file opened.
     fn take_open(&mut self) -> Result<Database, KeepFault>
-        ensures open { IfOk result (λ database. MatchOption self.old.database (IsOpen database) (λ old. database ≡ old)) }
+        ensures open { IfOk result (λ database. MatchOption self.old.database (IsOpen database) (λ old.
+            database ≡ old)) }
         ensures closed { OnErr result (StaysClosed self.old.database self.new.database) }
         ensures faults { self.new.faults ≡ self.old.faults }
         ensures path { self.new.path ≡ self.old.path }
@@ -52,8 +55,12 @@ impl Records {
     }
 
     fn put_in_file(&mut self, name: &Name, bytes: &[u8]) -> Result<(), KeepFault>
-        ensures did { OnOk result (Did (λ old new. Runs put_text (Text name.now ∷ Blob bytes.now ∷ []) old new (Ok (record {}))) self.old.database self.new.database) }
-        ensures not_done { IfErr result (λ fault. StaysClosedOrDid (λ old new. Runs put_text (Text name.now ∷ Blob bytes.now ∷ []) old new (Err fault)) self.old.database self.new.database) }
+        ensures did { OnOk result (Did (λ old new.
+            Runs put_text (Text name.now ∷ Blob bytes.now ∷ []) old new (Ok (record {}))) self.old.database
+            self.new.database) }
+        ensures not_done { IfErr result (λ fault. StaysClosedOrDid (λ old new.
+            Runs put_text (Text name.now ∷ Blob bytes.now ∷ []) old new (Err fault)) self.old.database
+            self.new.database) }
         ensures faults { self.new.faults ≡ self.old.faults }
         ensures path { self.new.path ≡ self.old.path }
     {
@@ -64,8 +71,10 @@ impl Records {
     }
 
     fn drop_in_file(&mut self, name: &Name) -> Result<(), KeepFault>
-        ensures did { OnOk result (Did (λ old new. Runs drop_text (Text name.now ∷ []) old new (Ok (record {}))) self.old.database self.new.database) }
-        ensures not_done { IfErr result (λ fault. StaysClosedOrDid (λ old new. Runs drop_text (Text name.now ∷ []) old new (Err fault)) self.old.database self.new.database) }
+        ensures did { OnOk result (Did (λ old new.
+            Runs drop_text (Text name.now ∷ []) old new (Ok (record {}))) self.old.database self.new.database) }
+        ensures not_done { IfErr result (λ fault. StaysClosedOrDid (λ old new.
+            Runs drop_text (Text name.now ∷ []) old new (Err fault)) self.old.database self.new.database) }
         ensures faults { self.new.faults ≡ self.old.faults }
         ensures path { self.new.path ≡ self.old.path }
     {
@@ -76,9 +85,11 @@ impl Records {
     }
 
     fn load_from_file(&mut self) -> Result<Vec<(Name, Octets)>, KeepFault>
-        ensures ordered { IfOk result (λ loaded. Ascends name_of loaded.items) }
-        ensures did { IfOk result (λ loaded. Did (λ old new. Loads old new loaded.items) self.old.database self.new.database) }
-        ensures not_done { IfErr result (λ fault. StaysClosedOrDid (λ old new. FailsToLoad old new fault) self.old.database self.new.database) }
+        ensures ordered { IfOk result (λ loaded. Ascends entry_name loaded.items) }
+        ensures did { IfOk result (λ loaded. Did (λ old new.
+            Loads old new loaded.items) self.old.database self.new.database) }
+        ensures not_done { IfErr result (λ fault. StaysClosedOrDid (λ old new.
+            FailsToLoad old new fault) self.old.database self.new.database) }
         ensures faults { self.new.faults ≡ self.old.faults }
         ensures path { self.new.path ≡ self.old.path }
     {
@@ -91,7 +102,7 @@ impl Records {
     // Counts a failure; want of memory isn't one.
     fn count(&mut self, fault: KeepFault) -> KeepFault
         ensures answer { result ≡ fault }
-        ensures refuses { Refuses fault (untold self.old.faults) (untold self.new.faults) }
+        ensures refuses { Refuses fault (untold_keeper self.old.faults) (untold_keeper self.new.faults) }
         ensures is { self.new ≡ record self.old { faults = after_fault fault self.old.faults } }
     {
         if fault == KeepFault::Failed {
@@ -102,12 +113,17 @@ impl Records {
 }
 
 impl Keeper for Records {
-    ghost vault = { λ r. untold r.faults };
+    ghost keeper_view = { λ r. untold_keeper r.faults };
 
     fn put(&mut self, name: &Name, bytes: &[u8]) -> Result<(), KeepFault>
-        ensures sets { Sets result name.now (Some bytes.now) (untold self.old.faults) (untold self.new.faults) }
-        ensures did { OnOk result (Did (λ old new. Runs put_text (Text name.now ∷ Blob bytes.now ∷ []) old new (Ok (record {}))) self.old.database self.new.database) }
-        ensures not_done { IfErr result (λ fault. StaysClosedOrDid (λ old new. Runs put_text (Text name.now ∷ Blob bytes.now ∷ []) old new (Err fault)) self.old.database self.new.database) }
+        ensures sets { Sets result name.now (Some bytes.now) (untold_keeper self.old.faults) (untold_keeper
+            self.new.faults) }
+        ensures did { OnOk result (Did (λ old new.
+            Runs put_text (Text name.now ∷ Blob bytes.now ∷ []) old new (Ok (record {}))) self.old.database
+            self.new.database) }
+        ensures not_done { IfErr result (λ fault. StaysClosedOrDid (λ old new.
+            Runs put_text (Text name.now ∷ Blob bytes.now ∷ []) old new (Err fault)) self.old.database
+            self.new.database) }
         ensures path { self.new.path ≡ self.old.path }
     {
         match self.put_in_file(name, bytes) {
@@ -117,9 +133,11 @@ impl Keeper for Records {
     }
 
     fn drop_name(&mut self, name: &Name) -> Result<(), KeepFault>
-        ensures sets { Sets result name.now None (untold self.old.faults) (untold self.new.faults) }
-        ensures did { OnOk result (Did (λ old new. Runs drop_text (Text name.now ∷ []) old new (Ok (record {}))) self.old.database self.new.database) }
-        ensures not_done { IfErr result (λ fault. StaysClosedOrDid (λ old new. Runs drop_text (Text name.now ∷ []) old new (Err fault)) self.old.database self.new.database) }
+        ensures sets { Sets result name.now None (untold_keeper self.old.faults) (untold_keeper self.new.faults) }
+        ensures did { OnOk result (Did (λ old new.
+            Runs drop_text (Text name.now ∷ []) old new (Ok (record {}))) self.old.database self.new.database) }
+        ensures not_done { IfErr result (λ fault. StaysClosedOrDid (λ old new.
+            Runs drop_text (Text name.now ∷ []) old new (Err fault)) self.old.database self.new.database) }
         ensures path { self.new.path ≡ self.old.path }
     {
         match self.drop_in_file(name) {
@@ -129,10 +147,14 @@ impl Keeper for Records {
     }
 
     fn load(&mut self) -> Result<Vec<(Name, Octets)>, KeepFault>
-        ensures loaded { IfOk result (λ loaded. AreLoaded loaded.items (untold self.old.faults) (untold self.new.faults)) }
-        ensures refused { IfErr result (λ fault. Refuses fault (untold self.old.faults) (untold self.new.faults)) }
-        ensures did { IfOk result (λ loaded. Did (λ old new. Loads old new loaded.items) self.old.database self.new.database) }
-        ensures not_done { IfErr result (λ fault. StaysClosedOrDid (λ old new. FailsToLoad old new fault) self.old.database self.new.database) }
+        ensures loaded { IfOk result (λ loaded.
+            AreLoaded loaded.items (untold_keeper self.old.faults) (untold_keeper self.new.faults)) }
+        ensures refused { IfErr result (λ fault.
+            Refuses fault (untold_keeper self.old.faults) (untold_keeper self.new.faults)) }
+        ensures did { IfOk result (λ loaded. Did (λ old new.
+            Loads old new loaded.items) self.old.database self.new.database) }
+        ensures not_done { IfErr result (λ fault. StaysClosedOrDid (λ old new.
+            FailsToLoad old new fault) self.old.database self.new.database) }
         ensures path { self.new.path ≡ self.old.path }
     {
         match self.load_from_file() {
@@ -141,6 +163,3 @@ impl Keeper for Records {
         }
     }
 }
-
-#[cfg(test)]
-mod tests;

@@ -1,12 +1,13 @@
-//! The devices of a process: what it reads and writes, files by their paths, the time, random bytes, and records in a file.
+//! The devices of a process: what it reads and writes, files by their paths, the time, random bytes, and records in a
+//! file.
 //!
 //! Each is one of the devices of `fw_outside` over the real thing. None tells what it holds, since no contract can say
-//! what the system gives or takes; each that can fail counts its failures in a count of 64 bits that stands still at its
-//! last value; a clock that can't be read says 0, and counts nothing. So what the contracts promise is that a call that
-//! was refused is answered as refused and counted, that no other call is counted, and that each call is handed on:
+//! what the system gives or takes; each that can fail counts its failures in a count of 64 bits that stands still at
+//! its last value; a clock that can't be read says 0, and counts nothing. So what the contracts promise is that a call
+//! that was refused is answered as refused and counted, that no other call is counted, and that each call is handed on:
 //! [`Reading`] and [`Writing`] give on exactly the bytes that their reader and their writer say they have moved, and
-//! [`Records`] runs exactly the statements of its texts, with the name and the bytes as their parameters, answers as they
-//! answered, and loads what the query showed, row by row, in the order of the names.
+//! [`Records`] runs exactly the statements of its texts, with the name and the bytes as their parameters, answers as
+//! they answered, and loads what the query showed, row by row, in the order of the names.
 #![tactic(auto)]
 
 mod clock;
@@ -25,6 +26,3 @@ pub use keeper::Records;
 pub use paths::Paths;
 pub use reading::Reading;
 pub use writing::Writing;
-
-#[cfg(test)]
-mod tests;

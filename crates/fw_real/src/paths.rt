@@ -39,7 +39,7 @@ impl<R: FileSystem> Paths<R> {
 impl<R: FileSystem + Drop> Files for Paths<R> {
     type Src = Reading<R::File>;
 
-    ghost cabinet = { λ s. record { holds = None; missing = s.missing; read_faults = s.read_faults; out = s.out } };
+    ghost files_view = { λ s. record { holds = None; missing = s.missing; read_faults = s.read_faults; out = s.out } };
 
     fn source(&mut self, name: &[u8]) -> Option<Reading<R::File>> {
         let file = self.open(name);

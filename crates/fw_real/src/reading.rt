@@ -1,7 +1,7 @@
 ghost use Rattle.std.specs.Prelude.{◌≡◌, ◌<◌, length, nat_lt};
 ghost use Rattle.fw_outside.specs.Counts.{Grew};
-ghost use Rattle.fw_outside.specs.Spring.{Pulls, waiting};
-ghost use Rattle.fw_real.specs.Moving.{HandsOn, untold};
+ghost use Rattle.fw_outside.specs.SourceView.{Takes, waiting};
+ghost use Rattle.fw_real.specs.Moving.{HandsOn, untold_source};
 
 use fw_outside::{Failed, Got, Source};
 use std::io::Read;
@@ -13,8 +13,8 @@ fn amount_after(amount: u64, count: usize) -> u64
     amount.saturating_add(count as u64)
 }
 
-/// Bytes that are read to their end: those of standard input, or of a file. It never waits for bytes that come later, so
-/// it is never idle. It counts the bytes that it gave.
+/// Bytes that are read to their end: those of standard input, or of a file. It never waits for bytes that come later,
+/// so it is never idle. It counts the bytes that it gave.
 #[derive(Drop)]
 pub struct Reading<R: Read> {
     from: R,
@@ -48,11 +48,12 @@ impl<R: Read> Reading<R> {
 }
 
 impl<R: Read + Drop> Source for Reading<R> {
-    ghost spring = { λ s. untold s.amount s.faults s.waits };
+    ghost source_view = { λ s. untold_source s.amount s.faults s.waits };
 
     fn take(&mut self, buf: &mut [u8]) -> Result<Got, Failed>
         requires { 0 < length buf.old }
-        ensures pulls { Pulls result buf.new (untold self.old.amount self.old.faults self.old.waits) (untold self.new.amount self.new.faults self.new.waits) }
+        ensures takes { Takes result buf.new (untold_source self.old.amount self.old.faults self.old.waits)
+            (untold_source self.new.amount self.new.faults self.new.waits) }
         ensures bytes { HandsOn result buf.new (R.remaining self.old.from) (R.remaining self.new.from) }
     {
         match self.from.read(buf) {
@@ -69,7 +70,8 @@ impl<R: Read + Drop> Source for Reading<R> {
     }
 
     fn patience(&mut self, seconds: u32)
-        ensures waits { untold self.new.amount self.new.faults self.new.waits ≡ waiting (untold self.old.amount self.old.faults self.old.waits) seconds }
+        ensures waits { untold_source self.new.amount self.new.faults self.new.waits ≡ waiting (untold_source
+            self.old.amount self.old.faults self.old.waits) seconds }
         ensures from { self.new.from ≡ self.old.from }
     {
         self.waits = seconds;

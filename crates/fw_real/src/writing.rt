@@ -1,7 +1,7 @@
 ghost use Rattle.std.specs.Prelude.{◌≡◌};
 ghost use Rattle.std.specs.Io.KnownBytes.{Keeps};
 ghost use Rattle.fw_outside.specs.Counts.{Rose, counted};
-ghost use Rattle.fw_outside.specs.Drain.{Gives, Ends};
+ghost use Rattle.fw_outside.specs.SinkView.{Gives, TellsEnd};
 ghost use Rattle.fw_real.specs.Moving.{Writes, unseen};
 
 use fw_outside::{Failed, Sink};
@@ -33,7 +33,7 @@ impl<W: Write> Writing<W> {
 }
 
 impl<W: Write + Drop> Sink for Writing<W> {
-    ghost drain = { λ s. unseen s.faults };
+    ghost sink_view = { λ s. unseen s.faults };
 
     fn give(&mut self, piece: &[u8]) -> Result<(), Failed>
         ensures gives { Gives result piece.now (unseen self.old.faults) (unseen self.new.faults) }
@@ -46,7 +46,7 @@ impl<W: Write + Drop> Sink for Writing<W> {
     }
 
     fn end(&mut self) -> Result<(), Failed>
-        ensures ends { Ends result (unseen self.old.faults) (unseen self.new.faults) }
+        ensures ends { TellsEnd result (unseen self.old.faults) (unseen self.new.faults) }
         ensures bytes { Keeps (W.contents self.old.to) (W.contents self.new.to) }
     {
         match self.to.flush() {

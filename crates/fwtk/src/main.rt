@@ -1,50 +1,29 @@
-//! The firewall's program: whoever comes from outside gets no further than the first matching line of the permission table
-//! allows.
+//! The firewall's program: makes the devices of a process and calls `bastion::run` over them.
 //!
-//! [`run`] is the call that the program makes, over devices that are handed in: the files with the table, standard input and
-//! output, the log, the clock, the dice and the keeper of the users' records. Its contract says, for every command line,
-//! every table and every way in which a device may fail, which status it answers and what it leaves: wherever `netacl` has
-//! printed anything, the line of its verdict stands whole in the log; what is printed and logged is told byte for byte, where
-//! the devices tell it; the replies that a client of `authsrv` is told are those of a legal history; and each status but 5,
-//! want of memory, has its cause: in the words, in a limit, in the count of a device that rose, or, where the devices tell
-//! what they hold, in the table's text and the records. [`conn`] serves one client. `main` makes the devices of a process,
-//! and answers `--help` and `--version`.
+//! `main` has no contract of its own. It answers `--help` and `--version`.
 #![tactic(auto)]
 
-use fw_outside::{Dice, MemDice, NoMemory, Octets, Sink};
+use bastion::{Command, Device, Fault, World, places, read_command, run};
+use fw_memory::MemDice;
+use fw_outside::{Dice, Sink};
 use fw_real::{Paths, Reading, Records, Salts, SystemClock, Writing};
+use fw_types::Octets;
 use process::Process;
 use std::env;
 use std::io::{ErrorKind, Stdout};
 use std::process::ExitCode;
 
-mod authsrv;
-mod conn;
-mod deciding;
-mod ending_line;
-mod fault;
-mod finding;
-mod kit;
-mod orders;
-mod place_names;
 mod process;
-mod run;
-mod sheet;
-mod texts;
-mod words;
 
-pub use conn::conn;
-pub use ending_line::{denied_line, ending_line, ending_status};
-pub use fault::{Device, Fault};
-pub use kit::{Kit, World};
-pub use orders::Orders;
-pub use place_names::Places;
-pub use run::run;
-pub use texts::LogLine;
-pub use words::{Command, Query, Visit, places, read_command, table_named};
-
-const HELP: &[u8] =
-    b"usage: fwtk [-t FILE] netacl DAEMON ADDR [NAME]\n       fwtk [-t FILE] table SERVICE ADDR [NAME]\n       fwtk [-t FILE] [-r FILE] authsrv [-console] ADDR [NAME]\n";
+const HELP: &[u8] = b"\
+usage: fwtk [-t FILE] netacl DAEMON ADDRESS [NAME]
+       fwtk [-t FILE] table SERVICE ADDRESS [NAME]
+       fwtk [-t FILE] [-r FILE] authsrv [-console] ADDRESS [NAME]
+       fwtk --help | --version
+  -t FILE  the permission table, /usr/local/etc/netperm-table by default
+  -r FILE  the records of users, authdb in the current directory by default
+fwtk(8) lists the exit statuses; netacl(8), authsrv(8) and netperm-table(5) have the rest.
+";
 
 const VERSION: &[u8] = b"fwtk 2.1\n";
 
@@ -79,7 +58,7 @@ fn tell(rt: &HostRuntime, fault: Fault) -> u8 {
     fault.status()
 }
 
-// Whether the words ask for a session. No other command throws dice.
+// Whether the words ask for a session. No other command draws salts.
 fn is_session(words: &[Octets]) -> bool {
     matches!(read_command(words), Some(Command::Authsrv(_)))
 }
@@ -126,30 +105,3 @@ fn main(rt: HostRuntime) -> ExitCode {
         Err(fault) => ExitCode::from(tell(&rt, fault)),
     }
 }
-
-#[cfg(test)]
-mod session_client_tests;
-#[cfg(test)]
-mod session_close_tests;
-#[cfg(test)]
-mod session_limit_tests;
-#[cfg(test)]
-mod session_log_tests;
-#[cfg(test)]
-mod session_refusal_rows;
-#[cfg(test)]
-mod session_refusal_tests;
-#[cfg(test)]
-mod session_rows;
-#[cfg(test)]
-mod session_stage;
-#[cfg(test)]
-mod session_tests;
-#[cfg(test)]
-mod session_told;
-#[cfg(test)]
-mod session_wizard_rows;
-#[cfg(test)]
-mod tests;
-#[cfg(test)]
-mod words_tests;

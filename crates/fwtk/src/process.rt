@@ -1,6 +1,6 @@
 //! The devices of a process.
 
-use crate::Kit;
+use bastion::Kit;
 use fw_outside::Dice;
 use fw_real::{Paths, Reading, Records, SystemClock, Writing};
 use std::io::{Stderr, Stdin, Stdout};

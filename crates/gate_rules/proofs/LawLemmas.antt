@@ -7,23 +7,23 @@ use Rattle.std.proofs.lemmas.List.{length-append, take-append-le, take_all}
 use Rattle.std.proofs.lemmas.List.Elements.{filter-append}
 use Rattle.std.proofs.lemmas.List.Folds.{list_all-append}
 use Rattle.std.proofs.Math.Seq.{take-append-add}
-use Rattle.fw_outside.specs.declared.peer.Peer.{Peer}
+use Rattle.fw_types.specs.declared.peer.Peer.{Peer}
 use Rattle.host_pattern.specs.declared.word.Word.{Word}
 use Rattle.netperm_table.specs.declared.line.Line.{Line}
 use Rattle.gate_rules.specs.declared.fault.RuleFault.{RuleFault}
 use Rattle.gate_rules.specs.declared.fault.Why.{Why}
 use Rattle.gate_rules.specs.declared.fault.Why.TheVariants.{BadPattern, TooMany}
-use Rattle.gate_rules.specs.declared.given.Given.{Given}
+use Rattle.gate_rules.specs.declared.parsed_option.ParsedOption.{ParsedOption}
 use Rattle.gate_rules.specs.declared.rule.Rule.{Rule}
-use Rattle.gate_rules.specs.declared.said.Said.{Said}
+use Rattle.gate_rules.specs.declared.line_effect.LineEffect.{LineEffect}
 use Rattle.gate_rules.specs.declared.service.Service.{Service}
 use Rattle.gate_rules.specs.declared.setting.Assigned.{Assigned}
 use Rattle.gate_rules.specs.Lists.{is_pattern, mapped, patterns_of}
-use Rattle.gate_rules.specs.Options.{given_then, givens_after, option_at, width_at}
-use Rattle.gate_rules.specs.Reading.{RuleBook, book_of, closed, is_of, last_rules, rules_of, said_by, said_then}
+use Rattle.gate_rules.specs.Options.{option_then, options_after, option_at, width_at}
+use Rattle.gate_rules.specs.Reading.{RuleBook, book_of, closed, is_of, last_rules, rules_of, effect_of, effect_then}
 use Rattle.gate_rules.specs.Service.{is_smap, keyword}
-use Rattle.gate_rules.specs.Verdict.{decided_by, matches, verdict_of}
-use Rattle.gate_rules.proofs.DraftLemmas.{after_drop, begins}
+use Rattle.gate_rules.specs.Verdict.{decided_by, rule_matches, verdict_of}
+use Rattle.gate_rules.proofs.OptionsBuilderLemmas.{after_drop, begins}
 
 -- lines
 
@@ -40,29 +40,29 @@ other_lines service before line after e =
     filter-append p before (line ∷ after) ∙ ap (λ xs. filter p before ++ xs) (left_out p line after e) ∙ sym (filter-append p before after) in
     ap (λ lines. closed (last_rules (is_smap service)) (book_of service lines)) same
 
-good_so_far : (number : ℕ) (said : Result Said Why) (book : Result RuleBook RuleFault) (fault : RuleFault) → is_ok (said_then number said book) ≡ true → (said_then number said (Err fault) ≡ Err fault) × (is_ok book ≡ true)
+good_so_far : (number : ℕ) (effect : Result LineEffect Why) (book : Result RuleBook RuleFault) (fault : RuleFault) → is_ok (effect_then number effect book) ≡ true → (effect_then number effect (Err fault) ≡ Err fault) × (is_ok book ≡ true)
 good_so_far number (Err why) book fault h = absurd (cc)
-good_so_far number (Ok said) (Err other) fault h = absurd (cc)
-good_so_far number (Ok said) (Ok book) fault h = (refl, refl)
+good_so_far number (Ok effect) (Err other) fault h = absurd (cc)
+good_so_far number (Ok effect) (Ok book) fault h = (refl, refl)
 
 then_fault : (service : Service) (before more : List Line) (fault : RuleFault) → is_ok (book_of service before) ≡ true → book_of service more ≡ Err fault → book_of service (before ++ more) ≡ Err fault
 then_fault service [] more fault h e = e
 then_fault service (line ∷ before) more fault h e =
-    let p = good_so_far line.number (said_by service line) (book_of service before) fault h in
-    ap (said_then line.number (said_by service line)) (then_fault service before more fault p.1 e) ∙ p.0
+    let p = good_so_far line.number (effect_of service line) (book_of service before) fault h in
+    ap (effect_then line.number (effect_of service line)) (then_fault service before more fault p.1 e) ∙ p.0
 
 open_book : (last : List Rule) (book : Result RuleBook RuleFault) → is_ok (closed last book) ≡ true → is_ok book ≡ true
 open_book last (Ok book) h = refl
 open_book last (Err fault) h = h
 
 pub first_bad_line : (service : Service) (before : List Line) (line : Line) (after : List Line) (why : Why)
-    → IsTrue (is_ok (rules_of service before)) → IsTrue (is_of (keyword service) line) → said_by service line ≡ Err why
+    → IsTrue (is_ok (rules_of service before)) → IsTrue (is_of (keyword service) line) → effect_of service line ≡ Err why
     → rules_of service (before ++ line ∷ after) ≡ Err (record { line = line.number; why = why })
 first_bad_line service before line after why good ours bad =
     let p : Line → Bool = is_of (keyword service) in
     let last : List Rule = last_rules (is_smap service) in
     let fault : RuleFault = record { line = line.number; why = why } in
-    let here : book_of service (line ∷ filter p after) ≡ Err fault = ap (λ said. said_then line.number said (book_of service (filter p after))) bad in
+    let here : book_of service (line ∷ filter p after) ≡ Err fault = ap (λ effect. effect_then line.number effect (book_of service (filter p after))) bad in
     let so_far : is_ok (book_of service (filter p before)) ≡ true = open_book last (book_of service (filter p before)) good in
     let same : filter p (before ++ line ∷ after) ≡ filter p before ++ line ∷ filter p after =
     filter-append p before (line ∷ after) ∙ ap (λ xs. filter p before ++ xs) (kept p line after ours) in
@@ -101,11 +101,11 @@ earlier_bad words word more few bad =
 
 -- options
 
-pub follow : (service : Service) (word : Word) (words : List Word) (given : Given) → option_at service word words ≡ Ok given
-    → givens_after service 0 (word ∷ words) ≡ mapped (λ more. given ∷ more) (givens_after service 0 (drop (width_at service word words) words))
-follow service word words given e =
-    begins service word words ∙ ap (λ r. given_then r (givens_after service (width_at service word words) words)) e
-    ∙ ap (mapped (λ more. given ∷ more)) (after_drop service (width_at service word words) words)
+pub follow : (service : Service) (word : Word) (words : List Word) (option : ParsedOption) → option_at service word words ≡ Ok option
+    → options_after service 0 (word ∷ words) ≡ mapped (λ more. option ∷ more) (options_after service 0 (drop (width_at service word words) words))
+follow service word words option e =
+    begins service word words ∙ ap (λ r. option_then r (options_after service (width_at service word words) words)) e
+    ∙ ap (mapped (λ more. option ∷ more)) (after_drop service (width_at service word words) words)
 
 -- verdicts
 
@@ -118,7 +118,7 @@ found p [] x after h e = rw e refl
 found p (y ∷ before) x after h e = past (p y) y x (find p before) (find p (before ++ x ∷ after)) h (λ none. found p before x after none e)
 
 pub first_match : (before : List Rule) (rule : Rule) (after : List Rule) (settings : List Assigned) (peer : Peer)
-    → find (matches peer) before ≡ None → IsTrue (matches peer rule)
+    → find (rule_matches peer) before ≡ None → IsTrue (rule_matches peer rule)
     → verdict_of (record { rules = before ++ rule ∷ after; settings = settings }) peer ≡ decided_by (Some rule)
 unfolding verdict_of
-first_match before rule after settings peer none here = ap decided_by (found (matches peer) before rule after none here)
+first_match before rule after settings peer none here = ap decided_by (found (rule_matches peer) before rule after none here)

@@ -1,4 +1,4 @@
-pub mod DraftLemmas
+pub mod OptionsBuilderLemmas
 pub mod LawLemmas
 pub mod ListsLemmas
 pub mod RulesLemmas

@@ -5,7 +5,7 @@ use Rattle.std.specs.List.{list_all, enumerate_from}
 use Rattle.std.proofs.lemmas.Bool.Decides.{nat_tests}
 use Rattle.std.proofs.lemmas.List.{append-nil, drop_all, length-take, take_all}
 use Rattle.host_pattern.specs.Pattern.{Written, parsed}
-use Rattle.host_pattern.specs.PatternList.{bad, good, list_parsed, unless_bad}
+use Rattle.host_pattern.specs.PatternList.{bad, good, list_parsed, unless_any_bad}
 use Rattle.host_pattern.specs.declared.fault.ListFault.{ListFault}
 use Rattle.host_pattern.specs.declared.fault.PatternFault.{PatternFault}
 use Rattle.host_pattern.specs.declared.word.Word.{Word}
@@ -41,7 +41,7 @@ one_bad n (w ∷ words) first others h = by (parsed w.text) refl (λ more. one_b
     by (Err why) e more = rw e refl
 
 -- how a list of 1 to 64 words is read
-read_by : (few : List Word) → (length few == 0) ≡ false → nat_lt 64 (length few) ≡ false → list_parsed few ≡ unless_bad (filter_map bad (enumerate_from 0 few)) (filter_map good few)
+read_by : (few : List Word) → (length few == 0) ≡ false → nat_lt 64 (length few) ≡ false → list_parsed few ≡ unless_any_bad (filter_map bad (enumerate_from 0 few)) (filter_map good few)
 unfolding list_parsed
 read_by few some short = rw (some, short) refl
 
@@ -51,7 +51,7 @@ first_some words some = grind (arith, nat_tests, length-take 64 words)
 first_short : (words : List Word) → nat_lt 64 (length (take 64 words)) ≡ false
 first_short words = grind (arith, nat_tests, length-take 64 words)
 
-read_first : (words : List Word) → (length words == 0) ≡ false → list_parsed (take 64 words) ≡ unless_bad (filter_map bad (enumerate_from 0 (take 64 words))) (filter_map good (take 64 words))
+read_first : (words : List Word) → (length words == 0) ≡ false → list_parsed (take 64 words) ≡ unless_any_bad (filter_map bad (enumerate_from 0 (take 64 words))) (filter_map good (take 64 words))
 read_first words some = read_by (take 64 words) (first_some words some) (first_short words)
 
 -- the patterns of the first 64 words are those of all, unless there are more
@@ -64,7 +64,7 @@ pub members_read : (words few : List Word) (patterns : List Written) → few ≡
 unfolding patterns_of
 members_read words few patterns first some read = by (filter_map bad (enumerate_from 0 (take 64 words))) refl
   where
-    is : unless_bad (filter_map bad (enumerate_from 0 (take 64 words))) (filter_map good (take 64 words)) ≡ Ok patterns
+    is : unless_any_bad (filter_map bad (enumerate_from 0 (take 64 words))) (filter_map good (take 64 words)) ≡ Ok patterns
     is = sym (read_first words some) ∙ ap list_parsed (sym first) ∙ read
 
     by : (bads : List (ℕ × PatternFault)) → filter_map bad (enumerate_from 0 (take 64 words)) ≡ bads → (if nat_lt 64 (length words) then Err TooMany else Ok patterns) ≡ patterns_of words
@@ -77,7 +77,7 @@ pub members_bad : (words few : List Word) (fault : ListFault) → few ≡ take 6
 unfolding patterns_of
 members_bad words few fault first some read = by (filter_map bad (enumerate_from 0 (take 64 words))) refl
   where
-    is : unless_bad (filter_map bad (enumerate_from 0 (take 64 words))) (filter_map good (take 64 words)) ≡ Err fault
+    is : unless_any_bad (filter_map bad (enumerate_from 0 (take 64 words))) (filter_map good (take 64 words)) ≡ Err fault
     is = sym (read_first words some) ∙ ap list_parsed (sym first) ∙ read
 
     by : (bads : List (ℕ × PatternFault)) → filter_map bad (enumerate_from 0 (take 64 words)) ≡ bads → Err BadPattern ≡ patterns_of words

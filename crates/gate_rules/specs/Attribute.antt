@@ -23,8 +23,8 @@ named_setting text =
     else Other
 
 -- the attribute with this name
-abbrev pub named : List ℕ → Attribute
-named text =
+abbrev pub attribute_named : List ℕ → Attribute
+attribute_named text =
     if bytes_eq text (codes "permit-hosts") || bytes_eq text (codes "hosts") then Permit
     else if bytes_eq text (codes "deny-hosts") then Deny
     else if bytes_eq text (codes "port") then Port
@@ -50,4 +50,4 @@ is_for service Other = false
 
 -- what the text is as an attribute for the service: one that isn't for it does nothing
 abbrev pub attribute_of : Service → List ℕ → Attribute
-attribute_of service text = if is_for service (named text) then named text else Other
+attribute_of service text = if is_for service (attribute_named text) then attribute_named text else Other

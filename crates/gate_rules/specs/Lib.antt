@@ -7,6 +7,6 @@ pub mod Options
 pub mod Reading
 pub mod Service
 pub mod Settings
-pub mod Terms
+pub mod SharedOptions
 pub mod Verdict
 pub mod Why

@@ -2,7 +2,7 @@
 use Rattle.std.specs.Prelude.{ℕ, ◌+◌, Bool, not, ◌&&◌, ◌==◌, nat_lt, nat_eq, is_some, List, [], ◌∷◌, length, take, drop, filter_map, Option, Result, Ok, Err, codes, if◌then◌else◌}
 use Rattle.std.specs.List.{list_all, list_any, starts_with, before_first, position_or_len}
 use Rattle.std.specs.Str.{bytes_eq}
-use Rattle.fw_outside.specs.Verb.{verb_of}
+use Rattle.fw_types.specs.Verb.{verb_of}
 use Rattle.host_pattern.specs.Pattern.{Written}
 use Rattle.host_pattern.specs.PatternList.{good}
 use Rattle.host_pattern.specs.declared.word.Word.{Word}

@@ -1,7 +1,7 @@
 -- Lines about operations: who, where and on which hosts. Here they are read for their faults alone.
 use Rattle.std.specs.Prelude.{ℕ, Bool, ◌||◌, is_some, List, [], ◌∷◌, Result, Err, codes, if◌then◌else◌}
 use Rattle.std.specs.Str.{bytes_eq}
-use Rattle.fw_outside.specs.Name.{name_of}
+use Rattle.fw_types.specs.Name.{name_of}
 use Rattle.host_pattern.specs.Pattern.{Written}
 use Rattle.host_pattern.specs.declared.word.Word.{Word}
 use Rattle.gate_rules.specs.declared.fault.Why.{Why}
@@ -33,6 +33,6 @@ operation_of [] = Err MissingValue
 operation_of (word ∷ words) = if is_name_or_star word.text then operation_at words else Err BadWord
 
 -- `user` or `group`, and so on
-abbrev pub operation : List Word → Result (List Written) Why
-operation [] = Err MissingValue
-operation (word ∷ words) = if is_holder word.text then operation_of words else Err BadWord
+abbrev pub read_operation : List Word → Result (List Written) Why
+read_operation [] = Err MissingValue
+read_operation (word ∷ words) = if is_holder word.text then operation_of words else Err BadWord

@@ -5,7 +5,7 @@ use Rattle.host_pattern.specs.Pattern.{Written}
 use Rattle.netperm_table.specs.declared.line.Line.{Line}
 use Rattle.gate_rules.specs.declared.service.Service.TheVariants.{Authsrv}
 use Rattle.gate_rules.specs.Attribute.{is_operation}
-use Rattle.gate_rules.specs.Operation.{operation}
+use Rattle.gate_rules.specs.Operation.{read_operation}
 use Rattle.gate_rules.specs.Reading.{is_of}
 use Rattle.gate_rules.specs.Service.{keyword}
 
@@ -15,4 +15,4 @@ is_about_operations line = is_of (keyword Authsrv) line && is_operation line.att
 
 -- the host list of such a line, where the whole line can be read
 unfoldable pub hosts_of_operation : Line → Option (List Written)
-hosts_of_operation line = if is_about_operations line then result_ok (operation line.words) else None
+hosts_of_operation line = if is_about_operations line then result_ok (read_operation line.words) else None

@@ -2,7 +2,7 @@
 use Rattle.std.specs.Prelude.{ℕ, Bool, ◌==◌, List, [], ◌∷◌, Result, Ok, Err, codes, if◌then◌else◌}
 use Rattle.std.specs.Option.{ok_or}
 use Rattle.std.specs.Str.{bytes_eq}
-use Rattle.fw_outside.specs.Number.{in_range, number_of}
+use Rattle.fw_types.specs.Number.{in_range, number_of}
 use Rattle.host_pattern.specs.declared.word.Word.{Word}
 use Rattle.gate_rules.specs.declared.fault.Why.{Why}
 use Rattle.gate_rules.specs.declared.fault.Why.TheVariants.{MissingValue, BadNumber, BadWord}

@@ -1,9 +1,9 @@
 -- What the rules of a service decide of a peer, and what they say besides.
 use Rattle.std.specs.Prelude.{ℕ, Bool, true, ◌+◌, ◌==◌, ◌&&◌, List, [], ◌∷◌, find, length, Option, Some, None, if◌then◌else◌}
 use Rattle.std.specs.Option.{option_map}
-use Rattle.fw_outside.specs.Dest.{party_of}
-use Rattle.fw_outside.specs.declared.dest.Dest.{Dest}
-use Rattle.fw_outside.specs.declared.peer.Peer.{Peer}
+use Rattle.fw_types.specs.Dest.{party_of}
+use Rattle.fw_types.specs.declared.dest.Dest.{Dest}
+use Rattle.fw_types.specs.declared.peer.Peer.{Peer}
 use Rattle.host_pattern.specs.Pattern.{Written}
 use Rattle.host_pattern.specs.PatternList.{list_matches}
 use Rattle.gate_rules.specs.declared.options.Options.{Options}
@@ -20,17 +20,18 @@ decided_by None = Deny 0
 decided_by (Some rule) = if rule.permits then Permit rule.line else Deny rule.line
 
 -- the host list of the rule matches the peer
-abbrev pub matches : Peer → Rule → Bool
-matches peer rule = list_matches rule.hosts peer
+abbrev pub rule_matches : Peer → Rule → Bool
+rule_matches peer rule = list_matches rule.hosts peer
 
--- the first rule whose host list matches the peer decides
+-- the first rule whose host list matches the peer decides. Kept by `Rules::verdict` (`answer`); body: `verdict_in` of
+-- src/rules.rt.
 unfoldable pub verdict_of : RuleBook → Peer → Verdict
-verdict_of book peer = decided_by (find (matches peer) book.rules)
+verdict_of book peer = decided_by (find (rule_matches peer) book.rules)
 
 -- how many patterns all host lists have
-abbrev pub patterns_in : List Rule → ℕ
-patterns_in [] = 0
-patterns_in (rule ∷ rules) = length rule.hosts + patterns_in rules
+abbrev pub pattern_count : List Rule → ℕ
+pattern_count [] = 0
+pattern_count (rule ∷ rules) = length rule.hosts + pattern_count rules
 
 -- the options of the permit line with this number
 abbrev pub options_at : RuleBook → ℕ → Option Options

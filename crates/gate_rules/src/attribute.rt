@@ -1,5 +1,5 @@
 ghost use Rattle.std.specs.Prelude.{◌≡◌};
-ghost use Rattle.gate_rules.specs.Attribute.{attribute_of, is_for, is_operation, is_setting_of, named, named_setting};
+ghost use Rattle.gate_rules.specs.Attribute.{attribute_of, is_for, is_operation, is_setting_of, attribute_named, named_setting};
 
 use crate::{Service, Setting};
 
@@ -42,8 +42,8 @@ fn named_setting(text: &[u8]) -> Attribute
     Attribute::Other
 }
 
-fn named(text: &[u8]) -> Attribute
-    ensures { result ≡ named text.now }
+fn attribute_named(text: &[u8]) -> Attribute
+    ensures { result ≡ attribute_named text.now }
 {
     if text == b"permit-hosts".as_slice() || text == b"hosts".as_slice() {
         return Attribute::Permit;
@@ -86,7 +86,7 @@ fn is_for(service: &Service, attribute: Attribute) -> bool
 pub(crate) fn attribute_of(service: &Service, text: &[u8]) -> Attribute
     ensures { result ≡ attribute_of service.now text.now }
 {
-    let attribute = named(text);
+    let attribute = attribute_named(text);
     if is_for(service, attribute) {
         attribute
     } else {

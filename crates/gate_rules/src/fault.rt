@@ -27,7 +27,7 @@ pub enum Why {
     /// No closing brace follows.
     #[error("open brace")]
     OpenBrace,
-    /// A word in the place of a number or a port is none, or is out of range.
+    /// A word in the place of a number or a port is no number or port, or is out of range.
     #[error("bad number")]
     BadNumber,
     /// Any other word that fits nothing at its place.
@@ -80,10 +80,10 @@ impl From<AllocError> for RulesFault {
     }
 }
 
-impl From<fw_outside::NoMemory> for RulesFault {
+impl From<fw_types::NoMemory> for RulesFault {
     ghost from_gives = { λ _ e. e ≡ NoMemory };
 
-    fn from(_: fw_outside::NoMemory) -> RulesFault {
+    fn from(_: fw_types::NoMemory) -> RulesFault {
         RulesFault::NoMemory
     }
 }

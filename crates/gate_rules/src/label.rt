@@ -3,7 +3,7 @@ ghost use Rattle.std.specs.List.{list_all};
 ghost use Rattle.gate_rules.specs.Label.{is_label, is_label_byte, label_of};
 
 use arrayvec::ArrayVec;
-use fw_outside::copy_of;
+use fw_types::copy_of;
 use std::marker::Model;
 
 /// The label of a daemon: 1 to 64 bytes without a space, a tab, a comma or a colon.

@@ -1,29 +1,30 @@
-//! What a permission table says to a service: who may use it, on which terms, and its settings.
+//! What a permission table says to a service: who may use it, with which options, and its settings.
 //!
-//! [`Rules::of`] reads the lines of one service, exactly as `rules_of` of `specs/Reading` does, or answers the first line
-//! that can't be read with the cause of its leftmost bad word. [`Rules::verdict`] is decided by the first line whose host
-//! list matches the peer. [`Rules::options`] gives the options of a permit line, [`destination`] whether they let a client
-//! go to a destination, and [`Rules::setting`] the value and the line of the first line that sets a setting.
+//! [`Rules::of`] reads the lines of one service, exactly as `rules_of` of `specs/Reading` does, or answers the first
+//! line that can't be read with the cause of its leftmost bad word. [`Rules::verdict`] is decided by the first line
+//! whose host list matches the peer. [`Rules::options`] gives the options of a permit line, [`destination`] whether
+//! they let a client go to a destination, and [`Rules::setting`] the value and the line of the first line that sets a
+//! setting.
 #![tactic(auto)]
 
 mod attribute;
-mod draft;
 mod fault;
-mod given;
-mod kind;
 mod label;
 pub mod laws;
+mod line_effect;
 mod lists;
 mod operation;
 mod operation_hosts;
+mod option_kind;
 mod options;
+mod options_builder;
+mod parsed_option;
 mod reading;
 mod rule;
 mod rules;
-mod said;
 mod service;
 mod setting;
-mod terms;
+mod shared_options;
 mod verdict;
 mod words;
 
@@ -35,8 +36,5 @@ pub use rule::Rule;
 pub use rules::Rules;
 pub use service::Service;
 pub use setting::{Assigned, Setting};
-pub use terms::Terms;
+pub use shared_options::SharedOptions;
 pub use verdict::Verdict;
-
-#[cfg(test)]
-mod tests;

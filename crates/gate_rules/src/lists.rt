@@ -4,7 +4,7 @@ ghost use Rattle.gate_rules.specs.Lists.{alone, between, hosts_alone, members_of
 
 use crate::Why;
 use crate::words::{at_most, before_close, closes, hosts_in, is_close, is_open, options_in};
-use fw_outside::{NoMemory, Verb, VerbList};
+use fw_types::{NoMemory, Verb, VerbList};
 use host_pattern::{ListFault, PatternList, Word};
 use std::alloc::Global;
 

@@ -1,10 +1,10 @@
 //! Lines about operations, which are read for their faults alone.
 ghost use Rattle.std.specs.Prelude.{◌≡◌, is_some, IfOk};
-ghost use Rattle.gate_rules.specs.Operation.{is_gateway_or_star, is_holder, is_name_or_star, operation, operation_at, operation_hosts, operation_of};
+ghost use Rattle.gate_rules.specs.Operation.{is_gateway_or_star, is_holder, is_name_or_star, read_operation, operation_at, operation_hosts, operation_of};
 
 use crate::Why;
 use crate::lists::{Reading, hosts_alone};
-use fw_outside::Name;
+use fw_types::Name;
 use host_pattern::{PatternList, Word};
 use std::alloc::Global;
 
@@ -67,8 +67,8 @@ fn operation_of(alloc: Global, words: &[Word]) -> Reading<PatternList>
 }
 
 // The hosts of a line with a holder, a name, a gateway and a host list.
-pub(crate) fn operation(alloc: Global, words: &[Word]) -> Reading<PatternList>
-    ensures { IfOk result (λ read. read ≡ operation words.now) }
+pub(crate) fn read_operation(alloc: Global, words: &[Word]) -> Reading<PatternList>
+    ensures { IfOk result (λ read. read ≡ read_operation words.now) }
 {
     match words {
         [] => Ok(Err(Why::MissingValue)),

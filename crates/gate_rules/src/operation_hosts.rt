@@ -2,9 +2,9 @@ ghost use Rattle.std.specs.Prelude.{◌≡◌, IfOk};
 ghost use Rattle.gate_rules.specs.OperationHosts.{hosts_of_operation, is_about_operations};
 
 use crate::attribute::is_operation;
-use crate::operation::operation;
+use crate::operation::read_operation;
 use crate::reading::is_of;
-use fw_outside::NoMemory;
+use fw_types::NoMemory;
 use host_pattern::PatternList;
 use netperm_table::Line;
 use std::alloc::Global;
@@ -28,7 +28,7 @@ pub fn hosts_of_operation(alloc: Global, line: &Line) -> Result<Option<PatternLi
     if !is_about_operations(line) {
         return Ok(None);
     }
-    match operation(alloc, line.words.as_slice())? {
+    match read_operation(alloc, line.words.as_slice())? {
         Ok(hosts) => Ok(Some(hosts)),
         Err(_) => Ok(None),
     }

@@ -2,7 +2,7 @@ ghost use Rattle.std.specs.Prelude.{◌≡◌, ◌+◌, ◌≤◌, [], length};
 ghost use Rattle.gate_rules.specs.Options.{no_options};
 ghost use Rattle.gate_rules.specs.Verdict.{allows, list_allows, list_length};
 
-use fw_outside::{Dest, OctetsList, Peer, VerbList};
+use fw_types::{Dest, OctetsList, Peer, VerbList};
 use host_pattern::{PatternList, Steps};
 use std::alloc::Global;
 use std::sync::ledger::Ledger;

@@ -3,17 +3,17 @@ ghost use Rattle.std.specs.Prelude.{◌≡◌, ◌||◌, ◌==◌, true, false, 
 ghost use Rattle.std.specs.Str.{bytes_eq};
 ghost use Rattle.gate_rules.specs.Lists.{mapped};
 ghost use Rattle.gate_rules.specs.Options.{options_of};
-ghost use Rattle.gate_rules.specs.Reading.{deny_said, is_of, operation_said, permit_said, plug_rule, plug_said, port_said, ruled, said_as, said_by, set_said, where_ours, with_target};
+ghost use Rattle.gate_rules.specs.Reading.{deny_effect, is_of, operation_effect, permit_effect, plug_rule, plug_effect, port_effect, ruled, effect_as, effect_of, setting_effect, where_ours, with_target};
 
 use crate::attribute::{Attribute, attribute_of};
-use crate::draft::options_of;
+use crate::line_effect::LineEffect;
 use crate::lists::{Reading, hosts_alone, patterns_of};
-use crate::operation::operation;
-use crate::said::Said;
+use crate::operation::read_operation;
+use crate::options_builder::options_of;
 use crate::setting::set_to;
 use crate::words::{hosts_in, options_in};
-use crate::{Assigned, Options, Rule, Service, Setting, Terms, Why};
-use fw_outside::{Octets, read_port};
+use crate::{Assigned, Options, Rule, Service, Setting, SharedOptions, Why};
+use fw_types::{Octets, read_port};
 use host_pattern::{PatternList, Word};
 use netperm_table::Line;
 use std::alloc::Global;
@@ -35,10 +35,10 @@ pub(crate) fn is_of(line: &Line, key: &[u8]) -> bool
 }
 
 // The rule of a line with these hosts and these options.
-fn ruled(number: u32, permits: bool, hosts: PatternList, options: Terms) -> Said
+fn ruled(number: u32, permits: bool, hosts: PatternList, options: SharedOptions) -> LineEffect
     ensures { ruled number permits (Ok hosts) (Ok options) ≡ Ok result }
 {
-    Said::Ruled(Rule {
+    LineEffect::Ruled(Rule {
         line: number,
         permits,
         hosts,
@@ -47,40 +47,45 @@ fn ruled(number: u32, permits: bool, hosts: PatternList, options: Terms) -> Said
 }
 
 // The options that these words are, which take no room where there are no words.
-#[tactic(auto, unfolding(crate::specs::Options::options_of, crate::specs::Options::drafted, crate::specs::Options::givens_after))]
-fn terms_of(alloc: Global, service: &Service, port: u16, words: &[Word]) -> Reading<Terms>
+#[tactic(auto, unfolding(crate::specs::Options::options_of, crate::specs::Options::built, crate::specs::Options::options_after))]
+fn shared_options_of(alloc: Global, service: &Service, port: u16, words: &[Word]) -> Reading<SharedOptions>
     ensures { IfOk result (λ read. read ≡ options_of service.now port words.now) }
 {
     if words.is_empty() {
-        return Ok(Ok(Terms::none()));
+        return Ok(Ok(SharedOptions::none()));
     }
     match options_of(alloc, service, port, words)? {
         Ok(options) => {
-            let terms = Terms::of(alloc, options)?;
-            Ok(Ok(terms))
+            let shared = SharedOptions::of(alloc, options)?;
+            Ok(Ok(shared))
         }
         Err(why) => Ok(Err(why)),
     }
 }
 
-fn permit_said(alloc: Global, service: &Service, number: u32, words: &[Word]) -> Reading<Said>
-    ensures { IfOk result (λ read. read ≡ permit_said service.now number words.now) }
+fn permit_effect(
+    alloc: Global,
+    service: &Service,
+    number: u32,
+    words: &[Word],
+) -> Reading<LineEffect>
+    ensures { IfOk result (λ read. read ≡ permit_effect service.now number words.now) }
 {
     let hosts = match patterns_of(alloc, hosts_in(words))? {
         Ok(hosts) => hosts,
         Err(why) => return Ok(Err(why)),
     };
-    match terms_of(alloc, service, 0, options_in(words))? {
+    match shared_options_of(alloc, service, 0, options_in(words))? {
         Ok(options) => Ok(Ok(ruled(number, true, hosts, options))),
         Err(why) => Ok(Err(why)),
     }
 }
 
-fn deny_said(alloc: Global, number: u32, words: &[Word]) -> Reading<Said>
-    ensures { IfOk result (λ read. read ≡ deny_said number words.now) }
+fn deny_effect(alloc: Global, number: u32, words: &[Word]) -> Reading<LineEffect>
+    ensures { IfOk result (λ read. read ≡ deny_effect number words.now) }
 {
     match hosts_alone(alloc, words)? {
-        Ok(hosts) => Ok(Ok(ruled(number, false, hosts, Terms::none()))),
+        Ok(hosts) => Ok(Ok(ruled(number, false, hosts, SharedOptions::none()))),
         Err(why) => Ok(Err(why)),
     }
 }
@@ -102,7 +107,7 @@ fn plug_rule(
     number: u32,
     port: u16,
     words: &[Word],
-) -> Reading<Said>
+) -> Reading<LineEffect>
     ensures { IfOk result (λ read. read ≡ plug_rule service.now number port words.now) }
 {
     let hosts = match patterns_of(alloc, hosts_in(words))? {
@@ -115,51 +120,57 @@ fn plug_rule(
     };
     match with_target(options) {
         Ok(options) => {
-            let options = Terms::of(alloc, options)?;
+            let options = SharedOptions::of(alloc, options)?;
             Ok(Ok(ruled(number, true, hosts, options)))
         }
         Err(why) => Ok(Err(why)),
     }
 }
 
-fn where_ours(ours: bool, said: Said) -> Said
-    ensures { result ≡ where_ours ours said }
+fn where_ours(ours: bool, effect: LineEffect) -> LineEffect
+    ensures { result ≡ where_ours ours effect }
 {
-    if ours { said } else { Said::Nothing }
+    if ours { effect } else { LineEffect::Nothing }
 }
 
-fn plug_said(
+fn plug_effect(
     alloc: Global,
     service: &Service,
     number: u32,
     port: Option<u16>,
     words: &[Word],
-) -> Reading<Said>
-    ensures { IfOk result (λ read. read ≡ plug_said service.now number port words.now) }
+) -> Reading<LineEffect>
+    ensures { IfOk result (λ read. read ≡ plug_effect service.now number port words.now) }
 {
     let Some(port) = port else {
         return Ok(Err(Why::BadNumber));
     };
     match plug_rule(alloc, service, number, port, words)? {
-        Ok(said) => Ok(Ok(where_ours(port == service.plug_port(), said))),
+        Ok(effect) => Ok(Ok(where_ours(port == service.plug_port(), effect))),
         Err(why) => Ok(Err(why)),
     }
 }
 
-fn port_said(alloc: Global, service: &Service, number: u32, words: &[Word]) -> Reading<Said>
-    ensures { IfOk result (λ read. read ≡ port_said service.now number words.now) }
+fn port_effect(alloc: Global, service: &Service, number: u32, words: &[Word]) -> Reading<LineEffect>
+    ensures { IfOk result (λ read. read ≡ port_effect service.now number words.now) }
 {
     match words {
         [] => Ok(Err(Why::MissingValue)),
-        [word, more @ ..] => plug_said(alloc, service, number, read_port(word.text.bytes()), more),
+        [word, more @ ..] => plug_effect(
+            alloc,
+            service,
+            number,
+            read_port(word.text.bytes()),
+            more,
+        ),
     }
 }
 
-fn set_said(which: Setting, number: u32, words: &[Word]) -> Result<Said, Why>
-    ensures { result ≡ set_said which number words.now }
+fn setting_effect(which: Setting, number: u32, words: &[Word]) -> Result<LineEffect, Why>
+    ensures { result ≡ setting_effect which number words.now }
 {
     match set_to(which, words) {
-        Ok(value) => Ok(Said::Set(Assigned {
+        Ok(value) => Ok(LineEffect::Set(Assigned {
             which,
             value,
             line: number,
@@ -168,34 +179,39 @@ fn set_said(which: Setting, number: u32, words: &[Word]) -> Result<Said, Why>
     }
 }
 
-fn operation_said(alloc: Global, words: &[Word]) -> Reading<Said>
-    ensures { IfOk result (λ read. read ≡ operation_said words.now) }
+fn operation_effect(alloc: Global, words: &[Word]) -> Reading<LineEffect>
+    ensures { IfOk result (λ read. read ≡ operation_effect words.now) }
 {
-    match operation(alloc, words)? {
-        Ok(_) => Ok(Ok(Said::Nothing)),
+    match read_operation(alloc, words)? {
+        Ok(_) => Ok(Ok(LineEffect::Nothing)),
         Err(why) => Ok(Err(why)),
     }
 }
 
-fn said_as(alloc: Global, attribute: Attribute, service: &Service, line: &Line) -> Reading<Said>
-    ensures { IfOk result (λ read. read ≡ said_as attribute service.now line.now.number line.now.words) }
+fn effect_as(
+    alloc: Global,
+    attribute: Attribute,
+    service: &Service,
+    line: &Line,
+) -> Reading<LineEffect>
+    ensures { IfOk result (λ read. read ≡ effect_as attribute service.now line.now.number line.now.words) }
 {
     let words = line.words.as_slice();
     match attribute {
-        Attribute::Permit => permit_said(alloc, service, line.number, words),
-        Attribute::Deny => deny_said(alloc, line.number, words),
-        Attribute::Port => port_said(alloc, service, line.number, words),
-        Attribute::Sets(which) => Ok(set_said(which, line.number, words)),
-        Attribute::Operation => operation_said(alloc, words),
-        Attribute::Other => Ok(Ok(Said::Nothing)),
+        Attribute::Permit => permit_effect(alloc, service, line.number, words),
+        Attribute::Deny => deny_effect(alloc, line.number, words),
+        Attribute::Port => port_effect(alloc, service, line.number, words),
+        Attribute::Sets(which) => Ok(setting_effect(which, line.number, words)),
+        Attribute::Operation => operation_effect(alloc, words),
+        Attribute::Other => Ok(Ok(LineEffect::Nothing)),
     }
 }
 
 /// What a line says to a service, or why it can't be read.
-#[tactic(auto, unfolding(crate::specs::Reading::said_by))]
-pub(crate) fn said_by(alloc: Global, service: &Service, line: &Line) -> Reading<Said>
-    ensures { IfOk result (λ read. read ≡ said_by service.now line.now) }
+#[tactic(auto, unfolding(crate::specs::Reading::effect_of))]
+pub(crate) fn effect_of(alloc: Global, service: &Service, line: &Line) -> Reading<LineEffect>
+    ensures { IfOk result (λ read. read ≡ effect_of service.now line.now) }
 {
     let attribute = attribute_of(service, line.attribute.bytes());
-    said_as(alloc, attribute, service, line)
+    effect_as(alloc, attribute, service, line)
 }

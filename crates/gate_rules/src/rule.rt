@@ -1,7 +1,7 @@
 ghost use Rattle.std.specs.Prelude.{◌≡◌};
 ghost use Rattle.gate_rules.specs.Verdict.{decided_by};
 
-use crate::{Terms, Verdict};
+use crate::{SharedOptions, Verdict};
 use host_pattern::PatternList;
 
 /// A line that permits or denies hosts.
@@ -14,7 +14,7 @@ pub struct Rule {
     /// The hosts that it speaks of.
     pub hosts: PatternList,
     /// What else it says; nothing where it denies.
-    pub options: Terms,
+    pub options: SharedOptions,
 }
 
 impl Rule {

@@ -1,17 +1,19 @@
 ghost use Rattle.std.specs.Prelude.{◌≡◌, ◌+◌, ◌≤◌, ◌==◌, ◌&&◌, List, [], ◌∷◌, ◌++◌, Result, filter, find, length, IfOk, IfErr, OnOk};
 ghost use Rattle.std.specs.Option.{option_copied};
 ghost use Rattle.gate_rules.specs.declared.fault.RuleFault.{RuleFault};
-ghost use Rattle.gate_rules.specs.Reading.{IsFaultIn, RuleBook, and_said, book_of, closed, is_of, everyone, last_rules, rules_of, said_by, said_then, with_book, with_said};
+ghost use Rattle.gate_rules.specs.Reading.{IsFaultIn, RuleBook, and_effect, book_of, closed, is_of, everyone, last_rules, rules_of, effect_of, effect_then, with_book, with_effect};
 ghost use Rattle.gate_rules.specs.Settings.{is_same};
-ghost use Rattle.gate_rules.specs.Verdict.{decided_by, matches, options_at, patterns_in, setting_of, verdict_of};
+ghost use Rattle.gate_rules.specs.Verdict.{decided_by, rule_matches, options_at, pattern_count, setting_of, verdict_of};
 ghost use Rattle.netperm_table.specs.declared.line.Line.{Line};
 
-use crate::reading::{is_of, said_by};
-use crate::said::Said;
+use crate::line_effect::LineEffect;
+use crate::reading::{effect_of, is_of};
 use crate::setting::is_same;
-use crate::{Assigned, Options, Rule, RuleFault, RulesFault, Service, Setting, Terms, Verdict};
+use crate::{
+    Assigned, Options, Rule, RuleFault, RulesFault, Service, Setting, SharedOptions, Verdict,
+};
 use arrayvec::ArrayVec;
-use fw_outside::Peer;
+use fw_types::Peer;
 use host_pattern::{Pattern, PatternList, Steps};
 use netperm_table::{Line, Table};
 use std::alloc::Global;
@@ -40,8 +42,8 @@ impl Model for Rules {
 
 // What the first of the rules decides whose host list matches the peer.
 fn verdict_in<L: Ledger>(rules: &[Rule], peer: &Peer, steps: &mut Steps<L>) -> Verdict
-    ensures answer { result ≡ decided_by (find (matches peer.now) rules.now) }
-    ensures bound { steps.new ≤ steps.old + patterns_in rules.now }
+    ensures answer { result ≡ decided_by (find (rule_matches peer.now) rules.now) }
+    ensures bound { steps.new ≤ steps.old + pattern_count rules.now }
 {
     for rule in rules {
         if rule.hosts.matches(peer, steps) {
@@ -71,7 +73,7 @@ fn everyone(alloc: Global) -> Result<Rule, RulesFault>
         line: 0,
         permits: true,
         hosts: PatternList::of(alloc, &star)?,
-        options: Terms::none(),
+        options: SharedOptions::none(),
     })
 }
 
@@ -88,13 +90,13 @@ impl Rules {
     {
         let mut key = ArrayVec::new();
         service.write_keyword(&mut key);
-        let mut rules = Rules::said(alloc, table.lines(), service, key.as_slice())?;
+        let mut rules = Rules::effect_at(alloc, table.lines(), service, key.as_slice())?;
         rules.close(alloc, service.is_smap())?;
         Ok(rules)
     }
 
     // What the lines with the keyword say to a service.
-    fn said(
+    fn effect_at(
         alloc: Global,
         lines: &[Line],
         service: &Service,
@@ -122,7 +124,8 @@ impl Rules {
         service: &Service,
         key: &[u8],
     ) -> Result<(), RulesFault>
-        ensures ok { OnOk result ((lines : List Line) → with_book self.new (book_of service.now (filter (is_of key.now) lines))
+        ensures ok { OnOk result ((lines : List Line) →
+            with_book self.new (book_of service.now (filter (is_of key.now) lines))
             ≡ with_book self.old (book_of service.now (filter (is_of key.now) (line.now ∷ lines)))) }
         ensures fault { IfErr result (λ e. (lines : List Line) →
             IsFaultIn (with_book self.old (book_of service.now (filter (is_of key.now) (line.now ∷ lines)))) e) }
@@ -136,12 +139,13 @@ impl Rules {
     // Adds what a line of the service says.
     fn add_ours(&mut self, alloc: Global, line: &Line, service: &Service) -> Result<(), RulesFault>
         ensures ok { OnOk result ((more : Result RuleBook RuleFault) →
-            with_book self.new more ≡ with_book self.old (said_then line.now.number (said_by service.now line.now) more)) }
+            with_book self.new more ≡ with_book self.old (effect_then line.now.number (effect_of service.now line.now)
+            more)) }
         ensures fault { IfErr result (λ e. (more : Result RuleBook RuleFault) →
-            IsFaultIn (with_book self.old (said_then line.now.number (said_by service.now line.now) more)) e) }
+            IsFaultIn (with_book self.old (effect_then line.now.number (effect_of service.now line.now) more)) e) }
     {
-        match said_by(alloc, service, line)? {
-            Ok(said) => self.add(said),
+        match effect_of(alloc, service, line)? {
+            Ok(effect) => self.add(effect),
             Err(why) => Err(RulesFault::Rule(RuleFault {
                 line: line.number,
                 why,
@@ -150,14 +154,14 @@ impl Rules {
     }
 
     // Adds what a line says.
-    fn add(&mut self, said: Said) -> Result<(), RulesFault>
-        ensures ok { OnOk result (self.new ≡ and_said self.old said) }
+    fn add(&mut self, effect: LineEffect) -> Result<(), RulesFault>
+        ensures ok { OnOk result (self.new ≡ and_effect self.old effect) }
         ensures fault { IfErr result (λ e. e ≡ RulesFault.NoMemory) }
     {
-        match said {
-            Said::Nothing => (),
-            Said::Ruled(rule) => self.rules.push(rule)?,
-            Said::Set(assigned) => self.settings.push(assigned)?,
+        match effect {
+            LineEffect::Nothing => (),
+            LineEffect::Ruled(rule) => self.rules.push(rule)?,
+            LineEffect::Set(assigned) => self.settings.push(assigned)?,
         }
         Ok(())
     }
@@ -178,7 +182,7 @@ impl Rules {
     #[tactic(auto, unfolding(crate::specs::Verdict::verdict_of))]
     pub fn verdict<L: Ledger>(&self, peer: &Peer, steps: &mut Steps<L>) -> Verdict
         ensures answer { result ≡ verdict_of self.now peer.now }
-        ensures bound { steps.new ≤ steps.old + patterns_in self.now.rules }
+        ensures bound { steps.new ≤ steps.old + pattern_count self.now.rules }
     {
         verdict_in(&self.rules, peer, steps)
     }

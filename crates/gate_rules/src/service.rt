@@ -4,7 +4,7 @@ ghost use Rattle.gate_rules.specs.Service.{bare_service, is_authsrv, is_plug, is
 
 use crate::Label;
 use arrayvec::ArrayVec;
-use fw_outside::{append, append_u32, read_numbered_port};
+use fw_types::{append, append_u32, read_numbered_port};
 
 /// A service of the firewall.
 #[derive(Drop)]

@@ -3,7 +3,7 @@ ghost use Rattle.std.specs.Prelude.{◌≡◌};
 ghost use Rattle.gate_rules.specs.Settings.{is_same, number_in, place, set_to, truth_of, value_alone, value_of};
 
 use crate::Why;
-use fw_outside::{in_range, read_number};
+use fw_types::{in_range, read_number};
 use host_pattern::Word;
 
 /// What a line may set for a service.

@@ -1,7 +1,7 @@
 -- The definitions, computed.
 use Rattle.std.proofs.Common.{◌≡◌, List, [], ◌∷◌, true, false, Some, None, Ok, Err, refl}
 use Rattle.std.specs.Prelude.{codes}
-use Rattle.fw_outside.specs.declared.peer.Peer.{Peer}
+use Rattle.fw_types.specs.declared.peer.Peer.{Peer}
 use Rattle.host_pattern.specs.declared.fault.PatternFault.TheVariants.{Empty, BadByte}
 use Rattle.host_pattern.specs.declared.fault.ListFault.TheVariants as fault
 use Rattle.host_pattern.specs.Glob.{glob}

@@ -2,7 +2,7 @@
 use Rattle.std.proofs.Common.{◌≡◌, ℕ, ◌+◌, ◌≤◌, ◌<◌, List, [], ◌∷◌, length, map, drop, Bool, true, false, not, ◌==◌, refl, sym, ◌∙◌, ap, arith, get_or, inl, inr}
 use Rattle.std.proofs.lemmas.Bool.{cases_eq, ne_eqb}
 use Rattle.std.proofs.lemmas.List.{drop_more, drop_all, drop-map, length-map}
-use Rattle.fw_outside.specs.declared.peer.Peer.{Peer}
+use Rattle.fw_types.specs.declared.peer.Peer.{Peer}
 use Rattle.host_pattern.specs.Pattern.{Written, read_as, begins_negated, body_of, written}
 use Rattle.host_pattern.specs.PatternList.{matches, list_matches, patterns_tested}
 

@@ -3,8 +3,8 @@ use Rattle.std.proofs.Common.{◌≡◌, ℕ, List, [], ◌∷◌, true, false, 
 use Rattle.std.proofs.lemmas.Bool.{and_parts, and_left, or_right, both_ways, false_from_ne_true}
 use Rattle.std.proofs.lemmas.Bool.Decides.{nat_tests}
 use Rattle.std.specs.Char.{to_ascii_lowercase}
-use Rattle.fw_outside.specs.HostName.{is_address_byte}
-use Rattle.fw_outside.specs.declared.peer.Peer.{Peer}
+use Rattle.fw_types.specs.HostName.{is_address_byte}
+use Rattle.fw_types.specs.declared.peer.Peer.{Peer}
 use Rattle.host_pattern.specs.Party.{is_unknown, is_stars, is_for_addresses, body_matches}
 
 -- stars are for addresses, too

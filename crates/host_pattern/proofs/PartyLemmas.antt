@@ -4,7 +4,7 @@ use Rattle.std.proofs.lemmas.Bool.{and_parts}
 use Rattle.std.proofs.lemmas.Bool.Decides.{nat_tests}
 use Rattle.std.specs.Char.{to_ascii_lowercase}
 use Rattle.std.specs.Str.{str_to_ascii_lowercase}
-use Rattle.fw_outside.specs.HostName.{is_address_byte}
+use Rattle.fw_types.specs.HostName.{is_address_byte}
 use Rattle.host_pattern.specs.Party.{is_for_addresses}
 
 no_letter : (b : ℕ) → (is_address_byte b || b == 42) ≡ true → to_ascii_lowercase b ≡ b

@@ -2,9 +2,9 @@
 use Rattle.std.specs.Prelude.{ℕ, List, Bool, true, false, ◌||◌, ◌==◌, if◌then◌else◌, Option, Some, None, is_none, codes}
 use Rattle.std.specs.List.{list_all}
 use Rattle.std.specs.Str.{bytes_eq, str_to_ascii_lowercase}
-use Rattle.fw_outside.specs.HostName.{is_address_byte}
-use Rattle.fw_outside.specs.Quad.{dotted}
-use Rattle.fw_outside.specs.declared.peer.Peer.{Peer}
+use Rattle.fw_types.specs.HostName.{is_address_byte}
+use Rattle.fw_types.specs.Quad.{dotted}
+use Rattle.fw_types.specs.declared.peer.Peer.{Peer}
 use Rattle.host_pattern.specs.Glob.{glob}
 
 -- The kinds of body, of which the first that fits counts: `unknown` in any case; stars alone; digits, periods and stars;
@@ -29,6 +29,7 @@ abbrev pub globs_name : List ℕ → Option (List ℕ) → Bool
 globs_name body None = false
 globs_name body (Some name) = glob (str_to_ascii_lowercase body) name
 
+-- whether the body matches the party, by its kind. Kept by `Pattern::matches` (`answer`); body: src/party.rt.
 unfoldable pub body_matches : List ℕ → Peer → Bool
 body_matches body party =
     if is_unknown body then is_none party.name

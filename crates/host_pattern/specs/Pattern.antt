@@ -1,7 +1,7 @@
 -- How a pattern is written: an optional `!`, and a body. `!` is the byte 33, `*` is 42.
 use Rattle.std.specs.Prelude.{ℕ, List, [], ◌∷◌, length, position, Bool, false, not, ◌&&◌, ◌||◌, ◌==◌, nat_lt, nat_le, if◌then◌else◌, Option, Some, None, Result, Ok, Err}
 use Rattle.std.specs.List.{list_all}
-use Rattle.fw_outside.specs.Bytes.{is_name_byte}
+use Rattle.fw_types.specs.Bytes.{is_name_byte}
 use Rattle.host_pattern.specs.declared.fault.PatternFault.{PatternFault}
 use Rattle.host_pattern.specs.declared.fault.PatternFault.TheVariants.{Empty, TooLong, BadByte}
 

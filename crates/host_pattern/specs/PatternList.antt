@@ -3,7 +3,7 @@ use Rattle.std.specs.Prelude.{ℕ, ◌+◌, min, List, [], ◌∷◌, length, Bo
 use Rattle.std.specs.List.{find, filter_map, enumerate_from, position_or_len}
 use Rattle.std.specs.Option.{option_map}
 use Rattle.std.specs.Result.{result_ok, result_err}
-use Rattle.fw_outside.specs.declared.peer.Peer.{Peer}
+use Rattle.fw_types.specs.declared.peer.Peer.{Peer}
 use Rattle.host_pattern.specs.declared.fault.PatternFault.{PatternFault}
 use Rattle.host_pattern.specs.declared.fault.ListFault.{ListFault}
 use Rattle.host_pattern.specs.declared.fault.ListFault.TheVariants as fault
@@ -33,13 +33,13 @@ good word = result_ok (parsed word.text)
 abbrev pub bad : ℕ × Word → Option (ℕ × PatternFault)
 bad placed = option_map (λ why. (placed.0, why)) (result_err (parsed placed.1.text))
 
-abbrev pub unless_bad : List (ℕ × PatternFault) → List Written → Result (List Written) ListFault
-unless_bad [] patterns = Ok patterns
-unless_bad (first ∷ others) patterns = Err (fault.Bad first.0 first.1)
+abbrev pub unless_any_bad : List (ℕ × PatternFault) → List Written → Result (List Written) ListFault
+unless_any_bad [] patterns = Ok patterns
+unless_any_bad (first ∷ others) patterns = Err (fault.Bad first.0 first.1)
 
 -- the patterns that the words are: 1 to 64, each of them a pattern
 unfoldable pub list_parsed : List Word → Result (List Written) ListFault
 list_parsed words =
     if length words == 0 then Err fault.None
     else if nat_lt 64 (length words) then Err fault.TooMany
-    else unless_bad (filter_map bad (enumerate_from 0 words)) (filter_map good words)
+    else unless_any_bad (filter_map bad (enumerate_from 0 words)) (filter_map good words)

@@ -35,10 +35,10 @@ pub enum ListFault {
     NoMemory,
 }
 
-impl From<fw_outside::NoMemory> for ListFault {
+impl From<fw_types::NoMemory> for ListFault {
     ghost from_gives = { λ _ e. e ≡ NoMemory };
 
-    fn from(_: fw_outside::NoMemory) -> ListFault {
+    fn from(_: fw_types::NoMemory) -> ListFault {
         ListFault::NoMemory
     }
 }

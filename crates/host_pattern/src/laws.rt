@@ -2,7 +2,7 @@
 ghost use Rattle.std.specs.Prelude.{◌≡◌, ℕ, List, [], ◌∷◌, ◌++◌, Bool, true, false, not, ◌==◌, nat_eq, IsTrue, Ok, None, is_ok};
 ghost use Rattle.std.specs.List.{list_all, starts_with, ends_with};
 ghost use Rattle.std.specs.Str.{bytes_eq};
-ghost use Rattle.fw_outside.specs.declared.peer.Peer.{Peer};
+ghost use Rattle.fw_types.specs.declared.peer.Peer.{Peer};
 ghost use Rattle.host_pattern.specs.Glob.{glob, is_plain};
 ghost use Rattle.host_pattern.specs.Party.{is_unknown, is_stars, is_for_addresses, body_matches};
 ghost use Rattle.host_pattern.specs.Pattern.{Written, is_body, body_of, parsed, written};
@@ -30,22 +30,26 @@ pub fn stars_match_everyone()
 
 /// A body for names matches no party without a name.
 pub fn names_need_a_name()
-    ensures { (body : List ℕ) (party : Peer) → is_unknown body ≡ false → is_for_addresses body ≡ false → party.name ≡ None → body_matches body party ≡ false }
+    ensures { (body : List ℕ) (party : Peer) → is_unknown body ≡ false → is_for_addresses body ≡ false →
+        party.name ≡ None → body_matches body party ≡ false }
 {}
 
 /// A body for addresses, other than stars alone, matches no party without an address.
 pub fn addresses_need_an_address()
-    ensures { (body : List ℕ) (party : Peer) → IsTrue (is_for_addresses body) → is_stars body ≡ false → party.addr ≡ None → body_matches body party ≡ false }
+    ensures { (body : List ℕ) (party : Peer) → IsTrue (is_for_addresses body) → is_stars body ≡ false →
+        party.addr ≡ None → body_matches body party ≡ false }
 {}
 
 /// The first pattern whose body matches decides.
 pub fn first_match_decides()
-    ensures { (p : Written) (ps : List Written) (party : Peer) → IsTrue (body_matches p.body party) → list_matches (p ∷ ps) party ≡ not p.negated }
+    ensures { (p : Written) (ps : List Written) (party : Peer) → IsTrue (body_matches p.body party) →
+        list_matches (p ∷ ps) party ≡ not p.negated }
 {}
 
 /// A pattern whose body does not match might as well not stand in the list.
 pub fn others_are_passed()
-    ensures { (p : Written) (ps : List Written) (party : Peer) → body_matches p.body party ≡ false → list_matches (p ∷ ps) party ≡ list_matches ps party }
+    ensures { (p : Written) (ps : List Written) (party : Peer) → body_matches p.body party ≡ false →
+        list_matches (p ∷ ps) party ≡ list_matches ps party }
 {}
 
 /// The patterns are the texts whose body is 1 to 255 letters, digits, `.`, `-`, `_` and `*`.

@@ -7,7 +7,7 @@ use crate::pattern::{Pattern, check_body, test_body, unmarked};
 use crate::steps::Steps;
 use crate::word::Word;
 use arrayvec::ArrayVec;
-use fw_outside::{NoMemory, Octets, OctetsList, Peer};
+use fw_types::{NoMemory, Octets, OctetsList, Peer};
 use std::alloc::Global;
 use std::marker::Model;
 use std::sync::ledger::Ledger;
@@ -69,8 +69,8 @@ impl PatternList {
     ///
     /// # Errors
     ///
-    /// The first that applies: `None` where there are no words, `TooMany` where there are over 64, `Bad` at the first word
-    /// that is no pattern. Or `NoMemory`.
+    /// The first that applies: `None` where there are no words, `TooMany` where there are over 64, `Bad` at the first
+    /// word that is no pattern. Or `NoMemory`.
     #[tactic(auto, unfolding(crate::specs::PatternList::list_parsed))]
     pub fn parse(alloc: Global, words: &[Word]) -> Result<PatternList, ListFault>
         ensures ok { IfOk result (λ list. list_parsed words.now ≡ Ok list) }

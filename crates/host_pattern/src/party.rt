@@ -1,11 +1,11 @@
 //! Whether the body of a pattern matches a party.
 ghost use Rattle.std.specs.Prelude.{◌≡◌, ◌||◌, ◌==◌, IsTrue};
-ghost use Rattle.fw_outside.specs.HostName.{is_address_byte};
+ghost use Rattle.fw_types.specs.HostName.{is_address_byte};
 ghost use Rattle.host_pattern.specs.Party.{is_unknown, is_stars, is_for_addresses, globs_address, globs_name, body_matches};
 
 use crate::walk::{globs, only_stars};
 use arrayvec::ArrayVec;
-use fw_outside::{HostName, Peer, dotted_quad, lower_copy_of};
+use fw_types::{HostName, Peer, dotted_quad, lower_copy_of};
 
 const UNKNOWN: &[u8; 7] = b"unknown";
 

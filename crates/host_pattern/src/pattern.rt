@@ -6,13 +6,14 @@ use crate::fault::PatternFault;
 use crate::party::body_matches;
 use crate::steps::Steps;
 use arrayvec::ArrayVec;
-use fw_outside::{Peer, append, copy_of, is_name_byte};
+use fw_types::{Peer, append, copy_of, is_name_byte};
 use std::marker::Model;
 use std::sync::ledger::Ledger;
 
 const LONGEST: usize = 255;
 
-/// A pattern for hosts, as it was written: an optional `!`, and a body of 1 to 255 letters, digits, `.`, `-`, `_` and `*`.
+/// A pattern for hosts, as it was written: an optional `!`, and a body of 1 to 255 letters, digits, `.`, `-`, `_` and
+/// `*`.
 #[derive(Drop)]
 pub struct Pattern {
     negated: bool,
@@ -85,8 +86,8 @@ impl Pattern {
     ///
     /// # Errors
     ///
-    /// The first that applies: `Empty` where nothing but perhaps a leading `!` stands, `TooLong` where more than 255 bytes
-    /// follow, `BadByte` at the first that is no letter, digit, `.`, `-`, `_` or `*`.
+    /// The first that applies: `Empty` where nothing but perhaps a leading `!` stands, `TooLong` where more than 255
+    /// bytes follow, `BadByte` at the first that is no letter, digit, `.`, `-`, `_` or `*`.
     #[tactic(auto, unfolding(crate::specs::Pattern::parsed))]
     pub fn parse(text: &[u8]) -> Result<Pattern, PatternFault>
         ensures { result ≡ parsed text.now }

@@ -1,4 +1,4 @@
-use fw_outside::Octets;
+use fw_types::Octets;
 
 /// A word of a line, without its quotes if it stood in quotes.
 #[derive(Drop)]

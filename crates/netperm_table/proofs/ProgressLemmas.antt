@@ -9,7 +9,7 @@ use Rattle.std.proofs.lemmas.List.Elements.{All-append}
 use Rattle.netperm_table.specs.declared.line.Line.{Line}
 use Rattle.netperm_table.specs.declared.table_fault.TableFault.{TableFault}
 use Rattle.netperm_table.specs.declared.table_fault.TableFault.TheVariants.{LongLine, ManyLines}
-use Rattle.netperm_table.specs.Progress.{Progress, start, Keeps, Leads, Shows, table_with}
+use Rattle.netperm_table.specs.Progress.{Progress, no_progress, AddsLine, Leads, ShowsFault, table_with}
 use Rattle.netperm_table.specs.Reading.{reading}
 use Rattle.netperm_table.specs.Table.{with_lines, line_then, table_from, table_of}
 use Rattle.netperm_table.proofs.LineLemmas.{FirstLine, IsOneLine, first_line, lines_first, lines_one}
@@ -31,7 +31,7 @@ leads_start p bytes = record { same = λ rest. refl }
 pub leads_then : (a b c : Progress) (x y z : List ℕ) → Leads a x b y → Leads b y c z → Leads a x c z
 leads_then a b c x y z first second = record { same = λ rest. first.same rest ∙ second.same rest }
 
-pub leads_shows : (a b : Progress) (x y : List ℕ) (fault : TableFault) → Leads a x b y → Shows b y fault → Shows a x fault
+pub leads_shows : (a b : Progress) (x y : List ℕ) (fault : TableFault) → Leads a x b y → ShowsFault b y fault → ShowsFault a x fault
 leads_shows a b x y fault first second = record { same = λ rest. first.same rest ∙ second.same rest }
 
 -- bytes of the line that is being read
@@ -39,7 +39,7 @@ pub gathered : (old new : Progress) (bytes : List ℕ) → new.made ≡ old.made
 gathered old new bytes made number line = record { same = λ rest. rw (made, number, line, append_assoc old.line bytes rest) refl }
 
 -- the end of the line that is being read
-pub line_ended : (old new : Progress) → IsOneLine old.line → Keeps old.number (strip_carriage_return old.line) old.made new.made → new.number ≡ old.number + 1 → new.line ≡ [] → Leads old (10 ∷ []) new []
+pub line_ended : (old new : Progress) → IsOneLine old.line → AddsLine old.number (strip_carriage_return old.line) old.made new.made → new.number ≡ old.number + 1 → new.line ≡ [] → Leads old (10 ∷ []) new []
 line_ended old new one keeps number line = record {
   same = λ rest.
       ap (λ ls. with_lines old.made (table_from old.number ls)) (lines_first old.line rest one)
@@ -47,7 +47,7 @@ line_ended old new one keeps number line = record {
       ∙ rw (keeps.kept, number, line) refl;
 }
 
-pub line_shows : (old : Progress) (fault : TableFault) → IsOneLine old.line → reading old.number (strip_carriage_return old.line) ≡ Err fault → Shows old (10 ∷ []) fault
+pub line_shows : (old : Progress) (fault : TableFault) → IsOneLine old.line → reading old.number (strip_carriage_return old.line) ≡ Err fault → ShowsFault old (10 ∷ []) fault
 line_shows old fault one read = record {
   same = λ rest.
       ap (λ ls. with_lines old.made (table_from old.number ls)) (lines_first old.line rest one)
@@ -60,12 +60,12 @@ leads_line a b c bytes line rest cut first second = record {
   same = λ more. rw (cut, append_assoc line (10 ∷ rest) more) (first.same (10 ∷ (rest ++ more)) ∙ second.same (rest ++ more));
 }
 
-pub front_shows : (a : Progress) (bytes line rest : List ℕ) (fault : TableFault) → bytes ≡ line ++ rest → Shows a line fault → Shows a bytes fault
+pub front_shows : (a : Progress) (bytes line rest : List ℕ) (fault : TableFault) → bytes ≡ line ++ rest → ShowsFault a line fault → ShowsFault a bytes fault
 front_shows a bytes line rest fault cut shows = record {
   same = λ more. rw (cut, append_assoc line rest more) (shows.same (rest ++ more));
 }
 
-pub end_shows : (a b : Progress) (bytes line rest : List ℕ) (fault : TableFault) → bytes ≡ line ++ 10 ∷ rest → Leads a line b [] → Shows b (10 ∷ []) fault → Shows a bytes fault
+pub end_shows : (a b : Progress) (bytes line rest : List ℕ) (fault : TableFault) → bytes ≡ line ++ 10 ∷ rest → Leads a line b [] → ShowsFault b (10 ∷ []) fault → ShowsFault a bytes fault
 end_shows a b bytes line rest fault cut first second = record {
   same = λ more. rw (cut, append_assoc line (10 ∷ rest) more) (first.same (10 ∷ (rest ++ more)) ∙ second.same (rest ++ more));
 }
@@ -78,7 +78,7 @@ first_fault made number long text fault first read =
 pub many : (number : ℕ) (bytes : List ℕ) → 65535 < number → reading number bytes ≡ Err ManyLines
 many number bytes over = rw (lt-ltb 65535 number over) refl
 
-pub many_lines : (p : Progress) (bytes : List ℕ) → IsOneLine p.line → 65535 < p.number → 0 < length bytes → Shows p bytes ManyLines
+pub many_lines : (p : Progress) (bytes : List ℕ) → IsOneLine p.line → 65535 < p.number → 0 < length bytes → ShowsFault p bytes ManyLines
 many_lines p bytes one over some = record {
   same = λ rest.
       let first = first_line p.line (bytes ++ rest) one (omega (arith, length-append bytes rest)) in
@@ -92,7 +92,7 @@ not_over number within = grind (arith, nat_tests)
 long : (number : ℕ) (bytes : List ℕ) → number ≤ 65535 → 2048 < length bytes → reading number bytes ≡ Err (LongLine number)
 long number bytes within over = rw (not_over number within, lt-ltb 2048 (length bytes) over) refl
 
-pub long_line : (p : Progress) (bytes : List ℕ) → IsOneLine p.line → IsOneLine bytes → p.number ≤ 65535 → 2049 < length p.line + length bytes → Shows p bytes (LongLine p.number)
+pub long_line : (p : Progress) (bytes : List ℕ) → IsOneLine p.line → IsOneLine bytes → p.number ≤ 65535 → 2049 < length p.line + length bytes → ShowsFault p bytes (LongLine p.number)
 long_line p bytes one also within over = record {
   same = λ rest.
       let length_is = length-append p.line bytes in
@@ -110,7 +110,7 @@ no_more p none = let empty = nil_of p.line none in rw (empty, append-nil p.made)
     nil_of (x ∷ xs) h = absurd (omega arith)
 
 -- the text ends within a line
-pub last_line : (p : Progress) (made : List Line) → IsOneLine p.line → 0 < length p.line → Keeps p.number p.line p.made made → table_with p [] ≡ Ok made
+pub last_line : (p : Progress) (made : List Line) → IsOneLine p.line → 0 < length p.line → AddsLine p.number p.line p.made made → table_with p [] ≡ Ok made
 last_line p made one some keeps =
     ap (λ l. with_lines p.made (table_from p.number (lines l))) (append-nil p.line)
     ∙ ap (λ ls. with_lines p.made (table_from p.number ls)) (lines_one p.line one some)
@@ -133,5 +133,5 @@ with_none (Ok more) = refl
 with_none (Err fault) = refl
 
 -- before anything is read, the table is that of the text
-pub starts : (text : List ℕ) → table_with start text ≡ table_of text
+pub starts : (text : List ℕ) → table_with no_progress text ≡ table_of text
 starts text = with_none (table_of text)

@@ -6,18 +6,18 @@ use Rattle.std.specs.Str.Lines.{lines}
 use Rattle.std.proofs.lemmas.Bool.{cases_lt}
 use Rattle.std.proofs.lemmas.List.{append-nil, length-take}
 use Rattle.std.proofs.lemmas.List.Elements.{filter-append}
-use Rattle.fw_outside.specs.Spring.{Spring, Came, Ended, Broke, Idled}
-use Rattle.fw_outside.specs.Telling.{grown, preceded}
+use Rattle.fw_outside.specs.SourceView.{SourceView, Came, CameToEnd, Broke, Idled}
+use Rattle.fw_outside.specs.ToldList.{grown, preceded}
 use Rattle.host_pattern.specs.declared.word.Word.{Word}
 use Rattle.netperm_table.specs.declared.line.Line.{Line}
 use Rattle.netperm_table.specs.declared.table_fault.TableFault.{TableFault}
 use Rattle.netperm_table.specs.declared.table_fault.TableFault.TheVariants.{ReadFault}
 use Rattle.netperm_table.specs.Bytes.{is_blank, is_colon, is_lf, is_nul}
 use Rattle.netperm_table.specs.Fault.{ComesAfter}
-use Rattle.netperm_table.specs.Progress.{Progress, Leads, farthest, reached, start, table_with}
+use Rattle.netperm_table.specs.Progress.{Progress, Leads, farthest, reached, no_progress, table_with}
 use Rattle.netperm_table.specs.Reading.{is_skipped, line_at_colon, line_for, line_with, reading}
 use Rattle.netperm_table.specs.Table.{line_then, table_from, table_of, with_lines}
-use Rattle.netperm_table.specs.Taking.{line_ends, ShowsNoFault, StopsAt}
+use Rattle.netperm_table.specs.Taking.{line_ends, ShowsNoFault, TookToFault}
 use Rattle.netperm_table.specs.Words.{keywords_of, words_of}
 use Rattle.netperm_table.proofs.LineLemmas.{IsOneLine}
 use Rattle.netperm_table.proofs.ProgressLemmas.{many, starts}
@@ -78,13 +78,13 @@ table_after before number (line ∷ ls) lt le = by (cases_lt 65535 number) (λ w
     by (inr within) more = then_after (ComesAfter before) (reading number line) (table_from (number + 1) ls) (reading_after before number line lt le) (more (omega arith))
 
 -- what was read shows no fault
-clean_of : (first now : Spring) (reader : Progress) (r : ReadsOn first now reader) → reached reader ≤ farthest → ShowsNoFault r.part
+clean_of : (first now : SourceView) (reader : Progress) (r : ReadsOn first now reader) → reached reader ≤ farthest → ShowsNoFault r.part
 clean_of first now reader r within = λ rest.
     subst (λ t. IfErr t (ComesAfter (line_ends r.part))) (sym (sym (starts (r.part ++ rest)) ∙ r.leads.same rest))
     (with_after (ComesAfter (line_ends r.part)) reader.made (table_from reader.number (lines (reader.line ++ rest))) (table_after (line_ends r.part) reader.number (lines (reader.line ++ rest)) (omega (arith, r.number)) (omega (arith, within))))
 
 -- reading stops at what the last take gave
-pub stops_there : (first now new : Spring) (reader : Progress) (n : ℕ) (piece : List ℕ) (e : TableFault) → ReadsOn first now reader → Came n piece now new → reached reader ≤ farthest → length piece ≤ 4096 → e ≢ ReadFault → StopsAt e first new
+pub stops_there : (first now new : SourceView) (reader : Progress) (n : ℕ) (piece : List ℕ) (e : TableFault) → ReadsOn first now reader → Came n piece now new → reached reader ≤ farthest → length piece ≤ 4096 → e ≢ ReadFault → TookToFault e first new
 stops_there first now new reader n piece e r came within few own = record {
   front = r.part;
   last = take n piece;
@@ -95,7 +95,7 @@ stops_there first now new reader n piece e r came within few own = record {
   none = λ same. absurd (own same);
 }
 
-stops_with : (first now new : Spring) (reader : Progress) (e : TableFault) → ReadsOn first now reader → reached reader ≤ farthest → new.taken ≡ now.taken → new.left ≡ now.left → StopsAt e first new
+stops_with : (first now new : SourceView) (reader : Progress) (e : TableFault) → ReadsOn first now reader → reached reader ≤ farthest → new.taken ≡ now.taken → new.left ≡ now.left → TookToFault e first new
 stops_with first now new reader e r within taken left = record {
   front = r.part;
   last = [];
@@ -111,12 +111,12 @@ stops_with first now new reader e r within taken left = record {
 }
 
 -- reading stops where the source failed
-pub stops_failed : (first now new : Spring) (reader : Progress) (e : TableFault) → ReadsOn first now reader → reached reader ≤ farthest → Broke now new ⊎ Idled now new → StopsAt e first new
+pub stops_failed : (first now new : SourceView) (reader : Progress) (e : TableFault) → ReadsOn first now reader → reached reader ≤ farthest → Broke now new ⊎ Idled now new → TookToFault e first new
 stops_failed first now new reader e r within (inl broke) = stops_with first now new reader e r within (rw broke.is refl) (rw broke.is refl)
 stops_failed first now new reader e r within (inr idled) = stops_with first now new reader e r within (rw idled.is refl) (rw idled.is refl)
 
 -- and at the end
-pub stops_ended : (first now new : Spring) (reader : Progress) (e : TableFault) → ReadsOn first now reader → reached reader ≤ farthest → Ended now new → StopsAt e first new
+pub stops_ended : (first now new : SourceView) (reader : Progress) (e : TableFault) → ReadsOn first now reader → reached reader ≤ farthest → CameToEnd now new → TookToFault e first new
 stops_ended first now new reader e r within ended = stops_with first now new reader e r within (rw ended.is refl) (rw ended.is refl)
 
 pub err_all : {A : Type 0} (P : TableFault → Type 0) (r : Result A TableFault) → ((e : TableFault) → P e) → IfErr r P

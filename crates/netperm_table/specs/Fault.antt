@@ -16,16 +16,16 @@ line_of ReadFault = None
 line_of NoMemory = None
 
 -- what is wrong with it, and nothing where no line is at fault
-abbrev pub why_text : TableFault → List ℕ
-why_text (LongLine line) = codes "long line"
-why_text (NulByte line) = codes "nul byte"
-why_text (NoColon line) = codes "no colon"
-why_text (NoKeyword line) = codes "no keyword"
-why_text (OpenQuote line) = codes "open quote"
-why_text (NoAttribute line) = codes "no attribute"
-why_text ManyLines = codes "many lines"
-why_text ReadFault = []
-why_text NoMemory = []
+abbrev pub table_why_text : TableFault → List ℕ
+table_why_text (LongLine line) = codes "long line"
+table_why_text (NulByte line) = codes "nul byte"
+table_why_text (NoColon line) = codes "no colon"
+table_why_text (NoKeyword line) = codes "no keyword"
+table_why_text (OpenQuote line) = codes "open quote"
+table_why_text (NoAttribute line) = codes "no attribute"
+table_why_text ManyLines = codes "many lines"
+table_why_text ReadFault = []
+table_why_text NoMemory = []
 
 -- the line at fault comes after so many lines, where a line is at fault
 abbrev pub ComesAfter : ℕ → TableFault → Type 0

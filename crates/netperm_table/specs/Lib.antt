@@ -1,6 +1,6 @@
 pub mod Bytes
 pub mod Fault
-pub mod Kept
+pub mod Storage
 pub mod Progress
 pub mod Reading
 pub mod Table

@@ -1,4 +1,5 @@
 -- How far a table was read, and what that says of what is still to come.
+-- No public clause cites these: they say what private functions answer.
 use Rattle.std.specs.Prelude.{◌≡◌, ℕ, ◌+◌, ◌*◌, List, [], ◌++◌, length, option_to_list, Option, Result, Ok, Err}
 use Rattle.std.specs.Str.Lines.{lines}
 use Rattle.netperm_table.specs.declared.line.Line.{Line}
@@ -13,8 +14,8 @@ pub record Progress : Type 0 where
   pub line : List ℕ
 
 -- nothing was read
-abbrev pub start : Progress
-start = record { made = []; number = 1; line = [] }
+abbrev pub no_progress : Progress
+no_progress = record { made = []; number = 1; line = [] }
 
 -- the table, where this text is still to come
 abbrev pub table_with : Progress → List ℕ → Result (List Line) TableFault
@@ -25,11 +26,11 @@ pub record Leads (old : Progress) (bytes : List ℕ) (new : Progress) (left : Li
   pub same : (rest : List ℕ) → table_with old (bytes ++ rest) ≡ table_with new (left ++ rest)
 
 -- these bytes show a fault, whatever follows
-pub record Shows (old : Progress) (bytes : List ℕ) (fault : TableFault) : Type 0 where
+pub record ShowsFault (old : Progress) (bytes : List ℕ) (fault : TableFault) : Type 0 where
   pub same : (rest : List ℕ) → table_with old (bytes ++ rest) ≡ Err fault
 
 -- the line with these bytes was added where it isn't skipped
-pub record Keeps (number : ℕ) (bytes : List ℕ) (old new : List Line) : Type 0 where
+pub record AddsLine (number : ℕ) (bytes : List ℕ) (old new : List Line) : Type 0 where
   pub line : Option Line
   pub read : reading number bytes ≡ Ok line
   pub kept : new ≡ old ++ option_to_list line

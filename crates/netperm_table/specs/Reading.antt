@@ -31,7 +31,8 @@ line_for number keywords words = if length keywords == 0 then Err (NoKeyword num
 abbrev pub line_at_colon : ℕ → List ℕ → Result (Option Line) TableFault
 line_at_colon number bytes = line_for number (keywords_of (before_first is_colon bytes)) (words_of (after_first is_colon bytes))
 
--- what the line with this number and these bytes is read as: a line, nothing where it is skipped, or the fault of the first test that it fails
+-- what the line with this number and these bytes is read as: a line, nothing where it is skipped, or the fault of the
+-- first test that it fails. Kept by `Table::read` (`lines`, `fault`); body: src/read_line.rt.
 abbrev pub reading : ℕ → List ℕ → Result (Option Line) TableFault
 reading number bytes =
     if nat_lt 65535 number then Err ManyLines

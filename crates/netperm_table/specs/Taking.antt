@@ -1,8 +1,8 @@
 -- What reading a table does to its source.
 use Rattle.std.specs.Prelude.{◌≡◌, ℕ, ◌≤◌, ◌⊎◌, Bool, true, false, List, [], ◌++◌, length, filter, Option, Some, None, Result, Ok, Err, IfErr}
 use Rattle.fw_outside.specs.Counts.{Grew, Rose}
-use Rattle.fw_outside.specs.Spring.{Spring}
-use Rattle.fw_outside.specs.Telling.{grown, preceded, IsOver}
+use Rattle.fw_outside.specs.SourceView.{SourceView}
+use Rattle.fw_outside.specs.ToldList.{grown, preceded, IsOver}
 use Rattle.netperm_table.specs.declared.line.Line.{Line}
 use Rattle.netperm_table.specs.declared.table_fault.TableFault.{TableFault}
 use Rattle.netperm_table.specs.declared.table_fault.TableFault.TheVariants.{ReadFault, NoMemory}
@@ -11,7 +11,7 @@ use Rattle.netperm_table.specs.Fault.{ComesAfter}
 use Rattle.netperm_table.specs.Table.{table_of}
 
 -- the first of the bytes that were left were taken, and nothing else changed
-pub record Took (old new : Spring) : Type 0 where
+pub record Took (old new : SourceView) : Type 0 where
   pub part : List ℕ
   pub rest : Option (List ℕ)
   pub next : old.left ≡ preceded part rest
@@ -20,12 +20,12 @@ pub record Took (old new : Spring) : Type 0 where
   pub is : new ≡ record old { taken = grown old.taken part; left = rest; amount = count }
 
 -- bytes were taken to the end of what was left
-pub record TookAll (old new : Spring) : Type 0 where
+pub record TookAll (old new : SourceView) : Type 0 where
   pub took : Took old new
   pub over : IsOver new.left
 
 -- the first of the bytes that were left were taken, and then the source failed or nothing came in time: one of the counts rose, and the other stands
-pub record Stopped (old new : Spring) : Type 0 where
+pub record TookFront (old new : SourceView) : Type 0 where
   pub part : List ℕ
   pub rest : Option (List ℕ)
   pub faults : ℕ
@@ -37,10 +37,10 @@ pub record Stopped (old new : Spring) : Type 0 where
   pub is : new ≡ record old { taken = grown old.taken part; left = rest; amount = count; faults = faults; idles = idles }
 
 -- what an answer leaves of the source
-abbrev pub Leaves : Result (List Line) TableFault → Spring → Spring → Type 0
-Leaves (Ok _) old new = TookAll old new
-Leaves (Err ReadFault) old new = Stopped old new
-Leaves (Err _) old new = Took old new
+abbrev pub SourceAfterRead : Result (List Line) TableFault → SourceView → SourceView → Type 0
+SourceAfterRead (Ok _) old new = TookAll old new
+SourceAfterRead (Err ReadFault) old new = TookFront old new
+SourceAfterRead (Err _) old new = Took old new
 
 -- how many lines ended in these bytes
 abbrev pub line_ends : List ℕ → ℕ
@@ -51,7 +51,7 @@ abbrev pub ShowsNoFault : List ℕ → Type 0
 ShowsNoFault bytes = (rest : List ℕ) → IfErr (table_of (bytes ++ rest)) (ComesAfter (line_ends bytes))
 
 -- what was taken shows no fault, but for the last take, which has at most 4,096 bytes, and nothing where the source failed
-pub record StopsAt (fault : TableFault) (old new : Spring) : Type 0 where
+pub record TookToFault (fault : TableFault) (old new : SourceView) : Type 0 where
   pub front : List ℕ
   pub last : List ℕ
   pub next : old.left ≡ preceded (front ++ last) new.left

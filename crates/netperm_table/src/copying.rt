@@ -5,7 +5,7 @@ ghost use Rattle.netperm_table.specs.Words.{is_some_bytes, keywords_of, word_of,
 
 use crate::part::{OpenQuote, Part, is_blank, next_part};
 use crate::words::Words;
-use fw_outside::{NoMemory, Octets, OctetsList};
+use fw_types::{NoMemory, Octets, OctetsList};
 use host_pattern::Word;
 use std::alloc::Global;
 

@@ -91,7 +91,8 @@ fn part_of(text: &[u8], count: usize) -> Part<'_>
 
 // The word that begins with a quote, after which these bytes stand.
 fn quoted_part(bytes: &[u8]) -> Result<Part<'_>, OpenQuote>
-    ensures word { IfOk result (λ part. (first : ℕ) → is_quote first ≡ true → words_of (first ∷ bytes.now) ≡ with_word (word_of part.text.now part.quoted) (words_of part.rest.now)) }
+    ensures word { IfOk result (λ part. (first : ℕ) → is_quote first ≡ true →
+        words_of (first ∷ bytes.now) ≡ with_word (word_of part.text.now part.quoted) (words_of part.rest.now)) }
     ensures open { OnErr result ((first : ℕ) → is_quote first ≡ true → words_of (first ∷ bytes.now) ≡ None) }
     ensures within { IfOk result (λ part. length part.rest.now ≤ length bytes.now) }
 {
@@ -109,7 +110,8 @@ fn quoted_part(bytes: &[u8]) -> Result<Part<'_>, OpenQuote>
 fn first_part<'a>(first: u8, text: &'a [u8], after: &'a [u8]) -> Result<Part<'a>, OpenQuote>
     requires text { text.now ≡ first ∷ after.now }
     requires word { is_blank first ≡ false }
-    ensures word { IfOk result (λ part. words_of text.now ≡ with_word (word_of part.text.now part.quoted) (words_of part.rest.now)) }
+    ensures word { IfOk result (λ part. words_of text.now ≡ with_word (word_of part.text.now part.quoted) (words_of
+        part.rest.now)) }
     ensures open { OnErr result (words_of text.now ≡ None) }
     ensures shorter { IfOk result (λ part. length part.rest.now < length text.now) }
 {
@@ -124,7 +126,8 @@ fn first_part<'a>(first: u8, text: &'a [u8], after: &'a [u8]) -> Result<Part<'a>
 
 /// The first word of the bytes, if there is one.
 pub(crate) fn next_part(bytes: &[u8]) -> Result<Option<Part<'_>>, OpenQuote>
-    ensures word { IfOk result (λ next. MatchOption next (words_of bytes.now ≡ Some []) (λ part. words_of bytes.now ≡ with_word (word_of part.text.now part.quoted) (words_of part.rest.now))) }
+    ensures word { IfOk result (λ next. MatchOption next (words_of bytes.now ≡ Some []) (λ part.
+        words_of bytes.now ≡ with_word (word_of part.text.now part.quoted) (words_of part.rest.now))) }
     ensures open { OnErr result (words_of bytes.now ≡ None) }
     ensures shorter { IfOk result (λ next. IfSome next (λ part. length part.rest.now < length bytes.now)) }
 {

@@ -10,7 +10,7 @@ use crate::cut::cut_at;
 use crate::line::Line;
 use crate::part::{OpenQuote, Part, is_blank, next_part};
 use crate::table_fault::TableFault;
-use fw_outside::{Octets, OctetsList};
+use fw_types::{Octets, OctetsList};
 use std::alloc::Global;
 
 /// The greatest number of a line.
@@ -48,8 +48,11 @@ fn with_attribute(
     keywords: OctetsList,
     part: &Part,
 ) -> Result<Option<Line>, TableFault>
-    ensures ok { IfOk result (λ line. line_with number keywords (with_word (word_of part.now.text.now part.now.quoted) (words_of part.now.rest.now)) ≡ Ok line) }
-    ensures err { IfErr result (λ e. e ≢ TableFault.NoMemory → line_with number keywords (with_word (word_of part.now.text.now part.now.quoted) (words_of part.now.rest.now)) ≡ Err e) }
+    ensures ok { IfOk result (λ line. line_with number keywords (with_word (word_of part.now.text.now part.now.quoted)
+        (words_of part.now.rest.now)) ≡ Ok line) }
+    ensures err { IfErr result (λ e. e ≢ TableFault.NoMemory →
+        line_with number keywords (with_word (word_of part.now.text.now part.now.quoted) (words_of part.now.rest.now))
+        ≡ Err e) }
     ensures own { IfErr result (λ e. e ≢ TableFault.ReadFault) }
 {
     let attribute = Octets::copy(alloc, part.text)?;
@@ -90,7 +93,8 @@ fn read_sides(
     back: &[u8],
 ) -> Result<Option<Line>, TableFault>
     ensures ok { IfOk result (λ line. line_for number (keywords_of front.now) (words_of back.now) ≡ Ok line) }
-    ensures err { IfErr result (λ e. e ≢ TableFault.NoMemory → line_for number (keywords_of front.now) (words_of back.now) ≡ Err e) }
+    ensures err { IfErr result (λ e. e ≢ TableFault.NoMemory →
+        line_for number (keywords_of front.now) (words_of back.now) ≡ Err e) }
     ensures own { IfErr result (λ e. e ≢ TableFault.ReadFault) }
 {
     let keywords = read_keywords(alloc, front)?;
@@ -100,7 +104,8 @@ fn read_sides(
     with_words(alloc, number, keywords, back)
 }
 
-/// The line with this number and these bytes, which are without its end: a line, nothing where it is skipped, or its fault.
+/// The line with this number and these bytes, which are without its end: a line, nothing where it is skipped, or its
+/// fault.
 pub(crate) fn read_line(
     alloc: Global,
     number: u32,

@@ -1,6 +1,6 @@
 //! Reading in pieces: the lines so far, and the line that is being read.
 ghost use Rattle.std.specs.Prelude.{◌≡◌, ◌≢◌, ◌<◌, ◌≤◌, ◌+◌, ◌==◌, false, [], ◌∷◌, ◌++◌, length, All, IfOk, IfErr, OnOk, Ok, Err, option_to_list};
-ghost use Rattle.netperm_table.specs.Progress.{Keeps, Leads, Shows, farthest, reached, start, table_with};
+ghost use Rattle.netperm_table.specs.Progress.{AddsLine, Leads, ShowsFault, farthest, reached, no_progress, table_with};
 ghost use Rattle.netperm_table.specs.Reading.{reading};
 ghost use Rattle.netperm_table.specs.Taking.{line_ends};
 
@@ -9,7 +9,7 @@ use crate::line::Line;
 use crate::read_line::{LAST_LINE, read_line};
 use crate::table_fault::TableFault;
 use arrayvec::ArrayVec;
-use fw_outside::append;
+use fw_types::append;
 use std::alloc::Global;
 use std::marker::Model;
 
@@ -29,7 +29,8 @@ impl Model for Reader {
 
     ghost view = { λ r. record { made = r.made.items; number = r.number; line = r.line.items } };
 
-    ghost invariant = { λ r. All (λ b. (b == 10) ≡ false) r.line.items × (r.number ≤ 65536) × (length r.line.items ≤ 2049) };
+    ghost invariant = { λ r. All (λ b. (b == 10) ≡ false) r.line.items × (r.number ≤ 65536) ×
+        (length r.line.items ≤ 2049) };
 }
 
 // Keeps a line that isn't skipped.
@@ -50,7 +51,7 @@ fn read_and_keep(
     number: u32,
     bytes: &[u8],
 ) -> Result<(), TableFault>
-    ensures ok { OnOk result (Keeps number bytes.now made.old.items made.new.items) }
+    ensures ok { OnOk result (AddsLine number bytes.now made.old.items made.new.items) }
     ensures err { IfErr result (λ e. e ≢ TableFault.NoMemory → reading number bytes.now ≡ Err e) }
     ensures own { IfErr result (λ e. e ≢ TableFault.ReadFault) }
 {
@@ -61,7 +62,7 @@ fn read_and_keep(
 impl Reader {
     /// Nothing was read.
     pub(crate) fn new(alloc: Global) -> Reader
-        ensures { result ≡ start }
+        ensures { result ≡ no_progress }
     {
         Reader {
             made: Vec::new(alloc),
@@ -78,7 +79,7 @@ impl Reader {
         ensures number { OnOk result (self.new.number ≡ self.old.number) }
         ensures far { OnOk result (reached self.new ≡ reached self.old + length bytes.now) }
         ensures within { OnOk result (reached self.new ≤ farthest) }
-        ensures fault { IfErr result (λ e. Shows self.old bytes.now e) }
+        ensures fault { IfErr result (λ e. ShowsFault self.old bytes.now e) }
         ensures own { IfErr result (λ e. e ≢ TableFault.ReadFault) }
     {
         if bytes.len() > self.line.remaining_capacity() {
@@ -95,7 +96,7 @@ impl Reader {
         ensures number { OnOk result (self.new.number ≡ self.old.number + 1) }
         ensures far { OnOk result (reached self.old < reached self.new) }
         ensures within { OnOk result (reached self.new ≤ farthest) }
-        ensures fault { IfErr result (λ e. e ≢ TableFault.NoMemory → Shows self.old (10 ∷ []) e) }
+        ensures fault { IfErr result (λ e. e ≢ TableFault.NoMemory → ShowsFault self.old (10 ∷ []) e) }
         ensures own { IfErr result (λ e. e ≢ TableFault.ReadFault) }
     {
         let line = without_return(self.line.as_slice());
@@ -110,11 +111,12 @@ impl Reader {
     fn read_on<'a>(&mut self, alloc: Global, bytes: &'a [u8]) -> Result<&'a [u8], TableFault>
         requires { 0 < length bytes.now }
         ensures ok { IfOk result (λ left. Leads self.old bytes.now self.new left.now) }
-        ensures number { IfOk result (λ left. self.new.number + line_ends left.now ≡ self.old.number + line_ends bytes.now) }
+        ensures number { IfOk result (λ left.
+            self.new.number + line_ends left.now ≡ self.old.number + line_ends bytes.now) }
         ensures far { OnOk result (reached self.old < reached self.new) }
         ensures within { OnOk result (reached self.new ≤ farthest) }
         ensures shorter { IfOk result (λ left. length left.now < length bytes.now) }
-        ensures fault { IfErr result (λ e. e ≢ TableFault.NoMemory → Shows self.old bytes.now e) }
+        ensures fault { IfErr result (λ e. e ≢ TableFault.NoMemory → ShowsFault self.old bytes.now e) }
         ensures own { IfErr result (λ e. e ≢ TableFault.ReadFault) }
     {
         if self.number > LAST_LINE {
@@ -137,7 +139,7 @@ impl Reader {
         ensures number { OnOk result (self.new.number ≡ self.old.number + line_ends bytes.now) }
         ensures far { OnOk result (0 < length bytes.now → reached self.old < reached self.new) }
         ensures within { OnOk result (0 < length bytes.now → reached self.new ≤ farthest) }
-        ensures fault { IfErr result (λ e. e ≢ TableFault.NoMemory → Shows self.old bytes.now e) }
+        ensures fault { IfErr result (λ e. e ≢ TableFault.NoMemory → ShowsFault self.old bytes.now e) }
         ensures own { IfErr result (λ e. e ≢ TableFault.ReadFault) }
     {
         let mut rest = bytes;

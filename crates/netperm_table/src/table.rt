@@ -1,7 +1,7 @@
 ghost use Rattle.std.specs.Prelude.{◌≡◌, ◌<◌, ◌⊎◌, false, length, IfOk, IfErr, OnOk, OnErr, MatchOption, Err};
-ghost use Rattle.fw_outside.specs.Cabinet.{has_failed};
-ghost use Rattle.fw_outside.specs.Spring.{Broke, Came, Ended, Idled};
-ghost use Rattle.netperm_table.specs.Taking.{AreLinesOf, IsFaultOf, Leaves, StopsAt, TookAll, is_read_fault};
+ghost use Rattle.fw_outside.specs.FilesView.{has_failed};
+ghost use Rattle.fw_outside.specs.SourceView.{Broke, Came, CameToEnd, Idled};
+ghost use Rattle.netperm_table.specs.Taking.{AreLinesOf, IsFaultOf, SourceAfterRead, TookToFault, TookAll, is_read_fault};
 
 use crate::line::Line;
 use crate::reader::Reader;
@@ -28,9 +28,11 @@ impl Model for Table {
 // The next piece: how many bytes of the buffer it has, or nothing at the end.
 fn next_piece<S: Source>(from: &mut S, buffer: &mut [u8]) -> Result<Option<usize>, TableFault>
     requires { 0 < length buffer.old }
-    ensures ok { IfOk result (λ piece. MatchOption piece (Ended (S.spring from.old) (S.spring from.new)) (λ n. Came n buffer.new (S.spring from.old) (S.spring from.new))) }
+    ensures ok { IfOk result (λ piece. MatchOption piece (CameToEnd (S.source_view from.old) (S.source_view from.new))
+        (λ n. Came n buffer.new (S.source_view from.old) (S.source_view from.new))) }
     ensures fault { IfErr result (λ e. e ≡ TableFault.ReadFault) }
-    ensures stopped { OnErr result (Broke (S.spring from.old) (S.spring from.new) ⊎ Idled (S.spring from.old) (S.spring from.new)) }
+    ensures stopped { OnErr result (Broke (S.source_view from.old) (S.source_view from.new) ⊎
+        Idled (S.source_view from.old) (S.source_view from.new)) }
 {
     match from.take(buffer) {
         Ok(Got::Bytes(count)) => Ok(Some(count)),
@@ -39,13 +41,13 @@ fn next_piece<S: Source>(from: &mut S, buffer: &mut [u8]) -> Result<Option<usize
     }
 }
 
-// The lines of a table, read to the end of its source or to its first line without a reading.
+// The lines of a table, read to the end of its source or to its first line that can't be read.
 fn read_lines<S: Source>(alloc: Global, from: &mut S) -> Result<Vec<Line>, TableFault>
-    ensures lines { IfOk result (λ lines. AreLinesOf (S.spring from.old).left lines.items) }
-    ensures fault { IfErr result (λ e. IsFaultOf (S.spring from.old).left e) }
-    ensures end { OnOk result (TookAll (S.spring from.old) (S.spring from.new)) }
-    ensures source { IfErr result (λ e. Leaves (Err e) (S.spring from.old) (S.spring from.new)) }
-    ensures stops { IfErr result (λ e. StopsAt e (S.spring from.old) (S.spring from.new)) }
+    ensures lines { IfOk result (λ lines. AreLinesOf (S.source_view from.old).left lines.items) }
+    ensures fault { IfErr result (λ e. IsFaultOf (S.source_view from.old).left e) }
+    ensures end { OnOk result (TookAll (S.source_view from.old) (S.source_view from.new)) }
+    ensures source { IfErr result (λ e. SourceAfterRead (Err e) (S.source_view from.old) (S.source_view from.new)) }
+    ensures stops { IfErr result (λ e. TookToFault e (S.source_view from.old) (S.source_view from.new)) }
 {
     let mut reader = Reader::new(alloc);
     let mut buffer = [0; 4096];
@@ -56,16 +58,19 @@ fn read_lines<S: Source>(alloc: Global, from: &mut S) -> Result<Vec<Line>, Table
 }
 
 impl Table {
-    /// Reads a table to the end of its source, or to its first line without a reading, which is the fault then.
+    /// Reads a table to the end of its source, or to its first line that can't be read, which is the fault then.
     ///
     /// # Errors
-    /// The fault of the first line that fails a test; `ManyLines` where that is the 65,536th line; `ReadFault` where the source failed or nothing came in time; `NoMemory`.
+    ///
+    /// The fault of the first line that fails a test; `ManyLines` where that is the 65,536th line; `ReadFault` where
+    /// the source failed or nothing came in time; `NoMemory`.
     pub fn read<S: Source>(alloc: Global, from: &mut S) -> Result<Table, TableFault>
-        ensures lines { IfOk result (λ table. AreLinesOf (S.spring from.old).left table) }
-        ensures fault { IfErr result (λ e. IsFaultOf (S.spring from.old).left e) }
-        ensures source { Leaves result (S.spring from.old) (S.spring from.new) }
-        ensures stops { IfErr result (λ e. StopsAt e (S.spring from.old) (S.spring from.new)) }
-        ensures failed { has_failed (S.spring from.old) ≡ false → has_failed (S.spring from.new) ≡ is_read_fault result }
+        ensures lines { IfOk result (λ table. AreLinesOf (S.source_view from.old).left table) }
+        ensures fault { IfErr result (λ e. IsFaultOf (S.source_view from.old).left e) }
+        ensures source { SourceAfterRead result (S.source_view from.old) (S.source_view from.new) }
+        ensures stops { IfErr result (λ e. TookToFault e (S.source_view from.old) (S.source_view from.new)) }
+        ensures failed { has_failed (S.source_view from.old) ≡ false →
+            has_failed (S.source_view from.new) ≡ is_read_fault result }
     {
         match read_lines(alloc, from) {
             Ok(lines) => Ok(Table { lines }),

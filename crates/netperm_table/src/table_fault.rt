@@ -1,5 +1,5 @@
 ghost use Rattle.std.specs.Prelude.{◌≡◌};
-ghost use Rattle.netperm_table.specs.Fault.{line_of, why_text};
+ghost use Rattle.netperm_table.specs.Fault.{line_of, table_why_text};
 ghost use Rattle.netperm_table.specs.declared.table_fault.TableFault.TheVariants.{NoMemory};
 
 use std::alloc::{AllocError, AllocFailed};
@@ -45,10 +45,10 @@ impl From<AllocError> for TableFault {
     }
 }
 
-impl From<fw_outside::NoMemory> for TableFault {
+impl From<fw_types::NoMemory> for TableFault {
     ghost from_gives = { λ _ e. e ≡ NoMemory };
 
-    fn from(_: fw_outside::NoMemory) -> TableFault {
+    fn from(_: fw_types::NoMemory) -> TableFault {
         TableFault::NoMemory
     }
 }
@@ -80,7 +80,7 @@ impl TableFault {
 
     /// What the log says of the line at fault; empty where it is the source or memory.
     pub fn why(&self) -> &'static [u8]
-        ensures { result.now ≡ why_text self.now }
+        ensures { result.now ≡ table_why_text self.now }
     {
         match self {
             TableFault::LongLine { .. } => b"long line",

@@ -1,6 +1,6 @@
 ghost use Rattle.std.specs.Prelude.{◌≡◌, [], ◌∷◌, ◌++◌, IfOk, OnOk};
 
-use fw_outside::NoMemory;
+use fw_types::NoMemory;
 use host_pattern::Word;
 use std::alloc::Global;
 use std::marker::Model;
@@ -8,7 +8,7 @@ use std::{mem, slice};
 
 /// Where words are kept.
 #[derive(Drop)]
-pub enum Kept {
+pub enum Storage {
     None,
     One(Word),
     More(Vec<Word>),
@@ -18,17 +18,17 @@ pub enum Kept {
 #[derive(Drop)]
 pub struct Words {
     alloc: Global,
-    kept: Kept,
+    storage: Storage,
 }
 
 impl Model for Words {
     ghost use Rattle.std.specs.Prelude.{List};
     ghost use Rattle.host_pattern.specs.declared.word.Word.{Word};
-    ghost use Rattle.netperm_table.specs.Kept.{kept_words};
+    ghost use Rattle.netperm_table.specs.Storage.{stored_words};
 
     ghost Value = { List Word };
 
-    ghost view = { λ words. kept_words words.kept };
+    ghost view = { λ words. stored_words words.storage };
 }
 
 fn two(alloc: Global, first: Word, second: Word) -> Result<Vec<Word>, NoMemory>
@@ -54,7 +54,7 @@ impl Words {
     {
         Words {
             alloc,
-            kept: Kept::None,
+            storage: Storage::None,
         }
     }
 
@@ -62,10 +62,10 @@ impl Words {
     pub(crate) fn push(&mut self, word: Word) -> Result<(), NoMemory>
         ensures { OnOk result (self.new ≡ self.old ++ word ∷ []) }
     {
-        self.kept = match mem::replace(&mut self.kept, Kept::None) {
-            Kept::None => Kept::One(word),
-            Kept::One(first) => Kept::More(two(self.alloc, first, word)?),
-            Kept::More(words) => Kept::More(more(words, word)?),
+        self.storage = match mem::replace(&mut self.storage, Storage::None) {
+            Storage::None => Storage::One(word),
+            Storage::One(first) => Storage::More(two(self.alloc, first, word)?),
+            Storage::More(words) => Storage::More(more(words, word)?),
         };
         Ok(())
     }
@@ -74,10 +74,10 @@ impl Words {
     pub fn as_slice(&self) -> &[Word]
         ensures { result.now ≡ self.now }
     {
-        match &self.kept {
-            Kept::None => &[],
-            Kept::One(word) => slice::from_ref(word),
-            Kept::More(words) => words.as_slice(),
+        match &self.storage {
+            Storage::None => &[],
+            Storage::One(word) => slice::from_ref(word),
+            Storage::More(words) => words.as_slice(),
         }
     }
 }

@@ -8,7 +8,7 @@ use Rattle.std.proofs.lemmas.List.Sums.{AllPass-from_list_all, list_all-from_All
 use Rattle.hex.specs.Hex.{decode_of, decode_pairs, decode_sized, digit_or_error, hex_digit_value, is_hex_digit, pair_value, value_at, ◌>>=◌}
 use Rattle.hex.specs.declared.error.FromHexError.{FromHexError}
 use Rattle.hex.proofs.HexLemmas.{decode_of-even, decode_of-ok, decode_sized-ok, decode_sized-twice, IsOk-decode_sized}
-use Rattle.otp_md5.specs.Hexadecimal.{are_digits, number_of, word_of}
+use Rattle.otp_md5.specs.Hexadecimal.{are_digits, hex_number_of, hex_word_of}
 
 abbrev digit_step : ℕ → ℕ → ℕ
 digit_step n digit = 16 * n + unwrap_or (hex_digit_value digit) 0
@@ -57,7 +57,7 @@ eight_are (a ∷ b ∷ c ∷ d ∷ e ∷ f ∷ g ∷ []) h = omega arith
 eight_are (a ∷ b ∷ c ∷ d ∷ e ∷ f ∷ g ∷ i ∷ []) h = omega arith
 eight_are (a ∷ b ∷ c ∷ d ∷ e ∷ f ∷ g ∷ i ∷ j ∷ rest) h = omega arith
 
-decoded_is : (s bytes : List ℕ) → decode_sized s 8 ≡ Ok bytes → (are_digits s ≡ true) × (number_of s ≡ from_be_bytes w64 bytes)
+decoded_is : (s bytes : List ℕ) → decode_sized s 8 ≡ Ok bytes → (are_digits s ≡ true) × (hex_number_of s ≡ from_be_bytes w64 bytes)
 decoded_is s bytes e =
     let len : length s ≡ 16 = decode_sized-ok s 8 bytes e in
     let whole : decode_of s ≡ Ok bytes = sym (decode_sized-twice s 8 len) ∙ e in
@@ -91,13 +91,13 @@ refused_is s e true h refused =
     absurd (cc (bad))
 
 -- what a slice's decoding shows of the text
-pub decoded_word : (s out : List ℕ) (d : Result (List ℕ) FromHexError) (r : Result Unit FromHexError) → decode_sized s 8 ≡ d → MatchResult d (λ bytes. (r ≡ Ok tt) × (out ≡ bytes)) (λ e. r ≡ Err e) → r ≡ Ok tt → word_of s ≡ Some (from_be_bytes w64 out)
+pub decoded_word : (s out : List ℕ) (d : Result (List ℕ) FromHexError) (r : Result Unit FromHexError) → decode_sized s 8 ≡ d → MatchResult d (λ bytes. (r ≡ Ok tt) × (out ≡ bytes)) (λ e. r ≡ Err e) → r ≡ Ok tt → hex_word_of s ≡ Some (from_be_bytes w64 out)
 decoded_word s out (Ok bytes) r e told fine =
     let is = decoded_is s bytes e in
     rw (is.0, is.1, told.1) refl
 decoded_word s out (Err bad) r e told fine = absurd (cc (told, fine))
 
-pub refused_word : (s out : List ℕ) (d : Result (List ℕ) FromHexError) (r : Result Unit FromHexError) (bad : FromHexError) → decode_sized s 8 ≡ d → MatchResult d (λ bytes. (r ≡ Ok tt) × (out ≡ bytes)) (λ e. r ≡ Err e) → r ≡ Err bad → word_of s ≡ None
+pub refused_word : (s out : List ℕ) (d : Result (List ℕ) FromHexError) (r : Result Unit FromHexError) (bad : FromHexError) → decode_sized s 8 ≡ d → MatchResult d (λ bytes. (r ≡ Ok tt) × (out ≡ bytes)) (λ e. r ≡ Err e) → r ≡ Err bad → hex_word_of s ≡ None
 refused_word s out (Ok bytes) r bad e told refused = absurd (cc (told.0, refused))
 refused_word s out (Err other) r bad e told refused = rw (refused_is s other (are_digits s) refl e) refl
 
@@ -113,5 +113,5 @@ true_some : (b : Bool) (n : ℕ) (r : Option ℕ) → r ≡ cond b (Some n) None
 true_some true n r e h = rw e refl
 true_some false n r e h = absurd cc
 
-pub some_word : (s : List ℕ) (r : Option ℕ) → r ≡ word_of s → IsSome r ↔ ((length s ≡ 16) × AllPass is_hex_digit s)
-some_word s r e = (λ h. digits_are s (some_true (are_digits s) (number_of s) r e h), λ h. true_some (are_digits s) (number_of s) r e (are_digits_from s h.0 h.1))
+pub some_word : (s : List ℕ) (r : Option ℕ) → r ≡ hex_word_of s → IsSome r ↔ ((length s ≡ 16) × AllPass is_hex_digit s)
+some_word s r e = (λ h. digits_are s (some_true (are_digits s) (hex_number_of s) r e h), λ h. true_some (are_digits s) (hex_number_of s) r e (are_digits_from s h.0 h.1))

@@ -16,13 +16,13 @@ abbrev pub are_digits : List ℕ → Bool
 are_digits digits = length digits == 16 && list_all is_hex_digit digits
 
 -- the number that hexadecimal digits are, the greatest first
-abbrev pub number_of : List ℕ → ℕ
-number_of digits = fold (λ n digit. 16 * n + unwrap_or (hex_digit_value digit) 0) 0 digits
+abbrev pub hex_number_of : List ℕ → ℕ
+hex_number_of digits = fold (λ n digit. 16 * n + unwrap_or (hex_digit_value digit) 0) 0 digits
 
 -- the password that digits are
-abbrev pub word_of : List ℕ → Option ℕ
-word_of digits = if are_digits digits then Some (number_of digits) else None
+abbrev pub hex_word_of : List ℕ → Option ℕ
+hex_word_of digits = if are_digits digits then Some (hex_number_of digits) else None
 
 -- the password that a text is
 unfoldable pub read_of : List ℕ → Option ℕ
-read_of text = word_of (unblanked text)
+read_of text = hex_word_of (unblanked text)

@@ -4,7 +4,7 @@ ghost use Rattle.otp_md5.specs.Challenge.{challenge};
 
 use arrayvec::ArrayVec;
 use auth_records::Seed;
-use fw_outside::{append, append_u32};
+use fw_types::{append, append_u32};
 
 /// Sets `out` to the challenge for the password of this count: `otp-md5`, the count and the seed, with a space between.
 #[tactic(auto, unfolding(crate::specs::Challenge::challenge))]

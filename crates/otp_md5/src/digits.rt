@@ -2,7 +2,7 @@
 ghost use Rattle.std.specs.Prelude.{◌≡◌, ◌<◌, ◌↔◌, length, IsSome, IfNone, IfSome};
 ghost use Rattle.std.specs.List.{AllPass};
 ghost use Rattle.hex.specs.Hex.{is_hex_digit};
-ghost use Rattle.otp_md5.specs.Hexadecimal.{is_blank, unblanked, word_of, read_of};
+ghost use Rattle.otp_md5.specs.Hexadecimal.{is_blank, unblanked, hex_word_of, read_of};
 
 use arrayvec::ArrayVec;
 
@@ -31,7 +31,7 @@ fn unblanked(text: &[u8]) -> Option<ArrayVec<u8, 16>>
 
 /// The password that 16 hexadecimal digits are, or nothing where the bytes are anything else.
 fn read_digits(digits: &[u8]) -> Option<u64>
-    ensures { result ≡ word_of digits.now }
+    ensures { result ≡ hex_word_of digits.now }
 {
     let mut bytes = [0; 8];
     match hex::decode_to_slice(digits, &mut bytes) {

@@ -13,6 +13,3 @@ mod words;
 pub use challenge::challenge_text;
 pub use digits::read_hex;
 pub use words::{fold, initial, next};
-
-#[cfg(test)]
-mod tests;

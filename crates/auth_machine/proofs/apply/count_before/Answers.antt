@@ -1,6 +1,6 @@
 use Rattle.std.proofs.Common.{not}
-use Rattle.fw_outside.specs.KeyedLemmas.{place_or_len}
-use Rattle.fw_outside.specs.Name.{is_before}
+use Rattle.fw_types.proofs.KeyedLemmas.{place_or_len}
+use Rattle.fw_types.specs.Name.{is_before}
 use Rattle.auth_machine.proofs.apply.count_before.Goals as goal
 
 pub returns-clause-count : goal.returns-clause-count

@@ -1,9 +1,9 @@
 use Rattle.std.proofs.Common.{◌≡◌, Ok, Err, Result, ap, arith}
+use Rattle.byte_reader.proofs.NumberLemmas.{all_bytes}
 use Rattle.auth_records.specs.Spelling.{fields}
 use Rattle.auth_records.specs.Reading.{whole}
 use Rattle.auth_records.specs.declared.record.Record.{Record}
 use Rattle.auth_records.specs.declared.fault.RecordFault.{RecordFault}
-use Rattle.auth_records.proofs.NumberLemmas.{all_bytes}
 use Rattle.auth_records.proofs.WholeLemmas.{whole_sound, whole_stops, longest_beginning, only_record, no_record}
 use Rattle.auth_records.proofs.decoding.decode.Goals as goal
 

@@ -1,5 +1,5 @@
 use Rattle.std.proofs.Common.{arith}
-use Rattle.auth_records.proofs.NumberLemmas.{all_bytes}
+use Rattle.byte_reader.proofs.NumberLemmas.{all_bytes}
 use Rattle.auth_records.proofs.OptionLemmas.{on_ok}
 use Rattle.auth_records.proofs.encoding.put_bytes.Goals as goal
 

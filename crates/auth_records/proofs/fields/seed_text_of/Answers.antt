@@ -1,10 +1,11 @@
 use Rattle.std.proofs.Common.{rules, arith}
-use Rattle.auth_records.specs.Reading.{Gives, counted_at, seed_at}
+use Rattle.byte_reader.specs.Reading.{IsReadAs, counted_at}
+use Rattle.auth_records.specs.Reading.{seed_at}
 use Rattle.auth_records.proofs.TextLemmas.{text_form, IsSeed, reads_seed}
 use Rattle.auth_records.proofs.fields.seed_text_of.Goals as goal
 
 pub returns-clause-form : goal.returns-clause-form
 unfolding counted_at
 returns-clause-form c =
-    let given : Gives (λ x. (x.0.now, x.1.now)) c.text_of.result (seed_at c.args.bytes.now) = search rules in
+    let given : IsReadAs (λ x. (x.0.now, x.1.now)) c.text_of.result (seed_at c.args.bytes.now) = search rules in
     text_form seed_at IsSeed reads_seed c.args.bytes.now c.text_of.result (λ i. omega (arith, c.type_inv.bytes i)) given

@@ -1,4 +1,4 @@
-use Rattle.fw_acts.specs.ProjectionLemmas.{projection_joined}
+use Rattle.fw_acts.proofs.ProjectionLemmas.{projection_joined}
 use Rattle.fw_acts.proofs.laws.projections_join.Goals as goal
 
 pub returns : goal.returns

@@ -1,6 +1,6 @@
 use Rattle.std.proofs.Common.{◌∷◌, ◌++◌}
 use Rattle.fw_acts.specs.Histories.{history}
-use Rattle.fw_acts.specs.HistoryLemmas.{run_leaves, run_may, may_each, next_may}
+use Rattle.fw_acts.proofs.HistoryLemmas.{run_leaves, run_may, may_each, next_may}
 use Rattle.fw_acts.proofs.laws.rows_keep.Goals as goal
 
 pub returns-clause-leaves : goal.returns-clause-leaves

@@ -1,4 +1,4 @@
-use Rattle.fw_acts.specs.RunLemmas.{run_joined, run_parted, does_joined, does_parted}
+use Rattle.fw_acts.proofs.RunLemmas.{run_joined, run_parted, does_joined, does_parted}
 use Rattle.fw_acts.proofs.laws.runs_join.Goals as goal
 
 pub returns-clause-run : goal.returns-clause-run

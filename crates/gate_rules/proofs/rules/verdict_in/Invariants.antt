@@ -1,10 +1,10 @@
 use Rattle.std.proofs.Common.{◌≡◌, ◌+◌, ◌≤◌, drop}
 use Rattle.std.specs.Prelude.{find}
-use Rattle.gate_rules.specs.Verdict.{decided_by, matches, patterns_in}
+use Rattle.gate_rules.specs.Verdict.{decided_by, rule_matches, pattern_count}
 use Rattle.gate_rules.proofs.rules.verdict_in.Given as goal
 
 abbrev pub invariant-loop-rule : goal.invariant-loop-rule
 invariant-loop-rule g l = record {
-  answer : decided_by (find (matches l.peer) (drop l.rule-index l.rules)) ≡ decided_by (find (matches l.peer) l.rules);
-  bound : l.steps + patterns_in (drop l.rule-index l.rules) ≤ l.initial.steps + patterns_in l.rules;
+  answer : decided_by (find (rule_matches l.peer) (drop l.rule-index l.rules)) ≡ decided_by (find (rule_matches l.peer) l.rules);
+  bound : l.steps + pattern_count (drop l.rule-index l.rules) ≤ l.initial.steps + pattern_count l.rules;
 }

@@ -5,7 +5,7 @@ use Rattle.netperm_table.proofs.table.read_lines.Given as goal
 
 abbrev pub invariant-loop-reader : goal.invariant-loop-reader
 invariant-loop-reader g l = record {
-  reads : ReadsOn (g.S.Source.spring l.fn.from) (g.S.Source.spring l.from) l.reader;
+  reads : ReadsOn (g.S.Source.source_view l.fn.from) (g.S.Source.source_view l.from) l.reader;
   within : reached l.reader ≤ farthest;
 }
 

@@ -1,6 +1,6 @@
 use Rattle.std.proofs.Common.{◌≡◌, [], rules, ◌≢◌, Err}
 use Rattle.netperm_table.specs.declared.table_fault.TableFault.TheVariants.{NoMemory}
-use Rattle.netperm_table.specs.Progress.{Keeps, Progress, table_with}
+use Rattle.netperm_table.specs.Progress.{AddsLine, Progress, table_with}
 use Rattle.netperm_table.specs.Reading.{reading}
 use Rattle.netperm_table.proofs.ProgressLemmas.{last_line, last_shows, passed_up}
 use Rattle.netperm_table.proofs.reader.Reader.finish.Goals as goal
@@ -19,5 +19,5 @@ pub returns-clause-ok : goal.returns-clause-ok
 returns-clause-ok c =
     let inside = c.self.inside in
     let p : Progress = record { made = inside.made.items; number = inside.number; line = inside.line.items } in
-    let keeps : Keeps inside.number inside.line.items inside.made.items c.read_and_keep.new.made.items = rw c.as_slice.ensures.value at c.in_ok-read_and_keep.ensures.ok in
+    let keeps : AddsLine inside.number inside.line.items inside.made.items c.read_and_keep.new.made.items = rw c.as_slice.ensures.value at c.in_ok-read_and_keep.ensures.ok in
     rw (← c.self.view_is) (last_line p c.read_and_keep.new.made.items c.self.invariant.0 (search rules) keeps)

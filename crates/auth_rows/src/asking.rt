@@ -1,0 +1,114 @@
+//! A request and its reply.
+
+use crate::fault::{Fault, Line, check};
+use crate::stage::Stage;
+use arrayvec::ArrayVec;
+use auth_events::{Reply, Request};
+use authsrv_lines::{Wire, read_request, reply_text};
+use fw_types::{Name, NoMemory};
+use row_lines::{Told, add, add_number, cut_word, number_of, unescape};
+use std::alloc::Global;
+
+const SALT: [u8; 8] = [1, 2, 3, 4, 5, 6, 7, 8];
+
+/// What a line asks, and what is answered.
+#[derive(Drop)]
+pub(crate) struct Row {
+    pub(crate) sid: u64,
+    pub(crate) at: u64,
+    asked: Vec<u8>,
+    told: Vec<u8>,
+}
+
+fn request_in(wire: Wire) -> Request {
+    match wire {
+        Wire::Ask(request) => request,
+        Wire::Password { name, hash } => Request::Password {
+            name,
+            salt: SALT,
+            hash,
+        },
+        Wire::List => Request::List { after: None },
+        Wire::Quit => Request::Close,
+    }
+}
+
+fn request_on(line: &[u8]) -> Option<Request> {
+    match read_request(line) {
+        Ok(wire) => Some(request_in(wire)),
+        Err(_) => None,
+    }
+}
+
+// The record that follows a name in a list.
+fn list_after(name: &[u8]) -> Option<Request> {
+    let after = Some(Name::read(name)?);
+    Some(Request::List { after })
+}
+
+fn request_of(text: &[u8]) -> Option<Request> {
+    let (word, rest) = cut_word(text);
+    match word {
+        b"open" => Some(Request::Open {
+            console: rest == b"console".as_slice(),
+        }),
+        b"after" => list_after(rest),
+        _ => request_on(text),
+    }
+}
+
+// The text of a reply. Of a new session it has the number.
+fn told_of(reply: &Reply) -> Told {
+    let mut told = Told::new();
+    if let Reply::Opened { sid } = reply {
+        add(&mut told, b"opened");
+        add_number(&mut told, *sid);
+        return told;
+    }
+    let mut text = ArrayVec::new();
+    reply_text(reply, &mut text);
+    add(&mut told, text.as_slice());
+    told
+}
+
+/// What the line asks.
+pub(crate) fn row_of(alloc: Global, line: &Line<'_>) -> Result<Row, NoMemory> {
+    let (left, right) = line.text.split_once(" =>").unwrap_or((line.text, ""));
+    let right = right.strip_prefix("*").unwrap_or(right);
+    let left = unescape(alloc, left)?;
+    let (sid, rest) = cut_word(&left);
+    let (at, asked) = cut_word(rest);
+    Ok(Row {
+        sid: number_of(sid),
+        at: number_of(at),
+        asked: Vec::from_slice(alloc, asked)?,
+        told: unescape(alloc, right.strip_prefix(" ").unwrap_or(right))?,
+    })
+}
+
+impl Row {
+    /// Whether a session is opened.
+    pub(crate) fn opens(&self) -> bool {
+        self.asked.as_slice().starts_with(b"open")
+    }
+
+    /// Whether the reply says that a change wasn't kept.
+    pub(crate) fn is_unkept(&self) -> bool {
+        self.told.as_slice() == b"denied not kept".as_slice()
+    }
+
+    /// Whether this is the reply.
+    pub(crate) fn is_told(&self, reply: &Reply) -> bool {
+        self.told.as_slice() == told_of(reply).as_slice()
+    }
+}
+
+/// Asks what the line asks.
+pub(crate) fn ask(alloc: Global, line: &Line<'_>, stage: &mut Stage) -> Result<(), Fault> {
+    let row = row_of(alloc, line)?;
+    let Some(request) = request_of(&row.asked) else {
+        return Err(line.differs(b"no request"));
+    };
+    let reply = stage.ask(row.sid, row.at, request)?;
+    check(line, row.is_told(&reply), told_of(&reply).as_slice())
+}

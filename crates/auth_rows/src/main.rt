@@ -1,0 +1,137 @@
+//! Scenes of the book of `auth_machine` at work, each from a file of `data/`: histories of requests with their
+//! replies, whole sessions of `authsrv` over a book, what the history has afterwards, and what the keeper has.
+//!
+//! `docs/tests-scenes.md` has the form of a scene, what the program prints, and its status.
+#![tactic(auto)]
+
+mod after;
+mod asking;
+mod fault;
+mod play;
+mod setup;
+mod stage;
+mod sweeps;
+mod talk;
+
+use auth_events::Entry;
+use fault::{Fault, Line};
+use play::play;
+use std::mem::size_of;
+use std::process::ExitCode;
+use std::{env, fs, io, str};
+
+// So many entries fit into memory as the book's limits count on.
+const _: () = prove!(size_of::<Entry>() <= 512);
+
+#[derive(Clone, Copy)]
+struct Count {
+    scenes: u64,
+    differ: u64,
+}
+
+impl Count {
+    fn none() -> Count {
+        Count {
+            scenes: 0,
+            differ: 0,
+        }
+    }
+
+    fn add(&mut self, other: Count) {
+        self.scenes = self.scenes.saturating_add(other.scenes);
+        self.differ = self.differ.saturating_add(other.differ);
+    }
+}
+
+fn print_difference(rt: &HostRuntime, name: &str, number: u64, told: &[u8]) -> io::Result<()> {
+    match str::from_utf8(told) {
+        Ok(text) => println!(rt; "differs {name} at {number}: {text}"),
+        Err(_) => println!(rt; "differs {name} at {number}: {told:?}"),
+    }
+}
+
+// Plays the scene of these lines, and prints what comes of it.
+fn play_named(rt: &HostRuntime, name: &str, lines: &[Line<'_>]) -> io::Result<Count> {
+    let differ = match play(rt.alloc(), lines) {
+        Ok(()) => {
+            println!(rt; "ok {name}")?;
+            0
+        }
+        Err(Fault::NoMemory) => {
+            print_difference(rt, name, 0, b"no memory")?;
+            1
+        }
+        Err(Fault::Differs { number, told }) => {
+            print_difference(rt, name, number, told.as_slice())?;
+            1
+        }
+    };
+    Ok(Count { scenes: 1, differ })
+}
+
+// The same, where the first line begins a scene.
+fn play_scene(rt: &HostRuntime, lines: &[Line<'_>]) -> io::Result<Count> {
+    let Some(first) = lines.first() else {
+        return Ok(Count::none());
+    };
+    match first.text.strip_prefix("scene ") {
+        Some(name) => play_named(rt, name, lines),
+        None => Ok(Count::none()),
+    }
+}
+
+// Plays the scenes of a text.
+fn play_text(rt: &HostRuntime, text: &str) -> io::Result<Count> {
+    let mut count = Count::none();
+    let mut lines: Vec<Line<'_>> = Vec::new(rt.alloc());
+    let mut number = 0u64;
+    for line in text.lines() {
+        number = number.saturating_add(1);
+        if line.starts_with("scene ") {
+            count.add(play_scene(rt, lines.as_slice())?);
+            lines.clear();
+        }
+        lines.push(Line { number, text: line })?;
+    }
+    count.add(play_scene(rt, lines.as_slice())?);
+    Ok(count)
+}
+
+// Prints what came of all scenes, and whether all is as it is to be.
+fn sum_up(rt: &HostRuntime, right: Count, wrong: Count) -> io::Result<ExitCode> {
+    let Count { scenes, differ } = right;
+    println!(rt; "{scenes} scenes, {differ} differ")?;
+    let is_right = scenes > 0 && differ == 0;
+    let Count { scenes, differ } = wrong;
+    if scenes > 0 {
+        println!(rt; "{scenes} wrong scenes, {differ} differ")?;
+    }
+    if is_right && scenes == differ {
+        return Ok(ExitCode::from(0));
+    }
+    Ok(ExitCode::from(1))
+}
+
+fn play_file(rt: &HostRuntime, name: &str) -> io::Result<Count> {
+    let text = fs::read_to_string(rt, name)?;
+    play_text(rt, text.as_str())
+}
+
+fn main(rt: HostRuntime) -> io::Result<ExitCode> {
+    let mut right = Count::none();
+    let mut wrong = Count::none();
+    let mut is_right = true;
+    for name in env::args(&rt)?.skip(1) {
+        if name.as_str() == "-differ" {
+            is_right = false;
+            continue;
+        }
+        let count = play_file(&rt, name.as_str())?;
+        if is_right {
+            right.add(count);
+        } else {
+            wrong.add(count);
+        }
+    }
+    sum_up(&rt, right, wrong)
+}

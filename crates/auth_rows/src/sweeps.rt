@@ -1,0 +1,157 @@
+//! A scene played again with a device that breaks.
+
+use crate::fault::{Fault, Line, check};
+use crate::play::{act, book_of};
+use crate::setup::Setup;
+use crate::stage::Stage;
+use crate::talk::{Break, Device};
+use auth_events::{Entry, Request};
+use row_lines::{cut_word, number_of};
+use std::alloc::Global;
+
+// A book of the setup, whose keeper fails at these calls, or the line differs.
+fn stage_of(alloc: Global, line: &Line<'_>, setup: &Setup, fails: &[u64]) -> Result<Stage, Fault> {
+    match book_of(alloc, setup, fails)? {
+        Ok(stage) => Ok(stage),
+        Err(_) => Err(line.differs(b"the book isn't opened")),
+    }
+}
+
+// Whether the last request is the first session's Close.
+fn is_closed(history: &[Entry]) -> bool {
+    match history.last() {
+        Some(last) => last.sid == 0 && matches!(&last.request, Request::Close),
+        None => false,
+    }
+}
+
+// Plays the scene with a break in its session.
+fn break_session(
+    alloc: Global,
+    lines: &[Line<'_>],
+    line: &Line<'_>,
+    setup: &Setup,
+    at: Break,
+) -> Result<(), Fault> {
+    let mut stage = stage_of(alloc, line, setup, &setup.fails)?;
+    act(alloc, lines, &mut stage, Some(at))?;
+    check(
+        line,
+        is_closed(stage.history()),
+        b"the session isn't closed",
+    )
+}
+
+// Breaks the device at each of its first calls.
+fn break_device(
+    alloc: Global,
+    lines: &[Line<'_>],
+    line: &Line<'_>,
+    setup: &Setup,
+    device: Device,
+    calls: u64,
+) -> Result<(), Fault> {
+    for call in 0..calls {
+        break_session(alloc, lines, line, setup, Break { device, call })?;
+    }
+    Ok(())
+}
+
+// The number of the line that differs and what is told, where one does.
+fn difference(acted: Result<(), Fault>) -> Result<Option<(u64, bool)>, Fault> {
+    match acted {
+        Ok(()) => Ok(None),
+        Err(Fault::NoMemory) => Err(Fault::NoMemory),
+        Err(Fault::Differs { number, told }) => {
+            let is_unkept = told.as_slice() == b"denied not kept".as_slice();
+            Ok(Some((number, is_unkept)))
+        }
+    }
+}
+
+// Whether the last entry was kept, or there is none.
+fn is_last_kept(history: &[Entry]) -> bool {
+    match history.last() {
+        Some(last) => last.kept,
+        None => true,
+    }
+}
+
+// Plays the scene with a keeper that fails at one call more, and compares where it differs: at this line, or
+// nowhere.
+fn break_call(
+    alloc: Global,
+    lines: &[Line<'_>],
+    line: &Line<'_>,
+    setup: &Setup,
+    call: u64,
+    wanted: Option<u64>,
+) -> Result<(), Fault> {
+    let mut fails = Vec::from_slice(alloc, &setup.fails)?;
+    fails.push(call)?;
+    let mut stage = stage_of(alloc, line, setup, &fails)?;
+    match difference(act(alloc, lines, &mut stage, None))? {
+        None => check(line, wanted.is_none(), b"a call of the keeper isn't made"),
+        Some((number, is_unkept)) => {
+            check(
+                line,
+                wanted == Some(number),
+                b"another request calls the keeper",
+            )?;
+            let is_so = is_unkept && !is_last_kept(stage.history());
+            check(
+                line,
+                is_so,
+                b"a change that isn't kept is answered otherwise",
+            )
+        }
+    }
+}
+
+// Fails each of the keeper's calls in turn, and one more.
+fn break_keeper(
+    alloc: Global,
+    lines: &[Line<'_>],
+    line: &Line<'_>,
+    setup: &Setup,
+) -> Result<(), Fault> {
+    let mut call = 1u64;
+    for row in lines {
+        if row.is_change() {
+            let fails_anyway = setup.fails.as_slice().contains(&call);
+            let wanted = if fails_anyway { None } else { Some(row.number) };
+            break_call(alloc, lines, line, setup, call, wanted)?;
+            call = call.saturating_add(1);
+        }
+    }
+    break_call(alloc, lines, line, setup, call, None)
+}
+
+// Does what a line `sweep` says.
+fn sweep_by(
+    alloc: Global,
+    lines: &[Line<'_>],
+    line: &Line<'_>,
+    setup: &Setup,
+) -> Result<(), Fault> {
+    let text = line.rest(alloc)?;
+    let (device, calls) = cut_word(&text);
+    let calls = number_of(calls);
+    match device {
+        b"keeper" => break_keeper(alloc, lines, line, setup),
+        b"source" => break_device(alloc, lines, line, setup, Device::Source, calls),
+        b"idle" => break_device(alloc, lines, line, setup, Device::Idle, calls),
+        b"sink" => break_device(alloc, lines, line, setup, Device::Sink, calls),
+        _ => Err(line.differs(b"no such device")),
+    }
+}
+
+/// Plays the scene again as its lines `sweep` say.
+pub(crate) fn sweep(alloc: Global, lines: &[Line<'_>], setup: &Setup) -> Result<(), Fault> {
+    for line in lines {
+        if line.word() == "sweep" {
+            sweep_by(alloc, lines, line, setup)?;
+        }
+    }
+    Ok(())
+}

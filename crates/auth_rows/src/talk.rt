@@ -1,0 +1,154 @@
+//! A session of a scene.
+
+use crate::fault::{Fault, Line, check};
+use crate::stage::{Devices, Stage};
+use fw_memory::{Calls, MemClock, MemSink, MemSource};
+use fw_types::{Ending, NoMemory, Octets};
+use row_lines::{number_of, numbers_of};
+use std::alloc::Global;
+
+/// A device of a session.
+#[derive(Clone, Copy)]
+pub(crate) enum Device {
+    Source,
+    Idle,
+    Sink,
+}
+
+/// The call at which a device fails or is idle in place of those that the scene says.
+#[derive(Clone, Copy)]
+pub(crate) struct Break {
+    pub(crate) device: Device,
+    pub(crate) call: u64,
+}
+
+/// What a session is given, and what comes of it.
+#[derive(Drop)]
+pub(crate) struct Talk {
+    console: bool,
+    clock: Vec<u64>,
+    said: Vec<u8>,
+    given: Vec<u8>,
+    source: Calls,
+    idle: Calls,
+    sink: Calls,
+}
+
+fn calls_of(alloc: Global, text: &[u8]) -> Result<Calls, NoMemory> {
+    match text {
+        [digits @ .., b'+'] => Ok(Calls::onward(number_of(digits))),
+        _ => Calls::of(alloc, &numbers_of(alloc, text)?),
+    }
+}
+
+fn name_of(ending: Ending) -> &'static [u8] {
+    match ending {
+        Ending::Done => b"Done",
+        Ending::Denied { .. } => b"Denied",
+        Ending::ClientFault => b"ClientFault",
+        Ending::ServerFault => b"ServerFault",
+        Ending::LogFault => b"LogFault",
+        Ending::AuthFault => b"AuthFault",
+        Ending::Idle => b"Idle",
+        Ending::NoRoute => b"NoRoute",
+        Ending::Spent => b"Spent",
+        Ending::NoMemory => b"NoMemory",
+    }
+}
+
+fn add_line(text: &mut Vec<u8>, line: &[u8], end: &[u8]) -> Result<(), NoMemory> {
+    text.extend_from_slice(line)?;
+    text.extend_from_slice(end)?;
+    Ok(())
+}
+
+impl Talk {
+    /// A session that isn't told of yet.
+    pub(crate) fn new(alloc: Global, console: bool) -> Talk {
+        Talk {
+            console,
+            clock: Vec::new(alloc),
+            said: Vec::new(alloc),
+            given: Vec::new(alloc),
+            source: Calls::none(),
+            idle: Calls::none(),
+            sink: Calls::none(),
+        }
+    }
+
+    /// Takes a line in.
+    pub(crate) fn take(&mut self, alloc: Global, word: &str, text: &[u8]) -> Result<(), NoMemory> {
+        match word {
+            "clock" => self.clock = numbers_of(alloc, text)?,
+            "client" => add_line(&mut self.said, text, b"\r\n")?,
+            "given" => add_line(&mut self.given, text, b"\n")?,
+            "source" => self.source = calls_of(alloc, text)?,
+            "idle" => self.idle = calls_of(alloc, text)?,
+            "sink" => self.sink = calls_of(alloc, text)?,
+            _ => {}
+        }
+        Ok(())
+    }
+
+    // Lets a device fail.
+    fn break_at(&mut self, alloc: Global, at: Break) -> Result<(), NoMemory> {
+        let calls = Calls::of(alloc, &[at.call])?;
+        match at.device {
+            Device::Source => self.source = calls,
+            Device::Idle => self.idle = calls,
+            Device::Sink => self.sink = calls,
+        }
+        Ok(())
+    }
+
+    fn devices(&self, alloc: Global) -> Result<Devices, NoMemory> {
+        let said = Octets::copy(alloc, &self.said)?;
+        let (source, idle) = (self.source.copy(alloc)?, self.idle.copy(alloc)?);
+        Ok(Devices {
+            from: MemSource::new(said, 1, source, idle),
+            to: MemSink::new(alloc, 4096, self.sink.copy(alloc)?)?,
+            clock: MemClock::new(Vec::from_slice(alloc, &self.clock)?),
+        })
+    }
+
+    // Whether the client was given what the scene says, or a front of that where a device broke.
+    fn is_given(&self, given: &[u8], broken: bool) -> bool {
+        if broken {
+            return self.given.as_slice().starts_with(given);
+        }
+        self.given.as_slice() == given
+    }
+
+    /// Holds the session, and compares how it ends with what the line says, or with what the break says.
+    pub(crate) fn hold(
+        &mut self,
+        alloc: Global,
+        line: &Line<'_>,
+        stage: &mut Stage,
+        broken: Option<Break>,
+    ) -> Result<(), Fault> {
+        if let Some(at) = broken {
+            self.break_at(alloc, at)?;
+        }
+        let mut devices = self.devices(alloc)?;
+        let ending = name_of(stage.hold(self.console, &mut devices));
+        let says = line.rest(alloc)?;
+        check(line, ending == wanted(&says, broken), ending)?;
+        let given = devices.to.bytes();
+        check(line, self.is_given(given, broken.is_some()), given)
+    }
+}
+
+// How the session is to end.
+fn wanted(says: &[u8], broken: Option<Break>) -> &[u8] {
+    match broken {
+        None => says,
+        Some(
+            Break {
+                device: Device::Idle,
+                ..
+            },
+        ) => b"Idle",
+        Some(_) => b"ClientFault",
+    }
+}

@@ -1,0 +1,48 @@
+-- How the end of a session is told.
+use Rattle.std.specs.Prelude.{ℕ, List, ◌++◌, Option, Some, None, codes}
+use Rattle.std.specs.Fmt.{decimal}
+use Rattle.std.specs.Option.{option_map}
+use Rattle.fw_types.specs.Peer.{peer_text}
+use Rattle.fw_types.specs.declared.ending.Ending.{Ending}
+use Rattle.fw_types.specs.declared.ending.Ending.TheVariants.{Done, Denied, ClientFault, ServerFault, LogFault, AuthFault, Idle, NoRoute, Spent, NoMemory}
+use Rattle.fw_types.specs.declared.peer.Peer.{Peer}
+use Rattle.gate_rules.specs.Service.{service_text}
+use Rattle.gate_rules.specs.declared.service.Service.{Service}
+
+-- the log's word for an ending; a denial was logged by its verdict, and a log that failed is told nothing
+abbrev pub ending_word : Ending → Option (List ℕ)
+ending_word Done = Some (codes "done")
+ending_word (Denied line) = None
+ending_word ClientFault = Some (codes "client")
+ending_word ServerFault = Some (codes "server")
+ending_word LogFault = None
+ending_word AuthFault = Some (codes "auth")
+ending_word Idle = Some (codes "idle")
+ending_word NoRoute = Some (codes "noroute")
+ending_word Spent = Some (codes "spent")
+ending_word NoMemory = Some (codes "memory")
+
+-- `end SERVICE PEER WORD`
+abbrev pub end_text : Service → Peer → List ℕ → List ℕ
+end_text service peer word = codes "end " ++ service_text service ++ codes " " ++ peer_text peer ++ codes " " ++ word ++ codes "\n"
+
+-- the log's line of an ending
+abbrev pub ending_line : Service → Peer → Ending → Option (List ℕ)
+ending_line service peer ending = option_map (end_text service peer) (ending_word ending)
+
+-- the status of an ending
+abbrev pub ending_status : Ending → ℕ
+ending_status Done = 0
+ending_status (Denied line) = 1
+ending_status ClientFault = 4
+ending_status ServerFault = 4
+ending_status LogFault = 4
+ending_status AuthFault = 4
+ending_status Idle = 4
+ending_status NoRoute = 4
+ending_status Spent = 6
+ending_status NoMemory = 5
+
+-- the words to a client that a line denies: `denied line N`
+abbrev pub denied_text : ℕ → List ℕ
+denied_text line = codes "denied line " ++ decimal line ++ codes "\n"

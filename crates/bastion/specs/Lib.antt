@@ -1,0 +1,17 @@
+pub mod Conn
+pub mod Deciding
+pub mod WorldView
+pub mod Endings
+pub mod Fault
+pub mod Finding
+pub mod History
+pub mod Places
+pub mod Replies
+pub mod Ruling
+pub mod Run
+pub mod Serving
+pub mod TableReport
+pub mod Status
+pub mod Texts
+pub mod SessionSteps
+pub mod Words

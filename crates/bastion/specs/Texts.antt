@@ -1,0 +1,39 @@
+-- The lines that a run writes to the log and prints.
+use Rattle.std.specs.Prelude.{ℕ, List, [], ◌∷◌, ◌++◌, flat_map, codes}
+use Rattle.std.specs.Fmt.{decimal}
+use Rattle.fw_types.specs.Peer.{peer_text}
+use Rattle.fw_types.specs.declared.peer.Peer.{Peer}
+use Rattle.gate_rules.specs.Service.{service_text}
+use Rattle.gate_rules.specs.declared.service.Service.{Service}
+use Rattle.gate_rules.specs.declared.verdict.Verdict.{Verdict}
+use Rattle.gate_rules.specs.declared.verdict.Verdict.TheVariants.{Permit, Deny}
+
+-- `permit` or `deny`, and the number of a verdict's line
+abbrev pub verdict_word : Verdict → List ℕ
+verdict_word (Permit line) = codes "permit"
+verdict_word (Deny line) = codes "deny"
+
+abbrev pub verdict_line : Verdict → ℕ
+verdict_line (Permit line) = line
+verdict_line (Deny line) = line
+
+-- the log's line of a verdict: `permit SERVICE PEER line N`
+abbrev pub decision_text : Verdict → Service → Peer → List ℕ
+decision_text verdict service peer = verdict_word verdict ++ codes " " ++ service_text service ++ codes " " ++ peer_text peer ++ codes " line " ++ decimal (verdict_line verdict) ++ codes "\n"
+
+-- a name, and words that each come after a space
+abbrev pub words_line : List ℕ → List (List ℕ) → List ℕ
+words_line name words = name ++ flat_map (λ w. 32 ∷ w) words ++ codes "\n"
+
+-- that line where there are words, and nothing where there are none
+abbrev pub some_line : List ℕ → List (List ℕ) → List ℕ
+some_line name [] = []
+some_line name (word ∷ words) = words_line name (word ∷ words)
+
+-- the line of a verdict: `permit line N`
+abbrev pub verdict_text : Verdict → List ℕ
+verdict_text verdict = verdict_word verdict ++ codes " line " ++ decimal (verdict_line verdict) ++ codes "\n"
+
+-- what `netacl` prints: the verdict, and the program with its words, where the line has one
+abbrev pub print_text : Verdict → List (List ℕ) → List ℕ
+print_text verdict exec = verdict_text verdict ++ some_line (codes "exec") exec

@@ -1,0 +1,109 @@
+-- What the words of a command line ask for: `[-t FILE] [-r FILE] COMMAND ARGUMENTS`.
+use Rattle.std.specs.Prelude.{ℕ, Bool, true, false, ◌&&◌, ◌||◌, ◌==◌, not, List, [], ◌∷◌, length, Option, Some, None, is_some, unwrap_or, codes, if◌then◌else◌}
+use Rattle.std.specs.Option.{option_map}
+use Rattle.std.specs.Str.{bytes_eq}
+use Rattle.fw_types.specs.HostName.{host_name_of}
+use Rattle.fw_types.specs.Quad.{quad_of}
+use Rattle.fw_types.specs.declared.peer.Peer.{Peer}
+use Rattle.gate_rules.specs.Label.{label_of}
+use Rattle.gate_rules.specs.Service.{service_of}
+use Rattle.gate_rules.specs.declared.service.Service.{Service}
+use Rattle.gate_rules.specs.declared.service.Service.TheVariants as service
+use Rattle.bastion.specs.declared.words.Command.{Command}
+use Rattle.bastion.specs.declared.words.Command.TheVariants.{Netacl, Table, Authsrv}
+use Rattle.bastion.specs.declared.words.Query.{Query}
+use Rattle.bastion.specs.declared.words.Client.{Client}
+
+-- the options that there are
+abbrev pub is_option_name : List ℕ → Bool
+is_option_name name = bytes_eq name (codes "-t") || bytes_eq name (codes "-r")
+
+-- an option with its word, which isn't empty
+abbrev pub is_option_pair : List ℕ → List ℕ → Bool
+is_option_pair name word = is_option_name name && not (length word == 0)
+
+-- the words after the options: the command and its arguments
+abbrev pub after_options : List (List ℕ) → List (List ℕ)
+after_options (option ∷ word ∷ rest) = if is_option_pair option word then after_options rest else option ∷ word ∷ rest
+after_options words = words
+
+-- the word after the first option of this name, where one stands before the command
+abbrev pub word_after : List ℕ → List (List ℕ) → Option (List ℕ)
+word_after name (option ∷ word ∷ rest) =
+    if is_option_pair option word then (if bytes_eq option name then Some word else word_after name rest) else None
+word_after name _ = None
+
+-- whether an option of this name stands before the command
+unfoldable pub stands : List ℕ → List (List ℕ) → Bool
+stands name words = is_some (word_after name words)
+
+-- whether an option stands twice before the command
+abbrev pub any_twice : List (List ℕ) → Bool
+any_twice (option ∷ word ∷ rest) = is_option_pair option word && (stands option rest || any_twice rest)
+any_twice _ = false
+
+-- a peer at this address and with this name, where both could be read
+abbrev pub peer_by : Option (List ℕ) → Option (Option (List ℕ)) → Option Peer
+peer_by (Some addr) (Some name) = Some (record { addr = Some addr; name = name })
+peer_by None _ = None
+peer_by (Some addr) None = None
+
+-- no name, or one
+abbrev pub name_in : List (List ℕ) → Option (Option (List ℕ))
+name_in [] = Some None
+name_in (name ∷ []) = option_map Some (host_name_of name)
+name_in (name ∷ more ∷ rest) = None
+
+-- `ADDR [NAME]`
+abbrev pub peer_in : List (List ℕ) → Option Peer
+peer_in (addr ∷ names) = peer_by (quad_of addr) (name_in names)
+peer_in [] = None
+
+abbrev pub query_of : Option Service → Option Peer → Option Query
+query_of (Some asked) (Some peer) = Some (record { service = asked; peer = peer })
+query_of None _ = None
+query_of (Some asked) None = None
+
+-- `DAEMON ADDR [NAME]`
+abbrev pub netacl_in : List (List ℕ) → Option Query
+netacl_in (daemon ∷ words) = query_of (option_map service.Netacl (label_of daemon)) (peer_in words)
+netacl_in [] = None
+
+-- `SERVICE ADDR [NAME]`
+abbrev pub table_in : List (List ℕ) → Option Query
+table_in (asked ∷ words) = query_of (service_of asked) (peer_in words)
+table_in [] = None
+
+abbrev pub client_of : Bool → Option Peer → Option Client
+client_of console (Some peer) = Some (record { console = console; peer = peer })
+client_of console None = None
+
+-- `-console ADDR [NAME]` or `ADDR [NAME]`
+abbrev pub client_in : List (List ℕ) → Option Client
+client_in (word ∷ words) = if bytes_eq word (codes "-console") then client_of true (peer_in words) else client_of false (peer_in (word ∷ words))
+client_in [] = None
+
+-- `netacl DAEMON ADDR [NAME]`, `table SERVICE ADDR [NAME]` and `authsrv [-console] ADDR [NAME]`
+abbrev pub command_in : List (List ℕ) → Option Command
+command_in (name ∷ words) =
+    if bytes_eq name (codes "netacl") then option_map Netacl (netacl_in words)
+    else if bytes_eq name (codes "table") then option_map Table (table_in words)
+    else if bytes_eq name (codes "authsrv") then option_map Authsrv (client_in words)
+    else None
+command_in [] = None
+
+-- the command that the words are: options, of which none stands twice, and then a command with its words
+unfoldable pub command_of : List (List ℕ) → Option Command
+command_of words = if any_twice words then None else command_in (after_options words)
+
+-- the word after an option of a command; another text where it isn't there, and for words that are no command
+unfoldable pub option_word : List ℕ → List ℕ → List (List ℕ) → List ℕ
+option_word option other words = if is_some (command_of words) then unwrap_or (word_after option words) other else other
+
+-- where the table stands when no word says so
+abbrev pub default_table : List ℕ
+default_table = codes "/usr/local/etc/netperm-table"
+
+-- the table's name: the word after `-t`
+abbrev pub table_named : List (List ℕ) → List ℕ
+table_named words = option_word (codes "-t") default_table words

@@ -1,0 +1,23 @@
+-- What a run meets: its devices, as plain records.
+use Rattle.std.specs.Prelude.{Option}
+use Rattle.fw_outside.specs.FilesView.{FilesView}
+use Rattle.fw_outside.specs.SinkView.{SinkView}
+use Rattle.fw_outside.specs.ClockView.{ClockView}
+use Rattle.fw_outside.specs.SourceView.{SourceView}
+use Rattle.fw_outside.specs.DiceView.{DiceView}
+use Rattle.fw_outside.specs.KeeperView.{KeeperView}
+
+-- what a session meets besides the output and the log: what the client says, the clock, the dice, and the keeper of the
+-- users' records, where one is there
+pub record SessionInputs : Type 0 where
+  pub input : SourceView
+  pub clock : ClockView
+  pub dice : DiceView
+  pub keeper : Option KeeperView
+
+-- the files that the table is read from, standard output, the log, and what a session meets
+pub record WorldView : Type 0 where
+  pub files : FilesView
+  pub output : SinkView
+  pub logs : SinkView
+  pub inputs : SessionInputs

@@ -1,0 +1,35 @@
+//! The top calls of the firewall's program, over devices that are handed in: whoever comes from outside gets no further
+//! than the first matching line of the permission table allows.
+//!
+//! [`run`] is the call that the program makes: over the files with the table, standard input and output, the log, the
+//! clock, the dice and the keeper of the users' records. Its contract says, for every command line, every table and
+//! every way in which a device may fail, which status it answers and what it leaves: wherever `netacl` has printed
+//! anything, the line of its verdict stands whole in the log; what is printed and logged is told byte for byte, where
+//! the devices tell it; the replies that a client of `authsrv` is told are those of a legal history; and each status
+//! but 5, want of memory, has its cause: in the words, in a limit, in the count of a device that rose, or, where the
+//! devices tell what they hold, in the table's text and the records. [`conn`] serves one client.
+#![tactic(auto)]
+
+mod authsrv;
+mod deciding;
+mod endings;
+mod fault;
+mod finding;
+mod kit;
+mod place_names;
+mod running;
+mod server_rules;
+mod serving;
+mod table_report;
+mod texts;
+mod words;
+
+pub use endings::{denied_line, ending_line, ending_status};
+pub use fault::{Device, Fault};
+pub use kit::{Kit, World};
+pub use place_names::Places;
+pub use running::run;
+pub use server_rules::ServerRules;
+pub use serving::conn;
+pub use texts::LogLine;
+pub use words::{Client, Command, Query, places, read_command, table_named};

@@ -1,0 +1,264 @@
+ghost use Rattle.std.specs.Prelude.{◌≡◌, is_some};
+ghost use Rattle.std.specs.Option.{option_copied, option_map};
+ghost use Rattle.std.specs.Str.{bytes_eq};
+ghost use Rattle.gate_rules.specs.Label.{label_of};
+ghost use Rattle.bastion.specs.Places.{places_of};
+ghost use Rattle.bastion.specs.Words.{after_options, any_twice, command_in, command_of, is_option_pair, is_option_name, name_in, option_word, netacl_in, peer_by, peer_in, query_of, stands, table_in, table_named, client_in, client_of, word_after};
+
+use crate::Places;
+use fw_types::{HostName, Octets, Peer, read_quad};
+use gate_rules::{Label, Service};
+
+/// Who asks for which service.
+#[derive(Drop)]
+pub struct Query {
+    pub service: Service,
+    pub peer: Peer,
+}
+
+/// Who speaks to the service that knows the users.
+#[derive(Drop)]
+pub struct Client {
+    /// Whether the words are of the console, and not of a program.
+    pub console: bool,
+    pub peer: Peer,
+}
+
+/// What the words of a command line ask for.
+#[derive(Drop)]
+pub enum Command {
+    /// `netacl DAEMON ADDR [NAME]`: log and print what the table decides.
+    Netacl(Query),
+    /// `table SERVICE ADDR [NAME]`: print what the table decides and sets.
+    Table(Query),
+    /// `authsrv [-console] ADDR [NAME]`: answer a peer's questions about users.
+    Authsrv(Client),
+}
+
+const DEFAULT_TABLE: &[u8] = b"/usr/local/etc/netperm-table";
+
+fn is_word(word: &Octets, text: &[u8]) -> bool
+    ensures { result ≡ bytes_eq word.now text.now }
+{
+    word.bytes() == text
+}
+
+fn is_option_name(word: &Octets) -> bool
+    ensures { result ≡ is_option_name word.now }
+{
+    is_word(word, b"-t") || is_word(word, b"-r")
+}
+
+fn is_option_pair(option: &Octets, word: &Octets) -> bool
+    ensures { result ≡ is_option_pair option.now word.now }
+{
+    is_option_name(option) && !word.bytes().is_empty()
+}
+
+fn word_after<'a>(name: &[u8], mut words: &'a [Octets]) -> Option<&'a [u8]>
+    ensures { option_copied result ≡ word_after name.now words.entry.now }
+{
+    while let [option, word, rest @ ..] = words
+        && is_option_pair(option, word)
+    {
+        if is_word(option, name) {
+            return Some(word.bytes());
+        }
+        words = rest;
+    }
+    None
+}
+
+#[tactic(auto, unfolding(crate::specs::Words::stands))]
+fn is_named(name: &[u8], words: &[Octets]) -> bool
+    ensures { result ≡ stands name.now words.now }
+{
+    match word_after(name, words) {
+        Some(_) => true,
+        None => false,
+    }
+}
+
+fn stands(option: &Octets, words: &[Octets]) -> bool
+    ensures { result ≡ stands option.now words.now }
+{
+    is_named(option.bytes(), words)
+}
+
+fn any_twice(mut words: &[Octets]) -> bool
+    ensures { result ≡ any_twice words.now }
+{
+    while let [option, word, rest @ ..] = words
+        && is_option_pair(option, word)
+    {
+        if stands(option, rest) {
+            return true;
+        }
+        words = rest;
+    }
+    false
+}
+
+fn after_options(mut words: &[Octets]) -> &[Octets]
+    ensures { result.now ≡ after_options words.entry.now }
+{
+    while let [option, word, rest @ ..] = words
+        && is_option_pair(option, word)
+    {
+        words = rest;
+    }
+    words
+}
+
+fn name_in(names: &[Octets]) -> Option<Option<HostName>>
+    ensures { result ≡ name_in names.now }
+{
+    match names {
+        [] => Some(None),
+        [name] => HostName::read(name.bytes()).map(Some),
+        _ => None,
+    }
+}
+
+fn peer_by(addr: Option<[u8; 4]>, name: Option<Option<HostName>>) -> Option<Peer>
+    ensures { result ≡ peer_by addr name }
+{
+    let addr = addr?;
+    let name = name?;
+    Some(Peer {
+        addr: Some(addr),
+        name,
+    })
+}
+
+fn peer_in(words: &[Octets]) -> Option<Peer>
+    ensures { result ≡ peer_in words.now }
+{
+    match words {
+        [addr, names @ ..] => peer_by(read_quad(addr.bytes()), name_in(names)),
+        [] => None,
+    }
+}
+
+fn query_of(service: Option<Service>, peer: Option<Peer>) -> Option<Query>
+    ensures { result ≡ query_of service peer }
+{
+    let service = service?;
+    let peer = peer?;
+    Some(Query { service, peer })
+}
+
+fn daemon(label: &Octets) -> Option<Service>
+    ensures { result ≡ option_map Service.Netacl (label_of label.now) }
+{
+    Label::read(label.bytes()).map(Service::Netacl)
+}
+
+fn netacl_in(words: &[Octets]) -> Option<Query>
+    ensures { result ≡ netacl_in words.now }
+{
+    match words {
+        [label, words @ ..] => query_of(daemon(label), peer_in(words)),
+        [] => None,
+    }
+}
+
+fn table_in(words: &[Octets]) -> Option<Query>
+    ensures { result ≡ table_in words.now }
+{
+    match words {
+        [service, words @ ..] => query_of(Service::read(service.bytes()), peer_in(words)),
+        [] => None,
+    }
+}
+
+fn client_of(console: bool, peer: Option<Peer>) -> Option<Client>
+    ensures { result ≡ client_of console peer }
+{
+    let peer = peer?;
+    Some(Client { console, peer })
+}
+
+fn client_in(words: &[Octets]) -> Option<Client>
+    ensures { result ≡ client_in words.now }
+{
+    match words {
+        [word, peer @ ..] => {
+            if is_word(word, b"-console") {
+                return client_of(true, peer_in(peer));
+            }
+            client_of(false, peer_in(words))
+        }
+        [] => None,
+    }
+}
+
+fn command_in(words: &[Octets]) -> Option<Command>
+    ensures { result ≡ command_in words.now }
+{
+    match words {
+        [name, words @ ..] => {
+            if is_word(name, b"netacl") {
+                return netacl_in(words).map(Command::Netacl);
+            }
+            if is_word(name, b"table") {
+                return table_in(words).map(Command::Table);
+            }
+            if is_word(name, b"authsrv") {
+                return client_in(words).map(Command::Authsrv);
+            }
+            None
+        }
+        [] => None,
+    }
+}
+
+/// The command that the words are, or nothing where they are none.
+#[tactic(auto, unfolding(crate::specs::Words::command_of))]
+pub fn read_command(words: &[Octets]) -> Option<Command>
+    ensures { result ≡ command_of words.now }
+{
+    if any_twice(words) {
+        return None;
+    }
+    command_in(after_options(words))
+}
+
+fn is_command(words: &[Octets]) -> bool
+    ensures { result ≡ is_some (command_of words.now) }
+{
+    match read_command(words) {
+        Some(_) => true,
+        None => false,
+    }
+}
+
+/// The word after an option of a command. Another text where it isn't there, and for words that are no command.
+#[tactic(auto, unfolding(crate::specs::Words::option_word))]
+fn option_word<'a>(option: &[u8], other: &'a [u8], words: &'a [Octets]) -> &'a [u8]
+    ensures { result.now ≡ option_word option.now other.entry.now words.entry.now }
+{
+    if !is_command(words) {
+        return other;
+    }
+    match word_after(option, words) {
+        Some(word) => word,
+        None => other,
+    }
+}
+
+/// The name of the table: the word after `-t`, or the place where it stands when no word says so.
+pub fn table_named(words: &[Octets]) -> &[u8]
+    ensures { result.now ≡ table_named words.entry.now }
+{
+    option_word(b"-t", DEFAULT_TABLE, words)
+}
+
+/// What the words name: the word after the option, or a name of its own where no word says so.
+pub fn places(words: &[Octets]) -> Places<'_>
+    ensures { result ≡ places_of words.entry.now }
+{
+    Places {
+        db: option_word(b"-r", b"authdb", words),
+    }
+}

@@ -1,0 +1,5 @@
+pub mod ReaderLemmas
+pub mod FieldLemmas
+pub mod CountedLemmas
+pub mod NumberLemmas
+pub mod StableLemmas

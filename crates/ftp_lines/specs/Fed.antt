@@ -1,0 +1,8 @@
+-- Bytes that only contracts know, each behind those before it.
+use Rattle.std.specs.Prelude.{ℕ, ◌+◌, ◌<◌, ◌≤◌, List, [], ◌∷◌, ◌++◌, length, Option, Some, None}
+use Rattle.std.specs.declared.snapshot.Snapshot.{Snapshot}
+
+-- a byte behind those before it; without those, no byte
+abbrev pub fed_then : Option (Snapshot (List ℕ)) → ℕ → List ℕ
+fed_then None byte = []
+fed_then (Some front) byte = front.value ++ byte ∷ []

@@ -1,0 +1,9 @@
+pub mod Command
+pub mod Reply
+pub mod ReplyReaderView
+pub mod Fed
+pub mod Six
+pub mod Opening
+pub mod ReplyLineView
+pub mod ReaderState
+pub mod Parts

@@ -1,0 +1,7 @@
+-- The parts of a text between commas.
+use Rattle.std.specs.Prelude.{◌≡◌, ℕ, Bool, true, false, List, [], ◌∷◌}
+
+-- the first of these parts, and whether it is the only one
+abbrev pub IsFirstPart : List ℕ → Bool → List (List ℕ) → Type 0
+IsFirstPart part true parts = parts ≡ part ∷ []
+IsFirstPart part false parts = (next : List ℕ) × (more : List (List ℕ)) × (parts ≡ part ∷ next ∷ more)

@@ -1,0 +1,48 @@
+//! The codes of a reply's lines (RFC 959, 4.2).
+ghost use Rattle.std.specs.Prelude.{◌≡◌, IsTrue, if◌then◌else◌};
+ghost use Rattle.std.specs.Char.{is_ascii_digit};
+ghost use Rattle.std.specs.List.{list_all};
+ghost use Rattle.ftp_lines.specs.Reply.{code_of, has_code, is_closing, opening_code};
+
+use fw_types::read_number;
+
+fn all_digits(text: &[u8]) -> bool
+    ensures { result ≡ list_all is_ascii_digit text.now }
+{
+    text.iter().all(|byte| byte.is_ascii_digit())
+}
+
+// Whether the line begins with three digits.
+fn has_code(line: &[u8]) -> bool
+    ensures { result ≡ has_code line.now }
+{
+    line.len() >= 3 && all_digits(&line[..3])
+}
+
+/// The number of the three digits with which the line begins.
+pub(crate) fn code_of(line: &[u8]) -> u16
+    requires { IsTrue (has_code line.now) }
+    ensures { result ≡ code_of line.now }
+{
+    match read_number(&line[..3]) {
+        Some(code) => code as u16,
+        None => unreachable!(),
+    }
+}
+
+/// Whether the line is three digits and then a space or its end.
+pub(crate) fn is_closing(line: &[u8]) -> bool
+    ensures { result ≡ is_closing line.now }
+{
+    has_code(line) && (line.len() == 3 || line[3] == b' ')
+}
+
+/// The code of a line of three digits and then a hyphen.
+pub(crate) fn opening_code(line: &[u8]) -> Option<u16>
+    ensures { result ≡ opening_code line.now }
+{
+    if has_code(line) && line.len() > 3 && line[3] == b'-' {
+        return Some(code_of(line));
+    }
+    None
+}

@@ -1,0 +1,4 @@
+pub mod MemKeeperLemmas
+pub mod CallCounterLemmas
+pub mod MemSinkLemmas
+mod Rows

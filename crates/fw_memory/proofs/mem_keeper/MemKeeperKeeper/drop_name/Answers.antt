@@ -1,0 +1,12 @@
+use Rattle.std.proofs.Common.{Some, refl}
+use Rattle.fw_memory.proofs.MemKeeperLemmas.{drop_sets}
+use Rattle.fw_types.specs.Keyed.{without}
+use Rattle.fw_outside.specs.KeeperView.{entry_name}
+use Rattle.fw_memory.proofs.mem_keeper.MemKeeperKeeper.drop_name.Goals as goal
+
+pub returns-clause-sets : goal.returns-clause-sets
+returns-clause-sets c = record {
+  table = Some (without entry_name c.args.name.now c.args.self.now.table);
+  told = drop_sets c.args.name.now c.args.self.now.table;
+  is = rw (c.let_go.ensures, c.is_failing.ensures.is) refl;
+}

@@ -1,0 +1,25 @@
+//! Devices in memory, for tests and for runs that are told beforehand what each device does.
+//!
+//! They tell all that they hold; [`MemClock`] and [`MemDice`] do so as long as their calls can be counted in 64 bits.
+//! [`MemSource`], [`MemSink`] and [`MemKeeper`] fail exactly at the calls that they are told, and so do the sources
+//! that [`MemFiles`] gives. It gives none for a name that it lacks; that it gives one for each other name, where there
+//! is memory, is said by no clause. [`MemClock`] and [`MemDice`] give exactly the moments and the numbers that they
+//! were made with.
+#![tactic(auto)]
+
+mod call_counter;
+mod calls;
+mod mem_clock;
+mod mem_dice;
+mod mem_files;
+mod mem_keeper;
+mod mem_sink;
+mod mem_source;
+
+pub use calls::Calls;
+pub use mem_clock::MemClock;
+pub use mem_dice::MemDice;
+pub use mem_files::MemFiles;
+pub use mem_keeper::MemKeeper;
+pub use mem_sink::MemSink;
+pub use mem_source::MemSource;

@@ -1,7 +1,0 @@
-use Rattle.std.proofs.Common.{◌∙◌}
-use Rattle.fw_outside.specs.KeyedLemmas.{insert_is_placed}
-use Rattle.fw_outside.specs.Vault.{name_of}
-use Rattle.fw_outside.proofs.mem_keeper.insert.Goals as goal
-
-pub returns : goal.returns
-returns c = c.in_ok-insert.ensures.items ∙ rw (c.count_before-at.ensures.count, c.deref.ensures.value) (insert_is_placed name_of c.args.entry c.args.sorted.now.items)

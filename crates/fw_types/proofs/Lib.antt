@@ -1,0 +1,5 @@
+pub mod HostNameLemmas
+pub mod KeyedLemmas
+pub mod NumberLemmas
+pub mod QuadLemmas
+pub mod VerbLemmas

@@ -1,0 +1,13 @@
+pub mod Bytes
+pub mod Dest
+pub mod Host
+pub mod HostName
+pub mod Keyed
+pub mod Name
+pub mod Number
+pub mod Octets
+pub mod OctetsList
+pub mod Peer
+pub mod Port
+pub mod Quad
+pub mod Verb

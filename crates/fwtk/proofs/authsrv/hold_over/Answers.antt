@@ -1,5 +1,0 @@
-use Rattle.fwtk.proofs.VisitLemmas.{held_over}
-use Rattle.fwtk.proofs.authsrv.hold_over.Goals as goal
-
-pub returns : goal.returns
-returns g c = held_over c.args.visit.now c.args.rules.now c.args.book c.hold-ending.new.book c.hold-ending.result c.outcome_of.result c.refused-refused.result c.args.world.now c.hold-ending.new.world c.give_back.new.world c.hold-ending.ensures.visits c.hold-ending.ensures.files c.refused-refused.ensures.is c.refused-refused.ensures.full c.give_back.ensures c.outcome_of.ensures

@@ -1,4 +1,0 @@
-use Rattle.fwtk.proofs.conn.console.Goals as goal
-
-pub returns : goal.returns
-returns g c = record { session = c.authsrv_session-ending.ensures.session; noted = c.note_ending.ensures }

@@ -1,7 +1,0 @@
-use Rattle.fwtk.specs.Deciding.{ShowsBy}
-use Rattle.fwtk.proofs.CommandLemmas.{shows_command}
-use Rattle.fwtk.proofs.RunLemmas.{by_table}
-use Rattle.fwtk.proofs.run.table.Goals as goal
-
-pub returns-in-Ok : goal.returns-in-Ok
-returns-in-Ok g c = by_table (ShowsBy c.args.query.now) c.args.name.now c.args.query.now c.in-Ok.rules c.show.result c.args.world.now c.rules_for.new.world c.show.new.world (shows_command c.args.query.now) c.in-Ok.ensures.found c.in-Ok.ensures.output c.in-Ok.ensures.logs c.in-Ok.ensures.sitting c.show.ensures

@@ -1,0 +1,74 @@
+//! Rows whose words are read and not run.
+
+use crate::comparing::Difference;
+use arrayvec::ArrayVec;
+use bastion::{Command, Query, places, read_command, table_named};
+use fw_types::{NoMemory, Octets, Peer};
+use gate_rules::Service;
+use row_format::{Row, TABLE};
+use std::alloc::Global;
+
+/// The name of the records' file where the command line names none.
+const RECORDS: &str = "authdb";
+
+fn add_service(out: &mut Vec<u8>, service: &Service) -> Result<(), NoMemory> {
+    let mut text = ArrayVec::new();
+    service.write(&mut text);
+    out.extend_from_slice(text.as_slice())?;
+    out.push(b' ')?;
+    Ok(())
+}
+
+fn add_peer(out: &mut Vec<u8>, peer: &Peer) -> Result<(), NoMemory> {
+    let mut text = ArrayVec::new();
+    peer.write(&mut text);
+    out.extend_from_slice(text.as_slice())?;
+    Ok(())
+}
+
+fn add_query(out: &mut Vec<u8>, word: &[u8], query: &Query) -> Result<(), NoMemory> {
+    out.extend_from_slice(word)?;
+    add_service(out, &query.service)?;
+    add_peer(out, &query.peer)
+}
+
+fn add_client(out: &mut Vec<u8>, word: &[u8], peer: &Peer) -> Result<(), NoMemory> {
+    out.extend_from_slice(word)?;
+    add_peer(out, peer)
+}
+
+// What the words ask for, with the service and the peer.
+fn told_of(alloc: Global, words: &[Octets]) -> Result<Vec<u8>, NoMemory> {
+    let mut out = Vec::new(alloc);
+    match read_command(words) {
+        None => out.extend_from_slice(b"none")?,
+        Some(Command::Netacl(query)) => add_query(&mut out, b"netacl ", &query)?,
+        Some(Command::Table(query)) => add_query(&mut out, b"table ", &query)?,
+        Some(Command::Authsrv(client)) if client.console => {
+            add_client(&mut out, b"console ", &client.peer)?;
+        }
+        Some(Command::Authsrv(client)) => add_client(&mut out, b"authsrv ", &client.peer)?,
+    }
+    Ok(out)
+}
+
+// The name that the row gives, or the one that holds where the words give none.
+fn name_or<'a>(name: &'a Option<Vec<u8>>, other: &'static str) -> &'a [u8] {
+    match name {
+        Some(name) => name,
+        None => other.as_bytes(),
+    }
+}
+
+/// The first thing in which the words are read otherwise than the row says.
+pub(crate) fn misread(alloc: Global, row: &Row, command: &[u8]) -> Result<Difference, NoMemory> {
+    let words = &row.setting.words;
+    let reading = &row.wanted.reading;
+    let mut difference = Difference::none(alloc);
+    difference.text_of(b"the command", command, &told_of(alloc, words)?)?;
+    let table = name_or(&reading.table, TABLE);
+    difference.text_of(b"the table's name", table, table_named(words))?;
+    let records = name_or(&reading.records, RECORDS);
+    difference.text_of(b"the records' name", records, places(words).db)?;
+    Ok(difference)
+}

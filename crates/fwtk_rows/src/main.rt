@@ -1,0 +1,85 @@
+//! Runs the rows of files over devices in memory, and says which come out otherwise.
+//!
+//! `fwtk_rows FILE.. [-differ FILE..]` prints `ok NAME` for each row that comes out as its file says, with the count of
+//! further runs where the row has sweeps, and `differs NAME: WHAT` for each other one; last `N rows, M differ`. Each
+//! row of a file behind `-differ` must come out otherwise than its file says: `ok NAME differs: WHAT` tells in what.
+//! The status is 0 where all is well, 1 where a row isn't, and 2 where there is no file or one can't be read.
+//! `docs/tests.md` says how a row is written.
+#![tactic(auto)]
+
+use report::{Counts, Report};
+use row_format::parse;
+use std::process::ExitCode;
+use std::{env, fs, io};
+use trying::try_rows;
+
+mod calls;
+mod commands;
+mod comparing;
+mod devices;
+mod outcome;
+mod report;
+mod running;
+mod serving;
+mod sweeps;
+mod texts;
+mod trying;
+mod verdicts;
+
+// The rows of a file are tried; its text, or what is wrong with it, is printed.
+fn try_file(rt: HostRuntime, name: &str, differ: bool, counts: &mut Counts) -> io::Result<u8> {
+    let alloc = rt.alloc();
+    let Ok(bytes) = fs::read(&rt, name) else {
+        eprintln!(rt; "fwtk_rows: {name} can't be read: give the names of row files")?;
+        return Ok(2);
+    };
+    let rows = match parse(alloc, &bytes) {
+        Ok(rows) => rows,
+        Err(fault) => {
+            let (line, why) = (fault.line, fault.why.text());
+            eprintln!(rt; "fwtk_rows: {name} line {line}: {why}")?;
+            return Ok(2);
+        }
+    };
+    let mut report = Report::new(alloc, differ);
+    let tried = try_rows(alloc, &rows, &mut report, counts);
+    let mut out = io::writer(&rt);
+    io::Write::write_all(&mut out, report.bytes())?;
+    if tried.is_err() {
+        eprintln!(rt; "fwtk_rows: no memory")?;
+        return Ok(2);
+    }
+    Ok(0)
+}
+
+fn try_files(rt: HostRuntime, counts: &mut Counts) -> io::Result<u8> {
+    let mut differ = false;
+    let mut files: u64 = 0;
+    for name in env::args(&rt)?.skip(1) {
+        if name.as_str() == "-differ" {
+            differ = true;
+        } else {
+            files = files.saturating_add(1);
+            let status = try_file(rt, name.as_str(), differ, counts)?;
+            if status != 0 {
+                return Ok(status);
+            }
+        }
+    }
+    if files == 0 {
+        eprintln!(rt; "usage: fwtk_rows FILE.. [-differ FILE..]")?;
+        return Ok(2);
+    }
+    Ok(0)
+}
+
+fn main(rt: HostRuntime) -> io::Result<ExitCode> {
+    let mut counts = Counts::new();
+    let status = try_files(rt, &mut counts)?;
+    if status != 0 {
+        return Ok(ExitCode::from(status));
+    }
+    let (rows, differ) = (counts.rows, counts.differ);
+    println!(rt; "{rows} rows, {differ} differ")?;
+    Ok(ExitCode::from(if differ == 0 { 0 } else { 1 }))
+}

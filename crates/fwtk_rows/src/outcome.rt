@@ -1,0 +1,99 @@
+//! What a run came to.
+
+use crate::calls::Broken;
+use crate::devices::{Devices, Records, console_devices, copy_of, devices_of};
+use crate::running::{Ended, run_over};
+use crate::serving::serve_over;
+use fw_memory::{MemKeeper, MemSource};
+use fw_outside::{Clock, Got, Source};
+use fw_types::{Name, NoMemory, Octets};
+use row_format::{Row, Setting};
+use std::alloc::Global;
+
+/// What a run came to.
+#[derive(Drop)]
+pub(crate) struct Outcome {
+    pub(crate) status: u8,
+    /// What was printed, or told to the client.
+    pub(crate) output: Vec<u8>,
+    pub(crate) log: Vec<u8>,
+    /// The moment of the next request.
+    pub(crate) next: u64,
+    /// What the client would still say.
+    pub(crate) left: Vec<u8>,
+    /// What the keeper has.
+    pub(crate) records: Records,
+}
+
+/// More calls than it takes to hear a client to its end.
+const MOST_TAKES: u32 = 8192;
+
+// The bytes that are still there.
+fn left_of(alloc: Global, input: &mut MemSource) -> Result<Vec<u8>, NoMemory> {
+    let mut left = Vec::new(alloc);
+    let mut buffer = [0u8; 1024];
+    for _ in 0..MOST_TAKES {
+        match input.take(&mut buffer) {
+            Ok(Got::Bytes(count)) => left.extend_from_slice(buffer.get(..count).unwrap_or(&[]))?,
+            Ok(Got::End) => break,
+            _ => {}
+        }
+    }
+    Ok(left)
+}
+
+fn records_of(alloc: Global, keeper: &Option<MemKeeper>) -> Result<Records, NoMemory> {
+    match keeper {
+        Some(keeper) => copy_of(alloc, keeper.table()),
+        None => Ok(Vec::new(alloc)),
+    }
+}
+
+fn outcome_of(alloc: Global, mut ended: Ended) -> Result<Outcome, NoMemory> {
+    Ok(Outcome {
+        status: ended.status,
+        output: Vec::from_slice(alloc, ended.output.bytes())?,
+        log: Vec::from_slice(alloc, ended.logs.bytes())?,
+        next: ended.clock.now(),
+        left: left_of(alloc, &mut ended.input)?,
+        records: records_of(alloc, &ended.keeper)?,
+    })
+}
+
+fn ended_by(alloc: Global, setting: &Setting, devices: Devices) -> Ended {
+    match setting.limit {
+        Some(limit) => serve_over(alloc, &setting.words, limit, devices),
+        None => run_over(alloc, &setting.words, devices),
+    }
+}
+
+/// What a row comes to over these records, where bytes come in pieces of this length and something fails.
+pub(crate) fn outcome_by(
+    alloc: Global,
+    row: &Row,
+    records: &[(Name, Octets)],
+    piece: usize,
+    broken: Broken,
+) -> Result<Outcome, NoMemory> {
+    let devices = devices_of(alloc, row, records, piece, broken)?;
+    outcome_of(alloc, ended_by(alloc, &row.setting, devices))
+}
+
+fn console_words(alloc: Global) -> Result<Vec<Octets>, NoMemory> {
+    let mut words = Vec::new(alloc);
+    for word in ["authsrv", "-console", "127.0.0.1"] {
+        words.push(Octets::copy(alloc, word.as_bytes())?)?;
+    }
+    Ok(words)
+}
+
+/// What it comes to where these lines are said at the console.
+pub(crate) fn at_console(
+    alloc: Global,
+    said: &[u8],
+    records: Records,
+) -> Result<Outcome, NoMemory> {
+    let words = console_words(alloc)?;
+    let devices = console_devices(alloc, said, records)?;
+    outcome_of(alloc, run_over(alloc, &words, devices))
+}

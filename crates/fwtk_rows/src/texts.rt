@@ -1,0 +1,76 @@
+//! Lines of texts.
+
+use fw_types::NoMemory;
+use std::alloc::Global;
+
+/// How many line ends the text has.
+pub(crate) fn count_lines(text: &[u8]) -> u64 {
+    let mut lines: u64 = 0;
+    for byte in text {
+        if *byte == b'\n' {
+            lines = lines.saturating_add(1);
+        }
+    }
+    lines
+}
+
+/// The first bytes of the text, or all.
+pub(crate) fn front(text: &[u8], bytes: u64) -> &[u8] {
+    match usize::try_from(bytes) {
+        Ok(bytes) => text.get(..bytes).unwrap_or(text),
+        Err(_) => text,
+    }
+}
+
+// Where so many lines end.
+fn end_of(text: &[u8], lines: u64) -> usize {
+    let mut found: u64 = 0;
+    for (at, byte) in text.iter().enumerate() {
+        if found == lines {
+            return at;
+        }
+        if *byte == b'\n' {
+            found = found.saturating_add(1);
+        }
+    }
+    text.len()
+}
+
+/// The first lines of the text, with their ends.
+pub(crate) fn first_lines(text: &[u8], lines: u64) -> &[u8] {
+    text.get(..end_of(text, lines)).unwrap_or(text)
+}
+
+/// The text from this line on, counted from 0.
+pub(crate) fn later_lines(text: &[u8], line: u64) -> &[u8] {
+    text.get(end_of(text, line)..).unwrap_or(&[])
+}
+
+/// The text but for this line, counted from 0.
+pub(crate) fn without_line(alloc: Global, text: &[u8], line: u64) -> Result<Vec<u8>, NoMemory> {
+    let mut rest = Vec::from_slice(alloc, first_lines(text, line))?;
+    rest.extend_from_slice(later_lines(text, line.saturating_add(1)))?;
+    Ok(rest)
+}
+
+/// The text with this for its last word.
+pub(crate) fn with_last_word(alloc: Global, text: &[u8], word: &[u8]) -> Result<Vec<u8>, NoMemory> {
+    let end = match text.iter().rposition(|byte| *byte == b' ') {
+        Some(at) => at.saturating_add(1),
+        None => 0,
+    };
+    let mut out = Vec::from_slice(alloc, text.get(..end).unwrap_or(&[]))?;
+    out.extend_from_slice(word)?;
+    out.push(b'\n')?;
+    Ok(out)
+}
+
+/// Whether one of the lines is this one.
+pub(crate) fn has_line(text: &[u8], line: &[u8]) -> bool {
+    for each in text.split(|byte| *byte == b'\n') {
+        if each == line {
+            return true;
+        }
+    }
+    false
+}

@@ -1,9 +1,0 @@
-use crate::{Assigned, Rule};
-
-/// What a line says to a service.
-#[derive(Drop)]
-pub enum Said {
-    Nothing,
-    Ruled(Rule),
-    Set(Assigned),
-}

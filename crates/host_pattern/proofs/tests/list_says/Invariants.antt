@@ -1,4 +1,0 @@
-use Rattle.host_pattern.proofs.tests.list_says.Given as goal
-
-abbrev pub ghosts-list_matches : goal.ghosts-list_matches
-ghosts-list_matches a = record { name = a.blank.name; parts = a.blank.parts }

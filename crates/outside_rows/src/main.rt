@@ -1,0 +1,20 @@
+//! Rows of the plain types, the devices in memory and the reader of lines: each row of `data/` says what is
+//! told of what is asked, by the kinds that [`kinds`] knows. `row_lines` says how a row is written.
+#![tactic(auto)]
+
+mod devices;
+mod keeping;
+mod kinds;
+mod lines;
+mod signature;
+mod values;
+
+use kinds::Kinds;
+use row_lines::compare;
+use std::io;
+use std::process::ExitCode;
+
+fn main(rt: HostRuntime) -> io::Result<ExitCode> {
+    signature::laws_hold();
+    compare(rt, &mut Kinds)
+}

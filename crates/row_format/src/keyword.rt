@@ -1,0 +1,115 @@
+/// What a line of a row is about.
+#[derive(Clone, Copy, PartialEq, Eq)]
+pub(crate) enum Keyword {
+    Row,
+    Like,
+    Words,
+    File,
+    Table,
+    TablePart,
+    NoTable,
+    After,
+    Stored,
+    Console,
+    ConsoleRun,
+    Moments,
+    Client,
+    ClientPart,
+    Limit,
+    Fails,
+    Idle,
+    Room,
+    Piece,
+    Sweep,
+    Paced,
+    Output,
+    OutputPart,
+    Log,
+    LogPart,
+    Status,
+    Untaken,
+    Unchanged,
+    Keeper,
+    Command,
+    TableName,
+    RecordsName,
+}
+
+const KEYWORDS: &[(&str, Keyword)] = &[
+    ("row", Keyword::Row),
+    ("like", Keyword::Like),
+    ("words", Keyword::Words),
+    ("file", Keyword::File),
+    ("table", Keyword::Table),
+    ("table-part", Keyword::TablePart),
+    ("no-table", Keyword::NoTable),
+    ("after", Keyword::After),
+    ("stored", Keyword::Stored),
+    ("console", Keyword::Console),
+    ("console-run", Keyword::ConsoleRun),
+    ("moments", Keyword::Moments),
+    ("client", Keyword::Client),
+    ("client-part", Keyword::ClientPart),
+    ("limit", Keyword::Limit),
+    ("fails", Keyword::Fails),
+    ("idle", Keyword::Idle),
+    ("room", Keyword::Room),
+    ("piece", Keyword::Piece),
+    ("sweep", Keyword::Sweep),
+    ("paced", Keyword::Paced),
+    ("output", Keyword::Output),
+    ("output-part", Keyword::OutputPart),
+    ("log", Keyword::Log),
+    ("log-part", Keyword::LogPart),
+    ("status", Keyword::Status),
+    ("untaken", Keyword::Untaken),
+    ("unchanged", Keyword::Unchanged),
+    ("keeper", Keyword::Keeper),
+    ("command", Keyword::Command),
+    ("table-name", Keyword::TableName),
+    ("records-name", Keyword::RecordsName),
+];
+
+impl Keyword {
+    /// The keyword that is spelt so.
+    pub(crate) fn read(word: &[u8]) -> Option<Keyword> {
+        for (spelling, keyword) in KEYWORDS {
+            if spelling.as_bytes() == word {
+                return Some(*keyword);
+            }
+        }
+        None
+    }
+
+    /// The first of the keywords that say one thing together: a row that gives one of them anew gives that anew.
+    pub(crate) fn family(self) -> Keyword {
+        match self {
+            Keyword::File | Keyword::TablePart | Keyword::NoTable => Keyword::Table,
+            Keyword::Stored | Keyword::Console | Keyword::ConsoleRun => Keyword::After,
+            Keyword::ClientPart => Keyword::Client,
+            Keyword::OutputPart => Keyword::Output,
+            Keyword::LogPart => Keyword::Log,
+            other => other,
+        }
+    }
+
+    /// Whether a row that is like another one takes over its lines with this keyword.
+    pub(crate) fn is_taken_over(self) -> bool {
+        !matches!(
+            self,
+            Keyword::Row | Keyword::Like | Keyword::Sweep | Keyword::Paced
+        )
+    }
+
+    /// Whether no text follows the keyword.
+    pub(crate) fn stands_alone(self) -> bool {
+        matches!(
+            self,
+            Keyword::NoTable
+                | Keyword::ConsoleRun
+                | Keyword::Paced
+                | Keyword::Untaken
+                | Keyword::Unchanged
+        )
+    }
+}

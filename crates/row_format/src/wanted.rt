@@ -1,0 +1,107 @@
+//! What is expected of a run.
+
+use crate::Why;
+use crate::escapes::{add_unescaped, unescaped};
+use crate::keyword::Keyword;
+use crate::line::Line;
+use crate::values::{record_of, status_of};
+use fw_types::{Name, Octets};
+use std::alloc::Global;
+
+/// What the words are read as, for a row that isn't run.
+#[derive(Drop)]
+pub struct Reading {
+    /// The command with its service and peer, or `none`.
+    pub command: Option<Vec<u8>>,
+    /// The table's name, where the words give one.
+    pub table: Option<Vec<u8>>,
+    /// The records' name, where the words give one.
+    pub records: Option<Vec<u8>>,
+}
+
+/// What is expected of a run.
+#[derive(Drop)]
+pub struct Wanted {
+    /// All that is printed or told to the client.
+    pub output: Vec<u8>,
+    /// The whole log.
+    pub log: Vec<u8>,
+    pub status: Option<u8>,
+    /// Whether nothing is taken from the client.
+    pub untaken: bool,
+    /// Whether the keeper has the records that it had.
+    pub unchanged: bool,
+    /// The records that the keeper has afterwards, in order.
+    pub keeper: Option<Vec<(Name, Octets)>>,
+    pub reading: Reading,
+}
+
+impl Wanted {
+    pub(crate) fn new(alloc: Global) -> Wanted {
+        Wanted {
+            output: Vec::new(alloc),
+            log: Vec::new(alloc),
+            status: None,
+            untaken: false,
+            unchanged: false,
+            keeper: None,
+            reading: Reading {
+                command: None,
+                table: None,
+                records: None,
+            },
+        }
+    }
+
+    /// Whether the row says what its run or its words come to.
+    pub(crate) fn is_complete(&self) -> bool {
+        self.status.is_some() || self.reading.command.is_some()
+    }
+
+    fn add_record(&mut self, alloc: Global, text: &[u8]) -> Result<(), Why> {
+        let record = record_of(alloc, text)?;
+        match &mut self.keeper {
+            Some(records) => records.push(record)?,
+            None => {
+                let mut records = Vec::new(alloc);
+                records.push(record)?;
+                self.keeper = Some(records);
+            }
+        }
+        Ok(())
+    }
+
+    // Adds a line about how the words are read.
+    fn add_reading(&mut self, alloc: Global, line: &Line) -> Result<(), Why> {
+        let text = unescaped(alloc, line.text)?;
+        match line.keyword {
+            Keyword::TableName => self.reading.table = Some(text),
+            Keyword::RecordsName => self.reading.records = Some(text),
+            _ => self.reading.command = Some(text),
+        }
+        Ok(())
+    }
+
+    // Adds a line about what is left.
+    fn add_rest(&mut self, alloc: Global, line: &Line) -> Result<(), Why> {
+        match line.keyword {
+            Keyword::Status => self.status = Some(status_of(line.text)?),
+            Keyword::Untaken => self.untaken = true,
+            Keyword::Unchanged => self.unchanged = true,
+            Keyword::Keeper => self.add_record(alloc, line.text)?,
+            _ => self.add_reading(alloc, line)?,
+        }
+        Ok(())
+    }
+
+    /// Adds a line of a row about what is expected.
+    pub(crate) fn add(&mut self, alloc: Global, line: &Line) -> Result<(), Why> {
+        match line.keyword {
+            Keyword::Output => add_unescaped(alloc, &mut self.output, line.text, b"\n"),
+            Keyword::OutputPart => add_unescaped(alloc, &mut self.output, line.text, b""),
+            Keyword::Log => add_unescaped(alloc, &mut self.log, line.text, b"\n"),
+            Keyword::LogPart => add_unescaped(alloc, &mut self.log, line.text, b""),
+            _ => self.add_rest(alloc, line),
+        }
+    }
+}

@@ -1,0 +1,7 @@
+mod Examples
+pub mod ItemLemmas
+pub mod LawLemmas
+pub mod LineLemmas
+pub mod PlaceLemmas
+pub mod ReadingLemmas
+pub mod RunLemmas

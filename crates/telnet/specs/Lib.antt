@@ -1,0 +1,5 @@
+pub mod Cutting
+pub mod Items
+pub mod Lines
+pub mod Place
+pub mod TelnetView
