@@ -48,7 +48,12 @@ fn ruled(number: u32, permits: bool, hosts: PatternList, options: SharedOptions)
 
 // The options that these words are, which take no room where there are no words.
 #[tactic(auto, unfolding(crate::specs::Options::options_of, crate::specs::Options::built, crate::specs::Options::options_after))]
-fn shared_options_of(alloc: Global, service: &Service, port: u16, words: &[Word]) -> Reading<SharedOptions>
+fn shared_options_of(
+    alloc: Global,
+    service: &Service,
+    port: u16,
+    words: &[Word],
+) -> Reading<SharedOptions>
     ensures { IfOk result (λ read. read ≡ options_of service.now port words.now) }
 {
     if words.is_empty() {
