@@ -1,11 +1,11 @@
 //! Rows whose words are read and not run.
 
-use crate::comparing::Difference;
 use arrayvec::ArrayVec;
 use bastion::{Command, Query, places, read_command, table_named};
 use fw_types::{NoMemory, Octets, Peer};
 use gate_rules::Service;
 use row_format::{Row, TABLE};
+use row_runs::Difference;
 use std::alloc::Global;
 
 /// The name of the records' file where the command line names none.

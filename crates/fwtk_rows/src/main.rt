@@ -7,24 +7,16 @@
 //! `docs/tests.md` says how a row is written.
 #![tactic(auto)]
 
-use report::{Counts, Report};
+use bastion_runner::BastionRunner;
 use row_format::parse;
+use row_runs::{Counts, Report, try_rows};
 use std::process::ExitCode;
 use std::{env, fs, io};
-use trying::try_rows;
 
-mod calls;
+mod bastion_runner;
 mod commands;
-mod comparing;
-mod devices;
-mod outcome;
-mod report;
 mod running;
 mod serving;
-mod sweeps;
-mod texts;
-mod trying;
-mod verdicts;
 
 // The rows of a file are tried; its text, or what is wrong with it, is printed.
 fn try_file(rt: HostRuntime, name: &str, differ: bool, counts: &mut Counts) -> io::Result<u8> {
@@ -42,7 +34,7 @@ fn try_file(rt: HostRuntime, name: &str, differ: bool, counts: &mut Counts) -> i
         }
     };
     let mut report = Report::new(alloc, differ);
-    let tried = try_rows(alloc, &rows, &mut report, counts);
+    let tried = try_rows(&BastionRunner, alloc, &rows, &mut report, counts);
     let mut out = io::writer(&rt);
     io::Write::write_all(&mut out, report.bytes())?;
     if tried.is_err() {

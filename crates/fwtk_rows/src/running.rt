@@ -1,20 +1,29 @@
 //! The one call of `run`.
 
-use crate::devices::{Devices, Memory};
-use bastion::{World, run};
-use fw_memory::{MemClock, MemKeeper, MemSink, MemSource};
+use bastion::{Kit, World, run};
+use fw_memory::{MemClock, MemDice, MemFiles, MemKeeper, MemSink, MemSource};
 use fw_types::Octets;
+use row_runs::{Devices, Ended};
 use std::alloc::Global;
 
-/// The status of a run, and the devices after it.
+/// The kinds of device in memory.
 #[derive(Drop)]
-pub(crate) struct Ended {
-    pub(crate) status: u8,
-    pub(crate) input: MemSource,
-    pub(crate) output: MemSink,
-    pub(crate) logs: MemSink,
-    pub(crate) clock: MemClock,
-    pub(crate) keeper: Option<MemKeeper>,
+pub(crate) struct Memory;
+
+impl Kit for Memory {
+    type Files = MemFiles;
+
+    type Input = MemSource;
+
+    type Output = MemSink;
+
+    type Logs = MemSink;
+
+    type Tick = MemClock;
+
+    type Dice = MemDice;
+
+    type Keeper = MemKeeper;
 }
 
 /// Runs the command line over the devices.

@@ -1,7 +1,5 @@
 //! A client of a server in whose history there is room for few requests.
 
-use crate::devices::Devices;
-use crate::running::Ended;
 use auth_machine::{Book, Policy};
 use bastion::{Command, Fault, conn, ending_status, read_command, table_named};
 use fw_memory::{MemDice, MemFiles, MemKeeper, MemSource};
@@ -9,6 +7,7 @@ use fw_outside::Files;
 use fw_types::{Ending, Octets, Peer};
 use gate_rules::{Rules, Service};
 use netperm_table::Table;
+use row_runs::{Devices, Ended};
 use std::alloc::Global;
 
 /// The status of a row that can't be served: its words are of no client, or its table or records can't be read, or the

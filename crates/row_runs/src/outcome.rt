@@ -2,12 +2,11 @@
 
 use crate::calls::Broken;
 use crate::devices::{Devices, Records, console_devices, copy_of, devices_of};
-use crate::running::{Ended, run_over};
-use crate::serving::serve_over;
+use crate::runner::{Ended, Runner};
 use fw_memory::{MemKeeper, MemSource};
 use fw_outside::{Clock, Got, Source};
 use fw_types::{Name, NoMemory, Octets};
-use row_format::{Row, Setting};
+use row_format::Row;
 use std::alloc::Global;
 
 /// What a run came to.
@@ -60,15 +59,9 @@ fn outcome_of(alloc: Global, mut ended: Ended) -> Result<Outcome, NoMemory> {
     })
 }
 
-fn ended_by(alloc: Global, setting: &Setting, devices: Devices) -> Ended {
-    match setting.limit {
-        Some(limit) => serve_over(alloc, &setting.words, limit, devices),
-        None => run_over(alloc, &setting.words, devices),
-    }
-}
-
 /// What a row comes to over these records, where bytes come in pieces of this length and something fails.
-pub(crate) fn outcome_by(
+pub(crate) fn outcome_by<R: Runner>(
+    runner: &R,
     alloc: Global,
     row: &Row,
     records: &[(Name, Octets)],
@@ -76,7 +69,7 @@ pub(crate) fn outcome_by(
     broken: Broken,
 ) -> Result<Outcome, NoMemory> {
     let devices = devices_of(alloc, row, records, piece, broken)?;
-    outcome_of(alloc, ended_by(alloc, &row.setting, devices))
+    outcome_of(alloc, runner.run(alloc, &row.setting, devices))
 }
 
 fn console_words(alloc: Global) -> Result<Vec<Octets>, NoMemory> {
@@ -88,12 +81,13 @@ fn console_words(alloc: Global) -> Result<Vec<Octets>, NoMemory> {
 }
 
 /// What it comes to where these lines are said at the console.
-pub(crate) fn at_console(
+pub(crate) fn at_console<R: Runner>(
+    runner: &R,
     alloc: Global,
     said: &[u8],
     records: Records,
 ) -> Result<Outcome, NoMemory> {
     let words = console_words(alloc)?;
     let devices = console_devices(alloc, said, records)?;
-    outcome_of(alloc, run_over(alloc, &words, devices))
+    outcome_of(alloc, runner.run_words(alloc, &words, devices))
 }

@@ -5,14 +5,15 @@ use std::alloc::{AllocError, Global};
 
 /// How many rows there were.
 #[derive(Clone, Copy)]
-pub(crate) struct Counts {
-    pub(crate) rows: u64,
+pub struct Counts {
+    pub rows: u64,
     /// How many of them were otherwise than they must be.
-    pub(crate) differ: u64,
+    pub differ: u64,
 }
 
 impl Counts {
-    pub(crate) fn new() -> Counts {
+    /// None yet.
+    pub fn new() -> Counts {
         Counts { rows: 0, differ: 0 }
     }
 
@@ -26,7 +27,7 @@ impl Counts {
 
 /// What is told of the rows of a file.
 #[derive(Drop)]
-pub(crate) struct Report {
+pub struct Report {
     text: Vec<u8>,
     /// Whether each row must differ.
     differ: bool,
@@ -38,7 +39,8 @@ fn add_number(alloc: Global, text: &mut Vec<u8>, number: u64) -> Result<(), Allo
 }
 
 impl Report {
-    pub(crate) fn new(alloc: Global, differ: bool) -> Report {
+    /// An empty one.
+    pub fn new(alloc: Global, differ: bool) -> Report {
         Report {
             text: Vec::new(alloc),
             differ,
@@ -46,7 +48,7 @@ impl Report {
     }
 
     /// The text.
-    pub(crate) fn bytes(&self) -> &[u8] {
+    pub fn bytes(&self) -> &[u8] {
         &self.text
     }
 

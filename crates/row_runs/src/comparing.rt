@@ -21,7 +21,7 @@ pub(crate) struct Expected<'a> {
 
 /// The first thing that differs, in words; empty where nothing does.
 #[derive(Drop)]
-pub(crate) struct Difference {
+pub struct Difference {
     alloc: Global,
     text: Vec<u8>,
 }
@@ -58,7 +58,8 @@ fn told_of(alloc: Global, records: &[(Name, Octets)]) -> Result<Vec<u8>, NoMemor
 }
 
 impl Difference {
-    pub(crate) fn none(alloc: Global) -> Difference {
+    /// Nothing.
+    pub fn none(alloc: Global) -> Difference {
         Difference {
             alloc,
             text: Vec::new(alloc),
@@ -88,12 +89,11 @@ impl Difference {
     }
 
     /// Compares two texts, unless something differs already.
-    pub(crate) fn text_of(
-        &mut self,
-        what: &[u8],
-        wanted: &[u8],
-        was: &[u8],
-    ) -> Result<(), NoMemory> {
+    ///
+    /// # Errors
+    ///
+    /// `NoMemory` where memory was wanting.
+    pub fn text_of(&mut self, what: &[u8], wanted: &[u8], was: &[u8]) -> Result<(), NoMemory> {
         if !self.is_none() || wanted == was {
             return Ok(());
         }

@@ -4,6 +4,7 @@ use crate::calls::Broken;
 use crate::comparing::{Difference, Expected, compare};
 use crate::devices::WHOLE;
 use crate::outcome::{Outcome, outcome_by};
+use crate::runner::Runner;
 use crate::texts::{count_lines, first_lines, front, has_line, later_lines, without_line};
 use crate::verdicts::{
     is_netacl, is_session, is_verdict, log_of, paced_moment, untouched, usual, verdict,
@@ -221,8 +222,13 @@ pub(crate) fn say_where(
 }
 
 // What differs in one run. A call past those that are made changes nothing.
-fn run_differs(cut: &Cut, broken: Broken, calls: u64) -> Result<Difference, NoMemory> {
-    let was = outcome_by(cut.alloc, cut.row, cut.records, cut.piece, broken)?;
+fn run_differs<R: Runner>(
+    runner: &R,
+    cut: &Cut,
+    broken: Broken,
+    calls: u64,
+) -> Result<Difference, NoMemory> {
+    let was = outcome_by(runner, cut.alloc, cut.row, cut.records, cut.piece, broken)?;
     let mut difference = if broken.at < calls {
         broken_differs(cut, broken, &was)?
     } else {
@@ -233,14 +239,20 @@ fn run_differs(cut: &Cut, broken: Broken, calls: u64) -> Result<Difference, NoMe
 }
 
 // The runs in which the part fails at each call, and at the one after the last.
-fn sweep_part(cut: &Cut, part: Part, calls: u64, swept: &mut Swept) -> Result<(), NoMemory> {
+fn sweep_part<R: Runner>(
+    runner: &R,
+    cut: &Cut,
+    part: Part,
+    calls: u64,
+    swept: &mut Swept,
+) -> Result<(), NoMemory> {
     for at in 0..calls.saturating_add(1) {
         if swept.difference.is_none() {
             let broken = Broken {
                 part: Some(part),
                 at,
             };
-            swept.difference = run_differs(cut, broken, calls)?;
+            swept.difference = run_differs(runner, cut, broken, calls)?;
             swept.runs = swept.runs.saturating_add(1);
         }
     }
@@ -265,67 +277,90 @@ fn table_bytes(row: &Row) -> usize {
 }
 
 // The runs in which a source fails at each call, and those in which it is idle.
-fn sweep_source(
+fn sweep_source<R: Runner>(
+    runner: &R,
     cut: &Cut,
     part: Part,
     idle: Part,
     calls: u64,
     swept: &mut Swept,
 ) -> Result<(), NoMemory> {
-    sweep_part(cut, part, calls, swept)?;
-    sweep_part(cut, idle, calls, swept)
+    sweep_part(runner, cut, part, calls, swept)?;
+    sweep_part(runner, cut, idle, calls, swept)
 }
 
 // The runs in which a sink lacks room.
-fn sweep_room(cut: &Cut, part: Part, text: &[u8], swept: &mut Swept) -> Result<(), NoMemory> {
-    sweep_part(cut, part, text.len() as u64, swept)
+fn sweep_room<R: Runner>(
+    runner: &R,
+    cut: &Cut,
+    part: Part,
+    text: &[u8],
+    swept: &mut Swept,
+) -> Result<(), NoMemory> {
+    sweep_part(runner, cut, part, text.len() as u64, swept)
 }
 
 // A source fails however the bytes come.
-fn sweep_cut(cut: &Cut, tried: Tried, swept: &mut Swept) -> Result<(), NoMemory> {
+fn sweep_cut<R: Runner>(
+    runner: &R,
+    cut: &Cut,
+    tried: Tried,
+    swept: &mut Swept,
+) -> Result<(), NoMemory> {
     let row = cut.row;
     match tried.part {
         Part::Client => {
             let takes = takes_of(tried.calls, row.setting.client.len(), cut.piece);
-            sweep_source(cut, Part::Client, Part::ClientIdle, takes, swept)
+            sweep_source(runner, cut, Part::Client, Part::ClientIdle, takes, swept)
         }
         Part::Table => {
             let takes = takes_of(tried.calls, table_bytes(row), cut.piece);
-            sweep_source(cut, Part::Table, Part::TableIdle, takes, swept)
+            sweep_source(runner, cut, Part::Table, Part::TableIdle, takes, swept)
         }
-        Part::Output if cut.piece == 1 => sweep_part(cut, Part::Output, tried.calls, swept),
+        Part::Output if cut.piece == 1 => sweep_part(runner, cut, Part::Output, tried.calls, swept),
         _ => Ok(()),
     }
 }
 
 // What isn't read in pieces fails where all comes at once.
-fn sweep_whole(cut: &Cut, tried: Tried, swept: &mut Swept) -> Result<(), NoMemory> {
+fn sweep_whole<R: Runner>(
+    runner: &R,
+    cut: &Cut,
+    tried: Tried,
+    swept: &mut Swept,
+) -> Result<(), NoMemory> {
     let wanted = &cut.row.wanted;
     match tried.part {
         Part::Output => {
-            sweep_part(cut, Part::Output, tried.calls, swept)?;
-            sweep_room(cut, Part::OutputRoom, &wanted.output, swept)
+            sweep_part(runner, cut, Part::Output, tried.calls, swept)?;
+            sweep_room(runner, cut, Part::OutputRoom, &wanted.output, swept)
         }
         Part::Log => {
-            sweep_part(cut, Part::Log, tried.calls, swept)?;
-            sweep_room(cut, Part::LogRoom, &wanted.log, swept)
+            sweep_part(runner, cut, Part::Log, tried.calls, swept)?;
+            sweep_room(runner, cut, Part::LogRoom, &wanted.log, swept)
         }
-        Part::Keeper => sweep_part(cut, Part::Keeper, tried.calls, swept),
+        Part::Keeper => sweep_part(runner, cut, Part::Keeper, tried.calls, swept),
         _ => Ok(()),
     }
 }
 
-fn sweep_device(cut: &Cut, tried: Tried, swept: &mut Swept) -> Result<(), NoMemory> {
-    sweep_cut(cut, tried, swept)?;
+fn sweep_device<R: Runner>(
+    runner: &R,
+    cut: &Cut,
+    tried: Tried,
+    swept: &mut Swept,
+) -> Result<(), NoMemory> {
+    sweep_cut(runner, cut, tried, swept)?;
     if cut.piece == WHOLE {
-        return sweep_whole(cut, tried, swept);
+        return sweep_whole(runner, cut, tried, swept);
     }
     Ok(())
 }
 
 /// Runs the row with each device that it names failing at each of its calls in turn: the client and the table whole, in
 /// pieces of 20 and byte by byte, the output whole and byte by byte, and the log and the keeper whole.
-pub(crate) fn sweep(
+pub(crate) fn sweep<R: Runner>(
+    runner: &R,
     alloc: Global,
     row: &Row,
     records: &[(Name, Octets)],
@@ -342,7 +377,7 @@ pub(crate) fn sweep(
             piece,
         };
         for tried in &row.trial.sweep {
-            sweep_device(&cut, *tried, &mut swept)?;
+            sweep_device(runner, &cut, *tried, &mut swept)?;
         }
     }
     Ok(swept)

@@ -1,31 +1,10 @@
 //! The devices that a row's run is given.
 
 use crate::calls::{Broken, ROOM, calls_of, no_calls, room_of};
-use bastion::Kit;
 use fw_memory::{MemClock, MemDice, MemFiles, MemKeeper, MemSink, MemSource};
 use fw_types::{Name, NoMemory, Octets};
 use row_format::{File, Part, Row};
 use std::alloc::Global;
-
-/// The kinds of device in memory.
-#[derive(Drop)]
-pub(crate) struct Memory;
-
-impl Kit for Memory {
-    type Files = MemFiles;
-
-    type Input = MemSource;
-
-    type Output = MemSink;
-
-    type Logs = MemSink;
-
-    type Tick = MemClock;
-
-    type Dice = MemDice;
-
-    type Keeper = MemKeeper;
-}
 
 /// The names that a keeper has, with their bytes.
 pub(crate) type Records = Vec<(Name, Octets)>;
@@ -38,14 +17,14 @@ pub(crate) const NEXT: u64 = 10_000_000_000;
 
 /// The devices that a run is given.
 #[derive(Drop)]
-pub(crate) struct Devices {
-    pub(crate) files: MemFiles,
-    pub(crate) input: MemSource,
-    pub(crate) output: MemSink,
-    pub(crate) logs: MemSink,
-    pub(crate) clock: MemClock,
-    pub(crate) dice: MemDice,
-    pub(crate) keeper: MemKeeper,
+pub struct Devices {
+    pub files: MemFiles,
+    pub input: MemSource,
+    pub output: MemSink,
+    pub logs: MemSink,
+    pub clock: MemClock,
+    pub dice: MemDice,
+    pub keeper: MemKeeper,
 }
 
 /// A copy of the records.

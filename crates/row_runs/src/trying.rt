@@ -1,11 +1,11 @@
 //! The rows of a file, one after the other.
 
 use crate::calls::UNBROKEN;
-use crate::commands::misread;
 use crate::comparing::{Difference, Expected, compare};
 use crate::devices::{Records, WHOLE, copy_of};
 use crate::outcome::{at_console, outcome_by};
 use crate::report::{Counts, Report};
+use crate::runner::Runner;
 use crate::sweeps::{Swept, say_where, sweep};
 use crate::texts::count_lines;
 use crate::verdicts::usual;
@@ -23,12 +23,13 @@ fn answers(alloc: Global, lines: u64) -> Result<Vec<u8>, NoMemory> {
 }
 
 // Says the lines at the console. The records are those that are there afterwards.
-fn say_at_console(
+fn say_at_console<R: Runner>(
+    runner: &R,
     alloc: Global,
     said: &[u8],
     records: &mut Records,
 ) -> Result<Difference, NoMemory> {
-    let was = at_console(alloc, said, copy_of(alloc, records)?)?;
+    let was = at_console(runner, alloc, said, copy_of(alloc, records)?)?;
     let output = answers(alloc, count_lines(said))?;
     let expected = Expected {
         status: 0,
@@ -44,7 +45,8 @@ fn say_at_console(
 }
 
 // The records that the row's runs begin with, where nothing differs at the console.
-fn records_before(
+fn records_before<R: Runner>(
+    runner: &R,
     alloc: Global,
     row: &Row,
     earlier: &[Records],
@@ -59,26 +61,28 @@ fn records_before(
     let mut records = copy_of(alloc, &row.setting.stored)?;
     for said in &row.setting.console {
         if difference.is_none() {
-            *difference = say_at_console(alloc, said, &mut records)?;
+            *difference = say_at_console(runner, alloc, said, &mut records)?;
         }
     }
     Ok(records)
 }
 
 // What differs where the row is run in pieces of this length, and what the keeper then has.
-fn run_piece(
+fn run_piece<R: Runner>(
+    runner: &R,
     alloc: Global,
     row: &Row,
     records: &[(Name, Octets)],
     piece: usize,
 ) -> Result<(Difference, Records), NoMemory> {
-    let was = outcome_by(alloc, row, records, piece, UNBROKEN)?;
+    let was = outcome_by(runner, alloc, row, records, piece, UNBROKEN)?;
     let mut difference = compare(alloc, &usual(row, records), &was)?;
     say_where(&mut difference, piece, UNBROKEN)?;
     Ok((difference, was.records))
 }
 
-fn run_pieces(
+fn run_pieces<R: Runner>(
+    runner: &R,
     alloc: Global,
     row: &Row,
     records: &[(Name, Octets)],
@@ -88,7 +92,7 @@ fn run_pieces(
     let mut left = Vec::new(alloc);
     for piece in pieces {
         if difference.is_none() {
-            (difference, left) = run_piece(alloc, row, records, *piece)?;
+            (difference, left) = run_piece(runner, alloc, row, records, *piece)?;
         }
     }
     Ok((difference, left))
@@ -102,41 +106,56 @@ fn pieces_of(row: &Row) -> &[usize] {
 }
 
 // Runs the row, and then its sweeps, and keeps what its keeper has after it.
-fn try_run(alloc: Global, row: &Row, left: &mut Vec<Records>) -> Result<Swept, NoMemory> {
+fn try_run<R: Runner>(
+    runner: &R,
+    alloc: Global,
+    row: &Row,
+    left: &mut Vec<Records>,
+) -> Result<Swept, NoMemory> {
     let mut difference = Difference::none(alloc);
-    let records = records_before(alloc, row, left, &mut difference)?;
+    let records = records_before(runner, alloc, row, left, &mut difference)?;
     let mut swept = Swept {
         runs: 0,
         difference,
     };
     if swept.difference.is_none() {
-        let (difference, after) = run_pieces(alloc, row, &records, pieces_of(row))?;
+        let (difference, after) = run_pieces(runner, alloc, row, &records, pieces_of(row))?;
         left.push(after)?;
         swept.difference = difference;
     } else {
         left.push(Vec::new(alloc))?;
     }
     if swept.difference.is_none() {
-        return sweep(alloc, row, &records);
+        return sweep(runner, alloc, row, &records);
     }
     Ok(swept)
 }
 
-fn try_row(alloc: Global, row: &Row, left: &mut Vec<Records>) -> Result<Swept, NoMemory> {
+fn try_row<R: Runner>(
+    runner: &R,
+    alloc: Global,
+    row: &Row,
+    left: &mut Vec<Records>,
+) -> Result<Swept, NoMemory> {
     match &row.wanted.reading.command {
         Some(command) => {
             left.push(Vec::new(alloc))?;
             Ok(Swept {
                 runs: 0,
-                difference: misread(alloc, row, command)?,
+                difference: runner.misread(alloc, row, command)?,
             })
         }
-        None => try_run(alloc, row, left),
+        None => try_run(runner, alloc, row, left),
     }
 }
 
 /// Tries each of the rows, and tells of each.
-pub(crate) fn try_rows(
+///
+/// # Errors
+///
+/// `NoMemory` where memory was wanting.
+pub fn try_rows<R: Runner>(
+    runner: &R,
     alloc: Global,
     rows: &[Row],
     report: &mut Report,
@@ -144,7 +163,7 @@ pub(crate) fn try_rows(
 ) -> Result<(), NoMemory> {
     let mut left = Vec::new(alloc);
     for row in rows {
-        let swept = try_row(alloc, row, &mut left)?;
+        let swept = try_row(runner, alloc, row, &mut left)?;
         let what = swept.difference.text();
         report.tell(alloc, counts, row.name.bytes(), swept.runs, what)?;
     }

@@ -1,0 +1,29 @@
+//! Rows that `bastion` runs.
+
+use crate::commands;
+use crate::running::run_over;
+use crate::serving::serve_over;
+use fw_types::{NoMemory, Octets};
+use row_format::{Row, Setting};
+use row_runs::{Devices, Difference, Ended, Runner};
+use std::alloc::Global;
+
+/// Runs a row by `bastion`: by `run`, or by `conn` where the row limits the history.
+pub(crate) struct BastionRunner;
+
+impl Runner for BastionRunner {
+    fn run(&self, alloc: Global, setting: &Setting, devices: Devices) -> Ended {
+        match setting.limit {
+            Some(limit) => serve_over(alloc, &setting.words, limit, devices),
+            None => run_over(alloc, &setting.words, devices),
+        }
+    }
+
+    fn run_words(&self, alloc: Global, words: &[Octets], devices: Devices) -> Ended {
+        run_over(alloc, words, devices)
+    }
+
+    fn misread(&self, alloc: Global, row: &Row, command: &[u8]) -> Result<Difference, NoMemory> {
+        commands::misread(alloc, row, command)
+    }
+}
