@@ -1,5 +1,5 @@
-//! The top calls of the firewall's program, over devices that are handed in: whoever comes from outside gets no further
-//! than the first matching line of the permission table allows.
+//! The top calls of the firewall's program, over devices that are handed in: a permission table says what whoever comes
+//! from outside may do, and the first of its lines that matches decides.
 //!
 //! [`run`] is the call that the program makes: over the files with the table, standard input and output, the log, the
 //! clock, the dice and the keeper of the users' records. Its contract says, for every command line, every table and
