@@ -13,11 +13,11 @@ use Rattle.ftp_lines.proofs.PartLemmas.{ended_parts-lf, ended_parts-other}
 use Rattle.ftp_lines.proofs.ReplyLemmas.{answered, first_reply-empty, first_reply-lf, first_reply-other}
 
 -- the part that ends a reply
-record Found (last : Option (List ℕ)) : Type 0 where
-  part : List ℕ
-  is : last ≡ Some part
+pub record Found (last : Option (List ℕ)) : Type 0 where
+  pub part : List ℕ
+  pub is : last ≡ Some part
 
-found_in : (before : List (List ℕ)) (last : Option (List ℕ)) (reply : ℕ × ℕ) → measured before last ≡ Some reply → Found last
+pub found_in : (before : List (List ℕ)) (last : Option (List ℕ)) (reply : ℕ × ℕ) → measured before last ≡ Some reply → Found last
 found_in before None reply h = absurd (cc)
 found_in before (Some part) reply h = record { part = part; is = refl }
 

@@ -13,7 +13,7 @@ use Rattle.ftp_lines.specs.declared.opening.Opening.{Opening}
 use Rattle.ftp_lines.specs.declared.opening.Opening.TheVariants.{Unheard, Plain, Coded}
 use Rattle.ftp_lines.proofs.PartLemmas.{ended_parts-lf, ended_parts-other, size_is, unended_part-lf, unended_part-other}
 
-measured_none : (before : List (List ℕ)) (last : Option (List ℕ)) → measured before last ≡ None → last ≡ None
+pub measured_none : (before : List (List ℕ)) (last : Option (List ℕ)) → measured before last ≡ None → last ≡ None
 measured_none before None h = refl
 measured_none before (Some last) h = absurd (cc)
 
@@ -42,7 +42,7 @@ reply_next : (ends : List ℕ → Bool) (parts : List (List ℕ)) (part : List �
 reply_next ends parts part none = reply_by ends parts part (ends part) refl (measured_none (take_while (λ p. not (ends p)) parts) (find ends parts) none)
 
 -- a line that closes a reply opens none
-both : (a b : Bool) → (a && b) ≡ true → (a ≡ true) × (b ≡ true)
+pub both : (a b : Bool) → (a && b) ≡ true → (a ≡ true) × (b ≡ true)
 both true b h = (refl, h)
 both false b h = absurd (cc)
 
@@ -63,7 +63,7 @@ self_by line true is =
     rw (p.0, none) refl
 
 -- the first line is the last one where it closes the reply
-ends_itself : (line : List ℕ) → ends_reply (opening_code line) line ≡ is_closing line
+pub ends_itself : (line : List ℕ) → ends_reply (opening_code line) line ≡ is_closing line
 ends_itself line = self_by line (has_code line && (slice_index line 3 == 45)) refl
 
 awaited_by : (code : Option ℕ) → awaited (opening_by code) ≡ code

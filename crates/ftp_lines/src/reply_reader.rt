@@ -2,12 +2,12 @@
 ghost use Rattle.std.specs.Prelude.{◌≡◌, false, ◌==◌, ◌+◌, [], ◌∷◌, ◌++◌, length, Some, None, if◌then◌else◌};
 ghost use Rattle.std.specs.Option.{option_copied};
 ghost use Rattle.ftp_lines.specs.ReplyReaderView.{IsReplyStep, fed_after, short, step_of};
-ghost use Rattle.ftp_lines.specs.Reply.{first_reply, without_end, unended_part};
+ghost use Rattle.ftp_lines.specs.Reply.{first_code, first_reply, without_end, unended_part};
 ghost use Rattle.ftp_lines.specs.declared.reply_step.ReplyStep.TheVariants.{More};
 
 use crate::ReplyStep;
 use crate::fed::{Fed, and, nothing};
-use crate::opening::{Opening, behind, closing_code};
+use crate::opening::{Opening, behind, closing_code, first_code};
 use crate::reply_line::ReplyLine;
 use std::marker::Model;
 use std::mem;
@@ -103,5 +103,14 @@ impl ReplyReader {
         ensures { option_copied result ≡ self.now.heard }
     {
         self.line.heard()
+    }
+
+    /// The code that the first line of the reply tells: three digits, and then a hyphen, a space or the line's end. It is
+    /// known as soon as these bytes were fed, however long the line is, and it is the code that `Last` has. `None` before,
+    /// and where the line begins otherwise. After `Last` the next reply begins.
+    pub fn first_code(&self) -> Option<u16>
+        ensures { result ≡ first_code self.now.fed }
+    {
+        first_code(self.opening, self.line.begun())
     }
 }
