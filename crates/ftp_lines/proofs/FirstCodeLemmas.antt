@@ -1,6 +1,6 @@
 -- The code that the first line of a text tells (RFC 959, 4.2).
-use Rattle.std.proofs.Common.{◌≡◌, ℕ, ◌+◌, Bool, true, false, cond, All, List, [], ◌∷◌, ◌++◌, length, take, refl, sym, ap, ◌∙◌, arith, append_assoc, append-nil, IsTrue}
-use Rattle.std.specs.Prelude.{◌==◌, ◌&&◌, nat_le, not, slice_index, Option, Some, None}
+use Rattle.std.proofs.Common.{◌≡◌, ℕ, Bool, true, false, cond, All, List, [], ◌∷◌, ◌++◌, length, take, refl, sym, ap, ◌∙◌, arith, append_assoc, append-nil, IsTrue}
+use Rattle.std.specs.Prelude.{◌==◌, nat_le, not, slice_index, Option, Some, None}
 use Rattle.std.specs.List.{find, list_all, slice_split, take_while}
 use Rattle.std.proofs.lemmas.Bool.{eqb-true, le-leb}
 use Rattle.std.proofs.lemmas.List.Splits.{slice_split_at}

@@ -1,17 +1,14 @@
 -- The first reply of a text, as the text grows byte by byte (RFC 959, 4.2).
-use Rattle.std.proofs.Common.{◌≡◌, ℕ, ◌+◌, ◌<◌, ◌≤◌, Bool, true, false, ◌&&◌, cond, List, [], ◌∷◌, ◌++◌, length, take, drop, refl, sym, ap, ◌∙◌, arith, length-append, append_assoc}
-use Rattle.std.specs.Prelude.{◌==◌, ◌||◌, nat_le, not, slice_index, Option, Some, None}
-use Rattle.std.specs.List.{find, list_all, sum_by, take_while}
-use Rattle.std.specs.Char.{is_ascii_digit}
+use Rattle.std.proofs.Common.{◌≡◌, ℕ, ◌+◌, Bool, true, false, ◌&&◌, cond, List, [], ◌∷◌, ◌++◌, length, refl, sym, ap, ◌∙◌, arith}
+use Rattle.std.specs.Prelude.{◌==◌, ◌||◌, not, slice_index, Option, Some, None}
+use Rattle.std.specs.List.{find, take_while}
 use Rattle.std.proofs.lemmas.Bool.{eqb-true, ne_eqb}
 use Rattle.std.proofs.lemmas.List.Folds.{find-append}
 use Rattle.std.proofs.lemmas.List.Sums.{sum_by-append, sum_by-cons, take_while-cons}
 use Rattle.fw_outside.specs.Lines.{is_lf}
 use Rattle.ftp_lines.specs.Opening.{awaited, closing_code, opening_behind, opening_by, opening_of}
-use Rattle.ftp_lines.specs.Reply.{code_of, ended_parts, ends_reply, first_reply, has_code, is_closing, without_end, measured, opened, opening_code, reply_in, first_of_lines, size, unended_part}
-use Rattle.ftp_lines.specs.declared.opening.Opening.{Opening}
-use Rattle.ftp_lines.specs.declared.opening.Opening.TheVariants.{Unheard, Plain, Coded}
-use Rattle.ftp_lines.proofs.PartLemmas.{ended_parts-lf, ended_parts-other, size_is, unended_part-lf, unended_part-other}
+use Rattle.ftp_lines.specs.Reply.{code_of, ended_parts, ends_reply, first_reply, has_code, is_closing, without_end, measured, opening_code, reply_in, first_of_lines, size, unended_part}
+use Rattle.ftp_lines.proofs.PartLemmas.{ended_parts-lf, ended_parts-other, size_is}
 
 pub measured_none : (before : List (List ℕ)) (last : Option (List ℕ)) → measured before last ≡ None → last ≡ None
 measured_none before None h = refl

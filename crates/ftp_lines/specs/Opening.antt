@@ -1,5 +1,5 @@
 -- What a reader of replies knows of the lines that have ended since the reply began.
-use Rattle.std.specs.Prelude.{◌≡◌, ℕ, List, [], ◌∷◌, Option, Some, None, if◌then◌else◌}
+use Rattle.std.specs.Prelude.{ℕ, List, [], ◌∷◌, Option, Some, None, if◌then◌else◌}
 use Rattle.ftp_lines.specs.declared.opening.Opening.{Opening}
 use Rattle.ftp_lines.specs.declared.opening.Opening.TheVariants.{Unheard, Plain, Coded}
 use Rattle.ftp_lines.specs.Reply.{code_of, ends_reply, front_code, without_end, opening_code}

@@ -105,9 +105,9 @@ impl ReplyReader {
         self.line.heard()
     }
 
-    /// The code that the first line of the reply tells: three digits, and then a hyphen, a space or the line's end. It is
-    /// known as soon as these bytes were fed, however long the line is, and it is the code that `Last` has. `None` before,
-    /// and where the line begins otherwise. After `Last` the next reply begins.
+    /// The code that the first line of the reply tells by three digits and then a hyphen or a space: known from its fourth
+    /// byte on, however long the line is, and the code that `Last` will have. `None` before, and where the line begins
+    /// otherwise. Three digits alone are a whole reply, whose code `Last` has; behind each `Last` the next reply begins.
     pub fn first_code(&self) -> Option<u16>
         ensures { result ≡ first_code self.now.fed }
     {

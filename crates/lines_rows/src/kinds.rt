@@ -4,7 +4,7 @@ use crate::every::tell_every;
 use crate::ftp::{tell_command, tell_find_six, tell_read_six, tell_write_six};
 use crate::heard::tell_telnet;
 use crate::mail::{tell_body, tell_mail, tell_path};
-use crate::replies::tell_replies;
+use crate::replies::{tell_first_code, tell_replies};
 use fw_types::NoMemory;
 use row_lines::{Rows, Told, add};
 use std::alloc::Global;
@@ -18,6 +18,7 @@ pub(crate) fn tell_text(kind: &str, asked: &[u8], out: &mut Told) {
     match kind {
         "command" => tell_command(asked, out),
         "replies" => tell_replies(asked, out),
+        "first-code" => tell_first_code(asked, out),
         "read-six" => tell_read_six(asked, out),
         "find-six" => tell_find_six(asked, out),
         "telnet" => tell_telnet(asked, out),

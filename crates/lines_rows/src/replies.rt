@@ -52,3 +52,44 @@ impl Feeding for Replies {
 pub(crate) fn tell_replies(asked: &[u8], out: &mut Told) {
     tell_fed::<Replies>(asked, out);
 }
+
+/// The reader of replies, how many bytes it was fed, and the code that the first line told by then.
+#[derive(Drop)]
+struct Codes {
+    reader: ReplyReader,
+    count: u64,
+    code: Option<u16>,
+}
+
+impl Feeding for Codes {
+    fn begin() -> Codes {
+        Codes {
+            reader: ReplyReader::new(),
+            count: 0,
+            code: None,
+        }
+    }
+
+    fn feed(&mut self, byte: u8, out: &mut Told) {
+        let _ = self.reader.feed(byte);
+        self.count = self.count.saturating_add(1);
+        let code = self.reader.first_code();
+        if code == self.code {
+            return;
+        }
+        self.code = code;
+        add_number(out, self.count);
+        match code {
+            Some(number) => add_number(out, u64::from(number)),
+            None => add_word(out, b"-"),
+        }
+    }
+
+    fn look(&self, _out: &mut Told) {}
+}
+
+/// `first-code TEXT => COUNT CODE ..`: how many bytes were fed when the code that the first line tells changed, and to what;
+/// `-` is none.
+pub(crate) fn tell_first_code(asked: &[u8], out: &mut Told) {
+    tell_fed::<Codes>(asked, out);
+}
