@@ -25,8 +25,8 @@ pub fn replies()
     ensures first { (text : List ℕ) (count code : ℕ) → first_reply text ≡ Some (count, code) → IsFirst text count code }
 {}
 
-/// The code that a text's first line tells stays whatever follows, and a reply that begins so has it. Behind its LF that
-/// line tells what it tells as a whole, without its end.
+/// The code that a text's first line tells stays whatever follows, and a reply that begins so has it. Behind its LF
+/// that line tells what it tells as a whole, without its end.
 pub fn first_codes()
     ensures stays { (text more : List ℕ) (code : ℕ) → first_code text ≡ Some code → first_code (text ++ more) ≡ Some code }
     ensures reply { (text more : List ℕ) (code count last : ℕ) → first_code text ≡ Some code
@@ -35,8 +35,8 @@ pub fn first_codes()
         first_code (line ++ 10 ∷ rest) ≡ told_code (without_end line) }
 {}
 
-/// A command that is written as its verb, a space and its argument is read back. What is read of a line, written so, is
-/// read as the same.
+/// A command that is written as its verb, a space and its argument is read back. What is read of a line, written so,
+/// is read as the same.
 pub fn commands()
     ensures written { (verb arg : List ℕ) → verb_of verb ≡ Some verb → IsTrue (is_command_text (verb ++ 32 ∷ arg)) →
         ftp_command_of (verb ++ 32 ∷ arg) ≡ Some (verb, arg) }

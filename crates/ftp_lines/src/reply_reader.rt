@@ -13,8 +13,9 @@ use std::marker::Model;
 use std::mem;
 use std::snapshot::Snapshot;
 
-/// A reader of a server's replies. It keeps at most 514 bytes of a line, and passes over lines of any length.
-/// Contracts know it as the bytes that it was fed since the reply began, and the line that the last byte ended.
+/// A reader of a server's replies. It keeps at most 514 bytes of a line, and passes over lines of any length. It gives
+/// no byte back: who feeds a byte has it, to pass it on or not. Contracts know the reader as the bytes that it was fed
+/// since the reply began, and the line that the last byte ended.
 #[derive(Drop)]
 pub struct ReplyReader {
     fed: Snapshot<Fed>,
@@ -97,17 +98,18 @@ impl ReplyReader {
         }
     }
 
-    /// The line that the last byte ended, without its end. `None` where it was longer than 512 bytes, or where the last
-    /// byte ended no line.
+    /// The line that the last byte ended, without its end. `None` where it was longer than 512 bytes, or where the
+    /// last byte ended no line.
     pub fn line(&self) -> Option<&[u8]>
         ensures { option_copied result ≡ self.now.heard }
     {
         self.line.heard()
     }
 
-    /// The code that the first line of the reply tells by three digits and then a hyphen or a space: known from its fourth
-    /// byte on, however long the line is, and the code that `Last` will have. `None` before, and where the line begins
-    /// otherwise. Three digits alone are a whole reply, whose code `Last` has; behind each `Last` the next reply begins.
+    /// The code that the first line of the reply tells by three digits and then a hyphen or a space: known from its
+    /// fourth byte on, however long the line is, and the code that `Last` will have. `None` before, and where the line
+    /// begins otherwise. Three digits alone are a whole reply, whose code `Last` has; behind each `Last` the next
+    /// reply begins.
     pub fn first_code(&self) -> Option<u16>
         ensures { result ≡ first_code self.now.fed }
     {

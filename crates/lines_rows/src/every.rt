@@ -21,8 +21,8 @@ fn begin_range(out: &mut Told, byte: u8) {
     add_word(out, b"to");
 }
 
-/// `every AT TOLD;KIND TEXT => FIRST to LAST ..`: the bytes of which each, at this place of the text, has a row of this kind
-/// told something that ends so. The text has at most 64 bytes.
+/// `every AT TOLD;KIND TEXT => FIRST to LAST ..`: the bytes of which each, at this place of the text, has a row of
+/// this kind told something that ends so. The text has at most 64 bytes.
 pub(crate) fn tell_every(asked: &[u8], out: &mut Told) {
     let (at, rest) = cut_word(asked);
     let (wanted, rest) = cut(rest, b';');

@@ -28,7 +28,8 @@ fn tell_pieces<R: Feeding + Drop>(text: &[u8], most: usize) -> Told {
     out
 }
 
-/// What is told of the text as a whole, and also what is told of it byte by byte, and in pieces of 7, where that differs.
+/// What is told of the text as a whole, and also what is told of it byte by byte, and in pieces of 7, where that
+/// differs.
 pub(crate) fn tell_fed<R: Feeding + Drop>(text: &[u8], out: &mut Told) {
     let whole = tell_pieces::<R>(text, text.len());
     add(out, whole.as_slice());

@@ -88,8 +88,8 @@ impl Feeding for Codes {
     fn look(&self, _out: &mut Told) {}
 }
 
-/// `first-code TEXT => COUNT CODE ..`: how many bytes were fed when the code that the first line tells changed, and to what;
-/// `-` is none.
+/// `first-code TEXT => COUNT CODE ..`: how many bytes were fed when the code that the first line tells changed, and to
+/// what; `-` is none.
 pub(crate) fn tell_first_code(asked: &[u8], out: &mut Told) {
     tell_fed::<Codes>(asked, out);
 }
