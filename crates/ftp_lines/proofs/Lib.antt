@@ -3,6 +3,8 @@ mod LineLemmas
 mod PartLemmas
 pub mod ReplyLemmas
 mod CommandLemmas
+mod Examples
+mod FeedingLemmas
 mod FirstCodeLemmas
 mod SixLemmas
 mod ReaderStateLemmas

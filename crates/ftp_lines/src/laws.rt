@@ -1,5 +1,7 @@
 //! What holds of all texts.
-ghost use Rattle.std.specs.Prelude.{◌≡◌, ◌==◌, ◌++◌, ℕ, List, ◌∷◌, Some, true, not, IsTrue};
+ghost use Rattle.std.specs.Prelude.{◌≡◌, ◌==◌, ◌++◌, ℕ, List, [], ◌∷◌, Some, None, true, not, IsTrue, map};
+ghost use Rattle.ftp_lines.specs.Feeding.{AllFed, ReplyFed, ended_replies};
+ghost use Rattle.ftp_lines.specs.Replies.{replies_of};
 ghost use Rattle.ftp_lines.specs.Reply.{IsFirst, first_code, first_reply, told_code, without_end};
 ghost use Rattle.std.specs.List.{list_all};
 ghost use Rattle.fw_types.specs.Verb.{verb_of};
@@ -23,6 +25,13 @@ pub fn replies()
     ensures stays { (text more : List ℕ) (count code : ℕ) → first_reply text ≡ Some (count, code)
         → first_reply (text ++ more) ≡ Some (count, code) }
     ensures first { (text : List ℕ) (count code : ℕ) → first_reply text ≡ Some (count, code) → IsFirst text count code }
+{}
+
+/// Steps over a whole text, from a new reader on, end the replies of the text, each of the bytes that were fed since
+/// the one before it.
+pub fn whole_texts()
+    ensures { (steps : List ReplyFed) → AllFed record { fed = []; heard = None } steps → ended_replies [] steps
+        ≡ replies_of (map (λ step. step.byte) steps) }
 {}
 
 /// The code that a text's first line tells stays whatever follows, and a reply that begins so has it. Behind its LF

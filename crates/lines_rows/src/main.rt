@@ -19,6 +19,7 @@ use std::process::ExitCode;
 fn call_laws() {
     ftp_lines::laws::six();
     ftp_lines::laws::replies();
+    ftp_lines::laws::whole_texts();
     ftp_lines::laws::first_codes();
     ftp_lines::laws::commands();
     telnet::laws::items();
