@@ -1,6 +1,6 @@
 -- The first reply of a text is that of its first bytes, whatever follows them (RFC 959, 4.2).
-use Rattle.std.proofs.Common.{◌≡◌, ℕ, suc, ◌+◌, ◌<◌, ◌≤◌, Bool, true, false, cond, List, [], ◌∷◌, ◌++◌, length, take, drop, refl, sym, ap, ◌∙◌, ◌⊎◌, inl, inr, subst, arith, append_assoc, append-nil, length-append}
-use Rattle.std.specs.Prelude.{◌==◌, not, Option, Some, None}
+use Rattle.std.proofs.Common.{◌≡◌, ℕ, ◌+◌, ◌<◌, ◌≤◌, Bool, true, false, cond, List, [], ◌∷◌, ◌++◌, length, take, drop, refl, sym, ap, ◌∙◌, subst, arith, append_assoc, append-nil, length-append}
+use Rattle.std.specs.Prelude.{not, Option, Some, None}
 use Rattle.std.specs.List.{find, take_while}
 use Rattle.std.proofs.lemmas.Bool.{eqb-true}
 use Rattle.std.proofs.lemmas.List.{length-take, take-append-drop, take_at}
@@ -8,16 +8,16 @@ use Rattle.std.proofs.lemmas.List.Folds.{find-append}
 use Rattle.std.proofs.lemmas.List.Sums.{take_while-cons}
 use Rattle.fw_outside.specs.Lines.{is_lf}
 use Rattle.ftp_lines.specs.Opening.{awaited, closing_code, opening_of}
-use Rattle.ftp_lines.specs.Reply.{IsFirst, code_of, ended_parts, ends_reply, first_reply, without_end, measured, opened, opening_code, reply_in, first_of_lines, size, unended_part}
+use Rattle.ftp_lines.specs.Reply.{IsFirst, ended_parts, ends_reply, first_reply, without_end, measured, opening_code, reply_in, first_of_lines, unended_part}
 use Rattle.ftp_lines.proofs.PartLemmas.{ended_parts-lf, ended_parts-other}
 use Rattle.ftp_lines.proofs.ReplyLemmas.{answered, first_reply-empty, first_reply-lf, first_reply-other}
 
 -- the part that ends a reply
-record Found (last : Option (List ℕ)) : Type 0 where
-  part : List ℕ
-  is : last ≡ Some part
+pub record Found (last : Option (List ℕ)) : Type 0 where
+  pub part : List ℕ
+  pub is : last ≡ Some part
 
-found_in : (before : List (List ℕ)) (last : Option (List ℕ)) (reply : ℕ × ℕ) → measured before last ≡ Some reply → Found last
+pub found_in : (before : List (List ℕ)) (last : Option (List ℕ)) (reply : ℕ × ℕ) → measured before last ≡ Some reply → Found last
 found_in before None reply h = absurd (cc)
 found_in before (Some part) reply h = record { part = part; is = refl }
 

@@ -2,5 +2,9 @@ mod FirstLemmas
 mod LineLemmas
 mod PartLemmas
 pub mod ReplyLemmas
+mod CommandLemmas
+mod Examples
+mod FeedingLemmas
+mod FirstCodeLemmas
 mod SixLemmas
 mod ReaderStateLemmas

@@ -1,20 +1,18 @@
 -- What is kept of a line tells its code, and whether it is too long.
-use Rattle.std.proofs.Common.{◌≡◌, ℕ, ◌+◌, ◌-◌, ◌<◌, ◌≤◌, Bool, true, false, ◌&&◌, cond, List, [], ◌∷◌, ◌++◌, length, take, refl, sym, ap, ◌∙◌, ◌⊎◌, inl, inr, subst, arith, length-append}
-use Rattle.std.specs.Prelude.{◌==◌, nat_le, slice_index, Option, Some, None}
+use Rattle.std.proofs.Common.{◌≡◌, ℕ, ◌+◌, ◌-◌, ◌<◌, ◌≤◌, Bool, true, false, cond, List, [], ◌∷◌, ◌++◌, length, take, refl, sym, ap, ◌∙◌, ◌⊎◌, inl, inr, subst, arith, length-append}
+use Rattle.std.specs.Prelude.{◌==◌, nat_le, slice_index, None}
 use Rattle.std.proofs.lemmas.Bool.{cases_lt, le-leb, lt-leb, ne_eqb}
 use Rattle.std.proofs.lemmas.List.{take_all, take-take, take-append-le, length-take-le}
 use Rattle.ftp_lines.specs.ReplyLineView.{ReplyLineView, most_kept}
-use Rattle.ftp_lines.specs.Opening.{closing_code, opening_behind}
 use Rattle.ftp_lines.specs.ReplyReaderView.{short}
-use Rattle.ftp_lines.specs.Reply.{code_of, ends_reply, has_code, is_closing, without_end, opening_code}
-use Rattle.ftp_lines.specs.declared.opening.Opening.{Opening}
+use Rattle.ftp_lines.specs.Reply.{code_of, has_code, is_closing, without_end, opening_code}
 
 front_cond : (cr : Bool) (text : List ℕ) → 4 < length text → take 4 (cond cr (take (length text - 1) text) text) ≡ take 4 text
 front_cond true text long = take-take 4 (length text - 1) text (omega arith)
 front_cond false text long = refl
 
 -- the first bytes of a long part are those of its line
-front_line : (text : List ℕ) → 4 < length text → take 4 (without_end text) ≡ take 4 text
+pub front_line : (text : List ℕ) → 4 < length text → take 4 (without_end text) ≡ take 4 text
 front_line text long = front_cond (slice_index text (length text - 1) == 13) text long
 
 length_cond : (cr : Bool) (text : List ℕ) → length text ≤ length (cond cr (take (length text - 1) text) text) + 1
@@ -66,7 +64,7 @@ pub record SameCode (line other : List ℕ) : Type 0 where
   pub code : code_of line ≡ code_of other
   pub opens : opening_code line ≡ opening_code other
 
-same_front : (line other : List ℕ) → take 4 line ≡ take 4 other → SameCode line other
+pub same_front : (line other : List ℕ) → take 4 line ≡ take 4 other → SameCode line other
 same_front line other same = record {
   closing = sym (closing_front line) ∙ ap is_closing same ∙ closing_front other;
   code = sym (code_front line) ∙ ap code_of same ∙ code_front other;

@@ -1,12 +1,12 @@
 -- A reader of replies stands where the bytes that it was fed since the reply began lead it.
-use Rattle.std.proofs.Common.{◌≡◌, ℕ, ◌+◌, Bool, true, false, cond, List, [], ◌∷◌, ◌++◌, length, take, refl, sym, ap, ◌∙◌, subst}
+use Rattle.std.proofs.Common.{◌≡◌, ℕ, ◌+◌, true, false, List, [], ◌∷◌, ◌++◌, length, take, refl, sym, ap, ◌∙◌, subst}
 use Rattle.std.specs.Prelude.{Option, Some, None}
 use Rattle.fw_outside.specs.Lines.{is_lf}
 use Rattle.fw_outside.proofs.LineLemmas.{take_twice}
 use Rattle.ftp_lines.specs.ReplyLineView.{ReplyLineView, going, heard_of, most_kept}
 use Rattle.ftp_lines.specs.Opening.{awaited, closing_code, opening_behind, opening_by, opening_of}
 use Rattle.ftp_lines.specs.ReplyReaderView.{short}
-use Rattle.ftp_lines.specs.Reply.{code_of, ended_parts, ends_reply, first_reply, is_closing, without_end, opening_code, unended_part}
+use Rattle.ftp_lines.specs.Reply.{ended_parts, first_reply, without_end, unended_part}
 use Rattle.ftp_lines.specs.ReaderState.{IsReaderState}
 use Rattle.ftp_lines.specs.declared.opening.Opening.{Opening}
 use Rattle.ftp_lines.specs.declared.opening.Opening.TheVariants.{Unheard, Plain, Coded}

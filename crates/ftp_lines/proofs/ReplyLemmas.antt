@@ -1,19 +1,16 @@
 -- The first reply of a text, as the text grows byte by byte (RFC 959, 4.2).
-use Rattle.std.proofs.Common.{◌≡◌, ℕ, ◌+◌, ◌<◌, ◌≤◌, Bool, true, false, ◌&&◌, cond, List, [], ◌∷◌, ◌++◌, length, take, drop, refl, sym, ap, ◌∙◌, arith, length-append, append_assoc}
-use Rattle.std.specs.Prelude.{◌==◌, ◌||◌, nat_le, not, slice_index, Option, Some, None}
-use Rattle.std.specs.List.{find, list_all, sum_by, take_while}
-use Rattle.std.specs.Char.{is_ascii_digit}
+use Rattle.std.proofs.Common.{◌≡◌, ℕ, ◌+◌, Bool, true, false, ◌&&◌, cond, List, [], ◌∷◌, ◌++◌, length, refl, sym, ap, ◌∙◌, arith}
+use Rattle.std.specs.Prelude.{◌==◌, ◌||◌, not, slice_index, Option, Some, None}
+use Rattle.std.specs.List.{find, take_while}
 use Rattle.std.proofs.lemmas.Bool.{eqb-true, ne_eqb}
 use Rattle.std.proofs.lemmas.List.Folds.{find-append}
 use Rattle.std.proofs.lemmas.List.Sums.{sum_by-append, sum_by-cons, take_while-cons}
 use Rattle.fw_outside.specs.Lines.{is_lf}
 use Rattle.ftp_lines.specs.Opening.{awaited, closing_code, opening_behind, opening_by, opening_of}
-use Rattle.ftp_lines.specs.Reply.{code_of, ended_parts, ends_reply, first_reply, has_code, is_closing, without_end, measured, opened, opening_code, reply_in, first_of_lines, size, unended_part}
-use Rattle.ftp_lines.specs.declared.opening.Opening.{Opening}
-use Rattle.ftp_lines.specs.declared.opening.Opening.TheVariants.{Unheard, Plain, Coded}
-use Rattle.ftp_lines.proofs.PartLemmas.{ended_parts-lf, ended_parts-other, size_is, unended_part-lf, unended_part-other}
+use Rattle.ftp_lines.specs.Reply.{code_of, ended_parts, ends_reply, first_reply, has_code, is_closing, without_end, measured, opening_code, reply_in, first_of_lines, size, unended_part}
+use Rattle.ftp_lines.proofs.PartLemmas.{ended_parts-lf, ended_parts-other, size_is}
 
-measured_none : (before : List (List ℕ)) (last : Option (List ℕ)) → measured before last ≡ None → last ≡ None
+pub measured_none : (before : List (List ℕ)) (last : Option (List ℕ)) → measured before last ≡ None → last ≡ None
 measured_none before None h = refl
 measured_none before (Some last) h = absurd (cc)
 
@@ -42,7 +39,7 @@ reply_next : (ends : List ℕ → Bool) (parts : List (List ℕ)) (part : List �
 reply_next ends parts part none = reply_by ends parts part (ends part) refl (measured_none (take_while (λ p. not (ends p)) parts) (find ends parts) none)
 
 -- a line that closes a reply opens none
-both : (a b : Bool) → (a && b) ≡ true → (a ≡ true) × (b ≡ true)
+pub both : (a b : Bool) → (a && b) ≡ true → (a ≡ true) × (b ≡ true)
 both true b h = (refl, h)
 both false b h = absurd (cc)
 
@@ -63,7 +60,7 @@ self_by line true is =
     rw (p.0, none) refl
 
 -- the first line is the last one where it closes the reply
-ends_itself : (line : List ℕ) → ends_reply (opening_code line) line ≡ is_closing line
+pub ends_itself : (line : List ℕ) → ends_reply (opening_code line) line ≡ is_closing line
 ends_itself line = self_by line (has_code line && (slice_index line 3 == 45)) refl
 
 awaited_by : (code : Option ℕ) → awaited (opening_by code) ≡ code

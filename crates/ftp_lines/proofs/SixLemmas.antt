@@ -1,10 +1,9 @@
 -- Six numbers in a text: how they are read, found and written (RFC 959, 4.1.2).
-use Rattle.std.proofs.Common.{◌≡◌, ℕ, zero, suc, ◌+◌, ◌*◌, ◌/◌, ◌%◌, ◌-◌, ◌<◌, ◌≤◌, ◌^◌, Bool, true, false, ◌&&◌, cond, List, [], ◌∷◌, ◌++◌, length, take, drop, get_or, refl, sym, ap, ◌∙◌, arith, lit<, append_assoc, append-nil}
-use Rattle.std.specs.Prelude.{All, ◌==◌, nat_le, nat_lt, not, slice_index, Option, Some, None}
+use Rattle.std.proofs.Common.{◌≡◌, ℕ, zero, suc, ◌+◌, ◌*◌, ◌/◌, ◌%◌, ◌<◌, ◌^◌, Bool, true, false, ◌&&◌, cond, List, [], ◌∷◌, ◌++◌, length, take, drop, get_or, refl, sym, ap, ◌∙◌, arith, lit<, append_assoc, append-nil}
+use Rattle.std.specs.Prelude.{All, nat_le, nat_lt, not, slice_index, Option, Some, None}
 use Rattle.std.specs.Char.{is_ascii_digit}
 use Rattle.std.specs.Fmt.{decimal}
-use Rattle.std.specs.List.{list_all, onto_first, slice_split, take_while}
-use Rattle.std.specs.Str.Parse.{digits_value}
+use Rattle.std.specs.List.{list_all, onto_first, slice_split}
 use Rattle.std.proofs.lemmas.Bool.{and_right, false_from_ne_true, le-leb, lt-ltb, not-true}
 use Rattle.std.proofs.lemmas.Bool.Decides.{nat_tests}
 use Rattle.std.proofs.lemmas.Fmt.{decimal_by_steps, decimal_is_IsNumeral, decimal_nonempty, length-decimal-le}
@@ -13,10 +12,10 @@ use Rattle.std.proofs.lemmas.List.Elements.{All-cons, All-from_get_or, All-get_o
 use Rattle.std.proofs.lemmas.List.Folds.{list_all-append}
 use Rattle.std.proofs.lemmas.List.Splits.{slice_split_at, slice_split_first, slice_split_none}
 use Rattle.std.proofs.lemmas.List.Sums.{position_or_len_is, take_while-cons}
-use Rattle.fw_types.specs.Number.{in_range, is_number, number_of}
+use Rattle.fw_types.specs.Number.{is_number}
 use Rattle.ftp_lines.specs.Parts.{IsFirstPart}
-use Rattle.ftp_lines.specs.Six.{AreSix, IsBeyond, IsPassed, find_of, is_comma, is_quiet, octet_in, or_else, run_of, six_at, six_first_parts, six_octets, six_of, six_parts, six_text}
-use Rattle.ftp_lines.proofs.PartLemmas.{Parts, split_parts}
+use Rattle.ftp_lines.specs.Six.{AreSix, IsBeyond, IsPassed, find_of, is_comma, is_quiet, octet_in, run_of, six_at, six_first_parts, six_octets, six_of, six_parts, six_text}
+use Rattle.ftp_lines.proofs.PartLemmas.{split_parts}
 
 -- reading
 

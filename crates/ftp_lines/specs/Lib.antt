@@ -7,3 +7,5 @@ pub mod Opening
 pub mod ReplyLineView
 pub mod ReaderState
 pub mod Parts
+pub mod Replies
+pub mod Feeding

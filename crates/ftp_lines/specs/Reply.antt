@@ -47,6 +47,23 @@ abbrev pub opened : List (List ℕ) → Option ℕ
 opened [] = None
 opened (first ∷ more) = opening_code (without_end first)
 
+-- the code that a line tells: three digits, and then a space, its end or a hyphen
+abbrev pub told_code : List ℕ → Option ℕ
+told_code line = if is_closing line then Some (code_of line) else opening_code line
+
+-- the code that the first bytes of a line tell, however it goes on: three digits, and then a space or a hyphen
+abbrev pub front_code : List ℕ → Option ℕ
+front_code front = if nat_le 4 (length front) then told_code front else None
+
+-- the code that the first of these lines tells; without one, that of the bytes that no LF has ended yet
+abbrev pub first_code_in : List (List ℕ) → List ℕ → Option ℕ
+first_code_in [] front = front_code front
+first_code_in (first ∷ more) front = told_code (without_end first)
+
+-- the code that the first line of a text tells, as soon as its bytes tell one
+unfoldable pub first_code : List ℕ → Option ℕ
+first_code text = first_code_in (ended_parts text) (unended_part text)
+
 -- whether a line ends a reply whose first line is so
 abbrev pub ends_reply : Option ℕ → List ℕ → Bool
 ends_reply None line = is_closing line

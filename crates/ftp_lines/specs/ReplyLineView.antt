@@ -1,5 +1,5 @@
 -- How a reader of replies keeps a line: enough of it to tell its code, and whether it is too long.
-use Rattle.std.specs.Prelude.{ℕ, Bool, true, false, List, [], ◌∷◌, ◌++◌, take, Option, None}
+use Rattle.std.specs.Prelude.{ℕ, Bool, true, false, List, [], Option, None}
 use Rattle.ftp_lines.specs.ReplyReaderView.{short}
 use Rattle.ftp_lines.specs.Reply.{without_end}
 

@@ -1,5 +1,5 @@
 -- A reader of replies (RFC 959, 4.2), which is fed byte by byte.
-use Rattle.std.specs.Prelude.{◌≡◌, ℕ, ◌==◌, nat_le, List, [], length, Option, Some, None, if◌then◌else◌}
+use Rattle.std.specs.Prelude.{◌≡◌, ℕ, nat_le, List, [], length, Option, Some, None, if◌then◌else◌}
 use Rattle.ftp_lines.specs.declared.reply_step.ReplyStep.{ReplyStep}
 use Rattle.ftp_lines.specs.declared.reply_step.ReplyStep.TheVariants.{More, Line, Last}
 

@@ -1,8 +1,8 @@
 //! The codes of a reply's lines (RFC 959, 4.2).
-ghost use Rattle.std.specs.Prelude.{◌≡◌, IsTrue, if◌then◌else◌};
+ghost use Rattle.std.specs.Prelude.{◌≡◌, IsTrue};
 ghost use Rattle.std.specs.Char.{is_ascii_digit};
 ghost use Rattle.std.specs.List.{list_all};
-ghost use Rattle.ftp_lines.specs.Reply.{code_of, has_code, is_closing, opening_code};
+ghost use Rattle.ftp_lines.specs.Reply.{code_of, front_code, has_code, is_closing, opening_code, told_code};
 
 use fw_types::read_number;
 
@@ -45,4 +45,24 @@ pub(crate) fn opening_code(line: &[u8]) -> Option<u16>
         return Some(code_of(line));
     }
     None
+}
+
+// The code of a line of three digits and then a space, its end or a hyphen.
+fn told_code(line: &[u8]) -> Option<u16>
+    ensures { result ≡ told_code line.now }
+{
+    if is_closing(line) {
+        return Some(code_of(line));
+    }
+    opening_code(line)
+}
+
+/// The code that the first bytes of a line tell, however it goes on.
+pub(crate) fn front_code(front: &[u8]) -> Option<u16>
+    ensures { result ≡ front_code front.now }
+{
+    if front.len() < 4 {
+        return None;
+    }
+    told_code(front)
 }

@@ -1,6 +1,11 @@
 //! What holds of all texts.
-ghost use Rattle.std.specs.Prelude.{◌≡◌, ◌++◌, ℕ, List, Some, true};
-ghost use Rattle.ftp_lines.specs.Reply.{IsFirst, first_reply};
+ghost use Rattle.std.specs.Prelude.{◌≡◌, ◌==◌, ◌++◌, ℕ, List, [], ◌∷◌, Some, None, true, not, IsTrue, map};
+ghost use Rattle.ftp_lines.specs.Feeding.{AllFed, ReplyFed, ended_replies};
+ghost use Rattle.ftp_lines.specs.Replies.{replies_of};
+ghost use Rattle.ftp_lines.specs.Reply.{IsFirst, first_code, first_reply, told_code, without_end};
+ghost use Rattle.std.specs.List.{list_all};
+ghost use Rattle.fw_types.specs.Verb.{verb_of};
+ghost use Rattle.ftp_lines.specs.Command.{ftp_command_of, is_command_text};
 ghost use Rattle.ftp_lines.specs.Six.{AreSix, IsBeyond, IsPassed, find_of, is_quiet, six_of, six_text};
 
 /// What is written as six numbers is read as that address and port, and found in a text in which no six numbers begin
@@ -20,4 +25,30 @@ pub fn replies()
     ensures stays { (text more : List ℕ) (count code : ℕ) → first_reply text ≡ Some (count, code)
         → first_reply (text ++ more) ≡ Some (count, code) }
     ensures first { (text : List ℕ) (count code : ℕ) → first_reply text ≡ Some (count, code) → IsFirst text count code }
+{}
+
+/// Steps over a whole text, from a new reader on, end the replies of the text, each of the bytes that were fed since
+/// the one before it.
+pub fn whole_texts()
+    ensures { (steps : List ReplyFed) → AllFed record { fed = []; heard = None } steps → ended_replies [] steps
+        ≡ replies_of (map (λ step. step.byte) steps) }
+{}
+
+/// The code that a text's first line tells stays whatever follows, and a reply that begins so has it. Behind its LF
+/// that line tells what it tells as a whole, without its end.
+pub fn first_codes()
+    ensures stays { (text more : List ℕ) (code : ℕ) → first_code text ≡ Some code → first_code (text ++ more) ≡ Some code }
+    ensures reply { (text more : List ℕ) (code count last : ℕ) → first_code text ≡ Some code
+        → first_reply (text ++ more) ≡ Some (count, last) → last ≡ code }
+    ensures line { (line rest : List ℕ) → IsTrue (list_all (λ b. not (b == 10)) line) →
+        first_code (line ++ 10 ∷ rest) ≡ told_code (without_end line) }
+{}
+
+/// A command that is written as its verb, a space and its argument is read back. What is read of a line, written so,
+/// is read as the same.
+pub fn commands()
+    ensures written { (verb arg : List ℕ) → verb_of verb ≡ Some verb → IsTrue (is_command_text (verb ++ 32 ∷ arg)) →
+        ftp_command_of (verb ++ 32 ∷ arg) ≡ Some (verb, arg) }
+    ensures again { (line verb arg : List ℕ) → ftp_command_of line ≡ Some (verb, arg) →
+        ftp_command_of (verb ++ 32 ∷ arg) ≡ Some (verb, arg) }
 {}

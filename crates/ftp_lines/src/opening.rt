@@ -1,9 +1,9 @@
 //! The first line of a reply (RFC 959, 4.2).
 ghost use Rattle.std.specs.Prelude.{◌≡◌};
-ghost use Rattle.ftp_lines.specs.Opening.{awaited, closing_code, opening_behind, opening_by};
+ghost use Rattle.ftp_lines.specs.Opening.{awaited, closing_code, first_code_by, opening_behind, opening_by};
 ghost use Rattle.ftp_lines.specs.Reply.{ends_reply, opening_code};
 
-use crate::code::{code_of, is_closing, opening_code};
+use crate::code::{code_of, front_code, is_closing, opening_code};
 
 /// What the first line of a reply says of its last one.
 #[derive(Clone, Copy)]
@@ -54,5 +54,16 @@ pub(crate) fn behind(opening: Opening, line: &[u8]) -> Opening
         Opening::Unheard => opening_by(line),
         Opening::Plain => Opening::Plain,
         Opening::Coded(code) => Opening::Coded(code),
+    }
+}
+
+/// The code that the first line tells, of which these bytes have come where it hasn't ended.
+pub(crate) fn first_code(opening: Opening, front: &[u8]) -> Option<u16>
+    ensures { result ≡ first_code_by opening front.now }
+{
+    match opening {
+        Opening::Unheard => front_code(front),
+        Opening::Plain => None,
+        Opening::Coded(code) => Some(code),
     }
 }

@@ -82,6 +82,16 @@ impl ReplyLine {
         self.ended = true;
     }
 
+    /// What is kept of the line that goes on.
+    pub(crate) fn begun(&self) -> &[u8]
+        ensures { result.now ≡ going self.now.kept self.now.ended }
+    {
+        if self.ended {
+            return &[];
+        }
+        self.kept.as_slice()
+    }
+
     /// What is kept of the line, without a CR at its end.
     pub(crate) fn text(&self) -> &[u8]
         ensures { result.now ≡ without_end self.now.kept }

@@ -2,19 +2,20 @@
 ghost use Rattle.std.specs.Prelude.{◌≡◌, false, ◌==◌, ◌+◌, [], ◌∷◌, ◌++◌, length, Some, None, if◌then◌else◌};
 ghost use Rattle.std.specs.Option.{option_copied};
 ghost use Rattle.ftp_lines.specs.ReplyReaderView.{IsReplyStep, fed_after, short, step_of};
-ghost use Rattle.ftp_lines.specs.Reply.{first_reply, without_end, unended_part};
+ghost use Rattle.ftp_lines.specs.Reply.{first_code, first_reply, without_end, unended_part};
 ghost use Rattle.ftp_lines.specs.declared.reply_step.ReplyStep.TheVariants.{More};
 
 use crate::ReplyStep;
 use crate::fed::{Fed, and, nothing};
-use crate::opening::{Opening, behind, closing_code};
+use crate::opening::{Opening, behind, closing_code, first_code};
 use crate::reply_line::ReplyLine;
 use std::marker::Model;
 use std::mem;
 use std::snapshot::Snapshot;
 
-/// A reader of a server's replies. It keeps at most 514 bytes of a line, and passes over lines of any length.
-/// Contracts know it as the bytes that it was fed since the reply began, and the line that the last byte ended.
+/// A reader of a server's replies. It keeps at most 514 bytes of a line, and passes over lines of any length. It gives
+/// no byte back: who feeds a byte has it, to pass it on or not. Contracts know the reader as the bytes that it was fed
+/// since the reply began, and the line that the last byte ended.
 #[derive(Drop)]
 pub struct ReplyReader {
     fed: Snapshot<Fed>,
@@ -97,11 +98,21 @@ impl ReplyReader {
         }
     }
 
-    /// The line that the last byte ended, without its end. `None` where it was longer than 512 bytes, or where the last
-    /// byte ended no line.
+    /// The line that the last byte ended, without its end. `None` where it was longer than 512 bytes, or where the
+    /// last byte ended no line.
     pub fn line(&self) -> Option<&[u8]>
         ensures { option_copied result ≡ self.now.heard }
     {
         self.line.heard()
+    }
+
+    /// The code that the first line of the reply tells by three digits and then a hyphen or a space: known from its
+    /// fourth byte on, however long the line is, and the code that `Last` will have. `None` before, and where the line
+    /// begins otherwise. Three digits alone are a whole reply, whose code `Last` has; behind each `Last` the next
+    /// reply begins.
+    pub fn first_code(&self) -> Option<u16>
+        ensures { result ≡ first_code self.now.fed }
+    {
+        first_code(self.opening, self.line.begun())
     }
 }

@@ -1,0 +1,46 @@
+//! What is told of a client of Telnet.
+
+use crate::pieces::{Feeding, tell_fed};
+use crate::telling::add_text;
+use arrayvec::ArrayVec;
+use row_lines::{Told, add_word};
+use telnet::{Telnet, TelnetStep};
+
+/// The reader of Telnet, and the line that it told last.
+#[derive(Drop)]
+struct Client {
+    reader: Telnet,
+    line: ArrayVec<u8, 512>,
+}
+
+impl Feeding for Client {
+    fn begin() -> Client {
+        Client {
+            reader: Telnet::new(),
+            line: ArrayVec::new(),
+        }
+    }
+
+    fn feed(&mut self, byte: u8, out: &mut Told) {
+        match self.reader.feed(byte) {
+            TelnetStep::More => {}
+            TelnetStep::Line => {
+                self.line.clear();
+                let _ = self.line.try_extend_from_slice(self.reader.line());
+                add_text(out, self.reader.line());
+            }
+            TelnetStep::TooLong => add_word(out, b"too-long"),
+        }
+    }
+
+    fn look(&self, out: &mut Told) {
+        if self.reader.line() != self.line.as_slice() {
+            add_word(out, b"another line");
+        }
+    }
+}
+
+/// `telnet TEXT => [LINE] ..`: each line at its end.
+pub(crate) fn tell_telnet(asked: &[u8], out: &mut Told) {
+    tell_fed::<Client>(asked, out);
+}
