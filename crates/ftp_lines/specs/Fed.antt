@@ -1,4 +1,5 @@
 -- Bytes that only contracts know, each behind those before it.
+-- No public clause cites these: they say what private functions answer.
 use Rattle.std.specs.Prelude.{ℕ, List, [], ◌∷◌, ◌++◌, Option, Some, None}
 use Rattle.std.specs.declared.snapshot.Snapshot.{Snapshot}
 

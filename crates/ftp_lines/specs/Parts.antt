@@ -1,4 +1,5 @@
 -- The parts of a text between commas.
+-- No public clause cites these: they say what private functions answer.
 use Rattle.std.specs.Prelude.{◌≡◌, ℕ, Bool, true, false, List, [], ◌∷◌}
 
 -- the first of these parts, and whether it is the only one
