@@ -1,10 +1,11 @@
 //! What the definitions of `specs/` come to. Each function states laws and does nothing.
-ghost use Rattle.std.specs.Prelude.{◌≡◌, ◌≢◌, ◌==◌, ℕ, ◌<◌, ◌≤◌, List, [], ◌∷◌, ◌++◌, Bool, ◌&&◌, not, IsTrue, map, flat_map};
+ghost use Rattle.std.specs.Prelude.{◌≡◌, ◌≢◌, ◌==◌, ℕ, ◌<◌, ◌≤◌, List, [], ◌∷◌, ◌++◌, Bool, ◌&&◌, not, IsTrue, map, flat_map, Option, Some, ◌↔◌};
 ghost use Rattle.std.specs.List.{list_all};
 ghost use Rattle.telnet.specs.Cutting.{is_line_byte};
 ghost use Rattle.telnet.specs.Items.{data_of, doubled, is_inside};
 ghost use Rattle.telnet.specs.Lines.{heard, lines_heard, lines_of};
-ghost use Rattle.telnet.specs.TelnetView.{AllHear, TelnetFed, all_told, view_after};
+ghost use Rattle.telnet.specs.First.{first_heard, heard_from};
+ghost use Rattle.telnet.specs.TelnetView.{AllFed, IsFed, TelnetFed, TelnetView, all_told, told};
 
 /// The items (RFC 854, "TELNET COMMAND STRUCTURE"): a byte below 255; IAC IAC, which is the data byte 255; IAC with a
 /// byte below SB; IAC with WILL, WON'T, DO or DON'T and an option's code; IAC SB up to IAC SE, where IAC and the byte
@@ -57,7 +58,17 @@ pub fn plain_texts()
 
 /// Steps over a whole text, from a new reader on, tell its lines.
 pub fn whole_texts()
-    ensures { (steps : List TelnetFed) → AllHear record { line = []; pending = [] } steps
-        → lines_heard (view_after record { line = []; pending = [] } steps).pending ≡ []
+    ensures { (steps : List TelnetFed) → AllFed record { line = []; pending = [] } steps
         → all_told steps ≡ lines_heard (map (λ step. step.byte) steps) }
+{}
+
+/// Where the first line of a text ends, in the text as it came. Steps from a new reader on, of which the last is the
+/// first that tells a line, have taken the text up to there; and such steps tell what is heard there. The lines of the
+/// text are that one and those of what follows it.
+pub fn first_lines()
+    ensures steps { (steps : List TelnetFed) (last : TelnetFed) (line : Option (List ℕ)) (rest : List ℕ)
+        → AllFed record { line = []; pending = [] } (steps ++ last ∷ [])
+        → ((all_told steps ≡ []) × (told last.answer last.after.line ≡ line ∷ []))
+        ↔ (first_heard (map (λ step. step.byte) steps ++ last.byte ∷ rest) ≡ Some record { line = line; rest = rest }) }
+    ensures lines { (text : List ℕ) → lines_heard text ≡ heard_from (first_heard text) }
 {}
