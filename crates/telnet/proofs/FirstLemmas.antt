@@ -28,9 +28,10 @@ from_end front none = ap (λ lines. first_or lines [] None) none
 pub from_none : (front : List ℕ) (b : ℕ) (rest : List ℕ) → lines_heard front ≡ [] → first_from front (b ∷ rest) ≡ first_from (front ++ b ∷ []) rest
 from_none front b rest none = ap (λ lines. first_or lines (b ∷ rest) (first_from (front ++ b ∷ []) rest)) none
 
-pub from_some : (front : List ℕ) (line : Option (List ℕ)) (rest : List ℕ) → lines_heard front ≡ line ∷ [] → first_from front rest ≡ Some record { line = line; rest = rest }
-from_some front line [] is = ap (λ lines. first_or lines [] None) is
-from_some front line (b ∷ rest) is = ap (λ lines. first_or lines (b ∷ rest) (first_from (front ++ b ∷ []) rest)) is
+pub from_some : (front : List ℕ) (line : Option (List ℕ)) (lines : List (Option (List ℕ))) (rest : List ℕ) → lines_heard front ≡ line ∷ lines →
+    first_from front rest ≡ Some record { line = line; rest = rest }
+from_some front line lines [] is = ap (λ l. first_or l [] None) is
+from_some front line lines (b ∷ rest) is = ap (λ l. first_or l (b ∷ rest) (first_from (front ++ b ∷ []) rest)) is
 
 -- the two kinds of a step, over all that follows it
 
@@ -41,9 +42,15 @@ from_more front next b rest none leads =
 
 pub from_last : (front : List ℕ) (line : Option (List ℕ)) (b : ℕ) (rest : List ℕ) → lines_heard front ≡ [] → lines_heard (front ++ b ∷ []) ≡ line ∷ [] →
     first_from front (b ∷ rest) ≡ Some record { line = line; rest = rest }
-from_last front line b rest none is = from_none front b rest none ∙ from_some (front ++ b ∷ []) line rest is
+from_last front line b rest none is = from_none front b rest none ∙ from_some (front ++ b ∷ []) line [] rest is
 
-fed_told : (answer : TelnetStep) (line : Option (List ℕ)) (old new : TelnetView) (byte : ℕ) (rest : List ℕ) → lines_heard old.pending ≡ [] → told answer new.line ≡ line ∷ [] →
+-- a step that tells nothing leaves what is heard first, and a step that tells a line is where that ends
+
+pub fed_more : (old new : TelnetView) (byte : ℕ) (rest : List ℕ) → lines_heard old.pending ≡ [] → IsFed More old new byte →
+    first_from old.pending (byte ∷ rest) ≡ first_from new.pending rest
+fed_more old new byte rest none fed = from_more old.pending new.pending byte rest none fed.hears.leads
+
+pub fed_told : (answer : TelnetStep) (line : Option (List ℕ)) (old new : TelnetView) (byte : ℕ) (rest : List ℕ) → lines_heard old.pending ≡ [] → told answer new.line ≡ line ∷ [] →
     IsFed answer old new byte → first_from old.pending (byte ∷ rest) ≡ Some record { line = line; rest = rest }
 fed_told answer line old new byte rest none is fed =
     from_last old.pending line byte rest none
@@ -51,7 +58,7 @@ fed_told answer line old new byte rest none is fed =
 
 quiet_by : (answer : TelnetStep) (old new : TelnetView) (byte : ℕ) (rest : List ℕ) (later : List (Option (List ℕ))) → lines_heard old.pending ≡ [] →
     told answer new.line ++ later ≡ [] → IsFed answer old new byte → (first_from old.pending (byte ∷ rest) ≡ first_from new.pending rest) × (later ≡ [])
-quiet_by More old new byte rest later none quiet fed = (from_more old.pending new.pending byte rest none fed.hears.leads, quiet)
+quiet_by More old new byte rest later none quiet fed = (fed_more old new byte rest none fed, quiet)
 quiet_by Line old new byte rest later none quiet fed = absurd (cc)
 quiet_by TooLong old new byte rest later none quiet fed = absurd (cc)
 
@@ -69,11 +76,11 @@ steps_first old (step ∷ steps) last line rest none h quiet is =
 
 -- what follows a line is no longer than what follows its front
 
-abbrev rest_in : Option FirstHeard → List ℕ
+abbrev pub rest_in : Option FirstHeard → List ℕ
 rest_in None = []
 rest_in (Some first) = first.rest
 
-abbrev line_in : Option FirstHeard → List (Option (List ℕ))
+abbrev pub line_in : Option FirstHeard → List (Option (List ℕ))
 line_in None = []
 line_in (Some first) = first.line ∷ []
 
@@ -95,7 +102,7 @@ no_line_yet front (b ∷ rest) line none is =
 
 last_by : (answer : TelnetStep) (old new : TelnetView) (byte : ℕ) (line : Option (List ℕ)) (rest : List ℕ) → lines_heard old.pending ≡ [] → IsFed answer old new byte →
     first_from old.pending (byte ∷ rest) ≡ Some record { line = line; rest = rest } → told answer new.line ≡ line ∷ []
-last_by More old new byte line rest none fed is = absurd (no_line_yet new.pending rest line fed.prompt (sym (from_more old.pending new.pending byte rest none fed.hears.leads) ∙ is))
+last_by More old new byte line rest none fed is = absurd (no_line_yet new.pending rest line fed.prompt (sym (fed_more old new byte rest none fed) ∙ is))
 last_by Line old new byte line rest none fed is = ap line_in (sym (fed_told Line (Some new.line) old new byte rest none refl fed) ∙ is)
 last_by TooLong old new byte line rest none fed is = ap line_in (sym (fed_told TooLong None old new byte rest none refl fed) ∙ is)
 
@@ -105,7 +112,7 @@ too_early first last short is = omega (arith, short, ap (λ o. length (rest_in o
 
 early_by : (answer : TelnetStep) (old new : TelnetView) (byte : ℕ) (line : Option (List ℕ)) (rest left : List ℕ) → length left < length rest → lines_heard old.pending ≡ [] → IsFed answer old new byte →
     first_from old.pending (byte ∷ rest) ≡ Some record { line = line; rest = left } → (told answer new.line ≡ []) × (first_from new.pending rest ≡ Some record { line = line; rest = left })
-early_by More old new byte line rest left short none fed is = (refl, sym (from_more old.pending new.pending byte rest none fed.hears.leads) ∙ is)
+early_by More old new byte line rest left short none fed is = (refl, sym (fed_more old new byte rest none fed) ∙ is)
 early_by Line old new byte line rest left short none fed is = absurd (too_early record { line = Some new.line; rest = rest } record { line = line; rest = left } short (sym (fed_told Line (Some new.line) old new byte rest none refl fed) ∙ is))
 early_by TooLong old new byte line rest left short none fed is = absurd (too_early record { line = None; rest = rest } record { line = line; rest = left } short (sym (fed_told TooLong None old new byte rest none refl fed) ∙ is))
 

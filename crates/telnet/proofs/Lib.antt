@@ -1,5 +1,6 @@
 mod Examples
 pub mod FirstLemmas
+pub mod FrontLemmas
 pub mod ItemLemmas
 pub mod LawLemmas
 pub mod LineLemmas

@@ -1,14 +1,14 @@
 -- The lines of a text, one after the other: for each byte there is a reading behind it.
-use Rattle.std.proofs.Common.{◌≡◌, ℕ, ◌==◌, ◌<◌, ◌≤◌, Bool, true, false, List, [], ◌∷◌, ◌++◌, length, take, Option, Some, None, append-nil, refl, sym, ap, ◌∙◌, ◌⊎◌, inl, inr, arith}
+use Rattle.std.proofs.Common.{◌≡◌, ℕ, ◌<◌, ◌≤◌, Bool, true, false, List, [], ◌∷◌, ◌++◌, length, take, Option, Some, None, append-nil, refl, sym, ap, ◌∙◌, ◌⊎◌, inl, inr, arith}
 use Rattle.std.specs.Prelude.{IsTrue}
 use Rattle.std.specs.List.{list_all}
-use Rattle.std.proofs.lemmas.Bool.{cases_Bool, cases_eq, cases_lt}
+use Rattle.std.proofs.lemmas.Bool.{cases_eq, cases_lt}
 use Rattle.telnet.specs.Cutting.{CutsData, ends_line, is_line_byte, most_gathered}
 use Rattle.telnet.specs.First.{first_from, first_heard, heard_from}
 use Rattle.telnet.specs.Items.{doubled, is_choice}
 use Rattle.telnet.specs.Lines.{lines_heard}
 use Rattle.telnet.specs.Place.{Strips, held}
-use Rattle.telnet.specs.TelnetView.{TelnetView, told}
+use Rattle.telnet.specs.TelnetView.{TelnetView}
 use Rattle.telnet.specs.declared.place.Place.{Place}
 use Rattle.telnet.specs.declared.place.Place.TheVariants.{Data, Command, Choice, Inside, InsideCommand}
 use Rattle.telnet.specs.declared.step.TelnetStep.TheVariants.{More, Line, TooLong}
@@ -16,7 +16,7 @@ use Rattle.telnet.proofs.FirstLemmas.{from_end, from_last, from_more}
 use Rattle.telnet.proofs.ItemLemmas.{data_of-byte, data_of-choice, data_of-choices, data_of-command, data_of-doubled, data_of-inside, data_of-inside_end, data_of-inside_pair}
 use Rattle.telnet.proofs.LineLemmas.{cuts_byte, cuts_return, end_line, end_long, ends_alike, lines_of-kept, of, plain_kept}
 use Rattle.telnet.proofs.PlaceLemmas.{data_of-held}
-use Rattle.telnet.proofs.ReadingLemmas.{hears_none, hears_some, none_heard, nothing_heard, seen}
+use Rattle.telnet.proofs.ReadingLemmas.{hears_none, hears_some, none_heard, nothing_heard}
 
 -- a byte of the text gives no data, or a byte of data and the end of its item
 data Stripped (place : Place) (b : ℕ) : Type 0 where

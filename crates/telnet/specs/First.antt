@@ -1,5 +1,5 @@
 -- The line that is heard first of a client's text, and the text behind it as it came.
-use Rattle.std.specs.Prelude.{ℕ, List, [], ◌∷◌, ◌++◌, Option, Some, None}
+use Rattle.std.specs.Prelude.{◌≡◌, ℕ, ◌<◌, List, [], ◌∷◌, ◌++◌, length, take, Option, Some, None}
 use Rattle.telnet.specs.Lines.{lines_heard}
 
 -- a line as it is heard, and what follows it
@@ -25,3 +25,10 @@ first_heard text = first_from [] text
 abbrev pub heard_from : Option FirstHeard → List (Option (List ℕ))
 heard_from None = []
 heard_from (Some first) = first.line ∷ lines_heard first.rest
+
+-- the first line of a text and what follows it, by the front that ends with the line: no shorter one has a line
+pub record IsFirst (text : List ℕ) (first : FirstHeard) : Type 0 where
+  pub front : List ℕ
+  pub whole : text ≡ front ++ first.rest
+  pub heard : lines_heard front ≡ first.line ∷ []
+  pub shorter : (n : ℕ) → n < length front → lines_heard (take n front) ≡ []

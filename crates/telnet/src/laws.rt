@@ -4,7 +4,7 @@ ghost use Rattle.std.specs.List.{list_all};
 ghost use Rattle.telnet.specs.Cutting.{is_line_byte};
 ghost use Rattle.telnet.specs.Items.{data_of, doubled, is_inside};
 ghost use Rattle.telnet.specs.Lines.{heard, lines_heard, lines_of};
-ghost use Rattle.telnet.specs.First.{first_heard, heard_from};
+ghost use Rattle.telnet.specs.First.{FirstHeard, IsFirst, first_heard, heard_from};
 ghost use Rattle.telnet.specs.TelnetView.{AllFed, IsFed, TelnetFed, TelnetView, all_told, told};
 
 /// The items (RFC 854, "TELNET COMMAND STRUCTURE"): a byte below 255; IAC IAC, which is the data byte 255; IAC with a
@@ -70,5 +70,6 @@ pub fn first_lines()
         → AllFed record { line = []; pending = [] } (steps ++ last ∷ [])
         → ((all_told steps ≡ []) × (told last.answer last.after.line ≡ line ∷ []))
         ↔ (first_heard (map (λ step. step.byte) steps ++ last.byte ∷ rest) ≡ Some record { line = line; rest = rest }) }
+    ensures shortest { (text : List ℕ) (first : FirstHeard) → (first_heard text ≡ Some first) ↔ IsFirst text first }
     ensures lines { (text : List ℕ) → lines_heard text ≡ heard_from (first_heard text) }
 {}
