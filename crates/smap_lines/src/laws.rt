@@ -3,7 +3,7 @@ ghost use Rattle.std.specs.Prelude.{◌≡◌, ◌↔◌, ℕ, ◌<◌, ◌≤�
 ghost use Rattle.std.specs.List.{list_all};
 ghost use Rattle.smap_lines.specs.Body.{body_after, body_from, mail_body_of, cut, has_end, with_end, sent_body};
 ghost use Rattle.smap_lines.specs.Blank.{is_blank};
-ghost use Rattle.smap_lines.specs.Command.{bare, command_with, ends_word, mail, mail_command_of, rcpt};
+ghost use Rattle.smap_lines.specs.Command.{AsksWith, bare, command_with, ends_word, mail, mail_command_of, rcpt};
 ghost use Rattle.smap_lines.specs.Path.{IsInBrackets, is_allowed, path_of};
 ghost use Rattle.smap_lines.specs.Verb.{is, mail_verb_of};
 ghost use Rattle.smap_lines.specs.declared.path.PathFault.TheVariants.{NotAllowed};
@@ -49,21 +49,23 @@ pub fn whole_bodies()
 /// all that is wrong, and so `Syntax` for any other text.
 pub fn paths()
     ensures ok { (may_be_empty : Bool) (text path : List ℕ) → (path_of may_be_empty text ≡ Ok path)
-        ↔ (IsInBrackets text path × (length path ≤ 256) × (path ≡ [] → may_be_empty ≡ true) × IsTrue (is_allowed path)) }
+        ↔ (IsInBrackets text path × (length path ≤ 256) × (path ≡ [] → may_be_empty ≡ true)
+        × IsTrue (is_allowed path)) }
     ensures not_allowed { (may_be_empty : Bool) (text : List ℕ) → (path_of may_be_empty text ≡ Err NotAllowed)
         ↔ ((path : List ℕ) × IsInBrackets text path × (length path ≤ 256) × (is_allowed path ≡ false)) }
 {}
 
-/// The lines of commands (RFC 821, sections 2 and 4.1.1). A verb is a word in any case; what matters behind it is all
-/// that follows it. The text of a path is what follows `MAIL FROM:` and `RCPT TO:` in any case. More than 512 bytes are
-/// no command.
+/// The lines of commands (RFC 821, sections 2 and 4.1.1). Words that differ in case alone are one verb. What matters
+/// behind a word is read of all that follows it. The text of a path is what follows `MAIL FROM:` and `RCPT TO:`, in any
+/// case and with one space in them, and no other line has one. More than 512 bytes are no command.
 pub fn commands()
     ensures verb { (word other : List ℕ) → is word other ≡ true → mail_verb_of word ≡ mail_verb_of other }
-    ensures rest { (word rest : List ℕ) → IsTrue (list_all (λ b. not (is_blank b)) word) → IsTrue (ends_word rest) → length (word ++ rest) ≤ 512
+    ensures rest { (word rest : List ℕ) → IsTrue (list_all (λ b. not (is_blank b)) word) → IsTrue (ends_word rest)
+        → length (word ++ rest) ≤ 512
         → mail_command_of (word ++ rest) ≡ command_with (mail_verb_of word) rest }
-    ensures mail { (verb keyword text : List ℕ) → is verb (codes "MAIL") ≡ true → is keyword (codes " FROM:") ≡ true → length (verb ++ (keyword ++ text)) ≤ 512
-        → mail_command_of (verb ++ (keyword ++ text)) ≡ mail (Some text) }
-    ensures rcpt { (verb keyword text : List ℕ) → is verb (codes "RCPT") ≡ true → is keyword (codes " TO:") ≡ true → length (verb ++ (keyword ++ text)) ≤ 512
-        → mail_command_of (verb ++ (keyword ++ text)) ≡ rcpt (Some text) }
+    ensures mail { (line text : List ℕ) → (mail_command_of line ≡ mail (Some text))
+        ↔ AsksWith (codes "MAIL") (codes " FROM:") line text }
+    ensures rcpt { (line text : List ℕ) → (mail_command_of line ≡ rcpt (Some text))
+        ↔ AsksWith (codes "RCPT") (codes " TO:") line text }
     ensures long { (line : List ℕ) → 512 < length line → mail_command_of line ≡ bare Unknown }
 {}

@@ -8,6 +8,9 @@ use crate::TelnetStep;
 use arrayvec::ArrayVec;
 use std::marker::Model;
 
+/// The bytes of the longest line that is heard.
+const LONGEST: usize = 512;
+
 /// The line that is being read, and the one that was read last.
 #[derive(Drop)]
 pub(crate) struct Cutter {
@@ -75,7 +78,7 @@ impl Cutter {
     {
         let kept = self.kept.take();
         self.returned = false;
-        if kept.len() > 512 {
+        if kept.len() > LONGEST {
             return TelnetStep::TooLong;
         }
         self.line = kept;

@@ -62,9 +62,10 @@ pub fn whole_texts()
         → all_told steps ≡ lines_heard (map (λ step. step.byte) steps) }
 {}
 
-/// Where the first line of a text ends, in the text as it came. Steps from a new reader on, of which the last is the
-/// first that tells a line, have taken the text up to there; and such steps tell what is heard there. The lines of the
-/// text are that one and those of what follows it.
+/// Where the first line of a text ends, in the text as it came. Of steps from a new reader on, the last and no other
+/// tells a line exactly where they have taken the text up to there (`steps`). The front that ends there is the shortest
+/// of which a line is heard (`shortest`), and the lines of a text are the first and then those of what follows it
+/// (`lines`).
 pub fn first_lines()
     ensures steps { (steps : List TelnetFed) (last : TelnetFed) (line : Option (List ℕ)) (rest : List ℕ)
         → AllFed record { line = []; pending = [] } (steps ++ last ∷ [])

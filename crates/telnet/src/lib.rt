@@ -6,9 +6,9 @@
 //!
 //! [`Telnet::feed`] takes a text byte by byte. Its contract speaks of whole texts, however they go on: the lines of
 //! what was still to be heard, the byte and the rest are what the step tells, and then the lines of what is still to be
-//! heard and the rest. So the steps over a text tell its lines, each with the byte that ends it. Behind that byte nothing
-//! is still to be heard, so a gateway may relay what follows a line as it came. Nothing takes memory. `laws` says what
-//! the definitions come to.
+//! heard and the rest. So the steps over a text tell its lines, each with the byte that ends it. Behind that byte
+//! nothing is still to be heard, so a gateway may relay what follows a line as it came. Nothing takes memory. `laws`
+//! says what the definitions come to, and where the first line of a text ends.
 #![tactic(auto)]
 
 mod cutter;

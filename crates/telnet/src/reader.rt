@@ -39,8 +39,8 @@ impl Telnet {
         }
     }
 
-    /// Takes the next byte of the text, and tells whether a line has ended with it. What follows a line's last byte in
-    /// the text is then untouched: nothing that came before it is still to be heard.
+    /// Takes the next byte of the text, and tells whether a line has ended with it. Behind a line nothing that came is
+    /// still to be heard: what follows in the text is as it came.
     pub fn feed(&mut self, byte: u8) -> TelnetStep
         ensures hears { HearsByte result self.old self.new byte }
         ensures prompt { lines_heard self.new.pending ≡ [] }
