@@ -1,7 +1,8 @@
 -- What is heard first of a text.
 use Rattle.std.proofs.Common.{◌≡◌, ℕ, ◌<◌, ◌≤◌, List, [], ◌∷◌, ◌++◌, length, map, Option, Some, None, append-nil, append_assoc, length-append, refl, sym, ap, ◌∙◌, arith}
-use Rattle.telnet.specs.First.{FirstHeard, first_from, first_or}
+use Rattle.telnet.specs.First.{FirstHeard, first_from, first_heard, first_or}
 use Rattle.telnet.specs.Lines.{lines_heard}
+use Rattle.telnet.proofs.ReadingLemmas.{nothing_heard}
 use Rattle.telnet.specs.TelnetView.{AllFed, IsFed, TelnetFed, TelnetView, all_told, told}
 use Rattle.telnet.specs.declared.step.TelnetStep.{TelnetStep}
 use Rattle.telnet.specs.declared.step.TelnetStep.TheVariants.{More, Line, TooLong}
@@ -66,7 +67,7 @@ abbrev bytes_of : List TelnetFed → List ℕ
 bytes_of steps = map (λ step. step.byte) steps
 
 -- steps of which the last alone tells a line have taken a text up to its first line's end
-pub steps_first : (old : TelnetView) (steps : List TelnetFed) (last : TelnetFed) (line : Option (List ℕ)) (rest : List ℕ) → lines_heard old.pending ≡ [] →
+steps_first : (old : TelnetView) (steps : List TelnetFed) (last : TelnetFed) (line : Option (List ℕ)) (rest : List ℕ) → lines_heard old.pending ≡ [] →
     AllFed old (steps ++ last ∷ []) → all_told steps ≡ [] → told last.answer last.after.line ≡ line ∷ [] →
     first_from old.pending (bytes_of steps ++ last.byte ∷ rest) ≡ Some record { line = line; rest = rest }
 steps_first old [] last line rest none h quiet is = fed_told last.answer line old last.after last.byte rest none is h.0
@@ -117,7 +118,7 @@ early_by Line old new byte line rest left short none fed is = absurd (too_early 
 early_by TooLong old new byte line rest left short none fed is = absurd (too_early record { line = None; rest = rest } record { line = line; rest = left } short (sym (fed_told TooLong None old new byte rest none refl fed) ∙ is))
 
 -- steps that have taken a text up to its first line's end have told that line, with the last of them
-pub first_steps : (old : TelnetView) (steps : List TelnetFed) (last : TelnetFed) (line : Option (List ℕ)) (rest : List ℕ) → lines_heard old.pending ≡ [] →
+first_steps : (old : TelnetView) (steps : List TelnetFed) (last : TelnetFed) (line : Option (List ℕ)) (rest : List ℕ) → lines_heard old.pending ≡ [] →
     AllFed old (steps ++ last ∷ []) → first_from old.pending (bytes_of steps ++ last.byte ∷ rest) ≡ Some record { line = line; rest = rest } →
     (all_told steps ≡ []) × (told last.answer last.after.line ≡ line ∷ [])
 first_steps old [] last line rest none h is = (refl, last_by last.answer old last.after last.byte line rest none h.0 is)
@@ -127,3 +128,19 @@ first_steps old (step ∷ steps) last line rest none h is =
     let first = early_by step.answer old step.after step.byte line more rest short none h.0 is in
     let later = first_steps step.after steps last line rest h.0.prompt h.1 first.1 in
     (ap (λ t. t ++ all_told steps) first.0 ∙ later.0, later.1)
+
+-- the same of a reading that has nothing pending
+
+pub told_is_first : (old : TelnetView) (steps : List TelnetFed) (last : TelnetFed) (line : Option (List ℕ)) (rest : List ℕ) → old.pending ≡ [] →
+    AllFed old (steps ++ last ∷ []) → (all_told steps ≡ []) × (told last.answer last.after.line ≡ line ∷ []) →
+    first_heard (bytes_of steps ++ last.byte ∷ rest) ≡ Some record { line = line; rest = rest }
+told_is_first old steps last line rest empty h is =
+    ap (λ t. first_from t (bytes_of steps ++ last.byte ∷ rest)) (sym empty)
+    ∙ steps_first old steps last line rest (ap lines_heard empty ∙ nothing_heard) h is.0 is.1
+
+pub first_is_told : (old : TelnetView) (steps : List TelnetFed) (last : TelnetFed) (line : Option (List ℕ)) (rest : List ℕ) → old.pending ≡ [] →
+    AllFed old (steps ++ last ∷ []) → first_heard (bytes_of steps ++ last.byte ∷ rest) ≡ Some record { line = line; rest = rest } →
+    (all_told steps ≡ []) × (told last.answer last.after.line ≡ line ∷ [])
+first_is_told old steps last line rest empty h is =
+    first_steps old steps last line rest (ap lines_heard empty ∙ nothing_heard) h
+    (ap (λ t. first_from t (bytes_of steps ++ last.byte ∷ rest)) empty ∙ is)

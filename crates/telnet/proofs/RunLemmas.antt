@@ -24,10 +24,10 @@ prompt_after : (before : TelnetView) (steps : List TelnetFed) → lines_heard be
 prompt_after before [] none h = none
 prompt_after before (step ∷ steps) none h = prompt_after step.after steps h.0.prompt h.1
 
-abbrev pub beginning : TelnetView
-beginning = record { line = []; pending = [] }
-
-pub whole : (steps : List TelnetFed) → AllFed beginning steps → all_told steps ≡ lines_heard (bytes_of steps)
-whole steps h =
-    let end : lines_heard ((view_after beginning steps).pending ++ []) ≡ [] = ap lines_heard (append-nil (view_after beginning steps).pending) ∙ prompt_after beginning steps nothing_heard h in
-    sym (append-nil (all_told steps)) ∙ ap (λ t. all_told steps ++ t) (sym end) ∙ sym (run beginning steps [] h) ∙ ap lines_heard (append-nil (bytes_of steps))
+pub whole : (old : TelnetView) (steps : List TelnetFed) → old.pending ≡ [] → AllFed old steps → all_told steps ≡ lines_heard (bytes_of steps)
+whole old steps empty h =
+    let none : lines_heard old.pending ≡ [] = ap lines_heard empty ∙ nothing_heard in
+    let after = view_after old steps in
+    let end : lines_heard (after.pending ++ []) ≡ [] = ap lines_heard (append-nil after.pending) ∙ prompt_after old steps none h in
+    sym (append-nil (all_told steps)) ∙ ap (λ t. all_told steps ++ t) (sym end) ∙ sym (run old steps [] h)
+    ∙ ap (λ t. lines_heard (t ++ (bytes_of steps ++ []))) empty ∙ ap lines_heard (append-nil (bytes_of steps))

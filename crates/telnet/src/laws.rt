@@ -56,19 +56,19 @@ pub fn plain_texts()
         → lines_heard (flat_map (λ line. line ++ 10 ∷ []) lines ++ rest) ≡ map heard lines }
 {}
 
-/// Steps over a whole text, from a new reader on, tell its lines.
+/// Steps over a whole text tell its lines, from a new reader on or from one that has just told a line.
 pub fn whole_texts()
-    ensures { (steps : List TelnetFed) → AllFed record { line = []; pending = [] } steps
+    ensures { (old : TelnetView) (steps : List TelnetFed) → old.pending ≡ [] → AllFed old steps
         → all_told steps ≡ lines_heard (map (λ step. step.byte) steps) }
 {}
 
-/// Where the first line of a text ends, in the text as it came. Of steps from a new reader on, the last and no other
-/// tells a line exactly where they have taken the text up to there (`steps`). The front that ends there is the shortest
-/// of which a line is heard (`shortest`), and the lines of a text are the first and then those of what follows it
-/// (`lines`).
+/// Where the first line of a text ends, in the text as it came. Of steps from a new reader on, or from one that has
+/// just told a line, the last and no other tells a line exactly where they have taken the text up to there (`steps`).
+/// The front that ends there is the shortest of which a line is heard (`shortest`), and the lines of a text are the
+/// first and then those of what follows it (`lines`).
 pub fn first_lines()
-    ensures steps { (steps : List TelnetFed) (last : TelnetFed) (line : Option (List ℕ)) (rest : List ℕ)
-        → AllFed record { line = []; pending = [] } (steps ++ last ∷ [])
+    ensures steps { (old : TelnetView) (steps : List TelnetFed) (last : TelnetFed) (line : Option (List ℕ)) (rest : List ℕ)
+        → old.pending ≡ [] → AllFed old (steps ++ last ∷ [])
         → ((all_told steps ≡ []) × (told last.answer last.after.line ≡ line ∷ []))
         ↔ (first_heard (map (λ step. step.byte) steps ++ last.byte ∷ rest) ≡ Some record { line = line; rest = rest }) }
     ensures shortest { (text : List ℕ) (first : FirstHeard) → (first_heard text ≡ Some first) ↔ IsFirst text first }

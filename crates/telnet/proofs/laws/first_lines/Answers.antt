@@ -1,14 +1,12 @@
-use Rattle.telnet.proofs.FirstLemmas.{first_steps, steps_first}
+use Rattle.telnet.proofs.FirstLemmas.{first_is_told, told_is_first}
 use Rattle.telnet.proofs.FrontLemmas.{first_is, is_first}
-use Rattle.telnet.proofs.ReadingLemmas.{nothing_heard}
-use Rattle.telnet.proofs.RunLemmas.{beginning}
 use Rattle.telnet.proofs.TurnLemmas.{first_and_rest}
 use Rattle.telnet.proofs.laws.first_lines.Goals as goal
 
 pub returns-clause-steps : goal.returns-clause-steps
-returns-clause-steps c = λ steps last line rest h. (
-  λ is. steps_first beginning steps last line rest nothing_heard h is.0 is.1,
-  λ is. first_steps beginning steps last line rest nothing_heard h is,
+returns-clause-steps c = λ old steps last line rest empty h. (
+  told_is_first old steps last line rest empty h,
+  first_is_told old steps last line rest empty h,
 )
 
 pub returns-clause-shortest : goal.returns-clause-shortest
