@@ -26,7 +26,7 @@ pub record TelnetFed : Type 0 where
   pub answer : TelnetStep
   pub after : TelnetView
 
--- what is known of a step: what was said is told, and each line is told at the byte that ends it
+-- what is known of a step: where it leads and what it tells, and that no line is left to be told
 pub record IsFed (step : TelnetStep) (old new : TelnetView) (byte : ℕ) : Type 0 where
   pub hears : HearsByte step old new byte
   pub prompt : lines_heard new.pending ≡ []
