@@ -1,9 +1,8 @@
 -- Cuts into lines, and the bodies in them.
-use Rattle.std.proofs.Common.{◌≡◌, ◌≢◌, ℕ, ◌==◌, Bool, true, false, ◌&&◌, ◌||◌, not, List, [], ◌∷◌, ◌++◌, Option, Some, None, append_assoc, append-nil, refl, sym, ap, ◌∙◌, inl, inr, arith}
-use Rattle.std.specs.Prelude.{IsTrue, flat_map, if◌then◌else◌}
-use Rattle.std.specs.List.{list_all}
-use Rattle.std.proofs.lemmas.Bool.{and_from, and_left, and_parts, and_right, cases_Bool, cases_eq, eq-eqb, eqb-true, ne_eqb, not-true, not_from_false, or_from, or_parts}
-use Rattle.smap_lines.specs.Body.{Body, CutText, at_front, body_after, body_behind, body_from, body_in, mail_body_of, cut, has_end, is_period, sent, with_end, without_period, sent_body}
+use Rattle.std.proofs.Common.{◌≡◌, ℕ, ◌==◌, Bool, true, false, ◌&&◌, List, [], ◌∷◌, ◌++◌, Option, Some, None, append_assoc, refl, sym, ap, ◌∙◌, inl, inr, arith}
+use Rattle.std.specs.Prelude.{flat_map, if◌then◌else◌}
+use Rattle.std.proofs.lemmas.Bool.{and_parts, cases_eq, eqb-true, ne_eqb}
+use Rattle.smap_lines.specs.Body.{Body, CutText, at_front, body_after, body_behind, body_from, body_in, cut, with_end}
 
 -- a cut with a byte before it
 abbrev pub front : ℕ → CutText → CutText

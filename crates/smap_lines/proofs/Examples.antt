@@ -1,11 +1,10 @@
 -- Commands, paths and bodies, and what they are read as.
-use Rattle.std.proofs.Common.{◌≡◌, Bool, true, false, List, [], ◌∷◌, ◌++◌, Option, Some, None, Result, Ok, Err, refl}
+use Rattle.std.proofs.Common.{◌≡◌, true, false, [], ◌∷◌, ◌++◌, Some, None, Ok, Err, refl}
 use Rattle.std.specs.Prelude.{codes}
 use Rattle.smap_lines.specs.Body.{mail_body_of, cut}
-use Rattle.smap_lines.specs.Command.{mail_command_of, bare, helo, mail, rcpt}
+use Rattle.smap_lines.specs.Command.{mail_command_of, bare, helo, mail}
 use Rattle.smap_lines.specs.Path.{path_of}
 use Rattle.smap_lines.specs.Verb.{asks_for_more, mail_verb_of}
-use Rattle.smap_lines.specs.declared.path.PathFault.{PathFault}
 use Rattle.smap_lines.specs.declared.path.PathFault.TheVariants.{Syntax, NotAllowed}
 use Rattle.smap_lines.specs.declared.verb.Verb.TheVariants.{NotImplemented, Unknown}
 

@@ -1,9 +1,9 @@
 -- What the laws on bodies stand on.
-use Rattle.std.proofs.Common.{◌≡◌, ℕ, ◌==◌, Bool, true, false, ◌&&◌, ◌||◌, not, List, [], ◌∷◌, ◌++◌, Some, append_assoc, refl, sym, ap, ◌∙◌, inl, inr, arith}
+use Rattle.std.proofs.Common.{◌≡◌, ℕ, ◌==◌, Bool, true, false, ◌&&◌, not, List, [], ◌∷◌, ◌++◌, Some, append_assoc, refl, ap, ◌∙◌}
 use Rattle.std.specs.Prelude.{IsTrue, flat_map, if◌then◌else◌}
 use Rattle.std.specs.List.{list_all}
-use Rattle.std.proofs.lemmas.Bool.{and_parts, and_right, cases_eq, ne_eqb, not-true, or_parts}
-use Rattle.smap_lines.specs.Body.{at_front, body_after, body_in, mail_body_of, cut, has_end, sent, with_end, sent_body}
+use Rattle.std.proofs.lemmas.Bool.{and_parts, and_right, not-true, or_parts}
+use Rattle.smap_lines.specs.Body.{body_after, body_in, mail_body_of, cut, has_end, sent, with_end, sent_body}
 use Rattle.smap_lines.proofs.BodyLemmas.{body, cut-end, cut-front, cut-nothing, cut-one, front, last_end}
 
 -- a line without CR LF is cut off where it ends

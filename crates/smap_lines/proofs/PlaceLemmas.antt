@@ -1,7 +1,7 @@
 -- What the places of a body's reading stand for.
 use Rattle.std.proofs.Common.{◌≡◌, ℕ, true, List, [], ◌∷◌, ◌++◌, Some, None, ap, ◌∙◌}
 use Rattle.std.proofs.lemmas.Bool.{eqb-true}
-use Rattle.smap_lines.specs.Body.{Body, body_behind, body_from}
+use Rattle.smap_lines.specs.Body.{body_from}
 use Rattle.smap_lines.specs.Place.{is_last, view_at}
 use Rattle.smap_lines.specs.declared.place.Place.{Place}
 use Rattle.smap_lines.specs.declared.place.Place.TheVariants.{Start, Period, PeriodReturn, Middle, Return}

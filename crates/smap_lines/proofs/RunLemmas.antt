@@ -1,5 +1,5 @@
 -- Steps over the data of a mail.
-use Rattle.std.proofs.Common.{◌≡◌, ℕ, Bool, false, true, not, List, [], ◌∷◌, ◌++◌, map, Some, append-nil, refl, sym, ap, ◌∙◌}
+use Rattle.std.proofs.Common.{◌≡◌, ℕ, Bool, false, true, not, List, [], ◌∷◌, ◌++◌, map, Some, append-nil, sym, ap, ◌∙◌}
 use Rattle.std.specs.Prelude.{IsTrue, flat_map}
 use Rattle.std.specs.List.{list_all}
 use Rattle.std.proofs.lemmas.Bool.{and_parts}

@@ -1,5 +1,5 @@
 -- The lines of commands (RFC 821, section 4.1).
-use Rattle.std.specs.Prelude.{ℕ, Bool, nat_lt, List, length, take, drop, codes, Option, Some, None, option_map, if◌then◌else◌}
+use Rattle.std.specs.Prelude.{◌≡◌, ℕ, ◌≤◌, Bool, true, nat_lt, List, [], ◌∷◌, ◌++◌, length, take, drop, codes, Option, Some, None, option_map, if◌then◌else◌}
 use Rattle.std.specs.List.{before_first, position_or_len}
 use Rattle.smap_lines.specs.Blank.{behind_blanks, is_blank}
 use Rattle.smap_lines.specs.Verb.{is, mail_verb_of}
@@ -45,8 +45,22 @@ command_with Help rest = bare Help
 command_with NotImplemented rest = bare NotImplemented
 command_with Unknown rest = bare Unknown
 
+-- a word that stands before this ends there: at a blank, or with the line
+abbrev pub ends_word : List ℕ → Bool
+ends_word [] = true
+ends_word (b ∷ rest) = is_blank b
+
 -- the command of a line, whose verb ends at the first blank
 abbrev pub mail_command_of : List ℕ → Command
 mail_command_of line =
     if nat_lt 512 (length line) then bare Unknown
     else command_with (mail_verb_of (before_first is_blank line)) (drop (position_or_len is_blank line) line)
+
+-- a line of at most 512 bytes that is a verb and a keyword, both in any case, and then a text
+pub record AsksWith (verb keyword line text : List ℕ) : Type 0 where
+  pub word : List ℕ
+  pub front : List ℕ
+  pub whole : line ≡ word ++ (front ++ text)
+  pub is_verb : is word verb ≡ true
+  pub is_keyword : is front keyword ≡ true
+  pub short : length line ≤ 512

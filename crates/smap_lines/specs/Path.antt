@@ -1,5 +1,5 @@
 -- The paths of mail (RFC 821, section 4.1.2), without the forms that name hosts on the way.
-use Rattle.std.specs.Prelude.{ℕ, ◌+◌, ◌==◌, Bool, false, ◌&&◌, ◌||◌, not, nat_lt, nat_le, List, [], ◌∷◌, length, take, drop, codes, count_by, position, Option, Some, None, option_and_then, Result, Ok, Err, if◌then◌else◌}
+use Rattle.std.specs.Prelude.{◌≡◌, ℕ, ◌+◌, ◌==◌, Bool, false, ◌&&◌, ◌||◌, not, nat_lt, nat_le, List, [], ◌∷◌, ◌++◌, IsTrue, length, take, drop, codes, count_by, position, Option, Some, None, option_and_then, Result, Ok, Err, if◌then◌else◌}
 use Rattle.std.specs.List.{list_all, list_any}
 use Rattle.smap_lines.specs.Blank.{behind_blanks, is_blank}
 use Rattle.smap_lines.specs.declared.path.PathFault.{PathFault}
@@ -58,3 +58,12 @@ checked_or may_be_empty (Some path) = checked_path may_be_empty path
 -- the path in a text, or what is wrong with it
 abbrev pub path_of : Bool → List ℕ → Result (List ℕ) PathFault
 path_of may_be_empty text = checked_or may_be_empty (bracketed text)
+
+-- a path stands in brackets in a text, with only blanks before and behind these, and no `>` in it
+pub record IsInBrackets (text path : List ℕ) : Type 0 where
+  pub before : List ℕ
+  pub behind : List ℕ
+  pub whole : text ≡ before ++ (60 ∷ path ++ 62 ∷ behind)
+  pub blanks_before : IsTrue (list_all is_blank before)
+  pub blanks_behind : IsTrue (list_all is_blank behind)
+  pub first_close : IsTrue (list_all (λ b. not (b == 62)) path)

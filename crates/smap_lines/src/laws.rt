@@ -1,7 +1,13 @@
 //! What the definitions of `specs/` come to. Each function states laws and does nothing.
-ghost use Rattle.std.specs.Prelude.{◌≡◌, ℕ, List, [], ◌∷◌, ◌++◌, map, Some, false, not, IsTrue, flat_map};
+ghost use Rattle.std.specs.Prelude.{◌≡◌, ◌↔◌, ℕ, ◌<◌, ◌≤◌, Bool, List, [], ◌∷◌, ◌++◌, length, map, codes, Some, Ok, Err, true, false, not, IsTrue, flat_map};
 ghost use Rattle.std.specs.List.{list_all};
 ghost use Rattle.smap_lines.specs.Body.{body_after, body_from, mail_body_of, cut, has_end, with_end, sent_body};
+ghost use Rattle.smap_lines.specs.Blank.{is_blank};
+ghost use Rattle.smap_lines.specs.Command.{AsksWith, bare, command_with, ends_word, mail, mail_command_of, rcpt};
+ghost use Rattle.smap_lines.specs.Path.{IsInBrackets, is_allowed, path_of};
+ghost use Rattle.smap_lines.specs.Verb.{is, mail_verb_of};
+ghost use Rattle.smap_lines.specs.declared.path.PathFault.TheVariants.{NotAllowed};
+ghost use Rattle.smap_lines.specs.declared.verb.Verb.TheVariants.{Unknown};
 ghost use Rattle.smap_lines.specs.MailBodyView.{AllGive, GivesBody, MailBodyView, BodyFed, given, is_body_end, body_view_after};
 ghost use Rattle.smap_lines.specs.declared.body.BodyStep.TheVariants.{End};
 
@@ -36,4 +42,30 @@ pub fn whole_bodies()
               given step.answer) steps;
           rest = rest;
         } }
+{}
+
+/// The paths of texts (RFC 821, section 4.1.2). A path is read exactly where it stands in brackets, has at most 256
+/// bytes, isn't empty where it may not be, and is allowed. `NotAllowed` is answered exactly where the last of these is
+/// all that is wrong, and so `Syntax` for any other text.
+pub fn paths()
+    ensures ok { (may_be_empty : Bool) (text path : List ℕ) → (path_of may_be_empty text ≡ Ok path)
+        ↔ (IsInBrackets text path × (length path ≤ 256) × (path ≡ [] → may_be_empty ≡ true)
+        × IsTrue (is_allowed path)) }
+    ensures not_allowed { (may_be_empty : Bool) (text : List ℕ) → (path_of may_be_empty text ≡ Err NotAllowed)
+        ↔ ((path : List ℕ) × IsInBrackets text path × (length path ≤ 256) × (is_allowed path ≡ false)) }
+{}
+
+/// The lines of commands (RFC 821, sections 2 and 4.1.1). Words that differ in case alone are one verb. What matters
+/// behind a word is read of all that follows it. The text of a path is what follows `MAIL FROM:` and `RCPT TO:`, in any
+/// case and with one space in them, and no other line has one. More than 512 bytes are no command.
+pub fn commands()
+    ensures verb { (word other : List ℕ) → is word other ≡ true → mail_verb_of word ≡ mail_verb_of other }
+    ensures rest { (word rest : List ℕ) → IsTrue (list_all (λ b. not (is_blank b)) word) → IsTrue (ends_word rest)
+        → length (word ++ rest) ≤ 512
+        → mail_command_of (word ++ rest) ≡ command_with (mail_verb_of word) rest }
+    ensures mail { (line text : List ℕ) → (mail_command_of line ≡ mail (Some text))
+        ↔ AsksWith (codes "MAIL") (codes " FROM:") line text }
+    ensures rcpt { (line text : List ℕ) → (mail_command_of line ≡ rcpt (Some text))
+        ↔ AsksWith (codes "RCPT") (codes " TO:") line text }
+    ensures long { (line : List ℕ) → 512 < length line → mail_command_of line ≡ bare Unknown }
 {}

@@ -48,6 +48,15 @@ impl Path {
     {
         self.text.as_slice()
     }
+
+    /// An equal path.
+    pub fn twin(&self) -> Path
+        ensures { result ≡ self.now }
+    {
+        Path {
+            text: copy_of(self.text.as_slice()),
+        }
+    }
 }
 
 // What follows the `<` behind blanks.

@@ -1,6 +1,7 @@
 -- Texts and the lines that are heard of them.
 use Rattle.std.proofs.Common.{◌≡◌, [], ◌∷◌, ◌++◌, Some, refl}
 use Rattle.std.specs.Prelude.{codes}
+use Rattle.telnet.specs.First.{first_heard}
 use Rattle.telnet.specs.Items.{data_of, data_within}
 use Rattle.telnet.specs.Lines.{lines_heard, lines_of}
 
@@ -29,3 +30,13 @@ two_returns = refl
 unfinished : lines_heard (codes "a" ++ 10 ∷ codes "b" ++ 255 ∷ []) ≡ Some (codes "a") ∷ []
 unfolding data_of data_within lines_of
 unfinished = refl
+
+-- what follows the line that is heard first is left as it came, a negotiation at its front too
+first_and_raw : first_heard (codes "c " ++ 255 ∷ 251 ∷ 31 ∷ codes "a" ++ 13 ∷ 10 ∷ 255 ∷ 253 ∷ 1 ∷ codes "hello") ≡ Some record { line = Some (codes "c a"); rest = 255 ∷ 253 ∷ 1 ∷ codes "hello" }
+unfolding data_of data_within lines_of
+first_and_raw = refl
+
+-- a NUL behind LF is the first byte of what follows
+first_at_lf : first_heard (13 ∷ 10 ∷ 0 ∷ []) ≡ Some record { line = Some []; rest = 0 ∷ [] }
+unfolding data_of data_within lines_of
+first_at_lf = refl

@@ -7,7 +7,8 @@ use Rattle.telnet.specs.Place.{Strips}
 use Rattle.telnet.specs.TelnetView.{HearsByte, TelnetView, told}
 use Rattle.telnet.specs.declared.step.TelnetStep.{TelnetStep}
 use Rattle.telnet.specs.declared.step.TelnetStep.TheVariants.{More}
-use Rattle.telnet.proofs.ItemLemmas.{data_of-doubled_text}
+use Rattle.telnet.proofs.ItemLemmas.{data_of-doubled_text, data_of-nothing}
+use Rattle.telnet.proofs.LineLemmas.{lines_of-nothing}
 
 -- a text that stands for what is still to be heard
 abbrev pub seen : TelnetView → List ℕ → TelnetView
@@ -33,3 +34,6 @@ hears_none cut held then_held byte strips = record {
 pub none_heard : (cut : TelnetView) (held : List ℕ) → data_of held ≡ [] → lines_of cut.pending ≡ [] → lines_heard (seen cut held).pending ≡ []
 none_heard cut held nothing no_line =
     ap data_heard (data_of-doubled_text cut.pending held ∙ ap (λ t. cut.pending ++ t) nothing ∙ append-nil cut.pending) ∙ ap (map heard) no_line
+
+pub nothing_heard : lines_heard [] ≡ []
+nothing_heard = ap data_heard data_of-nothing ∙ ap (map heard) lines_of-nothing

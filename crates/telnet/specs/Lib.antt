@@ -1,4 +1,5 @@
 pub mod Cutting
+pub mod First
 pub mod Items
 pub mod Lines
 pub mod Place

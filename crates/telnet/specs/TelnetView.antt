@@ -26,14 +26,15 @@ pub record TelnetFed : Type 0 where
   pub answer : TelnetStep
   pub after : TelnetView
 
+-- what is known of a step: where it leads and what it tells, and that no line is left to be told
+pub record IsFed (step : TelnetStep) (old new : TelnetView) (byte : ℕ) : Type 0 where
+  pub hears : HearsByte step old new byte
+  pub prompt : lines_heard new.pending ≡ []
+
 -- each of the steps leads on from the one before it
-abbrev pub AllHear : TelnetView → List TelnetFed → Type 0
-AllHear before [] = Unit {0}
-AllHear before (step ∷ steps) = HearsByte step.answer before step.after step.byte × AllHear step.after steps
+abbrev pub AllFed : TelnetView → List TelnetFed → Type 0
+AllFed before [] = Unit {0}
+AllFed before (step ∷ steps) = IsFed step.answer before step.after step.byte × AllFed step.after steps
 
 abbrev pub all_told : List TelnetFed → List (Option (List ℕ))
 all_told steps = flat_map (λ step. told step.answer step.after.line) steps
-
-abbrev pub view_after : TelnetView → List TelnetFed → TelnetView
-view_after before [] = before
-view_after before (step ∷ steps) = view_after step.after steps

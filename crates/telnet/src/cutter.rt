@@ -1,5 +1,5 @@
 //! The cutting of data into lines.
-ghost use Rattle.std.specs.Prelude.{◌≡◌, ◌≤◌, [], ◌∷◌, ◌++◌, length, take};
+ghost use Rattle.std.specs.Prelude.{◌≡◌, ◌≢◌, ◌≤◌, [], ◌∷◌, ◌++◌, length, take};
 ghost use Rattle.telnet.specs.Cutting.{CutsData, ends_line, most_gathered};
 ghost use Rattle.telnet.specs.Lines.{lines_of};
 ghost use Rattle.telnet.specs.declared.step.TelnetStep.{TelnetStep};
@@ -7,6 +7,9 @@ ghost use Rattle.telnet.specs.declared.step.TelnetStep.{TelnetStep};
 use crate::TelnetStep;
 use arrayvec::ArrayVec;
 use std::marker::Model;
+
+/// The bytes of the longest line that is heard.
+const LONGEST: usize = 512;
 
 /// The line that is being read, and the one that was read last.
 #[derive(Drop)]
@@ -75,7 +78,7 @@ impl Cutter {
     {
         let kept = self.kept.take();
         self.returned = false;
-        if kept.len() > 512 {
+        if kept.len() > LONGEST {
             return TelnetStep::TooLong;
         }
         self.line = kept;
@@ -86,6 +89,7 @@ impl Cutter {
     pub(crate) fn take(&mut self, byte: u8) -> TelnetStep
         ensures cuts { CutsData result self.old self.new byte }
         ensures prompt { lines_of self.new.pending ≡ [] }
+        ensures done { result ≢ TelnetStep.More → self.new.pending ≡ [] }
         ensures more { result ≡ TelnetStep.More → self.new.line ≡ self.old.line }
         ensures too_long { result ≡ TelnetStep.TooLong → self.new.line ≡ self.old.line }
     {

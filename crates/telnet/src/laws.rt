@@ -1,10 +1,11 @@
 //! What the definitions of `specs/` come to. Each function states laws and does nothing.
-ghost use Rattle.std.specs.Prelude.{◌≡◌, ◌≢◌, ◌==◌, ℕ, ◌<◌, ◌≤◌, List, [], ◌∷◌, ◌++◌, Bool, ◌&&◌, not, IsTrue, map, flat_map};
+ghost use Rattle.std.specs.Prelude.{◌≡◌, ◌≢◌, ◌==◌, ℕ, ◌<◌, ◌≤◌, List, [], ◌∷◌, ◌++◌, Bool, ◌&&◌, not, IsTrue, map, flat_map, Option, Some, ◌↔◌};
 ghost use Rattle.std.specs.List.{list_all};
 ghost use Rattle.telnet.specs.Cutting.{is_line_byte};
 ghost use Rattle.telnet.specs.Items.{data_of, doubled, is_inside};
 ghost use Rattle.telnet.specs.Lines.{heard, lines_heard, lines_of};
-ghost use Rattle.telnet.specs.TelnetView.{AllHear, TelnetFed, all_told, view_after};
+ghost use Rattle.telnet.specs.First.{FirstHeard, IsFirst, first_heard, heard_from};
+ghost use Rattle.telnet.specs.TelnetView.{AllFed, IsFed, TelnetFed, TelnetView, all_told, told};
 
 /// The items (RFC 854, "TELNET COMMAND STRUCTURE"): a byte below 255; IAC IAC, which is the data byte 255; IAC with a
 /// byte below SB; IAC with WILL, WON'T, DO or DON'T and an option's code; IAC SB up to IAC SE, where IAC and the byte
@@ -55,9 +56,21 @@ pub fn plain_texts()
         → lines_heard (flat_map (λ line. line ++ 10 ∷ []) lines ++ rest) ≡ map heard lines }
 {}
 
-/// Steps over a whole text, from a new reader on, tell its lines.
+/// Steps over a whole text tell its lines, from a new reader on or from one that has just told a line.
 pub fn whole_texts()
-    ensures { (steps : List TelnetFed) → AllHear record { line = []; pending = [] } steps
-        → lines_heard (view_after record { line = []; pending = [] } steps).pending ≡ []
+    ensures { (old : TelnetView) (steps : List TelnetFed) → old.pending ≡ [] → AllFed old steps
         → all_told steps ≡ lines_heard (map (λ step. step.byte) steps) }
+{}
+
+/// Where the first line of a text ends, in the text as it came. Of steps from a new reader on, or from one that has
+/// just told a line, the last and no other tells a line exactly where they have taken the text up to there (`steps`).
+/// The front that ends there is the shortest of which a line is heard (`shortest`), and the lines of a text are the
+/// first and then those of what follows it (`lines`).
+pub fn first_lines()
+    ensures steps { (old : TelnetView) (steps : List TelnetFed) (last : TelnetFed) (line : Option (List ℕ)) (rest : List ℕ)
+        → old.pending ≡ [] → AllFed old (steps ++ last ∷ [])
+        → ((all_told steps ≡ []) × (told last.answer last.after.line ≡ line ∷ []))
+        ↔ (first_heard (map (λ step. step.byte) steps ++ last.byte ∷ rest) ≡ Some record { line = line; rest = rest }) }
+    ensures shortest { (text : List ℕ) (first : FirstHeard) → (first_heard text ≡ Some first) ↔ IsFirst text first }
+    ensures lines { (text : List ℕ) → lines_heard text ≡ heard_from (first_heard text) }
 {}

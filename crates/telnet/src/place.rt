@@ -1,5 +1,5 @@
 //! Where the reading of a text's items stands, and the data that a byte gives there.
-ghost use Rattle.std.specs.Prelude.{◌≡◌, [], ◌∷◌};
+ghost use Rattle.std.specs.Prelude.{◌≡◌, [], ◌∷◌, IfSome};
 ghost use Rattle.telnet.specs.Place.{held, Strips};
 
 /// Interpret as command (RFC 854, "TELNET COMMAND STRUCTURE").
@@ -29,7 +29,8 @@ pub(crate) enum Place {
 }
 
 fn in_data(byte: u8) -> (Place, Option<u8>)
-    ensures { Strips [] (held result.0) byte result.1 }
+    ensures strips { Strips [] (held result.0) byte result.1 }
+    ensures whole { IfSome result.1 (λ _. held result.0 ≡ []) }
 {
     if byte == IAC {
         (Place::Command, None)
@@ -39,7 +40,8 @@ fn in_data(byte: u8) -> (Place, Option<u8>)
 }
 
 fn in_command(byte: u8) -> (Place, Option<u8>)
-    ensures { Strips (255 ∷ []) (held result.0) byte result.1 }
+    ensures strips { Strips (255 ∷ []) (held result.0) byte result.1 }
+    ensures whole { IfSome result.1 (λ _. held result.0 ≡ []) }
 {
     match byte {
         IAC => (Place::Data, Some(IAC)),
@@ -50,14 +52,16 @@ fn in_command(byte: u8) -> (Place, Option<u8>)
 }
 
 fn in_choice(byte: u8) -> (Place, Option<u8>)
-    ensures { Strips (255 ∷ 251 ∷ []) (held result.0) byte result.1 }
+    ensures strips { Strips (255 ∷ 251 ∷ []) (held result.0) byte result.1 }
+    ensures whole { IfSome result.1 (λ _. held result.0 ≡ []) }
 {
     let _ = byte;
     (Place::Data, None)
 }
 
 fn inside(byte: u8) -> (Place, Option<u8>)
-    ensures { Strips (255 ∷ 250 ∷ []) (held result.0) byte result.1 }
+    ensures strips { Strips (255 ∷ 250 ∷ []) (held result.0) byte result.1 }
+    ensures whole { IfSome result.1 (λ _. held result.0 ≡ []) }
 {
     if byte == IAC {
         (Place::InsideCommand, None)
@@ -67,7 +71,8 @@ fn inside(byte: u8) -> (Place, Option<u8>)
 }
 
 fn inside_command(byte: u8) -> (Place, Option<u8>)
-    ensures { Strips (255 ∷ 250 ∷ 255 ∷ []) (held result.0) byte result.1 }
+    ensures strips { Strips (255 ∷ 250 ∷ 255 ∷ []) (held result.0) byte result.1 }
+    ensures whole { IfSome result.1 (λ _. held result.0 ≡ []) }
 {
     if byte == SE {
         (Place::Data, None)
@@ -77,9 +82,10 @@ fn inside_command(byte: u8) -> (Place, Option<u8>)
 }
 
 impl Place {
-    /// Where the reading stands behind a byte, and the data byte that it gives.
+    /// Where the reading stands behind a byte, and the data byte that it gives, which ends an item.
     pub(crate) fn behind(self, byte: u8) -> (Place, Option<u8>)
-        ensures { Strips (held self) (held result.0) byte result.1 }
+        ensures strips { Strips (held self) (held result.0) byte result.1 }
+        ensures whole { IfSome result.1 (λ _. held result.0 ≡ []) }
     {
         match self {
             Place::Data => in_data(byte),

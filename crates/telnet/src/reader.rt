@@ -1,4 +1,4 @@
-ghost use Rattle.std.specs.Prelude.{◌≡◌, ◌≤◌, [], length};
+ghost use Rattle.std.specs.Prelude.{◌≡◌, ◌≢◌, ◌≤◌, [], length};
 ghost use Rattle.telnet.specs.Lines.{lines_heard};
 ghost use Rattle.telnet.specs.TelnetView.{HearsByte};
 
@@ -39,10 +39,12 @@ impl Telnet {
         }
     }
 
-    /// Takes the next byte of the text, and tells whether a line has ended with it.
+    /// Takes the next byte of the text, and tells whether a line has ended with it. Behind a line nothing that came is
+    /// still to be heard: what follows in the text is as it came.
     pub fn feed(&mut self, byte: u8) -> TelnetStep
         ensures hears { HearsByte result self.old self.new byte }
         ensures prompt { lines_heard self.new.pending ≡ [] }
+        ensures done { result ≢ TelnetStep.More → self.new.pending ≡ [] }
         ensures more { result ≡ TelnetStep.More → self.new.line ≡ self.old.line }
         ensures too_long { result ≡ TelnetStep.TooLong → self.new.line ≡ self.old.line }
     {

@@ -1,4 +1,4 @@
-use Rattle.std.proofs.Common.{◌≡◌, [], false, sym, ◌∙◌, subst}
+use Rattle.std.proofs.Common.{sym, ◌∙◌, subst}
 use Rattle.smap_lines.specs.Place.{view_at}
 use Rattle.smap_lines.specs.MailBodyView.{GivesBody, MailBodyView}
 use Rattle.smap_lines.specs.declared.body.BodyStep.TheVariants.{End}

@@ -5,8 +5,8 @@ use Rattle.telnet.specs.declared.step.TelnetStep.TheVariants.{Line, TooLong}
 use Rattle.telnet.proofs.LineLemmas.{end_line, end_long, of}
 use Rattle.telnet.proofs.cutter.Cutter.end.Goals as goal
 
-pub returns-then-len-gt512-clause-cuts : goal.returns-then-len-gt512-clause-cuts
-returns-then-len-gt512-clause-cuts c =
+pub returns-then-len-gt-LONGEST-clause-cuts : goal.returns-then-len-gt-LONGEST-clause-cuts
+returns-then-len-gt-LONGEST-clause-cuts c =
     let kept = c.self.inside.kept.items in
     let same : c.take-kept.result.items ≡ kept = ap (λ v. v.items) c.take-kept.ensures.value in
     let long : 512 < length kept = omega (arith, c.len.ensures.value, ap length same) in

@@ -12,7 +12,7 @@ returns-in-Some-clause-hears c =
     let place = c.behind-place.result.0 in
     let S : Option ℕ → Type 0 = λ given. Strips (held inside.place) (held place) c.args.byte given in
     let P : TelnetView → Type 0 = λ old. HearsByte c.take.result old (seen c.take.new.self (held place)) c.args.byte in
-    subst P c.self.view_is (hears_some c.take.result inside.cutter c.take.new.self (held inside.place) (held place) c.args.byte c.in-Some.data_byte (subst S c.in-Some.is c.behind-place.ensures) c.take.ensures.cuts)
+    subst P c.self.view_is (hears_some c.take.result inside.cutter c.take.new.self (held inside.place) (held place) c.args.byte c.in-Some.data_byte (subst S c.in-Some.is c.behind-place.ensures.strips) c.take.ensures.cuts)
 
 pub returns-in-Some-clause-prompt : goal.returns-in-Some-clause-prompt
 returns-in-Some-clause-prompt c = none_heard c.take.new.self (held c.behind-place.result.0) (data_of-held c.behind-place.result.0) c.take.ensures.prompt
@@ -23,7 +23,7 @@ returns-in-None-clause-hears c =
     let place = c.behind-place.result.0 in
     let S : Option ℕ → Type 0 = λ given. Strips (held inside.place) (held place) c.args.byte given in
     let P : TelnetView → Type 0 = λ old. HearsByte More old (seen inside.cutter (held place)) c.args.byte in
-    subst P c.self.view_is (hears_none inside.cutter (held inside.place) (held place) c.args.byte (subst S c.in-None.is c.behind-place.ensures))
+    subst P c.self.view_is (hears_none inside.cutter (held inside.place) (held place) c.args.byte (subst S c.in-None.is c.behind-place.ensures.strips))
 
 pub returns-in-None-clause-prompt : goal.returns-in-None-clause-prompt
 returns-in-None-clause-prompt c = none_heard c.self.inside.cutter (held c.behind-place.result.0) (data_of-held c.behind-place.result.0) c.self.invariant
