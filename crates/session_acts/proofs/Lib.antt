@@ -1,0 +1,12 @@
+pub mod Acting
+pub mod CauseLemmas
+pub mod DeedLemmas
+pub mod DeviceLemmas
+pub mod KeptLemmas
+pub mod LinkedLemmas
+pub mod OwedLemmas
+pub mod SpentLemmas
+pub mod StageLemmas
+pub mod ToldLemmas
+pub mod StaysLemmas
+pub mod TurnLemmas

@@ -1,0 +1,38 @@
+//! What holds of every session, whatever its script.
+ghost use Rattle.std.specs.Prelude.{◌≡◌, ◌+◌, length, None};
+ghost use Rattle.fw_acts.specs.Acts.{Row, PlaceTable};
+ghost use Rattle.fw_types.specs.declared.ending.Ending.{Ending};
+ghost use Rattle.session_acts.specs.Deeds.{gives};
+ghost use Rattle.session_acts.specs.Laws.{CallsDialer, LinksDialer, TellsClient, TellsLog, called, linked, logged, told};
+ghost use Rattle.session_acts.specs.Met.{acts};
+ghost use Rattle.session_acts.specs.Session.{Held, deeds_of};
+ghost use Rattle.session_acts.specs.World.{World};
+
+/// What a client was given by a session is what its deeds say and try to say, one after another: of a text at which the
+/// client's sink failed, a front.
+pub fn the_client_is_told<Origin, P>()
+    ensures { (rows : PlaceTable (acts Origin) P) (first : Row (acts Origin) P) (old new : World Origin) (ending : Ending)
+        (held : Held rows first old new ending) → TellsClient (gives told (deeds_of held)) old new }
+{}
+
+/// What the log was given by a session is what its deeds log and note, one after another: of a text at which the log
+/// failed, a front.
+pub fn the_log_is_told<Origin, P>()
+    ensures { (rows : PlaceTable (acts Origin) P) (first : Row (acts Origin) P) (old new : World Origin) (ending : Ending)
+        (held : Held rows first old new ending) → TellsLog (gives logged (deeds_of held)) old new }
+{}
+
+/// What the dialer was asked by a session is the destinations that it dialed and reached, in order.
+pub fn the_dialer_is_asked<Origin, P>()
+    ensures { (rows : PlaceTable (acts Origin) P) (first : Row (acts Origin) P) (old new : World Origin) (ending : Ending)
+        (held : Held rows first old new ending) → CallsDialer (gives called (deeds_of held)) old new }
+{}
+
+/// Every link that came up in a session was hung up (`links`), and none is up at its end (`none`).
+pub fn the_links_are_hung_up<Origin, P>()
+    ensures links { (rows : PlaceTable (acts Origin) P) (first : Row (acts Origin) P) (old new : World Origin)
+        (ending : Ending) (held : Held rows first old new ending) →
+        LinksDialer (gives linked (deeds_of held)) old new }
+    ensures none { (rows : PlaceTable (acts Origin) P) (first : Row (acts Origin) P) (old new : World Origin)
+        (ending : Ending) → Held rows first old new ending → new.server.link ≡ None }
+{}
