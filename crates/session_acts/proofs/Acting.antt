@@ -1,5 +1,5 @@
 -- By which steps the check follows the rows.
-use Rattle.std.proofs.Common.{◌≡◌, subst, sym, ◌∙◌, Result, Ok, Err, IsErrAnd}
+use Rattle.std.proofs.Common.{◌≡◌, Result, Ok, Err, IsErrAnd}
 use Rattle.fw_acts.specs.Acts.{Row, PlaceTable}
 use Rattle.fw_acts.specs.Acts.Row.{Do, At}
 use Rattle.fw_acts.specs.Ran.{Ran}

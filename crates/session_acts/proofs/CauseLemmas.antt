@@ -1,7 +1,7 @@
 -- Each ending has its cause.
-use Rattle.std.proofs.Common.{arith, ◌≡◌, refl, sym, ap, subst, ◌∙◌, ℕ, ◌+◌, ◌<◌, ◌≤◌, ◌⊎◌, inl, inr, Bool, true, false, ◌||◌, nat_lt, List, [], ◌∷◌, ◌++◌, length, map, min, ◌^◌, ◌-◌, Option, Some, None, Result, Ok, Err}
+use Rattle.std.proofs.Common.{arith, ◌≡◌, refl, sym, ap, subst, ◌∙◌, ℕ, ◌⊎◌, inl, inr, Bool, true, false, ◌||◌, nat_lt, List, [], ◌∷◌, ◌++◌, map, Option, Some, None, Result, Ok, Err}
 use Rattle.std.proofs.lemmas.Bool.{eqb-true, lt-ltb}
-use Rattle.auth_events.specs.Port.{Asks, Port}
+use Rattle.auth_events.specs.Port.{Port}
 use Rattle.auth_events.specs.declared.port.PortFault.{PortFault}
 use Rattle.auth_events.specs.declared.port.PortFault.TheVariants as faults
 use Rattle.auth_events.specs.declared.reply.Reply.{Reply}
@@ -11,26 +11,26 @@ use Rattle.fw_acts.specs.Acts.{Row, PlaceTable}
 use Rattle.fw_acts.specs.Acts.Row.{Over}
 use Rattle.fw_acts.specs.Ran.{Comes}
 use Rattle.fw_acts.proofs.RanLemmas.{stopped}
-use Rattle.fw_outside.specs.Counts.{Grew, Rose}
-use Rattle.fw_outside.specs.DialerView.{DialerView, LinkView, RoseIf, has_broken}
+use Rattle.fw_outside.specs.Counts.{Rose}
+use Rattle.fw_outside.specs.DialerView.{DialerView, RoseIf, has_broken}
 use Rattle.fw_outside.specs.SinkView.{SinkView}
-use Rattle.fw_outside.specs.ToldList.{AddsOne, grown}
+use Rattle.fw_outside.specs.ToldList.{AddsOne}
 use Rattle.fw_outside.specs.declared.heard.Heard.TheVariants.{Stopped}
 use Rattle.fw_outside.specs.declared.heard.Stop.TheVariants as stops
 use Rattle.fw_types.specs.declared.dest.Dest.{Dest}
 use Rattle.fw_types.specs.declared.ending.Ending.{Ending}
-use Rattle.session_acts.specs.Acts.{Act, Front, Halt, Outcome, cause_by, fault_cause, silence_cause}
+use Rattle.session_acts.specs.Acts.{Act, Front, Halt, cause_by, fault_cause, silence_cause}
 use Rattle.session_acts.specs.Acts.Act.{Hear, Say, Try, Log, Note, Ask, Renew, Dial, Reach, Take, Pass, HangUp}
-use Rattle.session_acts.specs.Causes.{Caused, IsLast, LinkTookMost, SessionKeeps, TookAtMost, TookMost}
-use Rattle.session_acts.specs.Deeds.{Deed, DeedsAll, deeds_ran, done}
-use Rattle.session_acts.specs.Met.{Asking, Clears, Hanging, Hears, Heeds, IsTold, Met, Passes, Stops, Takes, acts, number_told}
-use Rattle.session_acts.specs.Session.{Held, Session, closing, deeds_of, ending_by, ending_closed, ending_of, freeing, owed}
+use Rattle.session_acts.specs.Causes.{Caused, IsLast, LinkTookMost, SessionKeeps, TookMost}
+use Rattle.session_acts.specs.Deeds.{DeedsAll, deeds_ran, done}
+use Rattle.session_acts.specs.Met.{Asking, Clears, Hanging, Hears, Heeds, IsTold, Met, Passes, Takes, acts}
+use Rattle.session_acts.specs.Session.{Session, closing, deeds_of, ending_by, ending_closed, ending_of, freeing, owed}
 use Rattle.session_acts.specs.World.{Devices, Office, Server, Speaker, World, at_first, devices_of, most_taken}
 use Rattle.session_acts.specs.declared.cause.Cause.{Cause}
 use Rattle.session_acts.specs.declared.cause.Cause.TheVariants.{ClientFault, ServerFault, LogFault, AuthFault, Idle, NoRoute, Spent, NoMemory}
 use Rattle.session_acts.specs.declared.silence.Silence.{Silence}
 use Rattle.session_acts.specs.declared.silence.Silence.TheVariants.{Quiet, Broken, Limit}
-use Rattle.session_acts.proofs.DeedLemmas.{DeedsParted, all_last, deeds_done, deeds_parted, held_deeds, ran_deeds}
+use Rattle.session_acts.proofs.DeedLemmas.{all_last, deeds_done, deeds_parted, held_deeds, ran_deeds}
 use Rattle.session_acts.proofs.DeviceLemmas.{halted_faults, halted_idles, rose_within}
 use Rattle.session_acts.proofs.OwedLemmas.{closing_server}
 use Rattle.session_acts.proofs.StaysLemmas.{IsSound, LinkSound, Stays, clears_keeps, stays_both, stays_last, stays_same}

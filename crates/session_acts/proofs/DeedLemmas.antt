@@ -1,5 +1,5 @@
 -- What each deed gives or keeps is given or kept by all of them.
-use Rattle.std.proofs.Common.{◌≡◌, refl, sym, subst, List, [], ◌∷◌, ◌++◌, map, Result, Ok, Err}
+use Rattle.std.proofs.Common.{refl, sym, subst, List, [], ◌∷◌, ◌++◌, map, Result, Ok, Err}
 use Rattle.fw_acts.specs.Acts.{Row, Step, PlaceTable}
 use Rattle.fw_acts.specs.Acts.Row.{Do, At, Over}
 use Rattle.fw_acts.specs.Ran.{Comes, Ran}
@@ -7,7 +7,7 @@ use Rattle.fw_acts.specs.Runs.{DoesAll}
 use Rattle.fw_types.specs.declared.ending.Ending.{Ending}
 use Rattle.session_acts.specs.Acts.{Act, Outcome}
 use Rattle.session_acts.specs.Deeds.{Deed, DeedsAll, Gains, Lasts, deed_last, deeds_ran, done, gives}
-use Rattle.session_acts.specs.Met.{Met, acts}
+use Rattle.session_acts.specs.Met.{acts}
 use Rattle.session_acts.specs.Session.{Held, deeds_of, owed}
 use Rattle.session_acts.specs.World.{World}
 use Rattle.session_acts.specs.declared.cause.Cause.{Cause}

@@ -1,11 +1,9 @@
 -- The references that a session is lent stay, and asking leaves the link.
-use Rattle.std.proofs.Common.{◌≡◌, refl, ◌∙◌, ℕ, List, Option}
+use Rattle.std.proofs.Common.{◌≡◌, refl, ◌∙◌}
 use Rattle.fw_types.specs.declared.ending.Ending.{Ending}
 use Rattle.fw_acts.specs.Acts.{Row, PlaceTable}
-use Rattle.session_acts.specs.Acts.{Act, Outcome}
-use Rattle.session_acts.specs.Acts.Act.{HangUp}
 use Rattle.session_acts.specs.Deeds.{Lasts}
-use Rattle.session_acts.specs.Met.{Met, acts}
+use Rattle.session_acts.specs.Met.{acts}
 use Rattle.session_acts.specs.Session.{Held, deeds_of}
 use Rattle.session_acts.specs.World.{World}
 use Rattle.session_acts.proofs.DeedLemmas.{all_last, held_deeds}

@@ -1,5 +1,5 @@
 -- What is owed after a dialogue.
-use Rattle.std.proofs.Common.{◌≡◌, true, false, is_some, refl, sym, ap, subst, ◌∙◌, ℕ, List, [], Option, Some, None, Result, Ok, Err}
+use Rattle.std.proofs.Common.{◌≡◌, true, false, is_some, refl, sym, ap, subst, ◌∙◌, ℕ, Option, Some, None, Result, Ok, Err}
 use Rattle.auth_events.specs.declared.port.PortFault.{PortFault}
 use Rattle.auth_events.specs.declared.port.PortFault.TheVariants as faults
 use Rattle.auth_events.specs.declared.reply.Reply.{Reply}
@@ -9,12 +9,11 @@ use Rattle.fw_acts.specs.Acts.Row.{Over}
 use Rattle.fw_acts.specs.Ran.{Ran}
 use Rattle.fw_outside.specs.LineReaderView.{LineReaderView}
 use Rattle.fw_types.specs.declared.ending.Ending.{Ending}
-use Rattle.session_acts.specs.Acts.{fault_cause}
 use Rattle.session_acts.specs.Acts.Act.{Ask, HangUp}
 use Rattle.session_acts.specs.Closing.{Closing, ending_told}
 use Rattle.session_acts.specs.Deeds.{DeedsAll}
 use Rattle.session_acts.specs.Met.{Met, Stops, acts}
-use Rattle.session_acts.specs.Session.{Held, Session, closing, ending_by, ending_closed, ending_of, freeing, owed}
+use Rattle.session_acts.specs.Session.{Held, Session, closing, ending_by, ending_closed, ending_of, freeing}
 use Rattle.session_acts.specs.World.{Server, Speaker, World, at_first, devices_of, unheard}
 use Rattle.session_acts.specs.declared.cause.Cause.{Cause}
 use Rattle.session_acts.proofs.DeedLemmas.{deeds_both, deeds_parted}

@@ -13,20 +13,19 @@ use Rattle.fw_outside.specs.declared.heard.Heard.{Heard}
 use Rattle.fw_outside.specs.declared.heard.Heard.TheVariants.{Line, TooLong, Stopped}
 use Rattle.fw_outside.specs.declared.heard.Stop.TheVariants as stops
 use Rattle.fw_types.specs.declared.ending.Ending.{Ending}
-use Rattle.session_acts.specs.Acts.{Act, Answer, Front, Halt, Outcome, cause_by, silence_cause}
+use Rattle.session_acts.specs.Acts.{Act, Answer, Front, Halt, cause_by, silence_cause}
 use Rattle.session_acts.specs.Acts.Act.{Hear, Say, Try, Log, Note, Ask, Renew, Dial, Reach, Take, Pass, HangUp}
 use Rattle.session_acts.specs.Causes.{TakesFor, is_spent_ending}
 use Rattle.session_acts.specs.Deeds.{DeedsAll}
 use Rattle.session_acts.specs.Met.{Hears, Heeds, HeedsLine, IsTold, Met, acts}
-use Rattle.session_acts.specs.Session.{Held, Session, closing, ending_by, ending_of, freeing, owed}
-use Rattle.session_acts.specs.World.{Devices, Speaker, World, at_first, devices_of, most_taken}
+use Rattle.session_acts.specs.Session.{Session, closing, ending_by, ending_of, freeing, owed}
+use Rattle.session_acts.specs.World.{Devices, Speaker, World, at_first, most_taken}
 use Rattle.session_acts.specs.declared.cause.Cause.{Cause}
-use Rattle.session_acts.specs.declared.cause.Cause.TheVariants.{ClientFault, Idle, Spent}
+use Rattle.session_acts.specs.declared.cause.Cause.TheVariants.{ClientFault, Idle}
 use Rattle.session_acts.specs.declared.silence.Silence.{Silence}
 use Rattle.session_acts.specs.declared.silence.Silence.TheVariants.{Quiet, Broken, Limit}
 use Rattle.session_acts.proofs.CauseLemmas.{session_stays}
 use Rattle.session_acts.proofs.DeedLemmas.{deeds_parted}
-use Rattle.session_acts.proofs.StaysLemmas.{Stays}
 
 -- whether no more bytes may be taken of the client
 abbrev none_left : Speaker → Bool

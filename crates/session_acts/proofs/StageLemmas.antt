@@ -1,5 +1,5 @@
 -- What the desk's devices did, as acts.
-use Rattle.std.proofs.Common.{◌≡◌, refl, ap, ℕ, List, Option, Some, None, Result, Ok, Err}
+use Rattle.std.proofs.Common.{refl, ap, ℕ, List, Option, Some, None, Result, Ok, Err}
 use Rattle.fw_outside.specs.SinkView.{Cut, Gives, SinkView}
 use Rattle.fw_outside.specs.declared.failed.Failed.{Failed}
 use Rattle.session_acts.specs.Acts.{Front}

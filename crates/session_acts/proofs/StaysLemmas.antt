@@ -1,6 +1,5 @@
 -- What every deed keeps of the devices.
-use Rattle.std.proofs.Common.{arith, ◌≡◌, refl, sym, ap, subst, ℕ, ◌+◌, ◌≤◌, Bool, true, false, List, [], length, Option, Some, None, Result, Ok, Err}
-use Rattle.auth_events.specs.Port.{Port}
+use Rattle.std.proofs.Common.{arith, ◌≡◌, refl, sym, subst, ℕ, ◌+◌, Bool, true, false, List, length, Option, Some, None, Result, Ok, Err}
 use Rattle.auth_events.specs.declared.port.PortFault.{PortFault}
 use Rattle.auth_events.specs.declared.reply.Reply.{Reply}
 use Rattle.auth_events.specs.declared.request.Request.{Request}
@@ -17,8 +16,8 @@ use Rattle.fw_types.specs.declared.dest.Dest.{Dest}
 use Rattle.session_acts.specs.Acts.{Act, Front, Outcome}
 use Rattle.session_acts.specs.Acts.Act.{Hear, Say, Try, Log, Note, Ask, Renew, Dial, Reach, Take, Pass, HangUp}
 use Rattle.session_acts.specs.Deeds.{Lasts}
-use Rattle.session_acts.specs.Met.{Asking, AtClient, AtLogs, AtOffice, AtServer, Clears, Connects, ConnectsIf, Dialing, Gets, Hanging, Hears, Heeds, HeedsLine, IsTold, Met, Misses, Passes, Renewing, Takes, number_told, stop_of}
-use Rattle.session_acts.specs.World.{Office, Server, Speaker, World, most_taken, unheard}
+use Rattle.session_acts.specs.Met.{Asking, AtClient, AtLogs, AtOffice, AtServer, Clears, ConnectsIf, Dialing, Gets, Hanging, Hears, Heeds, HeedsLine, IsTold, Met, Passes, Takes, number_told, stop_of}
+use Rattle.session_acts.specs.World.{Office, Server, Speaker, World, most_taken}
 use Rattle.session_acts.specs.declared.silence.Silence.{Silence}
 use Rattle.session_acts.proofs.DeviceLemmas.{DialerKeeps, PortKeeps, SinkKeeps, SourceKeeps, asks_port, both_dialer, both_port, both_sink, both_source, listens_source, rose_if, same_dialer, same_port, same_sink, same_source}
 

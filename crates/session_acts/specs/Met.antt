@@ -1,5 +1,5 @@
 -- What an act, with its outcome, does to each part of what the session meets.
-use Rattle.std.specs.Prelude.{◌≡◌, ℕ, ◌≤◌, Bool, true, false, List, [], length, Option, Some, None, Result, Ok, Err, unwrap_or}
+use Rattle.std.specs.Prelude.{◌≡◌, ℕ, ◌≤◌, Bool, true, false, List, length, Option, Some, None, Result, Ok, Err, unwrap_or}
 use Rattle.auth_events.specs.Port.{Asks, Port}
 use Rattle.auth_events.specs.declared.port.PortFault.{PortFault}
 use Rattle.auth_events.specs.declared.reply.Reply.{Reply}
@@ -97,9 +97,14 @@ AtLogs act outcome old new = new ≡ old
 
 -- ---- the office
 
+-- the reply, where there was one
+abbrev pub reply_of : Result Reply PortFault → Option Reply
+reply_of (Ok reply) = Some reply
+reply_of (Err fault) = None
+
 -- the session that is open after a request was asked: one that is asked to close isn't open any more
-abbrev pub opened_then : Request → Result Reply PortFault → Option ℕ → Option ℕ
-opened_then (requests.Open console) (Ok (replies.Opened sid)) opened = Some sid
+abbrev pub opened_then : Request → Option Reply → Option ℕ → Option ℕ
+opened_then (requests.Open console) (Some (replies.Opened sid)) opened = Some sid
 opened_then requests.Close reply opened = None
 opened_then request reply opened = opened
 
@@ -114,7 +119,7 @@ pub record Asking {Origin : Type 0} (request : Request) (reply : Result Reply Po
   pub port : Port Origin
   pub gave_time : GaveTime moment old.clock clock
   pub asks : Asks reply (number_told old.opened) moment request old.port port
-  pub is : new ≡ record old { clock = clock; port = port; opened = opened_then request reply old.opened }
+  pub is : new ≡ record old { clock = clock; port = port; opened = opened_then request (reply_of reply) old.opened }
 
 -- the dice gave this salt, with which a new password was asked for
 pub record Renewing {Origin : Type 0} (name hash salt : List ℕ) (reply : Result Reply PortFault) (old new : Office Origin) : Type 0 where

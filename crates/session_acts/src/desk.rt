@@ -4,7 +4,7 @@ ghost use Rattle.auth_events.specs.Port.{Port};
 ghost use Rattle.fw_outside.specs.DiceView.{DiceView};
 ghost use Rattle.session_acts.specs.Acts.{fault_cause, silence_cause};
 ghost use Rattle.session_acts.specs.Link.{link_view};
-ghost use Rattle.session_acts.specs.Met.{Asking, opened_then};
+ghost use Rattle.session_acts.specs.Met.{Asking, opened_then, reply_of};
 
 use crate::link::{Link, clear, connect, heed, pass_text, take_line};
 use crate::{Cause, Silence, Stage};
@@ -68,7 +68,7 @@ fn opened_then(
     reply: &Result<Reply, PortFault>,
     opened: Option<u64>,
 ) -> Option<u64>
-    ensures { result ≡ opened_then request.now reply.now opened }
+    ensures { result ≡ opened_then request.now (reply_of reply.now) opened }
 {
     match request {
         Request::Open { .. } => match reply {

@@ -18,9 +18,11 @@ mod script;
 mod session;
 mod silence;
 mod stage;
+mod telling;
 
 pub use cause::Cause;
 pub use script::Script;
 pub use session::session_over;
 pub use silence::Silence;
 pub use stage::Stage;
+pub use telling::{log_and_tell, tell};

@@ -1,4 +1,4 @@
-use Rattle.std.proofs.Common.{rules, subst, IfSome, Option}
+use Rattle.std.proofs.Common.{rules, subst, IfSome}
 use Rattle.fw_acts.proofs.RanLemmas.{ran_on, ran_then}
 use Rattle.session_acts.proofs.TurnLemmas.{at_end, at_place, still_less}
 use Rattle.session_acts.proofs.session.dialogue.Goals as goal
