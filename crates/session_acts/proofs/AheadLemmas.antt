@@ -62,11 +62,14 @@ client_nearer Take outcome old new h = same_nearer old new h
 client_nearer (Pass text) outcome old new h = same_nearer old new h
 client_nearer HangUp outcome old new h = same_nearer old new h
 
+pub met_ahead : {Origin : Type 0} (act : Act) (outcome : Outcome act) (old new : World Origin) → Met act outcome old new → ahead_of_client new ≤ ahead_of_client old
+met_ahead act outcome old new met = client_nearer act outcome old.client new.client met.client
+
 pub ahead_lasts : {Origin : Type 0} → Lasts Origin (λ old new. ahead_of_client new ≤ ahead_of_client old)
 ahead_lasts = record {
   none = λ world. omega (arith);
   both = λ old mid new a b. omega (arith, a, b);
-  one = λ act outcome old new met. client_nearer act outcome old.client new.client met.client;
+  one = met_ahead;
 }
 
 -- no run of rows brings more

@@ -12,9 +12,9 @@ use Rattle.fw_types.specs.declared.ending.Ending.{Ending}
 use Rattle.session_acts.specs.Acts.Act.{Ask, HangUp}
 use Rattle.session_acts.specs.Closing.{Closing, ending_told}
 use Rattle.session_acts.specs.Deeds.{DeedsAll}
-use Rattle.session_acts.specs.Met.{Met, Stops, acts}
+use Rattle.session_acts.specs.Met.{Met, Stops, acts, opened_then, reply_of}
 use Rattle.session_acts.specs.Session.{Held, Session, closing, ending_by, ending_closed, ending_of, freeing}
-use Rattle.session_acts.specs.World.{Server, Speaker, World, at_first, devices_of, unheard}
+use Rattle.session_acts.specs.World.{Office, Server, Speaker, World, at_first, devices_of, unheard}
 use Rattle.session_acts.specs.declared.cause.Cause.{Cause}
 use Rattle.session_acts.proofs.DeedLemmas.{deeds_both, deeds_parted}
 
@@ -22,6 +22,10 @@ ends_told : (dialogue closed : Result (Unit {0}) Cause) (opened : Option ℕ) (a
 ends_told (Ok done) (Ok closed) opened answer tells = tells
 ends_told (Ok done) (Err cause) opened answer tells = tells
 ends_told (Err cause) closed opened answer tells = refl
+
+closed_then : (reply : Option Reply) (opened : Option ℕ) → opened_then requests.Close reply opened ≡ None
+closed_then None opened = refl
+closed_then (Some reply) opened = refl
 
 module _ {Origin : Type 0} where
   -- a link was hung up
@@ -94,3 +98,14 @@ module _ {Origin : Type 0} where
   held_unlinked rows first old new ending held =
       let parted = deeds_parted (freeing held.mid.server.link) (closing held.mid.office.opened held.answer) held.mid new held.after in
       ap (λ (s : Server). s.link) (closing_server held.mid.office.opened held.answer parted.mid new parted.after) ∙ freeing_link held.mid.server.link held.mid parted.mid refl parted.before
+
+  closing_opened : (opened : Option ℕ) (answer : Result Reply PortFault) (old new : World Origin) → old.office.opened ≡ opened → DeedsAll (closing opened answer) old new → new.office.opened ≡ None
+  closing_opened None answer old new is all = ap (λ (w : World Origin). w.office.opened) (sym all) ∙ is
+  closing_opened (Some sid) answer old new is all =
+      ap (λ (w : World Origin). w.office.opened) (sym all.2) ∙ ap (λ (o : Office Origin). o.opened) all.1.office.is ∙ closed_then (reply_of answer) old.office.opened
+
+  -- and no session is open
+  pub held_closed : {P : Type 0} (rows : PlaceTable (acts Origin) P) (first : Row (acts Origin) P) (old new : World Origin) (ending : Ending) → Held rows first old new ending → new.office.opened ≡ None
+  held_closed rows first old new ending held =
+      let parted = deeds_parted (freeing held.mid.server.link) (closing held.mid.office.opened held.answer) held.mid new held.after in
+      closing_opened held.mid.office.opened held.answer parted.mid new (free_opened held.mid.server.link held.mid parted.mid parted.before) parted.after

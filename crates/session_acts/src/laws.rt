@@ -62,3 +62,9 @@ pub fn the_salts_are_thrown<Origin, P>()
     ensures { (rows : PlaceTable (acts Origin) P) (first : Row (acts Origin) P) (old new : World Origin) (ending : Ending)
         (held : Held rows first old new ending) → ThrowsSalts (gives thrown (deeds_of held)) old new }
 {}
+
+/// At the end of a session none is open at the port that it opened and didn't ask to close.
+pub fn the_session_is_closed<Origin, P>()
+    ensures { (rows : PlaceTable (acts Origin) P) (first : Row (acts Origin) P) (old new : World Origin)
+        (ending : Ending) → Held rows first old new ending → new.office.opened ≡ None }
+{}
