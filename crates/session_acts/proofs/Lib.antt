@@ -13,3 +13,4 @@ pub mod TalkLemmas
 pub mod ToldLemmas
 pub mod StaysLemmas
 pub mod TurnLemmas
+mod Rows
