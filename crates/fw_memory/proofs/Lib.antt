@@ -1,4 +1,5 @@
 pub mod MemKeeperLemmas
 pub mod CallCounterLemmas
+pub mod MemDialerLemmas
 pub mod MemSinkLemmas
 mod Rows

@@ -4,12 +4,14 @@
 //! [`MemSource`], [`MemSink`] and [`MemKeeper`] fail exactly at the calls that they are told, and so do the sources
 //! that [`MemFiles`] gives. It gives none for a name that it lacks; that it gives one for each other name, where there
 //! is memory, is said by no clause. [`MemClock`] and [`MemDice`] give exactly the moments and the numbers that they
-//! were made with.
+//! were made with. [`MemDialer`] brings up the links that it was given, in order, and refuses exactly the calls that it is
+//! told, those past its room, and those for which no link is left.
 #![tactic(auto)]
 
 mod call_counter;
 mod calls;
 mod mem_clock;
+mod mem_dialer;
 mod mem_dice;
 mod mem_files;
 mod mem_keeper;
@@ -18,6 +20,7 @@ mod mem_source;
 
 pub use calls::Calls;
 pub use mem_clock::MemClock;
+pub use mem_dialer::MemDialer;
 pub use mem_dice::MemDice;
 pub use mem_files::MemFiles;
 pub use mem_keeper::MemKeeper;

@@ -73,6 +73,13 @@ impl MemSink {
         &self.given
     }
 
+    // How often it failed.
+    pub(crate) fn faults(&self) -> u64
+        ensures { result ≡ self.now.faults }
+    {
+        self.faults
+    }
+
     // One more call, which is told to fail or not.
     fn is_failing(&mut self) -> bool
         ensures answer { result ≡ comes_at self.old.fails self.old.calls }

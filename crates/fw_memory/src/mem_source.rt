@@ -72,6 +72,20 @@ impl MemSource {
         self.faults > 0 || self.idles > 0
     }
 
+    // How often it failed.
+    pub(crate) fn faults(&self) -> u64
+        ensures { result ≡ self.now.faults }
+    {
+        self.faults
+    }
+
+    // How often nothing came.
+    pub(crate) fn idles(&self) -> u64
+        ensures { result ≡ self.now.idles }
+    {
+        self.idles
+    }
+
     // Counts one more call, and tells its number.
     fn call(&mut self) -> u64
         ensures number { result ≡ self.old.calls }

@@ -6,6 +6,7 @@ pub mod ClockView
 pub mod Lines
 pub mod SourceView
 pub mod ToldList
+pub mod DialerView
 pub mod DiceView
 pub mod KeeperView
 pub mod LineReaderView

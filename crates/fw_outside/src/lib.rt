@@ -1,5 +1,5 @@
-//! What the firewall's programs meet outside themselves: bytes that come, bytes that go, files, a clock, dice and the
-//! keeper of the users' records.
+//! What the firewall's programs meet outside themselves: bytes that come, bytes that go, files, a clock, dice, the
+//! keeper of the users' records, and the dialer that makes links to other hosts.
 //!
 //! Each kind of device is a trait with one ghost member, a plain record that says what the device means: what was taken
 //! from it and is left, what was given to it, and how often it failed. Each method has a clause that says what its
@@ -14,7 +14,10 @@
 //! The plain types of `fw_types` are handed on.
 #![tactic(auto)]
 
+mod ask;
 mod clock;
+mod dialed;
+mod dialer;
 mod dice;
 mod failed;
 mod files;
@@ -26,7 +29,10 @@ mod line_text;
 mod sink;
 mod source;
 
+pub use ask::Ask;
 pub use clock::Clock;
+pub use dialed::Dialed;
+pub use dialer::Dialer;
 pub use dice::Dice;
 pub use failed::Failed;
 pub use files::Files;

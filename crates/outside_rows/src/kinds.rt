@@ -1,6 +1,7 @@
 //! The kinds of row.
 
 use crate::devices::{tell_clock, tell_dice, tell_files, tell_sink, tell_source};
+use crate::dialing::tell_dialer;
 use crate::keeping::tell_keeper;
 use crate::lines::tell_lines;
 use crate::values::{
@@ -46,6 +47,7 @@ impl Rows for Kinds {
             "source" => tell_source(alloc, asked, out),
             "sink" => tell_sink(alloc, asked, out),
             "files" => tell_files(alloc, asked, out),
+            "dialer" => tell_dialer(alloc, asked, out),
             "keeper" => tell_keeper(alloc, asked, out),
             "lines" => tell_lines(alloc, asked, out),
             "dice" => {

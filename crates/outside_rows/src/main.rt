@@ -3,6 +3,7 @@
 #![tactic(auto)]
 
 mod devices;
+mod dialing;
 mod keeping;
 mod kinds;
 mod lines;

@@ -1,0 +1,103 @@
+-- A dialer in memory.
+use Rattle.std.specs.Prelude.{◌≡◌, ℕ, nat_le, nat_lt, ◌||◌, ◌&&◌, not, Bool, true, false, List, [], ◌∷◌, ◌++◌, length, map, drop, Option, Some, None, if◌then◌else◌}
+use Rattle.std.specs.List.{slice_get}
+use Rattle.fw_outside.specs.Counts.{counted}
+use Rattle.fw_outside.specs.DialerView.{DialerView, LinkView, has_broken}
+use Rattle.fw_outside.specs.declared.ask.Ask.{Ask}
+use Rattle.fw_outside.specs.declared.dialed.Dialed.{Dialed}
+use Rattle.fw_outside.specs.declared.dialed.Dialed.TheVariants.{Up, Refused}
+use Rattle.fw_memory.specs.CallsView.{CallsView, comes_at}
+use Rattle.fw_memory.specs.MemSinkView.{MemSinkView, sink_view_of}
+use Rattle.fw_memory.specs.MemSourceView.{MemSourceView, source_view_of}
+
+-- the links to come, in order; the entries for which there is room, the calls that are refused, and how many calls there
+-- were; what was asked, and whether a call came past that room; the links that were hung up, for how many of them there is
+-- room, and whether one was hung up past that; and the counts
+pub record MemDialerView : Type 0 where
+  pub links : List (MemSourceView × MemSinkView)
+  pub room : ℕ
+  pub fails : CallsView
+  pub calls : ℕ
+  pub asked : List Ask
+  pub asked_past : Bool
+  pub ended : List (MemSourceView × MemSinkView)
+  pub ended_room : ℕ
+  pub ended_past : Bool
+  pub refusals : ℕ
+  pub link_faults : ℕ
+  pub link_idles : ℕ
+  pub waits : ℕ
+
+-- nothing was taken of the link or given to it, and nothing is counted
+pub record IsNewLink (link : MemSourceView × MemSinkView) : Type 0 where
+  pub taken : link.0.taken ≡ []
+  pub faults : link.0.faults ≡ 0
+  pub idles : link.0.idles ≡ 0
+  pub given : link.1.given ≡ []
+  pub unshut : link.1.shut ≡ false
+  pub unfailed : link.1.faults ≡ 0
+
+abbrev pub link_view_of : MemSourceView × MemSinkView → LinkView
+link_view_of link = record { from = source_view_of link.0; to = sink_view_of link.1 }
+
+-- it tells all, but no list for which there was no room
+abbrev pub dialer_view_of : MemDialerView → DialerView
+dialer_view_of d = record {
+  asked = if d.asked_past then None else Some d.asked;
+  ended = if d.ended_past then None else Some (map link_view_of d.ended);
+  refusals = d.refusals;
+  link_faults = d.link_faults;
+  link_idles = d.link_idles;
+  waits = d.waits;
+}
+
+-- whether there is room for one more entry of what was asked
+abbrev pub has_room : MemDialerView → Bool
+has_room d = nat_lt (length d.asked) d.room
+
+-- whether there is room for one more link that was hung up
+abbrev pub has_ended_room : MemDialerView → Bool
+has_ended_room d = nat_lt (length d.ended) d.ended_room
+
+-- whether a call brings a link up: it isn't told to fail, there is room for its entry, and a link is left
+abbrev pub brings_up : MemDialerView → Bool
+brings_up d = not (comes_at d.fails d.calls) && (has_room d && nat_lt 0 (length d.links))
+
+abbrev pub is_up : {I O : Type 0} → Dialed I O → Bool
+is_up (Up from to) = true
+is_up Refused = false
+
+-- one more call was made, its entry stands where there is room, and what was told stands
+pub record CountsAsk (ask : Ask) (old new : MemDialerView) : Type 0 where
+  pub room : new.room ≡ old.room
+  pub fails : new.fails ≡ old.fails
+  pub calls : new.calls ≡ counted old.calls
+  pub asked : new.asked ≡ (if has_room old then old.asked ++ ask ∷ [] else old.asked)
+  pub asked_past : new.asked_past ≡ (old.asked_past || not (has_room old))
+  pub ended : new.ended ≡ old.ended
+  pub ended_room : new.ended_room ≡ old.ended_room
+  pub ended_past : new.ended_past ≡ old.ended_past
+  pub link_faults : new.link_faults ≡ old.link_faults
+  pub link_idles : new.link_idles ≡ old.link_idles
+  pub waits : new.waits ≡ old.waits
+
+-- the link is the first of those to come, and waits as the dialer says
+abbrev pub IsNextLink : MemSourceView → MemSinkView → MemDialerView → MemDialerView → Type 0
+IsNextLink from to old new =
+    (source : MemSourceView) × (from ≡ record source { waits = old.waits }) × (old.links ≡ (source, to) ∷ new.links)
+
+-- what stands after a link was hung up
+pub record CountsHangUp (from : MemSourceView) (to : MemSinkView) (old new : MemDialerView) : Type 0 where
+  pub links : new.links ≡ old.links
+  pub room : new.room ≡ old.room
+  pub fails : new.fails ≡ old.fails
+  pub calls : new.calls ≡ old.calls
+  pub asked : new.asked ≡ old.asked
+  pub asked_past : new.asked_past ≡ old.asked_past
+  pub ended : new.ended ≡ (if has_ended_room old then old.ended ++ (from, to) ∷ [] else old.ended)
+  pub ended_past : new.ended_past ≡ (old.ended_past || not (has_ended_room old))
+  pub ended_room : new.ended_room ≡ old.ended_room
+  pub refusals : new.refusals ≡ old.refusals
+  pub link_faults : new.link_faults ≡ (if has_broken (source_view_of from) (sink_view_of to) then counted old.link_faults else old.link_faults)
+  pub link_idles : new.link_idles ≡ (if nat_lt 0 from.idles then counted old.link_idles else old.link_idles)
+  pub waits : new.waits ≡ old.waits

@@ -1,0 +1,284 @@
+ghost use Rattle.std.specs.Prelude.{◌≡◌, ◌<◌, ◌++◌, ◌∷◌, [], ◌||◌, ◌&&◌, All, nat_lt, length, false, not, is_some, IfOk, IfSome, IfNone, if◌then◌else◌};
+ghost use Rattle.fw_outside.specs.Counts.{Rose, counted};
+ghost use Rattle.fw_outside.specs.DialerView.{ComesUp, HangsUp, IfRefused, IfUp, Refuses, RoseIf, dialer_waiting, has_broken};
+ghost use Rattle.fw_outside.specs.ToldList.{AddsOne};
+ghost use Rattle.fw_outside.specs.declared.ask.Ask.TheVariants.{Main};
+ghost use Rattle.fw_memory.specs.CallsView.{comes_at};
+ghost use Rattle.fw_memory.specs.MemDialerView.{CountsAsk, CountsHangUp, IsNewLink, IsNextLink, brings_up, dialer_view_of, has_ended_room, has_room, is_up, link_view_of};
+ghost use Rattle.fw_memory.specs.MemSinkView.{sink_view_of};
+ghost use Rattle.fw_memory.specs.MemSourceView.{source_view_of};
+
+use crate::{Calls, MemSink, MemSource};
+use fw_outside::{Ask, Dialed, Dialer, Source};
+use fw_types::{Dest, NoMemory};
+use std::alloc::Global;
+use std::collections::VecDeque;
+use std::marker::Model;
+
+/// A dialer in memory, which brings up links that it was given, and refuses calls as it is told.
+#[derive(Drop)]
+pub struct MemDialer {
+    links: VecDeque<(MemSource, MemSink)>,
+    room: usize,
+    fails: Calls,
+    calls: u64,
+    asked: Vec<Ask>,
+    asked_past: bool,
+    ended: Vec<(MemSource, MemSink)>,
+    ended_room: usize,
+    ended_past: bool,
+    refusals: u64,
+    link_faults: u64,
+    link_idles: u64,
+    waits: u32,
+}
+
+impl Model for MemDialer {
+    ghost use Rattle.std.specs.Prelude.{◌≤◌, All, vec_len};
+    ghost use Rattle.std.specs.Vec.{vec_capacity};
+    ghost use Rattle.fw_memory.specs.MemDialerView.{IsNewLink, MemDialerView};
+
+    ghost Value = { MemDialerView };
+
+    ghost view = { λ d. record {
+      links = d.links.items;
+      room = d.room;
+      fails = d.fails;
+      calls = d.calls;
+      asked = d.asked.items;
+      asked_past = d.asked_past;
+      ended = d.ended.items;
+      ended_room = d.ended_room;
+      ended_past = d.ended_past;
+      refusals = d.refusals;
+      link_faults = d.link_faults;
+      link_idles = d.link_idles;
+      waits = d.waits;
+    } };
+
+    ghost invariant = { λ d. (d.room ≤ vec_capacity d.asked) × (d.ended_room ≤ vec_capacity d.ended) × All IsNewLink d.links.items };
+}
+
+// Whether the source or the sink failed.
+fn has_broken(from: &MemSource, to: &MemSink) -> bool
+    ensures { result ≡ has_broken (source_view_of from.now) (sink_view_of to.now) }
+{
+    from.faults() > 0 || to.faults() > 0
+}
+
+impl MemDialer {
+    /// A dialer that brings up these links, in order. Its calls of `dial` are numbered from 0; those in `fails` are
+    /// refused, and so are all when no link is left. There is room for `asks` entries of what was asked: a call past it
+    /// is refused, and from then on they aren't told. There is room for as many links that were hung up as there are
+    /// links; past it they aren't told.
+    pub fn new(
+        alloc: Global,
+        links: Vec<(MemSource, MemSink)>,
+        asks: usize,
+        fails: Calls,
+    ) -> Result<MemDialer, NoMemory>
+        requires { All IsNewLink links.items }
+        ensures { IfOk result (λ dialer. dialer ≡ record {
+          links = links.items;
+          room = asks;
+          fails = fails;
+          calls = 0;
+          asked = [];
+          asked_past = false;
+          ended = [];
+          ended_room = length links.items;
+          ended_past = false;
+          refusals = 0;
+          link_faults = 0;
+          link_idles = 0;
+          waits = 3600;
+        }) }
+    {
+        let asked = Vec::with_capacity(alloc, asks)?;
+        let ended_room = links.len();
+        let ended = Vec::with_capacity(alloc, ended_room)?;
+        Ok(MemDialer {
+            links: VecDeque::from(links),
+            room: asks,
+            fails,
+            calls: 0,
+            asked,
+            asked_past: false,
+            ended,
+            ended_room,
+            ended_past: false,
+            refusals: 0,
+            link_faults: 0,
+            link_idles: 0,
+            waits: 3600,
+        })
+    }
+
+    /// What was asked for: all of it, or the first entries, for which there was room.
+    pub fn asked(&self) -> &[Ask]
+        ensures { result.now ≡ self.now.asked }
+    {
+        &self.asked
+    }
+
+    /// The links that were hung up: all of them, or the first ones, for which there was room.
+    pub fn ended(&self) -> &[(MemSource, MemSink)]
+        ensures { result.now ≡ self.now.ended }
+    {
+        &self.ended
+    }
+
+    // Counts one more call, which is told to fail or not.
+    fn is_failing(&mut self) -> bool
+        ensures answer { result ≡ comes_at self.old.fails self.old.calls }
+        ensures is { self.new ≡ record self.old { calls = counted self.old.calls } }
+    {
+        let call = self.calls;
+        self.calls = call.saturating_add(1);
+        self.fails.contains(call)
+    }
+
+    // Notes what was asked, where there is room, and says whether there was.
+    fn note(&mut self, ask: Ask) -> bool
+        ensures answer { result ≡ has_room self.old }
+        ensures is { self.new ≡ record self.old {
+          asked = (if has_room self.old then self.old.asked ++ ask ∷ [] else self.old.asked);
+          asked_past = self.old.asked_past || not (has_room self.old);
+        } }
+    {
+        if self.asked.len() >= self.room {
+            self.asked_past = true;
+            return false;
+        }
+        if self.asked.push(ask).is_err() {
+            unreachable!();
+        }
+        true
+    }
+
+    // Counts and notes one more call, and says whether it may bring a link up.
+    fn begin(&mut self, ask: Ask) -> bool
+        ensures answer { result ≡ (not (comes_at self.old.fails self.old.calls) && has_room self.old) }
+        ensures is { self.new ≡ record self.old {
+          calls = counted self.old.calls;
+          asked = (if has_room self.old then self.old.asked ++ ask ∷ [] else self.old.asked);
+          asked_past = self.old.asked_past || not (has_room self.old);
+        } }
+        ensures adds { AddsOne ask (dialer_view_of self.old).asked (dialer_view_of self.new).asked }
+    {
+        let failing = self.is_failing();
+        let noted = self.note(ask);
+        !failing && noted
+    }
+
+    // The next of the links to come, which waits as the dialer says.
+    fn next_link(&mut self) -> Option<(MemSource, MemSink)>
+        ensures some { is_some result ≡ nat_lt 0 (length self.old.links) }
+        ensures is_new { IfSome result IsNewLink }
+        ensures next { IfSome result (λ link. self.old.links ≡ link ∷ self.new.links) }
+        ensures none { IfNone result (self.new.links ≡ self.old.links) }
+        ensures is { self.new ≡ record self.old { links = self.new.links } }
+    {
+        self.links.pop_front()
+    }
+
+    fn refuse(&mut self)
+        ensures rose { Rose self.old.refusals self.new.refusals }
+        ensures is { self.new ≡ record self.old { refusals = counted self.old.refusals } }
+    {
+        self.refusals = self.refusals.saturating_add(1);
+    }
+
+    // Counts a link that failed.
+    fn count_fault(&mut self, broken: bool)
+        ensures rose { RoseIf broken self.old.link_faults self.new.link_faults }
+        ensures is { self.new ≡ record self.old {
+          link_faults = (if broken then counted self.old.link_faults else self.old.link_faults);
+        } }
+    {
+        if broken {
+            self.link_faults = self.link_faults.saturating_add(1);
+        }
+    }
+
+    // Counts a link that was idle.
+    fn count_idle(&mut self, idle: bool)
+        ensures rose { RoseIf idle self.old.link_idles self.new.link_idles }
+        ensures is { self.new ≡ record self.old {
+          link_idles = (if idle then counted self.old.link_idles else self.old.link_idles);
+        } }
+    {
+        if idle {
+            self.link_idles = self.link_idles.saturating_add(1);
+        }
+    }
+
+    // Keeps a link that was hung up, where there is room.
+    fn keep(&mut self, from: MemSource, to: MemSink)
+        ensures is { self.new ≡ record self.old {
+          ended = (if has_ended_room self.old then self.old.ended ++ (from, to) ∷ [] else self.old.ended);
+          ended_past = self.old.ended_past || not (has_ended_room self.old);
+        } }
+        ensures adds { AddsOne (link_view_of (from, to)) (dialer_view_of self.old).ended
+            (dialer_view_of self.new).ended }
+    {
+        if self.ended.len() >= self.ended_room {
+            self.ended_past = true;
+            return;
+        }
+        if self.ended.push((from, to)).is_err() {
+            unreachable!();
+        }
+    }
+}
+
+impl Dialer for MemDialer {
+    type In = MemSource;
+
+    type Out = MemSink;
+
+    ghost dialer_view = { dialer_view_of };
+
+    fn dial(&mut self, dest: &Dest) -> Dialed<MemSource, MemSink>
+        ensures up { IfUp result (λ from to. ComesUp (Main dest.now)
+            (source_view_of from) (sink_view_of to) (dialer_view_of self.old) (dialer_view_of self.new)) }
+        ensures refused { IfRefused result (Refuses (Main dest.now)
+            (dialer_view_of self.old) (dialer_view_of self.new)) }
+        ensures answer { is_up result ≡ brings_up self.old }
+        ensures next { IfUp result (λ from to. IsNextLink from to self.old self.new) }
+        ensures kept { IfRefused result (self.new.links ≡ self.old.links) }
+        ensures once { CountsAsk (Main dest.now) self.old self.new }
+    {
+        if !self.begin(Ask::Main(dest.twin())) {
+            self.refuse();
+            return Dialed::Refused;
+        }
+        match self.next_link() {
+            Some((mut from, to)) => {
+                from.patience(self.waits);
+                Dialed::Up(from, to)
+            }
+            None => {
+                self.refuse();
+                Dialed::Refused
+            }
+        }
+    }
+
+    fn hang_up(&mut self, from: MemSource, to: MemSink)
+        ensures hangs_up { HangsUp (source_view_of from) (sink_view_of to)
+            (dialer_view_of self.old) (dialer_view_of self.new) }
+        ensures once { CountsHangUp from to self.old self.new }
+    {
+        self.count_fault(has_broken(&from, &to));
+        self.count_idle(from.idles() > 0);
+        self.keep(from, to);
+    }
+
+    fn patience(&mut self, seconds: u32)
+        ensures waits { dialer_view_of self.new ≡ dialer_waiting (dialer_view_of self.old) seconds }
+        ensures is { self.new ≡ record self.old { waits = seconds } }
+    {
+        self.waits = seconds;
+    }
+}

@@ -1,0 +1,102 @@
+-- No deed brings more bytes of the client, and a line that is heard takes some.
+use Rattle.std.proofs.Common.{arith, ◌≡◌, refl, sym, ap, subst, ◌∙◌, ℕ, ◌+◌, ◌<◌, ◌≤◌, List, [], ◌∷◌, ◌++◌, length, Option, Some, None, Result, Ok, Err}
+use Rattle.std.proofs.lemmas.List.{length-append}
+use Rattle.fw_acts.specs.Acts.{Row, PlaceTable}
+use Rattle.fw_acts.specs.Ran.{Ran}
+use Rattle.fw_outside.specs.Lines.{first_line}
+use Rattle.fw_outside.specs.declared.heard.Heard.{Heard}
+use Rattle.fw_outside.specs.declared.heard.Heard.TheVariants.{Line, TooLong, Stopped}
+use Rattle.fw_outside.specs.declared.heard.Stop.TheVariants as stops
+use Rattle.session_acts.specs.Acts.{Act, Front, Outcome}
+use Rattle.session_acts.specs.Acts.Act.{Hear, Say, Try, Log, Note, Ask, Renew, Dial, Reach, Take, Pass, HangUp}
+use Rattle.session_acts.specs.Deeds.{Lasts}
+use Rattle.session_acts.specs.Distance.{ahead, ahead_of_client}
+use Rattle.session_acts.specs.Met.{AtClient, Hears, Heeds, HeedsLine, IsTold, Met, acts, stop_of}
+use Rattle.session_acts.specs.World.{Speaker, World}
+use Rattle.session_acts.specs.declared.cause.Cause.{Cause}
+use Rattle.session_acts.specs.declared.silence.Silence.{Silence}
+use Rattle.session_acts.proofs.DeedLemmas.{ran_last}
+
+pub heeds_ahead : (heard : Heard) (old new : Speaker) (h : Heeds heard old new) → ahead old ≡ length h.listens.bytes + ahead new
+heeds_ahead heard old new h =
+    let lengths : length (old.reader.pending ++ h.listens.reads.taken_now) ≡ length (h.listens.bytes ++ h.reader.pending) = ap length h.listens.reads.reader in
+    let left = length-append old.reader.pending h.listens.reads.taken_now in
+    let right = length-append h.listens.bytes h.reader.pending in
+    let room = h.listens.reads.room in
+    let is : ahead old ≡ length h.listens.bytes + (length h.reader.pending + h.reader.room) = omega (arith, lengths, left, right, room) in
+    is ∙ ap (λ (s : Speaker). length h.listens.bytes + ahead s) (sym h.is)
+
+heeds_nearer : (heard : Heard) (old new : Speaker) → Heeds heard old new → ahead new ≤ ahead old
+heeds_nearer heard old new h = let is = heeds_ahead heard old new h in omega (arith, is)
+
+line_nearer : (heard : Heard) (old new : Speaker) → HeedsLine heard old new → ahead new ≤ ahead old
+line_nearer (Line line) old new h = heeds_nearer (Line line) old new h
+line_nearer TooLong old new h = heeds_nearer TooLong old new h
+line_nearer (Stopped stops.End) old new h = heeds_nearer (Stopped stops.End) old new h
+line_nearer (Stopped stops.Idle) old new h = absurd h
+line_nearer (Stopped stops.Failed) old new h = absurd h
+line_nearer (Stopped stops.Spent) old new h = absurd h
+
+hears_nearer : (outcome : Result Heard Silence) (old new : Speaker) → Hears outcome old new → ahead new ≤ ahead old
+hears_nearer (Ok heard) old new h = line_nearer heard old new h
+hears_nearer (Err silence) old new h = heeds_nearer (Stopped (stop_of silence)) old new h
+
+same_nearer : (old new : Speaker) → new ≡ old → ahead new ≤ ahead old
+same_nearer old new is = subst (λ (s : Speaker). ahead s ≤ ahead old) (sym is) (omega (arith))
+
+told_nearer : (text : List ℕ) (outcome : Result (Unit {0}) (Front text)) (old new : Speaker) → IsTold text outcome old new → ahead new ≤ ahead old
+told_nearer text outcome old new h = subst (λ (s : Speaker). ahead s ≤ ahead old) (sym h.is) (omega (arith))
+
+client_nearer : (act : Act) (outcome : Outcome act) (old new : Speaker) → AtClient act outcome old new → ahead new ≤ ahead old
+client_nearer Hear outcome old new h = hears_nearer outcome old new h
+client_nearer (Say text) outcome old new h = told_nearer text outcome old new h
+client_nearer (Try text) (Ok tried) old new h = told_nearer text tried old new h
+client_nearer (Try text) (Err never) old new h = absurd never
+client_nearer (Log text) outcome old new h = same_nearer old new h
+client_nearer (Note text) outcome old new h = same_nearer old new h
+client_nearer (Ask request) outcome old new h = same_nearer old new h
+client_nearer (Renew name hash) outcome old new h = same_nearer old new h
+client_nearer (Dial dest) outcome old new h = same_nearer old new h
+client_nearer (Reach dest) outcome old new h = same_nearer old new h
+client_nearer Take outcome old new h = same_nearer old new h
+client_nearer (Pass text) outcome old new h = same_nearer old new h
+client_nearer HangUp outcome old new h = same_nearer old new h
+
+pub met_ahead : {Origin : Type 0} (act : Act) (outcome : Outcome act) (old new : World Origin) → Met act outcome old new → ahead_of_client new ≤ ahead_of_client old
+met_ahead act outcome old new met = client_nearer act outcome old.client new.client met.client
+
+pub ahead_lasts : {Origin : Type 0} → Lasts Origin (λ old new. ahead_of_client new ≤ ahead_of_client old)
+ahead_lasts = record {
+  none = λ world. omega (arith);
+  both = λ old mid new a b. omega (arith, a, b);
+  one = met_ahead;
+}
+
+-- no run of rows brings more
+pub ran_ahead : {Origin P T : Type 0} {rows : PlaceTable (acts Origin) P} {r : Row (acts Origin) P} {at : T → Row (acts Origin) P} {old new : World Origin} {result : Result T Cause}
+    → Ran rows r at old new result → ahead_of_client new ≤ ahead_of_client old
+ran_ahead ran = ran_last ahead_lasts ran
+
+no_line : (bytes line : List ℕ) → first_line bytes ≡ Some (line, []) → 0 < length bytes
+no_line [] line is = absurd (cc)
+no_line (b ∷ bytes) line is = omega (arith)
+
+-- a line, or one that is too long
+abbrev pub IsSomeLine : Heard → Type 0
+IsSomeLine (Line line) = Unit {0}
+IsSomeLine TooLong = Unit {0}
+IsSomeLine (Stopped stop) = ⊥
+
+-- hearing one takes some bytes
+pub heard_ahead : {Origin : Type 0} (heard : Heard) (old new : World Origin) → IsSomeLine heard → Met Hear (Ok heard) old new → ahead_of_client new < ahead_of_client old
+heard_ahead (Line line) old new some met =
+    let h : Heeds (Line line) old.client new.client = met.client in
+    let is = heeds_ahead (Line line) old.client new.client h in
+    let more : 0 < length h.listens.bytes = no_line h.listens.bytes line.items h.listens.is_heard.is in
+    omega (arith, is, more)
+heard_ahead TooLong old new some met =
+    let h : Heeds TooLong old.client new.client = met.client in
+    let is = heeds_ahead TooLong old.client new.client h in
+    let more : 0 < length h.listens.bytes = no_line h.listens.bytes h.listens.is_heard.line h.listens.is_heard.is in
+    omega (arith, is, more)
+heard_ahead (Stopped stop) old new some met = absurd some

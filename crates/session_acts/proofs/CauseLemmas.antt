@@ -1,0 +1,329 @@
+-- Each ending has its cause.
+use Rattle.std.proofs.Common.{arith, ◌≡◌, refl, sym, ap, subst, ◌∙◌, ℕ, ◌⊎◌, inl, inr, Bool, true, false, ◌||◌, nat_lt, List, [], ◌∷◌, ◌++◌, map, Option, Some, None, Result, Ok, Err}
+use Rattle.std.proofs.lemmas.Bool.{eqb-true, lt-ltb}
+use Rattle.auth_events.specs.Port.{Port}
+use Rattle.auth_events.specs.declared.port.PortFault.{PortFault}
+use Rattle.auth_events.specs.declared.port.PortFault.TheVariants as faults
+use Rattle.auth_events.specs.declared.reply.Reply.{Reply}
+use Rattle.auth_events.specs.declared.request.Request.{Request}
+use Rattle.auth_events.specs.declared.request.Request.TheVariants as requests
+use Rattle.fw_acts.specs.Acts.{Row, PlaceTable}
+use Rattle.fw_acts.specs.Acts.Row.{Over}
+use Rattle.fw_acts.specs.Ran.{Comes}
+use Rattle.fw_acts.proofs.RanLemmas.{stopped}
+use Rattle.fw_outside.specs.Counts.{Rose}
+use Rattle.fw_outside.specs.DialerView.{DialerView, RoseIf, has_broken}
+use Rattle.fw_outside.specs.SinkView.{SinkView}
+use Rattle.fw_outside.specs.ToldList.{AddsOne}
+use Rattle.fw_outside.specs.declared.heard.Heard.TheVariants.{Stopped}
+use Rattle.fw_outside.specs.declared.heard.Stop.TheVariants as stops
+use Rattle.fw_types.specs.declared.dest.Dest.{Dest}
+use Rattle.fw_types.specs.declared.ending.Ending.{Ending}
+use Rattle.session_acts.specs.Acts.{Act, Front, Halt, cause_by, fault_cause, silence_cause}
+use Rattle.session_acts.specs.Acts.Act.{Hear, Say, Try, Log, Note, Ask, Renew, Dial, Reach, Take, Pass, HangUp}
+use Rattle.session_acts.specs.Causes.{Caused, IsLast, LinkTookMost, SessionKeeps, TookMost}
+use Rattle.session_acts.specs.Deeds.{DeedsAll, deeds_ran, done}
+use Rattle.session_acts.specs.Met.{Asking, Clears, Hanging, Hears, Heeds, IsTold, Met, Passes, Takes, acts}
+use Rattle.session_acts.specs.Session.{Session, closing, deeds_of, ending_by, ending_closed, ending_of, freeing, owed}
+use Rattle.session_acts.specs.World.{Devices, Office, Server, Speaker, World, at_first, devices_of, most_taken}
+use Rattle.session_acts.specs.declared.cause.Cause.{Cause}
+use Rattle.session_acts.specs.declared.cause.Cause.TheVariants.{ClientFault, ServerFault, LogFault, AuthFault, Idle, NoRoute, Spent, NoMemory}
+use Rattle.session_acts.specs.declared.silence.Silence.{Silence}
+use Rattle.session_acts.specs.declared.silence.Silence.TheVariants.{Quiet, Broken, Limit}
+use Rattle.session_acts.proofs.DeedLemmas.{all_last, deeds_done, deeds_parted, held_deeds, ran_deeds}
+use Rattle.session_acts.proofs.DeviceLemmas.{halted_faults, halted_idles, rose_within}
+use Rattle.session_acts.proofs.OwedLemmas.{closing_server}
+use Rattle.session_acts.proofs.StaysLemmas.{IsSound, LinkSound, Stays, clears_keeps, stays_both, stays_last, stays_same}
+
+-- ---- what a stop counts, as the session stands then
+
+-- the link that is up has failed, or was idle, or all that may be was taken of it
+abbrev HasBroken : Option Speaker → Type 0
+HasBroken None = ⊥
+HasBroken (Some link) = has_broken link.inlet link.outlet ≡ true
+
+abbrev HasIdled : Option Speaker → Type 0
+HasIdled None = ⊥
+HasIdled (Some link) = nat_lt 0 link.inlet.idles ≡ true
+
+abbrev IsUsedUp : Option Speaker → Type 0
+IsUsedUp None = ⊥
+IsUsedUp (Some link) = link.reader.room ≡ 0
+
+abbrev Counted : {Origin : Type 0} → Cause → World Origin → World Origin → Type 0
+Counted ClientFault old new = Rose old.client.inlet.faults new.client.inlet.faults ⊎ Rose old.client.outlet.faults new.client.outlet.faults
+Counted ServerFault old new = HasBroken new.server.link
+Counted LogFault old new = Rose old.logs.faults new.logs.faults
+Counted AuthFault old new = Rose old.office.port.faults new.office.port.faults ⊎ Rose old.office.port.odd new.office.port.odd
+Counted Idle old new = Rose old.client.inlet.idles new.client.inlet.idles ⊎ HasIdled new.server.link
+Counted NoRoute old new = Rose old.server.dialer.refusals new.server.dialer.refusals
+Counted Spent old new = (new.client.reader.room ≡ 0) ⊎ IsUsedUp new.server.link
+Counted NoMemory old new = Unit {0}
+
+positive : (before now : ℕ) → Rose before now → nat_lt 0 now ≡ true
+positive before now rose = let more = rose.1 in lt-ltb 0 now (omega (arith, more))
+
+rose_true : (b : Bool) (before now : ℕ) → b ≡ true → RoseIf b before now → Rose before now
+rose_true b before now is rose = subst (λ (z : Bool). RoseIf z before now) is rose
+
+or_right : (a b : Bool) → b ≡ true → (a || b) ≡ true
+or_right true b is = refl
+or_right false b is = is
+
+or_left : (a b : Bool) → a ≡ true → (a || b) ≡ true
+or_left a b is = ap (λ (z : Bool). z || b) is
+
+-- a speaker whose source failed
+faulted : (old new : Speaker) → Heeds (Stopped stops.Failed) old new → Rose old.inlet.faults new.inlet.faults
+faulted old new h =
+    subst (λ (s : Speaker). Rose old.inlet.faults s.inlet.faults) (sym h.is) (halted_faults h.listens.reads.taken_now old.inlet h.listens.middle h.inlet h.listens.reads.takes h.listens.closes.1)
+
+idled : (old new : Speaker) → Heeds (Stopped stops.Idle) old new → Rose old.inlet.idles new.inlet.idles
+idled old new h =
+    subst (λ (s : Speaker). Rose old.inlet.idles s.inlet.idles) (sym h.is) (halted_idles h.listens.reads.taken_now old.inlet h.listens.middle h.inlet h.listens.reads.takes h.listens.closes.1)
+
+used_up : (old new : Speaker) → Heeds (Stopped stops.Spent) old new → new.reader.room ≡ 0
+used_up old new h = ap (λ (s : Speaker). s.reader.room) h.is ∙ eqb-true h.reader.room 0 (sym h.listens.spent)
+
+dropped : (text : List ℕ) (front : Front text) (old new : Speaker) → IsTold text (Err front) old new → Rose old.outlet.faults new.outlet.faults
+dropped text front old new h =
+    subst (λ (s : Speaker). Rose old.outlet.faults s.outlet.faults) (sym h.is) (subst (λ (s : SinkView). Rose old.outlet.faults s.faults) (sym h.gets.is) h.gets.rose)
+
+module _ {Origin : Type 0} where
+  hear_counted : (silence : Silence) (old new : World Origin) → Hears (Err silence) old.client new.client → Counted (silence_cause ClientFault silence) old new
+  hear_counted Quiet old new h = inl (idled old.client new.client h)
+  hear_counted Broken old new h = inl (faulted old.client new.client h)
+  hear_counted Limit old new h = inl (used_up old.client new.client h)
+
+  fault_counted : (request : Request) (fault : PortFault) (before : Office Origin) (old new : World Origin) → before.port ≡ old.office.port → Asking request (Err fault) before new.office → Counted (fault_cause fault) old new
+  fault_counted request faults.NoMemory before old new same h = tt
+  fault_counted request faults.Link before old new same h =
+      let rose : Rose before.port.faults new.office.port.faults = subst (λ (o : Office Origin). Rose before.port.faults o.port.faults) (sym h.is) (subst (λ (p : Port Origin). Rose before.port.faults p.faults) (sym h.asks.is) h.asks.rose) in
+      inl (subst (λ (p : Port Origin). Rose p.faults new.office.port.faults) same rose)
+  fault_counted request faults.Strange before old new same h =
+      let rose : Rose before.port.odd new.office.port.odd = subst (λ (o : Office Origin). Rose before.port.odd o.port.odd) (sym h.is) (subst (λ (p : Port Origin). Rose before.port.odd p.odd) (sym h.asks.is) h.asks.rose) in
+      inr (subst (λ (p : Port Origin). Rose p.odd new.office.port.odd) same rose)
+
+  -- the server that was taken of or passed to
+  take_counted : (silence : Silence) (link : Option Speaker) (old new : World Origin) → Takes (Err silence) link old.server new.server → Counted (silence_cause ServerFault silence) old new
+  take_counted silence None old new h = let clash = h.0 in absurd (cc)
+  take_counted Quiet (Some link) old new h =
+      inr (subst (λ (s : Server). HasIdled s.link) (sym h.is) (positive link.inlet.idles h.speaker.inlet.idles (idled link h.speaker h.hears)))
+  take_counted Broken (Some link) old new h =
+      subst (λ (s : Server). HasBroken s.link) (sym h.is) (or_left (nat_lt 0 h.speaker.inlet.faults) (nat_lt 0 h.speaker.outlet.faults) (positive link.inlet.faults h.speaker.inlet.faults (faulted link h.speaker h.hears)))
+  take_counted Limit (Some link) old new h = inr (subst (λ (s : Server). IsUsedUp s.link) (sym h.is) (used_up link h.speaker h.hears))
+
+  pass_counted : (text : List ℕ) (front : Front text) (link : Option Speaker) (old new : World Origin) → Passes text (Err front) link old.server new.server → Counted ServerFault old new
+  pass_counted text front None old new h = let clash = h.0 in absurd (cc)
+  pass_counted text front (Some link) old new h =
+      subst (λ (s : Server). HasBroken s.link) (sym h.is) (or_right (nat_lt 0 h.speaker.inlet.faults) (nat_lt 0 h.speaker.outlet.faults) (positive link.outlet.faults h.speaker.outlet.faults (dropped text front link h.speaker h.told)))
+
+  reach_counted : (dest : Dest) (halt : Unit {0}) (old new : World Origin) → Met (Reach dest) (Err halt) old new → Counted NoRoute old new
+  reach_counted dest halt old new met =
+      let dialing = met.server in
+      let since : Rose dialing.cleared.refusals new.server.dialer.refusals = subst (λ (s : Server). Rose dialing.cleared.refusals s.dialer.refusals) (sym dialing.connects.is) (subst (λ (d : DialerView). Rose dialing.cleared.refusals d.refusals) (sym dialing.connects.refused.is) dialing.connects.refused.rose) in
+      let before = clears_keeps old.server.link old.server.dialer dialing.cleared dialing.clears in
+      rose_within old.server.dialer.refusals dialing.cleared.refusals new.server.dialer.refusals new.server.dialer.refusals before.refusals since (omega (arith))
+
+  stop_counted : (act : Act) (halt : Halt act) (old new : World Origin) → Met act (Err halt) old new → Counted (cause_by act halt) old new
+  stop_counted Hear halt old new met = hear_counted halt old new met.client
+  stop_counted (Say text) halt old new met = inr (dropped text halt old.client new.client met.client)
+  stop_counted (Try text) halt old new met = absurd halt
+  stop_counted (Log text) halt old new met = subst (λ (s : SinkView). Rose old.logs.faults s.faults) (sym met.logs.is) met.logs.rose
+  stop_counted (Note text) halt old new met = absurd halt
+  stop_counted (Ask request) halt old new met = fault_counted request halt old.office old new refl met.office
+  stop_counted (Renew name hash) halt old new met =
+      fault_counted (requests.Password name halt.0 hash) halt.1 (record (old.office) { dice = met.office.dice }) old new refl met.office.asking
+  stop_counted (Dial dest) halt old new met = absurd halt
+  stop_counted (Reach dest) halt old new met = reach_counted dest halt old new met
+  stop_counted Take halt old new met = take_counted halt old.server.link old new met.server
+  stop_counted (Pass text) halt old new met = pass_counted text halt old.server.link old new met.server
+  stop_counted HangUp halt old new met = absurd halt
+
+  -- what was counted before is counted over a longer time
+  counted_since : (cause : Cause) (old mid new : World Origin) → Stays old mid → Counted cause mid new → Counted cause old new
+  counted_since ClientFault old mid new a (inl rose) = inl (rose_within old.client.inlet.faults mid.client.inlet.faults new.client.inlet.faults new.client.inlet.faults a.client.source.faults rose (omega (arith)))
+  counted_since ClientFault old mid new a (inr rose) = inr (rose_within old.client.outlet.faults mid.client.outlet.faults new.client.outlet.faults new.client.outlet.faults a.client.sink.drops rose (omega (arith)))
+  counted_since ServerFault old mid new a broken = broken
+  counted_since LogFault old mid new a rose = rose_within old.logs.faults mid.logs.faults new.logs.faults new.logs.faults a.logs.drops rose (omega (arith))
+  counted_since AuthFault old mid new a (inl rose) = inl (rose_within old.office.port.faults mid.office.port.faults new.office.port.faults new.office.port.faults a.port.breaks rose (omega (arith)))
+  counted_since AuthFault old mid new a (inr rose) = inr (rose_within old.office.port.odd mid.office.port.odd new.office.port.odd new.office.port.odd a.port.strays rose (omega (arith)))
+  counted_since Idle old mid new a (inl rose) = inl (rose_within old.client.inlet.idles mid.client.inlet.idles new.client.inlet.idles new.client.inlet.idles a.client.source.idles rose (omega (arith)))
+  counted_since Idle old mid new a (inr idle) = inr idle
+  counted_since NoRoute old mid new a rose = rose_within old.server.dialer.refusals mid.server.dialer.refusals new.server.dialer.refusals new.server.dialer.refusals a.server.dialer.refusals rose (omega (arith))
+  counted_since Spent old mid new a (inl none) = inl none
+  counted_since Spent old mid new a (inr none) = inr none
+  counted_since NoMemory old mid new a counted = tt
+
+  -- ---- a link that had failed, been idle or been used up is counted when it is hung up
+
+  -- what hanging the link up left
+  record Freed (link : Option Speaker) (old new : World Origin) : Type 0 where
+    hanging : Clears link old.server.dialer new.server.dialer
+    others : Stays old new
+
+  freed : (link : Option Speaker) (old new : World Origin) → old.server.link ≡ link → DeedsAll (freeing link) old new → Freed link old new
+  freed None old new is all = subst (λ (w : World Origin). Freed None old w) all (record { hanging = refl; others = stays_same old })
+  freed (Some link) old new is all =
+      let hanging : Hanging old.server all.0.server = all.1.server in
+      let clears : Clears (Some link) old.server.dialer all.0.server.dialer = subst (λ (l : Option Speaker). Clears l old.server.dialer all.0.server.dialer) is (subst (λ (s : Server). Clears old.server.link old.server.dialer s.dialer) (sym hanging.is) hanging.clears) in
+      subst (λ (w : World Origin). Freed (Some link) old w) all.2 (record { hanging = clears; others = stays_last.one HangUp (Ok tt) old all.0 all.1 })
+
+  broken_freed : (link : Option Speaker) (old new : World Origin) → HasBroken link → Freed link old new → Rose old.server.dialer.link_faults new.server.dialer.link_faults
+  broken_freed None old new broken free = absurd broken
+  broken_freed (Some link) old new broken free =
+      subst (λ (d : DialerView). Rose old.server.dialer.link_faults d.link_faults) (sym free.hanging.is) (rose_true (has_broken link.inlet link.outlet) old.server.dialer.link_faults free.hanging.faults broken free.hanging.faults_rose)
+
+  idle_freed : (link : Option Speaker) (old new : World Origin) → HasIdled link → Freed link old new → Rose old.server.dialer.link_idles new.server.dialer.link_idles
+  idle_freed None old new idle free = absurd idle
+  idle_freed (Some link) old new idle free =
+      subst (λ (d : DialerView). Rose old.server.dialer.link_idles d.link_idles) (sym free.hanging.is) (rose_true (nat_lt 0 link.inlet.idles) old.server.dialer.link_idles free.hanging.idles idle free.hanging.idles_rose)
+
+last_of : {A : Type 0} (one : A) (old new : Option (List A)) → AddsOne one old new → IsLast one new
+last_of one old None adds = tt
+last_of one None (Some all) adds = absurd (cc)
+last_of {A} one (Some before) (Some all) adds = (before, sym (some_same before all adds))
+  where
+    some_same : (before all : List A) → Some (before ++ one ∷ []) ≡ Some all → before ++ one ∷ [] ≡ all
+    some_same before all same = cc
+
+-- what was used of a link of which nothing is left
+whole_link : (link : Speaker) → LinkSound link → link.reader.room ≡ 0 → link.inlet.amount ≡ most_taken
+whole_link link sound none =
+    let all = sound.all in
+    let least = sound.amount.least in
+    let most = sound.amount.most in
+    omega (arith, none, all, least, most)
+
+module _ {Origin : Type 0} where
+  -- ---- a session, up to what was owed, while that was done, and after it
+
+  -- what was owed, done
+  record Owed (old mid new : World Origin) : Type 0 where
+    before : Stays old mid
+    between : World Origin
+    freed : Freed mid.server.link mid between
+    after : Stays between new
+    server : new.server ≡ between.server
+
+  owed_done : (old mid new : World Origin) (answer : Result Reply PortFault) → Stays old mid → DeedsAll (owed mid answer) mid new → Owed old mid new
+  owed_done old mid new answer before all =
+      let parted = deeds_parted (freeing mid.server.link) (closing mid.office.opened answer) mid new all in
+      record {
+        before = before;
+        between = parted.mid;
+        freed = freed mid.server.link mid parted.mid refl parted.before;
+        after = all_last stays_last (closing mid.office.opened answer) parted.mid new parted.after;
+        server = closing_server mid.office.opened answer parted.mid new parted.after;
+      }
+
+  all_taken : (devices : Devices Origin) (names : List ℕ) (last : World Origin) → Stays (at_first devices names) last → last.client.reader.room ≡ 0 → TookMost devices.inlet last.client.inlet
+  all_taken devices names last stays none =
+      let source = stays.client.source in
+      let room = source.room in
+      record { took = record { bytes = source.bytes; most = omega (arith, room); grew = source.grew; is = source.took }; all = omega (arith, none, room) }
+
+  -- the link of which all was taken is the last that was hung up
+  link_last : (link : Option Speaker) (mid between : World Origin) (new : World Origin) → IsSound link → IsUsedUp link → Freed link mid between → new.server ≡ between.server → LinkTookMost (devices_of new)
+  link_last None mid between new sound none free same = absurd none
+  link_last (Some link) mid between new sound none free same = record {
+    link = record { from = link.inlet; to = link.outlet };
+    last =
+        subst (λ (s : Server). IsLast (record { from = link.inlet; to = link.outlet }) s.dialer.ended) (sym same) (subst (λ (d : DialerView). IsLast (record { from = link.inlet; to = link.outlet }) d.ended) (sym free.hanging.is) (last_of (record { from = link.inlet; to = link.outlet }) mid.server.dialer.ended free.hanging.ended free.hanging.adds));
+    all = whole_link link sound none;
+  }
+
+  caused_by : (cause : Cause) (devices : Devices Origin) (names : List ℕ) (mid new : World Origin) → Owed (at_first devices names) mid new → Counted cause (at_first devices names) mid → Caused (ending_by cause) devices (devices_of new)
+  caused_by ClientFault devices names mid new owes (inl rose) =
+      let later = stays_both mid owes.between new owes.freed.others owes.after in
+      inl (rose_within devices.inlet.faults devices.inlet.faults mid.client.inlet.faults new.client.inlet.faults (omega (arith)) rose later.client.source.faults)
+  caused_by ClientFault devices names mid new owes (inr rose) =
+      let later = stays_both mid owes.between new owes.freed.others owes.after in
+      inr (rose_within devices.outlet.faults devices.outlet.faults mid.client.outlet.faults new.client.outlet.faults (omega (arith)) rose later.client.sink.drops)
+  caused_by ServerFault devices names mid new owes broken =
+      rose_within devices.dialer.link_faults mid.server.dialer.link_faults owes.between.server.dialer.link_faults new.server.dialer.link_faults owes.before.server.dialer.link_faults (broken_freed mid.server.link mid owes.between broken owes.freed) owes.after.server.dialer.link_faults
+  caused_by LogFault devices names mid new owes rose =
+      let later = stays_both mid owes.between new owes.freed.others owes.after in
+      rose_within devices.logs.faults devices.logs.faults mid.logs.faults new.logs.faults (omega (arith)) rose later.logs.drops
+  caused_by AuthFault devices names mid new owes (inl rose) =
+      let later = stays_both mid owes.between new owes.freed.others owes.after in
+      inl (rose_within devices.port.faults devices.port.faults mid.office.port.faults new.office.port.faults (omega (arith)) rose later.port.breaks)
+  caused_by AuthFault devices names mid new owes (inr rose) =
+      let later = stays_both mid owes.between new owes.freed.others owes.after in
+      inr (rose_within devices.port.odd devices.port.odd mid.office.port.odd new.office.port.odd (omega (arith)) rose later.port.strays)
+  caused_by Idle devices names mid new owes (inl rose) =
+      let later = stays_both mid owes.between new owes.freed.others owes.after in
+      inl (rose_within devices.inlet.idles devices.inlet.idles mid.client.inlet.idles new.client.inlet.idles (omega (arith)) rose later.client.source.idles)
+  caused_by Idle devices names mid new owes (inr idle) =
+      inr (rose_within devices.dialer.link_idles mid.server.dialer.link_idles owes.between.server.dialer.link_idles new.server.dialer.link_idles owes.before.server.dialer.link_idles (idle_freed mid.server.link mid owes.between idle owes.freed) owes.after.server.dialer.link_idles)
+  caused_by NoRoute devices names mid new owes rose =
+      let later = stays_both mid owes.between new owes.freed.others owes.after in
+      rose_within devices.dialer.refusals devices.dialer.refusals mid.server.dialer.refusals new.server.dialer.refusals (omega (arith)) rose later.server.dialer.refusals
+  caused_by Spent devices names mid new owes (inl none) =
+      let later = stays_both mid owes.between new owes.freed.others owes.after in
+      let room = later.client.source.room in
+      inl (all_taken devices names new (stays_both (at_first devices names) mid new owes.before later) (omega (arith, none, room)))
+  caused_by Spent devices names mid new owes (inr none) =
+      inr (link_last mid.server.link mid owes.between new (owes.before.server.sound tt) none owes.freed owes.server)
+  caused_by NoMemory devices names mid new owes counted = tt
+
+  -- a fault of the close that was owed
+  caused_closing : (fault : PortFault) (devices : Devices Origin) (names : List ℕ) (new : World Origin) → Counted (fault_cause fault) (at_first devices names) new → Caused (ending_by (fault_cause fault)) devices (devices_of new)
+  caused_closing faults.NoMemory devices names new counted = tt
+  caused_closing faults.Link devices names new counted = counted
+  caused_closing faults.Strange devices names new counted = counted
+
+  caused_done : (opened : Option ℕ) (answer : Result Reply PortFault) (devices : Devices Origin) (names : List ℕ) (between new : World Origin) → Stays (at_first devices names) between → DeedsAll (closing opened answer) between new → Caused (ending_closed opened answer) devices (devices_of new)
+  caused_done None answer devices names between new before all = tt
+  caused_done (Some sid) (Ok reply) devices names between new before all = tt
+  caused_done (Some sid) (Err fault) devices names between new before all =
+      let counted : Counted (fault_cause fault) between all.0 = fault_counted requests.Close fault between.office between all.0 refl all.1.office in
+      let since : Counted (fault_cause fault) (at_first devices names) all.0 = counted_since (fault_cause fault) (at_first devices names) between all.0 before counted in
+      caused_closing fault devices names new (subst (λ (w : World Origin). Counted (fault_cause fault) (at_first devices names) w) all.2 since)
+
+  caused_dialogue : {P : Type 0} (rows : PlaceTable (acts Origin) P) (dialogue : Result (Unit {0}) Cause) (left : Row (acts Origin) P) (devices : Devices Origin) (names : List ℕ) (before mid new : World Origin) (answer : Result Reply PortFault)
+      → Stays (at_first devices names) before → Comes rows (λ (done : Unit {0}). Over) dialogue mid left before → Stays (at_first devices names) mid → DeedsAll (owed mid answer) mid new → Caused (ending_of dialogue mid.office.opened answer) devices (devices_of new)
+  caused_dialogue rows (Ok over) left devices names before mid new answer first comes stays after =
+      let parted = deeds_parted (freeing mid.server.link) (closing mid.office.opened answer) mid new after in
+      let free = freed mid.server.link mid parted.mid refl parted.before in
+      caused_done mid.office.opened answer devices names parted.mid new (stays_both (at_first devices names) mid parted.mid stays free.others) parted.after
+  caused_dialogue rows (Err cause) left devices names before mid new answer first comes stays after =
+      let here = stopped rows left cause before mid comes in
+      let counted : Counted (cause_by here.act here.why.halt) before mid = stop_counted here.act here.why.halt before mid here.why.met in
+      let since : Counted cause (at_first devices names) mid = counted_since cause (at_first devices names) before mid first (subst (λ (c : Cause). Counted c before mid) (sym here.why.is_cause) counted) in
+      caused_by cause devices names mid new (owed_done (at_first devices names) mid new answer stays after) since
+
+  pub session_stays : {P : Type 0} {rows : PlaceTable (acts Origin) P} {first : Row (acts Origin) P} {old new : Devices Origin} {ending : Ending} (session : Session rows first old new ending) → Stays (at_first old session.names) session.last
+  session_stays {old = old} session = all_last stays_last (deeds_of session.held) (at_first old session.names) session.last (held_deeds session.held)
+
+  -- a session keeps its devices
+  pub session_keeps : {P : Type 0} {rows : PlaceTable (acts Origin) P} {first : Row (acts Origin) P} {old new : Devices Origin} {ending : Ending} → Session rows first old new ending → SessionKeeps old new
+  session_keeps {old = old} session =
+      let stays = session_stays session in
+      subst (λ (d : Devices Origin). SessionKeeps old d) session.leaves (record {
+        faults = stays.client.source.faults;
+        idles = stays.client.source.idles;
+        drops = stays.client.sink.drops;
+        log_drops = stays.logs.drops;
+        breaks = stays.port.breaks;
+        strays = stays.port.strays;
+        refusals = stays.server.dialer.refusals;
+        link_faults = stays.server.dialer.link_faults;
+        link_idles = stays.server.dialer.link_idles;
+        waits = stays.client.source.waits;
+        link_waits = stays.server.dialer.waits;
+        shut = stays.client.sink.shut;
+        log_shut = stays.logs.shut;
+        origin = stays.port.origin;
+        home = stays.port.home;
+      })
+
+  -- and its ending has its cause
+  pub session_caused : {P : Type 0} {rows : PlaceTable (acts Origin) P} {first : Row (acts Origin) P} {old new : Devices Origin} {ending : Ending} → Session rows first old new ending → Caused ending old new
+  session_caused {rows = rows} {old = old} {ending = ending} session =
+      let held = session.held in
+      let start = at_first old session.names in
+      let before = all_last stays_last (map done held.ran.steps) start held.ran.mid (deeds_done held.ran.steps start held.ran.mid held.ran.does) in
+      let stays = all_last stays_last (deeds_ran held.ran) start held.mid (ran_deeds held.ran) in
+      let caused = caused_dialogue rows held.dialogue held.ran.left old session.names held.ran.mid held.mid session.last held.answer before held.ran.comes stays held.after in
+      subst (λ (d : Devices Origin). Caused ending old d) session.leaves (subst (λ (e : Ending). Caused e old (devices_of session.last)) (sym held.ends) caused)

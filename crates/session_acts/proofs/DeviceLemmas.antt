@@ -1,0 +1,164 @@
+-- What a session's devices keep: counts that never fall, and the bytes that were taken.
+use Rattle.std.proofs.Common.{arith, ◌≡◌, refl, sym, ap, subst, ◌∙◌, ℕ, ◌+◌, ◌≤◌, Bool, true, false, List, [], ◌++◌, length, Option, Some, None, Result, Ok, Err, append_assoc, append-nil}
+use Rattle.std.proofs.lemmas.List.{length-append}
+use Rattle.auth_events.specs.Port.{Asks, Port, Replies}
+use Rattle.auth_events.specs.declared.denial.Denial.TheVariants as denials
+use Rattle.auth_events.specs.declared.port.PortFault.{PortFault}
+use Rattle.auth_events.specs.declared.port.PortFault.TheVariants as faults
+use Rattle.auth_events.specs.declared.reply.Reply.{Reply}
+use Rattle.auth_events.specs.declared.reply.Reply.TheVariants as replies
+use Rattle.auth_events.specs.declared.request.Request.{Request}
+use Rattle.fw_outside.proofs.CountLemmas.{grew_by, grew_none}
+use Rattle.fw_outside.specs.Counts.{Grew, Rose}
+use Rattle.fw_outside.specs.DialerView.{DialerView, RoseIf}
+use Rattle.fw_outside.specs.SinkView.{SinkView}
+use Rattle.fw_outside.specs.SourceView.{Broke, Idled, SourceView}
+use Rattle.fw_outside.specs.ToldList.{grown}
+use Rattle.fw_outside.specs.LineReaderView.{Listens, TookBytes, LineReaderView}
+use Rattle.fw_outside.specs.LineReaderView as reader
+use Rattle.fw_outside.specs.declared.heard.Heard.{Heard}
+use Rattle.fw_outside.specs.declared.heard.Heard.TheVariants.{Line, TooLong, Stopped}
+use Rattle.fw_outside.specs.declared.heard.Stop.TheVariants as stops
+
+-- ---- counts
+
+-- a count that rose between two moments has risen over a longer time
+pub rose_within : (a b c d : ℕ) → a ≤ b → Rose b c → c ≤ d → Rose a d
+rose_within a b c d before rose later = (omega (arith, before, rose.0, later), omega (arith, before, rose.1, later))
+
+-- ---- what bytes a source tells
+
+pub by_nothing : (told : Option (List ℕ)) → told ≡ grown told []
+by_nothing None = refl
+by_nothing (Some bytes) = ap (λ (b : List ℕ). Some b) (sym (append-nil bytes))
+
+by_both : (told : Option (List ℕ)) (first more : List ℕ) → grown (grown told first) more ≡ grown told (first ++ more)
+by_both None first more = refl
+by_both (Some bytes) first more = ap (λ (b : List ℕ). Some b) (append_assoc bytes first more)
+
+-- ---- the devices one by one
+
+-- the dialer keeps its counts and its patience
+pub record DialerKeeps (old new : DialerView) : Type 0 where
+  pub refusals : old.refusals ≤ new.refusals
+  pub link_faults : old.link_faults ≤ new.link_faults
+  pub link_idles : old.link_idles ≤ new.link_idles
+  pub waits : new.waits ≡ old.waits
+
+-- the source keeps its counts and its patience, and what was taken of it was room in the window
+pub record SourceKeeps (old new : SourceView) (before after : LineReaderView) : Type 0 where
+  pub faults : old.faults ≤ new.faults
+  pub idles : old.idles ≤ new.idles
+  pub waits : new.waits ≡ old.waits
+  pub bytes : List ℕ
+  pub took : new.taken ≡ grown old.taken bytes
+  pub grew : Grew (length bytes) old.amount new.amount
+  pub room : before.room ≡ length bytes + after.room
+
+pub record SinkKeeps (old new : SinkView) : Type 0 where
+  pub drops : old.faults ≤ new.faults
+  pub shut : new.shut ≡ old.shut
+
+pub record PortKeeps {Origin : Type 0} (old new : Port Origin) : Type 0 where
+  pub breaks : old.faults ≤ new.faults
+  pub strays : old.odd ≤ new.odd
+  pub origin : new.origin ≡ old.origin
+  pub home : new.home ≡ old.home
+
+pub same_source : (source : SourceView) (reader : LineReaderView) → SourceKeeps source source reader reader
+same_source source reader = record { faults = omega (arith); idles = omega (arith); waits = refl; bytes = []; took = by_nothing source.taken; grew = grew_none source.amount; room = omega (arith) }
+
+pub both_source : (a b c : SourceView) (u v w : LineReaderView) → SourceKeeps a b u v → SourceKeeps b c v w → SourceKeeps a c u w
+both_source a b c u v w first next =
+    let lengths = length-append first.bytes next.bytes in
+    record {
+      faults = omega (arith, first.faults, next.faults);
+      idles = omega (arith, first.idles, next.idles);
+      waits = next.waits ∙ first.waits;
+      bytes = first.bytes ++ next.bytes;
+      took = next.took ∙ ap (λ (told : Option (List ℕ)). grown told next.bytes) first.took ∙ by_both a.taken first.bytes next.bytes;
+      grew = grew_by (length first.bytes) (length next.bytes) (length (first.bytes ++ next.bytes)) a.amount b.amount c.amount lengths first.grew next.grew;
+      room = omega (arith, lengths, first.room, next.room);
+    }
+
+pub same_sink : (sink : SinkView) → SinkKeeps sink sink
+same_sink sink = record { drops = omega (arith); shut = refl }
+
+pub both_sink : (a b c : SinkView) → SinkKeeps a b → SinkKeeps b c → SinkKeeps a c
+both_sink a b c first next = record { drops = omega (arith, first.drops, next.drops); shut = next.shut ∙ first.shut }
+
+pub same_dialer : (dialer : DialerView) → DialerKeeps dialer dialer
+same_dialer dialer = record { refusals = omega (arith); link_faults = omega (arith); link_idles = omega (arith); waits = refl }
+
+pub both_dialer : (a b c : DialerView) → DialerKeeps a b → DialerKeeps b c → DialerKeeps a c
+both_dialer a b c first next = record {
+  refusals = omega (arith, first.refusals, next.refusals);
+  link_faults = omega (arith, first.link_faults, next.link_faults);
+  link_idles = omega (arith, first.link_idles, next.link_idles);
+  waits = next.waits ∙ first.waits;
+}
+
+-- a count that rose or stayed
+pub rose_if : (b : Bool) (before now : ℕ) → RoseIf b before now → before ≤ now
+rose_if true before now rose = rose.0
+rose_if false before now same = omega (arith, same)
+
+-- a source with the same counts, or one of them risen
+by_source : (old new source : SourceView) (u v : LineReaderView) → new ≡ source → SourceKeeps old source u v → SourceKeeps old new u v
+by_source old new source u v is keeps = subst (λ (s : SourceView). SourceKeeps old s u v) (sym is) keeps
+
+halts_source : (heard : Heard) (left : LineReaderView) (before after : SourceView) → reader.LeavesSource heard left before after → SourceKeeps before after left left
+halts_source (Line line) left before after h = by_source before after before left left h (same_source before left)
+halts_source TooLong left before after h = by_source before after before left left h (same_source before left)
+halts_source (Stopped stops.End) left before after h = by_source before after before left left h.1.is (same_source before left)
+halts_source (Stopped stops.Spent) left before after h = by_source before after before left left h (same_source before left)
+halts_source (Stopped stops.Idle) left before after h = by_source before after _ left left h.1.is (record { faults = omega (arith); idles = h.1.rose.0; waits = refl; bytes = []; took = by_nothing before.taken; grew = grew_none before.amount; room = omega (arith) })
+halts_source (Stopped stops.Failed) left before after h = by_source before after _ left left h.1.is (record { faults = h.1.rose.0; idles = omega (arith); waits = refl; bytes = []; took = by_nothing before.taken; grew = grew_none before.amount; room = omega (arith) })
+
+pulled_source : (bytes : List ℕ) (u v : LineReaderView) (before middle : SourceView) → TookBytes bytes before middle → u.room ≡ length bytes + v.room → SourceKeeps before middle u v
+pulled_source bytes u v before middle taken_now room =
+    by_source before middle _ u v taken_now.is (record { faults = omega (arith); idles = omega (arith); waits = refl; bytes = bytes; took = refl; grew = taken_now.grew; room = room })
+
+pub listens_source : (heard : Heard) (u v : LineReaderView) (before after : SourceView) → Listens heard u v before after → SourceKeeps before after u v
+listens_source heard u v before after h =
+    both_source before h.middle after u v v (pulled_source h.reads.taken_now u v before h.middle h.reads.takes h.reads.room) (halts_source heard v h.middle after h.closes)
+
+-- a source that counts behind a window has counted since before it was read into it
+pub halted_faults : (bytes : List ℕ) (before middle after : SourceView) → TookBytes bytes before middle → Broke middle after → Rose before.faults after.faults
+halted_faults bytes before middle after taken_now broke =
+    let since : Rose middle.faults after.faults = subst (λ (s : SourceView). Rose middle.faults s.faults) (sym broke.is) broke.rose in
+    subst (λ (n : ℕ). Rose n after.faults) (ap (λ (s : SourceView). s.faults) taken_now.is) since
+
+pub halted_idles : (bytes : List ℕ) (before middle after : SourceView) → TookBytes bytes before middle → Idled middle after → Rose before.idles after.idles
+halted_idles bytes before middle after taken_now idled =
+    let since : Rose middle.idles after.idles = subst (λ (s : SourceView). Rose middle.idles s.idles) (sym idled.is) idled.rose in
+    subst (λ (n : ℕ). Rose n after.idles) (ap (λ (s : SourceView). s.idles) taken_now.is) since
+
+module _ {Origin : Type 0} where
+  pub same_port : (port : Port Origin) → PortKeeps port port
+  same_port port = record { breaks = omega (arith); strays = omega (arith); origin = refl; home = refl }
+
+  pub both_port : (a b c : Port Origin) → PortKeeps a b → PortKeeps b c → PortKeeps a c
+  both_port a b c first next = record {
+    breaks = omega (arith, first.breaks, next.breaks);
+    strays = omega (arith, first.strays, next.strays);
+    origin = next.origin ∙ first.origin;
+    home = next.home ∙ first.home;
+  }
+
+  -- a port with the same counts
+  by_port : (old new port : Port Origin) → PortKeeps old port → new ≡ port → PortKeeps old new
+  by_port old new port keeps is = subst (λ (p : Port Origin). PortKeeps old p) (sym is) keeps
+
+  pub replies_port : (sid at : ℕ) (request : Request) (reply : Reply) (old new : Port Origin) → Replies sid at request reply old new → PortKeeps old new
+  replies_port sid at request (replies.Denied (denials.Full limit)) old new h = by_port old new _ (record { breaks = omega (arith); strays = omega (arith); origin = refl; home = refl }) h.is
+  replies_port sid at request reply old new h = by_port old new _ (record { breaks = omega (arith); strays = omega (arith); origin = refl; home = refl }) h.is
+
+  pub fails_port : (fault : PortFault) (sid at : ℕ) (request : Request) (old new : Port Origin) → Asks (Err fault) sid at request old new → PortKeeps old new
+  fails_port faults.NoMemory sid at request old new h = by_port old new _ (record { breaks = omega (arith); strays = omega (arith); origin = refl; home = refl }) h.is
+  fails_port faults.Link sid at request old new h = by_port old new _ (record { breaks = h.rose.0; strays = omega (arith); origin = refl; home = refl }) h.is
+  fails_port faults.Strange sid at request old new h = by_port old new _ (record { breaks = omega (arith); strays = h.rose.0; origin = refl; home = refl }) h.is
+
+  pub asks_port : (reply : Result Reply PortFault) (sid at : ℕ) (request : Request) (old new : Port Origin) → Asks reply sid at request old new → PortKeeps old new
+  asks_port (Ok reply) sid at request old new h = replies_port sid at request reply old new h
+  asks_port (Err fault) sid at request old new h = fails_port fault sid at request old new h

@@ -1,0 +1,71 @@
+-- The definitions, computed on small examples.
+use Rattle.std.proofs.Common.{◌≡◌, [], ◌∷◌, refl}
+use Rattle.std.specs.Prelude.{Some, None, Ok, Err, true, false, codes}
+use Rattle.auth_events.specs.declared.port.PortFault.TheVariants as faults
+use Rattle.auth_events.specs.declared.reply.Reply.TheVariants as replies
+use Rattle.auth_events.specs.declared.request.Request.TheVariants as requests
+use Rattle.fw_types.specs.declared.dest.Dest.{Dest}
+use Rattle.fw_types.specs.declared.ending.Ending.TheVariants as endings
+use Rattle.session_acts.specs.Acts.{Front, cause_by}
+use Rattle.session_acts.specs.Acts.Act.{Hear, Say, Try, Log, Note, Ask, Renew, Dial, Reach, Take, Pass, HangUp}
+use Rattle.session_acts.specs.Deeds.{Deed, gives}
+use Rattle.session_acts.specs.Laws.{linked, logged, told}
+use Rattle.session_acts.specs.Met.{opened_then}
+use Rattle.session_acts.specs.Session.{closing, ending_of, freeing}
+use Rattle.session_acts.specs.Talk.{asked, numbers_told, thrown}
+use Rattle.session_acts.specs.declared.cause.Cause.TheVariants as causes
+use Rattle.session_acts.specs.declared.silence.Silence.TheVariants.{Quiet, Broken, Limit}
+
+-- a text of two bytes, cut behind the first
+cut_front : Front (1 ∷ 2 ∷ [])
+cut_front = record { part = 1 ∷ []; rest = 2 ∷ []; cut = refl; short = λ some none. cc }
+
+a_text_is_told : told (Say (codes "ok")) (Ok tt) ≡ codes "ok"
+a_text_is_told = refl
+
+a_front_is_told : told (Say (1 ∷ 2 ∷ [])) (Err cut_front) ≡ 1 ∷ []
+unfolding cut_front
+a_front_is_told = refl
+
+a_tried_front_is_told : told (Try (1 ∷ 2 ∷ [])) (Ok (Err cut_front)) ≡ 1 ∷ []
+unfolding cut_front
+a_tried_front_is_told = refl
+
+a_line_is_not_told : told (Log (codes "ok")) (Ok tt) ≡ []
+a_line_is_not_told = refl
+
+a_line_is_logged : gives logged (record { act = Log (codes "a"); outcome = Ok tt } ∷ record { act = Say (codes "b"); outcome = Ok tt } ∷ record { act = Note (codes "c"); outcome = Ok (Ok tt) } ∷ []) ≡ codes "ac"
+a_line_is_logged = refl
+
+a_salt_is_thrown_though_none_answers : thrown (Renew (codes "mjr") []) (Err (5 ∷ [], faults.Link)) ≡ (5 ∷ []) ∷ []
+a_salt_is_thrown_though_none_answers = refl
+
+a_renewal_is_a_password : asked (Renew (codes "mjr") []) (Ok (5 ∷ [], replies.Ok)) ≡ (requests.Password (codes "mjr") (5 ∷ []) [], Some replies.Ok) ∷ []
+a_renewal_is_a_password = refl
+
+a_number_is_told_behind_its_open : numbers_told None ((requests.Open false, Some (replies.Opened 7)) ∷ (requests.Close, None) ∷ (requests.Close, None) ∷ []) ≡ 0 ∷ 7 ∷ 0 ∷ []
+a_number_is_told_behind_its_open = refl
+
+a_close_without_an_answer_closes : opened_then requests.Close None (Some 7) ≡ None
+a_close_without_an_answer_closes = refl
+
+a_second_open_that_is_denied_changes_nothing : opened_then (requests.Open true) None (Some 7) ≡ Some 7
+a_second_open_that_is_denied_changes_nothing = refl
+
+a_silent_server : cause_by Take Broken ≡ causes.ServerFault
+a_silent_server = refl
+
+a_silent_client : cause_by Hear Limit ≡ causes.Spent
+a_silent_client = refl
+
+nothing_is_owed : closing None (Err faults.Link) ≡ []
+nothing_is_owed = refl
+
+a_cause_goes_before_the_close : ending_of (Err causes.Idle) (Some 7) (Err faults.Link) ≡ endings.Idle
+a_cause_goes_before_the_close = refl
+
+a_close_without_an_answer_ends : ending_of (Ok tt) (Some 7) (Err faults.Link) ≡ endings.AuthFault
+a_close_without_an_answer_ends = refl
+
+done_where_none_is_open : ending_of (Ok tt) None (Err faults.Link) ≡ endings.Done
+done_where_none_is_open = refl

@@ -1,0 +1,38 @@
+-- What the desk's devices did, as acts.
+use Rattle.std.proofs.Common.{refl, ap, ℕ, List, Option, Some, None, Result, Ok, Err}
+use Rattle.fw_outside.specs.SinkView.{Cut, Gives, SinkView}
+use Rattle.fw_outside.specs.declared.failed.Failed.{Failed}
+use Rattle.session_acts.specs.Acts.{Front}
+use Rattle.fw_outside.specs.DialerView.{DialerView}
+use Rattle.session_acts.specs.Link.{PassesSo}
+use Rattle.session_acts.specs.Met.{CutAt, Gets, Passes}
+use Rattle.session_acts.specs.World.{Server, Speaker}
+
+-- the front that a sink was given
+abbrev pub front_of : {text : List ℕ} {old new : SinkView} → Cut text old new → Front text
+front_of cut = record { part = cut.part; rest = cut.rest; cut = cut.cut; short = cut.short }
+
+pub cut_at : {text : List ℕ} {old new : SinkView} (cut : Cut text old new) → CutAt (front_of cut) old new
+cut_at cut = record { count = cut.count; rose = cut.rose; is = cut.is }
+
+-- a gift, however it came out
+pub record Gift (text : List ℕ) (old new : SinkView) : Type 0 where
+  pub tried : Result (Unit {0}) (Front text)
+  pub gets : Gets text tried old new
+
+pub gift : (result : Result (Unit {0}) Failed) (text : List ℕ) (old new : SinkView) → Gives result text old new → Gift text old new
+gift (Ok done) text old new gives = record { tried = Ok tt; gets = gives }
+gift (Err failed) text old new gives = record { tried = Err (front_of gives); gets = cut_at gives }
+
+-- a text that wasn't passed whole
+pub record Cutting (text : List ℕ) (link : Option Speaker) (old new : Server) : Type 0 where
+  pub halt : Front text
+  pub passes : Passes text (Err halt) link old new
+
+pub passes : (text : List ℕ) (failed : Failed) (dialer : DialerView) (link new : Option Speaker) → PassesSo text (Err failed) link new
+    → Cutting text link (record { dialer = dialer; link = link }) (record { dialer = dialer; link = new })
+passes text failed dialer None new passed = absurd (cc)
+passes text failed dialer (Some link) new passed = record {
+  halt = front_of passed.gives;
+  passes = record { speaker = record link { outlet = passed.outlet }; told = record { outlet = passed.outlet; gets = cut_at passed.gives; is = refl }; is = ap (λ (l : Option Speaker). record { dialer = dialer; link = l }) passed.is };
+}

@@ -1,0 +1,93 @@
+-- What the client and the log were given.
+use Rattle.std.proofs.Common.{◌≡◌, refl, sym, ap, ◌∙◌, ℕ, List, [], ◌++◌, Option, Some, None, Result, Ok, Err, append_assoc, append-nil}
+use Rattle.fw_outside.specs.SinkView.{SinkView}
+use Rattle.fw_outside.specs.ToldList.{grown}
+use Rattle.fw_outside.specs.declared.heard.Heard.{Heard}
+use Rattle.fw_outside.specs.declared.heard.Heard.TheVariants.{Line, TooLong, Stopped}
+use Rattle.fw_outside.specs.declared.heard.Stop.TheVariants as stops
+use Rattle.session_acts.specs.Acts.{Act, Front, Outcome}
+use Rattle.session_acts.specs.Acts.Act.{Hear, Say, Try, Log, Note, Ask, Renew, Dial, Reach, Take, Pass, HangUp}
+use Rattle.session_acts.specs.Deeds.{Gains}
+use Rattle.session_acts.specs.Laws.{TellsClient, TellsLog, got, logged, told}
+use Rattle.session_acts.specs.Met.{Gets, Hears, HeedsLine, Met}
+use Rattle.session_acts.specs.World.{Speaker, World}
+use Rattle.session_acts.specs.declared.silence.Silence.{Silence}
+
+pub by_nothing : (bytes : Option (List ℕ)) → bytes ≡ grown bytes []
+by_nothing None = refl
+by_nothing (Some bytes) = ap (λ (b : List ℕ). Some b) (sym (append-nil bytes))
+
+pub by_both : (bytes : Option (List ℕ)) (first more : List ℕ) → grown (grown bytes first) more ≡ grown bytes (first ++ more)
+by_both None first more = refl
+by_both (Some bytes) first more = ap (λ (b : List ℕ). Some b) (append_assoc bytes first more)
+
+-- a sink that stays was given nothing
+same_sink : (old new : SinkView) → new ≡ old → new.given ≡ grown old.given []
+same_sink old new same = ap (λ (s : SinkView). s.given) same ∙ by_nothing old.given
+
+gets_grew : (text : List ℕ) (outcome : Result (Unit {0}) (Front text)) (old new : SinkView) → Gets text outcome old new → new.given ≡ grown old.given (got outcome)
+gets_grew text (Ok done) old new gets = ap (λ (s : SinkView). s.given) gets
+gets_grew text (Err front) old new gets = ap (λ (s : SinkView). s.given) gets.is
+
+-- hearing leaves the sink
+line_outlet : (heard : Heard) (old new : Speaker) → HeedsLine heard old new → new.outlet ≡ old.outlet
+line_outlet (Line line) old new heeds = ap (λ (s : Speaker). s.outlet) heeds.is
+line_outlet TooLong old new heeds = ap (λ (s : Speaker). s.outlet) heeds.is
+line_outlet (Stopped stops.End) old new heeds = ap (λ (s : Speaker). s.outlet) heeds.is
+line_outlet (Stopped stops.Idle) old new heeds = absurd heeds
+line_outlet (Stopped stops.Failed) old new heeds = absurd heeds
+line_outlet (Stopped stops.Spent) old new heeds = absurd heeds
+
+pub hears_outlet : (outcome : Result Heard Silence) (old new : Speaker) → Hears outcome old new → new.outlet ≡ old.outlet
+hears_outlet (Ok heard) old new hears = line_outlet heard old new hears
+hears_outlet (Err silence) old new hears = ap (λ (s : Speaker). s.outlet) hears.is
+
+module _ {Origin : Type 0} where
+  same_client : (old new : World Origin) → new.client ≡ old.client → TellsClient [] old new
+  same_client old new same = same_sink old.client.outlet new.client.outlet (ap (λ (s : Speaker). s.outlet) same)
+
+  told_one : (act : Act) (outcome : Outcome act) (old new : World Origin) → Met act outcome old new → TellsClient (told act outcome) old new
+  told_one Hear outcome old new met = same_sink old.client.outlet new.client.outlet (hears_outlet outcome old.client new.client met.client)
+  told_one (Say text) outcome old new met =
+      ap (λ (s : Speaker). s.outlet.given) met.client.is ∙ gets_grew text outcome old.client.outlet met.client.outlet met.client.gets
+  told_one (Try text) (Ok tried) old new met =
+      ap (λ (s : Speaker). s.outlet.given) met.client.is ∙ gets_grew text tried old.client.outlet met.client.outlet met.client.gets
+  told_one (Try text) (Err never) old new met = absurd never
+  told_one (Log text) outcome old new met = same_client old new met.client
+  told_one (Note text) outcome old new met = same_client old new met.client
+  told_one (Ask request) outcome old new met = same_client old new met.client
+  told_one (Renew name hash) outcome old new met = same_client old new met.client
+  told_one (Dial dest) outcome old new met = same_client old new met.client
+  told_one (Reach dest) outcome old new met = same_client old new met.client
+  told_one Take outcome old new met = same_client old new met.client
+  told_one (Pass text) outcome old new met = same_client old new met.client
+  told_one HangUp outcome old new met = same_client old new met.client
+
+  pub told_gains : Gains Origin told TellsClient
+  told_gains = record {
+    none = λ world. by_nothing world.client.outlet.given;
+    both = λ first more old mid new a b. b ∙ ap (λ bytes. grown bytes more) a ∙ by_both old.client.outlet.given first more;
+    one = told_one;
+  }
+
+  logged_one : (act : Act) (outcome : Outcome act) (old new : World Origin) → Met act outcome old new → TellsLog (logged act outcome) old new
+  logged_one (Log text) outcome old new met = gets_grew text outcome old.logs new.logs met.logs
+  logged_one (Note text) (Ok tried) old new met = gets_grew text tried old.logs new.logs met.logs
+  logged_one (Note text) (Err never) old new met = absurd never
+  logged_one Hear outcome old new met = same_sink old.logs new.logs met.logs
+  logged_one (Say text) outcome old new met = same_sink old.logs new.logs met.logs
+  logged_one (Try text) outcome old new met = same_sink old.logs new.logs met.logs
+  logged_one (Ask request) outcome old new met = same_sink old.logs new.logs met.logs
+  logged_one (Renew name hash) outcome old new met = same_sink old.logs new.logs met.logs
+  logged_one (Dial dest) outcome old new met = same_sink old.logs new.logs met.logs
+  logged_one (Reach dest) outcome old new met = same_sink old.logs new.logs met.logs
+  logged_one Take outcome old new met = same_sink old.logs new.logs met.logs
+  logged_one (Pass text) outcome old new met = same_sink old.logs new.logs met.logs
+  logged_one HangUp outcome old new met = same_sink old.logs new.logs met.logs
+
+  pub logged_gains : Gains Origin logged TellsLog
+  logged_gains = record {
+    none = λ world. by_nothing world.logs.given;
+    both = λ first more old mid new a b. b ∙ ap (λ bytes. grown bytes more) a ∙ by_both old.logs.given first more;
+    one = logged_one;
+  }

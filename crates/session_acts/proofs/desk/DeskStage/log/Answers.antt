@@ -1,0 +1,10 @@
+use Rattle.std.proofs.Common.{refl}
+use Rattle.session_acts.proofs.StageLemmas.{cut_at, front_of}
+use Rattle.session_acts.proofs.desk.DeskStage.log.Goals as goal
+
+pub returns-in-Err : goal.returns-in-Err
+returns-in-Err g c = record {
+  halt = front_of c.in-Err.ensures;
+  is_cause = refl;
+  met = record { client = refl; logs = cut_at c.in-Err.ensures; office = refl; server = refl; names = refl };
+}

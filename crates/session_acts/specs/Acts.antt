@@ -1,0 +1,97 @@
+-- What a session does, how that comes out, and for which cause it stops at an act.
+use Rattle.std.specs.Prelude.{◌≡◌, ◌≢◌, ℕ, Bool, List, [], ◌++◌, Result}
+use Rattle.auth_events.specs.declared.port.PortFault.{PortFault}
+use Rattle.auth_events.specs.declared.port.PortFault.TheVariants as faults
+use Rattle.auth_events.specs.declared.reply.Reply.{Reply}
+use Rattle.auth_events.specs.declared.request.Request.{Request}
+use Rattle.fw_outside.specs.declared.heard.Heard.{Heard}
+use Rattle.fw_types.specs.declared.dest.Dest.{Dest}
+use Rattle.session_acts.specs.declared.cause.Cause.{Cause}
+use Rattle.session_acts.specs.declared.silence.Silence.{Silence}
+use Rattle.session_acts.specs.declared.silence.Silence.TheVariants.{Quiet, Broken, Limit}
+use Rattle.session_acts.specs.declared.cause.Cause.TheVariants.{ClientFault, ServerFault, LogFault, AuthFault, Idle, NoRoute, Spent, NoMemory}
+
+-- To the client: hear a line of it, say a text, and try to say one. To the log: log a text, and note one. At the port: ask,
+-- at a moment of the clock; and renew a password, which is salted by the dice. To the server: dial a destination; reach one;
+-- take a line of the server; pass a text to it; hang up. What is tried or noted never stops the session. Dialing is
+-- answered by whether the link came up, and reaching stops where it doesn't; both first hang up a link that is up.
+pub data Act : Type 0 where
+  Hear : Act
+  Say : (text : List ℕ) → Act
+  Try : (text : List ℕ) → Act
+  Log : (text : List ℕ) → Act
+  Note : (text : List ℕ) → Act
+  Ask : (request : Request) → Act
+  Renew : (name hash : List ℕ) → Act
+  Dial : (dest : Dest) → Act
+  Reach : (dest : Dest) → Act
+  Take : Act
+  Pass : (text : List ℕ) → Act
+  HangUp : Act
+
+-- a front of a text, which isn't all of it, unless there is nothing in it
+pub record Front (text : List ℕ) : Type 0 where
+  pub part : List ℕ
+  pub rest : List ℕ
+  pub cut : text ≡ part ++ rest
+  pub short : text ≢ [] → rest ≢ []
+
+abbrev pub Answer : Act → Type 0
+Answer Hear = Heard
+Answer (Say text) = Unit {0}
+Answer (Try text) = Result (Unit {0}) (Front text)
+Answer (Log text) = Unit {0}
+Answer (Note text) = Result (Unit {0}) (Front text)
+Answer (Ask request) = Reply
+Answer (Renew name hash) = List ℕ × Reply
+Answer (Dial dest) = Bool
+Answer (Reach dest) = Unit {0}
+Answer Take = Heard
+Answer (Pass text) = Unit {0}
+Answer HangUp = Unit {0}
+
+-- in which ways an act stops
+abbrev pub Halt : Act → Type 0
+Halt Hear = Silence
+Halt (Say text) = Front text
+Halt (Try text) = ⊥
+Halt (Log text) = Front text
+Halt (Note text) = ⊥
+Halt (Ask request) = PortFault
+Halt (Renew name hash) = List ℕ × PortFault
+Halt (Dial dest) = ⊥
+Halt (Reach dest) = Unit {0}
+Halt Take = Silence
+Halt (Pass text) = Front text
+Halt HangUp = ⊥
+
+-- an act is done, with an answer, or stops
+abbrev pub Outcome : Act → Type 0
+Outcome act = Result (Answer act) (Halt act)
+
+-- ---- causes
+
+abbrev pub fault_cause : PortFault → Cause
+fault_cause faults.NoMemory = NoMemory
+fault_cause faults.Link = AuthFault
+fault_cause faults.Strange = AuthFault
+
+-- for what a session stops that hears nothing, where a fault is this one
+abbrev pub silence_cause : Cause → Silence → Cause
+silence_cause fault Quiet = Idle
+silence_cause fault Broken = fault
+silence_cause fault Limit = Spent
+
+abbrev pub cause_by : (act : Act) → Halt act → Cause
+cause_by Hear halt = silence_cause ClientFault halt
+cause_by (Say text) halt = ClientFault
+cause_by (Try text) halt = absurd halt
+cause_by (Log text) halt = LogFault
+cause_by (Note text) halt = absurd halt
+cause_by (Ask request) halt = fault_cause halt
+cause_by (Renew name hash) halt = fault_cause halt.1
+cause_by (Dial dest) halt = absurd halt
+cause_by (Reach dest) halt = NoRoute
+cause_by Take halt = silence_cause ServerFault halt
+cause_by (Pass text) halt = ServerFault
+cause_by HangUp halt = absurd halt

@@ -1,0 +1,75 @@
+-- What a session keeps of the devices that it is lent, and by what each ending is caused.
+use Rattle.std.specs.Prelude.{◌≡◌, ℕ, ◌≤◌, ◌⊎◌, Bool, true, false, List, ◌∷◌, [], ◌++◌, length, Option, Some, None}
+use Rattle.fw_outside.specs.Counts.{Grew, Rose}
+use Rattle.fw_outside.specs.DialerView.{LinkView}
+use Rattle.fw_outside.specs.SourceView.{SourceView}
+use Rattle.fw_outside.specs.ToldList.{grown}
+use Rattle.fw_types.specs.declared.ending.Ending.{Ending}
+use Rattle.fw_types.specs.declared.ending.Ending.TheVariants.{Done, Denied, ClientFault, ServerFault, LogFault, AuthFault, Idle, NoRoute, Spent, NoMemory}
+use Rattle.session_acts.specs.World.{Devices, most_taken}
+
+-- No count falls. How long the client's source and the dialer's links wait stays, as do whether the client's sink and the
+-- log were told the end, and whose history the port's is.
+pub record SessionKeeps {Origin : Type 0} (old new : Devices Origin) : Type 0 where
+  pub faults : old.inlet.faults ≤ new.inlet.faults
+  pub idles : old.inlet.idles ≤ new.inlet.idles
+  pub drops : old.outlet.faults ≤ new.outlet.faults
+  pub log_drops : old.logs.faults ≤ new.logs.faults
+  pub breaks : old.port.faults ≤ new.port.faults
+  pub strays : old.port.odd ≤ new.port.odd
+  pub refusals : old.dialer.refusals ≤ new.dialer.refusals
+  pub link_faults : old.dialer.link_faults ≤ new.dialer.link_faults
+  pub link_idles : old.dialer.link_idles ≤ new.dialer.link_idles
+  pub waits : new.inlet.waits ≡ old.inlet.waits
+  pub link_waits : new.dialer.waits ≡ old.dialer.waits
+  pub shut : new.outlet.shut ≡ old.outlet.shut
+  pub log_shut : new.logs.shut ≡ old.logs.shut
+  pub origin : new.port.origin ≡ old.port.origin
+  pub home : new.port.home ≡ old.port.home
+
+-- these bytes were taken, at most `most_taken`: the source has counted them, and they are those that it tells, where it does
+pub record TookAtMost (old new : SourceView) : Type 0 where
+  pub bytes : List ℕ
+  pub most : length bytes ≤ most_taken
+  pub grew : Grew (length bytes) old.amount new.amount
+  pub is : new.taken ≡ grown old.taken bytes
+
+-- `most_taken` bytes were taken
+pub record TookMost (old new : SourceView) : Type 0 where
+  pub took : TookAtMost old new
+  pub all : length took.bytes ≡ most_taken
+
+-- the last link that was hung up, where that is told
+abbrev pub IsLast : {A : Type 0} → A → Option (List A) → Type 0
+IsLast one None = Unit {0}
+IsLast {A} one (Some all) = (before : List A) × (all ≡ before ++ one ∷ [])
+
+-- `most_taken` bytes were taken of the last link that was hung up
+pub record LinkTookMost {Origin : Type 0} (new : Devices Origin) : Type 0 where
+  pub link : LinkView
+  pub last : IsLast link new.dialer.ended
+  pub all : link.from.amount ≡ most_taken
+
+abbrev pub is_spent_ending : Ending → Bool
+is_spent_ending Spent = true
+is_spent_ending _ = false
+
+-- `most_taken` bytes at most were taken of the client; where it was so many, the ending is `Spent`
+pub record TakesFor {Origin : Type 0} (ending : Ending) (old new : Devices Origin) : Type 0 where
+  pub took : TookAtMost old.inlet new.inlet
+  pub all : length took.bytes ≡ most_taken → is_spent_ending ending ≡ true
+
+-- The client's source or sink failed, or the log; a link that was hung up had failed, or had been idle, or the client was;
+-- a link was refused; all that may be was taken of the client or of a link; the port failed, or something strange came from
+-- it. What caused the other endings isn't counted, and no session ends as denied.
+abbrev pub Caused : {Origin : Type 0} → Ending → Devices Origin → Devices Origin → Type 0
+Caused ClientFault old new = Rose old.inlet.faults new.inlet.faults ⊎ Rose old.outlet.faults new.outlet.faults
+Caused ServerFault old new = Rose old.dialer.link_faults new.dialer.link_faults
+Caused LogFault old new = Rose old.logs.faults new.logs.faults
+Caused AuthFault old new = Rose old.port.faults new.port.faults ⊎ Rose old.port.odd new.port.odd
+Caused Idle old new = Rose old.inlet.idles new.inlet.idles ⊎ Rose old.dialer.link_idles new.dialer.link_idles
+Caused NoRoute old new = Rose old.dialer.refusals new.dialer.refusals
+Caused Spent old new = TookMost old.inlet new.inlet ⊎ LinkTookMost new
+Caused (Denied line) old new = ⊥
+Caused Done old new = Unit {0}
+Caused NoMemory old new = Unit {0}

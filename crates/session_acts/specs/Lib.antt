@@ -1,0 +1,11 @@
+pub mod Acts
+pub mod Causes
+pub mod Closing
+pub mod Deeds
+pub mod Distance
+pub mod Laws
+pub mod Link
+pub mod Met
+pub mod Session
+pub mod Talk
+pub mod World

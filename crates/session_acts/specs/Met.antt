@@ -1,0 +1,252 @@
+-- What an act, with its outcome, does to each part of what the session meets.
+use Rattle.std.specs.Prelude.{◌≡◌, ℕ, ◌≤◌, Bool, true, false, List, length, Option, Some, None, Result, Ok, Err, unwrap_or}
+use Rattle.auth_events.specs.Port.{Asks, Port}
+use Rattle.auth_events.specs.declared.port.PortFault.{PortFault}
+use Rattle.auth_events.specs.declared.reply.Reply.{Reply}
+use Rattle.auth_events.specs.declared.reply.Reply.TheVariants as replies
+use Rattle.auth_events.specs.declared.request.Request.{Request}
+use Rattle.auth_events.specs.declared.request.Request.TheVariants as requests
+use Rattle.fw_acts.specs.Acts.{Sig}
+use Rattle.fw_outside.specs.ClockView.{ClockView, GaveTime}
+use Rattle.fw_outside.specs.Counts.{Rose}
+use Rattle.fw_outside.specs.DialerView.{ComesUp, DialerView, HangsUp, Refuses}
+use Rattle.fw_outside.specs.DiceView.{DiceView, GaveSalt}
+use Rattle.fw_outside.specs.LineReaderView.{LineReaderView, Listens}
+use Rattle.fw_outside.specs.SinkView.{SinkView}
+use Rattle.fw_outside.specs.SourceView.{SourceView}
+use Rattle.fw_outside.specs.ToldList.{grown}
+use Rattle.fw_outside.specs.declared.ask.Ask.TheVariants as asks
+use Rattle.fw_outside.specs.declared.heard.Heard.{Heard}
+use Rattle.fw_outside.specs.declared.heard.Heard.TheVariants.{Line, TooLong, Stopped}
+use Rattle.fw_outside.specs.declared.heard.Stop.{Stop}
+use Rattle.fw_outside.specs.declared.heard.Stop.TheVariants as stops
+use Rattle.fw_types.specs.declared.dest.Dest.{Dest}
+use Rattle.session_acts.specs.Acts.{Act, Answer, Front, Halt, Outcome, cause_by}
+use Rattle.session_acts.specs.Acts.Act.{Hear, Say, Try, Log, Note, Ask, Renew, Dial, Reach, Take, Pass, HangUp}
+use Rattle.session_acts.specs.World.{Office, Server, Speaker, World, unheard}
+use Rattle.session_acts.specs.declared.cause.Cause.{Cause}
+use Rattle.session_acts.specs.declared.silence.Silence.{Silence}
+use Rattle.session_acts.specs.declared.silence.Silence.TheVariants.{Quiet, Broken, Limit}
+
+-- ---- what is heard and said
+
+-- this was heard, and at most 4,096 bytes were taken beyond it
+pub record Heeds (heard : Heard) (old new : Speaker) : Type 0 where
+  pub inlet : SourceView
+  pub reader : LineReaderView
+  pub listens : Listens heard old.reader reader old.inlet inlet
+  pub near : length reader.pending ≤ 4096
+  pub is : new ≡ record old { inlet = inlet; reader = reader }
+
+-- a line, or the end
+abbrev pub HeedsLine : Heard → Speaker → Speaker → Type 0
+HeedsLine (Line line) old new = Heeds (Line line) old new
+HeedsLine TooLong old new = Heeds TooLong old new
+HeedsLine (Stopped stops.End) old new = Heeds (Stopped stops.End) old new
+HeedsLine (Stopped stops.Idle) old new = ⊥
+HeedsLine (Stopped stops.Failed) old new = ⊥
+HeedsLine (Stopped stops.Spent) old new = ⊥
+
+abbrev pub stop_of : Silence → Stop
+stop_of Quiet = stops.Idle
+stop_of Broken = stops.Failed
+stop_of Limit = stops.Spent
+
+abbrev pub Hears : Result Heard Silence → Speaker → Speaker → Type 0
+Hears (Ok heard) old new = HeedsLine heard old new
+Hears (Err silence) old new = Heeds (Stopped (stop_of silence)) old new
+
+-- the sink failed behind this front of a text, which it was given
+pub record CutAt {text : List ℕ} (front : Front text) (old new : SinkView) : Type 0 where
+  pub count : ℕ
+  pub rose : Rose old.faults count
+  pub is : new ≡ record old { given = grown old.given front.part; faults = count }
+
+-- the sink was given the text, or a front of it
+abbrev pub Gets : (text : List ℕ) → Result (Unit {0}) (Front text) → SinkView → SinkView → Type 0
+Gets text (Ok done) old new = new ≡ record old { given = grown old.given text }
+Gets text (Err front) old new = CutAt front old new
+
+-- so it was, and that stops nothing
+abbrev pub GetsTry : (text : List ℕ) → Result (Result (Unit {0}) (Front text)) ⊥ → SinkView → SinkView → Type 0
+GetsTry text (Ok tried) old new = Gets text tried old new
+GetsTry text (Err never) old new = ⊥
+
+-- it was told the text
+pub record IsTold (text : List ℕ) (outcome : Result (Unit {0}) (Front text)) (old new : Speaker) : Type 0 where
+  pub outlet : SinkView
+  pub gets : Gets text outcome old.outlet outlet
+  pub is : new ≡ record old { outlet = outlet }
+
+abbrev pub IsTriedTold : (text : List ℕ) → Result (Result (Unit {0}) (Front text)) ⊥ → Speaker → Speaker → Type 0
+IsTriedTold text (Ok tried) old new = IsTold text tried old new
+IsTriedTold text (Err never) old new = ⊥
+
+-- ---- the client and the log
+
+abbrev pub AtClient : (act : Act) → Outcome act → Speaker → Speaker → Type 0
+AtClient Hear outcome old new = Hears outcome old new
+AtClient (Say text) outcome old new = IsTold text outcome old new
+AtClient (Try text) outcome old new = IsTriedTold text outcome old new
+AtClient act outcome old new = new ≡ old
+
+abbrev pub AtLogs : (act : Act) → Outcome act → SinkView → SinkView → Type 0
+AtLogs (Log text) outcome old new = Gets text outcome old new
+AtLogs (Note text) outcome old new = GetsTry text outcome old new
+AtLogs act outcome old new = new ≡ old
+
+-- ---- the office
+
+-- the reply, where there was one
+abbrev pub reply_of : Result Reply PortFault → Option Reply
+reply_of (Ok reply) = Some reply
+reply_of (Err fault) = None
+
+-- the session that is open after a request was asked: one that is asked to close isn't open any more
+abbrev pub opened_then : Request → Option Reply → Option ℕ → Option ℕ
+opened_then (requests.Open console) (Some (replies.Opened sid)) opened = Some sid
+opened_then requests.Close reply opened = None
+opened_then request reply opened = opened
+
+-- the number that is told with a request
+abbrev pub number_told : Option ℕ → ℕ
+number_told opened = unwrap_or opened 0
+
+-- the port was asked, at a moment of the clock, for the session that is open
+pub record Asking {Origin : Type 0} (request : Request) (reply : Result Reply PortFault) (old new : Office Origin) : Type 0 where
+  pub moment : ℕ
+  pub clock : ClockView
+  pub port : Port Origin
+  pub gave_time : GaveTime moment old.clock clock
+  pub asks : Asks reply (number_told old.opened) moment request old.port port
+  pub is : new ≡ record old { clock = clock; port = port; opened = opened_then request (reply_of reply) old.opened }
+
+-- the dice gave this salt, with which a new password was asked for
+pub record Renewing {Origin : Type 0} (name hash salt : List ℕ) (reply : Result Reply PortFault) (old new : Office Origin) : Type 0 where
+  pub dice : DiceView
+  pub gave_salt : GaveSalt salt old.dice dice
+  pub asking : Asking (requests.Password name salt hash) reply (record old { dice = dice }) new
+
+abbrev pub Renews : {Origin : Type 0} → List ℕ → List ℕ → Result (List ℕ × Reply) (List ℕ × PortFault) → Office Origin → Office Origin → Type 0
+Renews name hash (Ok salted) old new = Renewing name hash salted.0 (Ok salted.1) old new
+Renews name hash (Err salted) old new = Renewing name hash salted.0 (Err salted.1) old new
+
+abbrev pub AtOffice : {Origin : Type 0} (act : Act) → Outcome act → Office Origin → Office Origin → Type 0
+AtOffice (Ask request) outcome old new = Asking request outcome old new
+AtOffice (Renew name hash) outcome old new = Renews name hash outcome old new
+AtOffice act outcome old new = new ≡ old
+
+-- ---- the server
+
+-- a link that is up is hung up
+abbrev pub Clears : Option Speaker → DialerView → DialerView → Type 0
+Clears None old new = new ≡ old
+Clears (Some link) old new = HangsUp link.inlet link.outlet old new
+
+pub record Hanging (old new : Server) : Type 0 where
+  pub dialer : DialerView
+  pub clears : Clears old.link old.dialer dialer
+  pub is : new ≡ record { dialer = dialer; link = None }
+
+-- a link came up, of which nothing was heard yet
+pub record Connects (dest : Dest) (cleared : DialerView) (new : Server) : Type 0 where
+  pub inlet : SourceView
+  pub outlet : SinkView
+  pub dialer : DialerView
+  pub up : ComesUp (asks.Main dest) inlet outlet cleared dialer
+  pub is : new ≡ record { dialer = dialer; link = Some (record { inlet = inlet; reader = unheard; outlet = outlet }) }
+
+-- none came up
+pub record Misses (dest : Dest) (cleared : DialerView) (new : Server) : Type 0 where
+  pub dialer : DialerView
+  pub refused : Refuses (asks.Main dest) cleared dialer
+  pub is : new ≡ record { dialer = dialer; link = None }
+
+abbrev pub ConnectsIf : Bool → Dest → DialerView → Server → Type 0
+ConnectsIf true dest cleared new = Connects dest cleared new
+ConnectsIf false dest cleared new = Misses dest cleared new
+
+-- a link that is up is hung up, and then the destination is dialed
+pub record Dialing (dest : Dest) (up : Bool) (old new : Server) : Type 0 where
+  pub cleared : DialerView
+  pub clears : Clears old.link old.dialer cleared
+  pub connects : ConnectsIf up dest cleared new
+
+abbrev pub Dials : Dest → Result Bool ⊥ → Server → Server → Type 0
+Dials dest (Ok up) old new = Dialing dest up old new
+Dials dest (Err never) old new = ⊥
+
+abbrev pub Reaches : Dest → Result (Unit {0}) (Unit {0}) → Server → Server → Type 0
+Reaches dest (Ok up) old new = Dialing dest true old new
+Reaches dest (Err halt) old new = Dialing dest false old new
+
+-- the server was heard
+pub record HearsServer (outcome : Result Heard Silence) (link : Speaker) (old new : Server) : Type 0 where
+  pub speaker : Speaker
+  pub hears : Hears outcome link speaker
+  pub is : new ≡ record old { link = Some speaker }
+
+-- where no link is up, that is the end
+abbrev pub Takes : Result Heard Silence → Option Speaker → Server → Server → Type 0
+Takes outcome None old new = (outcome ≡ Ok (Stopped stops.End)) × (new ≡ old)
+Takes outcome (Some link) old new = HearsServer outcome link old new
+
+-- the server was told the text
+pub record TellsServer (text : List ℕ) (outcome : Result (Unit {0}) (Front text)) (link : Speaker) (old new : Server) : Type 0 where
+  pub speaker : Speaker
+  pub told : IsTold text outcome link speaker
+  pub is : new ≡ record old { link = Some speaker }
+
+-- where no link is up, nothing is told
+abbrev pub Passes : (text : List ℕ) → Result (Unit {0}) (Front text) → Option Speaker → Server → Server → Type 0
+Passes text outcome None old new = (outcome ≡ Ok tt) × (new ≡ old)
+Passes text outcome (Some link) old new = TellsServer text outcome link old new
+
+abbrev pub HangsUpServer : Result (Unit {0}) ⊥ → Server → Server → Type 0
+HangsUpServer (Ok done) old new = Hanging old new
+HangsUpServer (Err never) old new = ⊥
+
+abbrev pub AtServer : (act : Act) → Outcome act → Server → Server → Type 0
+AtServer (Dial dest) outcome old new = Dials dest outcome old new
+AtServer (Reach dest) outcome old new = Reaches dest outcome old new
+AtServer Take outcome old new = Takes outcome old.link old new
+AtServer (Pass text) outcome old new = Passes text outcome old.link old new
+AtServer HangUp outcome old new = HangsUpServer outcome old new
+AtServer act outcome old new = new ≡ old
+
+-- ---- all parts
+
+-- the act came out so
+pub record Met {Origin : Type 0} (act : Act) (outcome : Outcome act) (old new : World Origin) : Type 0 where
+  pub client : AtClient act outcome old.client new.client
+  pub logs : AtLogs act outcome old.logs new.logs
+  pub office : AtOffice act outcome old.office new.office
+  pub server : AtServer act outcome old.server new.server
+  pub names : new.names ≡ old.names
+
+-- the session stopped at the act, for this cause
+pub record Stops {Origin : Type 0} (act : Act) (cause : Cause) (old new : World Origin) : Type 0 where
+  pub halt : Halt act
+  pub is_cause : cause ≡ cause_by act halt
+  pub met : Met act (Err halt) old new
+
+abbrev pub Does : {Origin : Type 0} (act : Act) → Answer act → World Origin → World Origin → Type 0
+Does act answer old new = Met act (Ok answer) old new
+
+-- the acts of a session
+abbrev pub acts : Type 0 → Sig
+acts Origin = record { Act = Act; Answer = Answer; World = World Origin; Stop = Cause; does = Does; stops = Stops }
+
+-- what a method of the stage says of its act
+abbrev pub Acted : {Origin : Type 0} (act : Act) → Result (Answer act) Cause → World Origin → World Origin → Type 0
+Acted act (Ok answer) old new = Met act (Ok answer) old new
+Acted act (Err cause) old new = Stops act cause old new
+
+-- an act that never stops was done, however that came out
+pub record Tried {Origin : Type 0} (text : List ℕ) (old new : World Origin) : Type 0 where
+  pub tried : Result (Unit {0}) (Front text)
+  pub met : Met (Try text) (Ok tried) old new
+
+pub record Jotted {Origin : Type 0} (text : List ℕ) (old new : World Origin) : Type 0 where
+  pub tried : Result (Unit {0}) (Front text)
+  pub met : Met (Note text) (Ok tried) old new

@@ -1,0 +1,80 @@
+-- What a session meets, in four parts: the client, the log, the office where it asks, and the server.
+use Rattle.std.specs.Prelude.{ℕ, ◌^◌, List, [], Option, None}
+use Rattle.auth_events.specs.Port.{Port}
+use Rattle.fw_outside.specs.ClockView.{ClockView}
+use Rattle.fw_outside.specs.DialerView.{DialerView}
+use Rattle.fw_outside.specs.DiceView.{DiceView}
+use Rattle.fw_outside.specs.LineReaderView.{LineReaderView}
+use Rattle.fw_outside.specs.SinkView.{SinkView}
+use Rattle.fw_outside.specs.SourceView.{SourceView}
+
+-- who says lines and is told texts, the client or the server: what comes from there, the buffer behind which it is heard,
+-- and what goes there
+pub record Speaker : Type 0 where
+  pub inlet : SourceView
+  pub reader : LineReaderView
+  pub outlet : SinkView
+
+-- where a session asks: the port, the clock and the dice, and the number of the session that it has opened there and not
+-- asked to close
+pub record Office (Origin : Type 0) : Type 0 where
+  pub port : Port Origin
+  pub clock : ClockView
+  pub dice : DiceView
+  pub opened : Option ℕ
+
+-- the dialer, and the server at the other end of the link that is up, if one is
+pub record Server : Type 0 where
+  pub dialer : DialerView
+  pub link : Option Speaker
+
+-- with the names of the references to the devices, which stay
+pub record World (Origin : Type 0) : Type 0 where
+  pub client : Speaker
+  pub logs : SinkView
+  pub office : Office Origin
+  pub server : Server
+  pub names : List ℕ
+
+-- no more bytes than these are taken from a client, or from a server over one link
+abbrev pub most_taken : ℕ
+most_taken = 2 ^ 40
+
+-- nothing was heard yet
+abbrev pub unheard : LineReaderView
+unheard = record { pending = []; room = most_taken }
+
+-- ---- the devices that a session is lent
+
+pub record Devices (Origin : Type 0) : Type 0 where
+  pub inlet : SourceView
+  pub outlet : SinkView
+  pub logs : SinkView
+  pub port : Port Origin
+  pub clock : ClockView
+  pub dice : DiceView
+  pub dialer : DialerView
+
+abbrev pub devices_with : {Origin : Type 0} → Port Origin → SourceView → SinkView → SinkView → DialerView → ClockView → DiceView → Devices Origin
+devices_with port inlet outlet logs dialer clock dice = record { inlet = inlet; outlet = outlet; logs = logs; port = port; clock = clock; dice = dice; dialer = dialer }
+
+-- at first nothing was heard, no session is open and no link is up
+abbrev pub at_first : {Origin : Type 0} → Devices Origin → List ℕ → World Origin
+at_first devices names = record {
+  client = record { inlet = devices.inlet; reader = unheard; outlet = devices.outlet };
+  logs = devices.logs;
+  office = record { port = devices.port; clock = devices.clock; dice = devices.dice; opened = None };
+  server = record { dialer = devices.dialer; link = None };
+  names = names;
+}
+
+abbrev pub devices_of : {Origin : Type 0} → World Origin → Devices Origin
+devices_of world = record {
+  inlet = world.client.inlet;
+  outlet = world.client.outlet;
+  logs = world.logs;
+  port = world.office.port;
+  clock = world.office.clock;
+  dice = world.office.dice;
+  dialer = world.server.dialer;
+}

@@ -1,0 +1,208 @@
+//! The devices that a session is lent, and the acts on them.
+ghost use Rattle.std.specs.Prelude.{◌≡◌, ◌∷◌, [], is_some, Ok, Err};
+ghost use Rattle.auth_events.specs.Port.{Port};
+ghost use Rattle.fw_outside.specs.DiceView.{DiceView};
+ghost use Rattle.session_acts.specs.Acts.{fault_cause, silence_cause};
+ghost use Rattle.session_acts.specs.Link.{link_view};
+ghost use Rattle.session_acts.specs.Met.{Asking, opened_then, reply_of};
+
+use crate::link::{Link, clear, connect, heed, pass_text, take_line};
+use crate::{Cause, Silence, Stage};
+use auth_events::{AuthPort, PortFault, Reply, Request};
+use fw_outside::{Clock, Dialer, Dice, Failed, Heard, LineReader, Sink, Source};
+use fw_types::{Dest, Name};
+
+/// The devices that a session is lent. The link stands outside of it, so that whoever lends it learns what became of it.
+#[derive(Drop)]
+pub(crate) struct Desk<
+    'p,
+    's,
+    'k,
+    'g,
+    'd,
+    'l,
+    'c,
+    'r,
+    P: AuthPort,
+    S: Source,
+    K: Sink,
+    G: Sink,
+    D: Dialer,
+    C: Clock,
+    R: Dice,
+> {
+    pub(crate) port: &'p mut P,
+    pub(crate) from: &'s mut S,
+    pub(crate) to: &'k mut K,
+    pub(crate) logs: &'g mut G,
+    pub(crate) dialer: &'d mut D,
+    pub(crate) link: &'l mut Option<Link<D::In, D::Out>>,
+    pub(crate) clock: &'c mut C,
+    pub(crate) dice: &'r mut R,
+    pub(crate) reader: LineReader,
+    pub(crate) opened: Option<u64>,
+}
+
+fn fault_cause(fault: PortFault) -> Cause
+    ensures { result ≡ fault_cause fault }
+{
+    match fault {
+        PortFault::NoMemory => Cause::NoMemory,
+        PortFault::Link | PortFault::Strange => Cause::AuthFault,
+    }
+}
+
+fn silence_cause(fault: Cause, silence: Silence) -> Cause
+    ensures { result ≡ silence_cause fault silence }
+{
+    match silence {
+        Silence::Quiet => Cause::Idle,
+        Silence::Broken => fault,
+        Silence::Limit => Cause::Spent,
+    }
+}
+
+// The session that is open after a request was asked.
+fn opened_then(
+    request: &Request,
+    reply: &Result<Reply, PortFault>,
+    opened: Option<u64>,
+) -> Option<u64>
+    ensures { result ≡ opened_then request.now (reply_of reply.now) opened }
+{
+    match request {
+        Request::Open { .. } => match reply {
+            Ok(Reply::Opened { sid }) => Some(*sid),
+            Ok(_) => opened,
+            Err(_) => opened,
+        },
+        Request::Close => None,
+        _ => opened,
+    }
+}
+
+// Asks the port, at a moment of the clock, for the session that is open.
+fn ask<P: AuthPort, C: Clock>(
+    port: &mut P,
+    clock: &mut C,
+    opened: &mut Option<u64>,
+    request: Request,
+) -> Result<Reply, PortFault>
+    ensures { (dice : DiceView) → Asking request result
+        (record { port = P.port port.old; clock = C.clock_view clock.old; dice = dice; opened = opened.old })
+        (record { port = P.port port.new; clock = C.clock_view clock.new; dice = dice; opened = opened.new }) }
+{
+    let moment = clock.now();
+    let sid = opened.unwrap_or(0);
+    let reply = port.ask(sid, moment, request.twin());
+    *opened = opened_then(&request, &reply, *opened);
+    reply
+}
+
+impl<'p, 's, 'k, 'g, 'd, 'l, 'c, 'r, P, S, K, G, D, C, R> Stage
+    for Desk<'p, 's, 'k, 'g, 'd, 'l, 'c, 'r, P, S, K, G, D, C, R>
+where
+    P: AuthPort,
+    S: Source,
+    K: Sink,
+    G: Sink,
+    D: Dialer,
+    C: Clock,
+    R: Dice,
+{
+    type Origin = P::Origin;
+
+    ghost world = { λ d. record {
+      client = record { inlet = S.source_view d.from.now; reader = d.reader; outlet = K.sink_view d.to.now };
+      logs = G.sink_view d.logs.now;
+      office = record { port = P.port d.port.now; clock = C.clock_view d.clock.now; dice = R.dice_view d.dice.now; opened = d.opened };
+      server = record { dialer = D.dialer_view d.dialer.now; link = link_view D.In.source_view D.Out.sink_view d.link.now };
+      names = d.port.ghost_name ∷ d.from.ghost_name ∷ d.to.ghost_name ∷ d.logs.ghost_name ∷ d.dialer.ghost_name ∷ d.link.ghost_name ∷ d.clock.ghost_name ∷ d.dice.ghost_name ∷ [];
+    } };
+
+    fn is_open(&self) -> bool {
+        self.opened.is_some()
+    }
+
+    fn is_linked(&self) -> bool {
+        self.link.is_some()
+    }
+
+    fn hear(&mut self) -> Result<Heard, Cause> {
+        match heed(&mut self.reader, self.from) {
+            Ok(heard) => Ok(heard),
+            Err(silence) => Err(silence_cause(Cause::ClientFault, silence)),
+        }
+    }
+
+    fn say(&mut self, text: &[u8]) -> Result<(), Cause> {
+        match self.to.give(text) {
+            Ok(()) => Ok(()),
+            Err(_) => Err(Cause::ClientFault),
+        }
+    }
+
+    fn attempt(&mut self, text: &[u8]) {
+        let _ = self.to.give(text);
+    }
+
+    fn log(&mut self, text: &[u8]) -> Result<(), Cause> {
+        match self.logs.give(text) {
+            Ok(()) => Ok(()),
+            Err(_) => Err(Cause::LogFault),
+        }
+    }
+
+    fn jot(&mut self, text: &[u8]) {
+        let _ = self.logs.give(text);
+    }
+
+    fn ask(&mut self, request: Request) -> Result<Reply, Cause> {
+        match ask(self.port, self.clock, &mut self.opened, request) {
+            Ok(reply) => Ok(reply),
+            Err(fault) => Err(fault_cause(fault)),
+        }
+    }
+
+    fn renew(&mut self, name: Name, hash: [u8; 16]) -> Result<([u8; 8], Reply), Cause> {
+        let salt = self.dice.salt();
+        match ask(
+            self.port,
+            self.clock,
+            &mut self.opened,
+            Request::Password { name, salt, hash },
+        ) {
+            Ok(reply) => Ok((salt, reply)),
+            Err(fault) => Err(fault_cause(fault)),
+        }
+    }
+
+    fn dial(&mut self, dest: &Dest) -> bool {
+        connect(self.dialer, self.link, dest)
+    }
+
+    fn reach(&mut self, dest: &Dest) -> Result<(), Cause> {
+        if !connect(self.dialer, self.link, dest) {
+            return Err(Cause::NoRoute);
+        }
+        Ok(())
+    }
+
+    fn take(&mut self) -> Result<Heard, Cause> {
+        match take_line(self.link) {
+            Ok(heard) => Ok(heard),
+            Err(silence) => Err(silence_cause(Cause::ServerFault, silence)),
+        }
+    }
+
+    fn pass(&mut self, text: &[u8]) -> Result<(), Cause> {
+        match pass_text(self.link, text) {
+            Ok(()) => Ok(()),
+            Err(_) => Err(Cause::ServerFault),
+        }
+    }
+
+    fn hang_up(&mut self) {
+        clear(self.dialer, self.link);
+    }
+}

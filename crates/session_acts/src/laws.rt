@@ -1,0 +1,70 @@
+//! What holds of every session, whatever its script.
+ghost use Rattle.std.specs.Prelude.{◌≡◌, ◌||◌, [], None, filter, length, map};
+ghost use Rattle.std.specs.List.{list_any};
+ghost use Rattle.auth_events.specs.Port.{places};
+ghost use Rattle.fw_acts.specs.Acts.{Row, PlaceTable};
+ghost use Rattle.fw_types.specs.declared.ending.Ending.{Ending};
+ghost use Rattle.session_acts.specs.Deeds.{gives};
+ghost use Rattle.session_acts.specs.Laws.{CallsDialer, LinksDialer, TellsClient, TellsLog, called, linked, logged, told};
+ghost use Rattle.session_acts.specs.Met.{acts};
+ghost use Rattle.session_acts.specs.Session.{Held, deeds_of};
+ghost use Rattle.session_acts.specs.Talk.{Entered, ThrowsSalts, answered, asked, is_entered, is_refused_as_full, said_of, thrown};
+ghost use Rattle.session_acts.specs.World.{World};
+
+/// What a client was given by a session is what its deeds say and try to say, one after another: of a text at which the
+/// client's sink failed, a front.
+pub fn the_client_is_told<Origin, P>()
+    ensures { (rows : PlaceTable (acts Origin) P) (first : Row (acts Origin) P) (old new : World Origin) (ending : Ending)
+        (held : Held rows first old new ending) → TellsClient (gives told (deeds_of held)) old new }
+{}
+
+/// What the log was given by a session is what its deeds log and note, one after another: of a text at which the log
+/// failed, a front.
+pub fn the_log_is_told<Origin, P>()
+    ensures { (rows : PlaceTable (acts Origin) P) (first : Row (acts Origin) P) (old new : World Origin) (ending : Ending)
+        (held : Held rows first old new ending) → TellsLog (gives logged (deeds_of held)) old new }
+{}
+
+/// What the dialer was asked by a session is the destinations that it dialed and reached, in order.
+pub fn the_dialer_is_asked<Origin, P>()
+    ensures { (rows : PlaceTable (acts Origin) P) (first : Row (acts Origin) P) (old new : World Origin) (ending : Ending)
+        (held : Held rows first old new ending) → CallsDialer (gives called (deeds_of held)) old new }
+{}
+
+/// Every link that came up in a session was hung up (`links`), and none is up at its end (`none`).
+pub fn the_links_are_hung_up<Origin, P>()
+    ensures links { (rows : PlaceTable (acts Origin) P) (first : Row (acts Origin) P) (old new : World Origin)
+        (ending : Ending) (held : Held rows first old new ending) →
+        LinksDialer (gives linked (deeds_of held)) old new }
+    ensures none { (rows : PlaceTable (acts Origin) P) (first : Row (acts Origin) P) (old new : World Origin)
+        (ending : Ending) → Held rows first old new ending → new.server.link ≡ None }
+{}
+
+/// A session asked each request for the session that was open, at a moment of the clock. What was answered stands in the
+/// port's history as it was asked and answered, behind all that was seen before, but for what was refused because no more
+/// entries fit (`entered`). The port says that it refused where it said so before or where one was so refused (`refused`).
+/// Where these entries are the whole history, nothing else is in it (`whole`).
+pub fn the_talk_is_entered<Origin, P>()
+    ensures entered { (rows : PlaceTable (acts Origin) P) (first : Row (acts Origin) P) (old new : World Origin)
+        (ending : Ending) (held : Held rows first old new ending) →
+        Entered (gives asked (deeds_of held)) old.office new.office }
+    ensures refused { (rows : PlaceTable (acts Origin) P) (first : Row (acts Origin) P) (old new : World Origin)
+        (ending : Ending) (held : Held rows first old new ending) → new.office.port.refused ≡
+        (old.office.port.refused || list_any is_refused_as_full (answered (gives asked (deeds_of held)))) }
+    ensures whole { (rows : PlaceTable (acts Origin) P) (first : Row (acts Origin) P) (old new : World Origin)
+        (ending : Ending) (held : Held rows first old new ending) →
+        old.office.port.mine ≡ [] → new.office.port.mine ≡ places (length new.office.port.seen) →
+        map said_of new.office.port.seen ≡ filter is_entered (answered (gives asked (deeds_of held))) }
+{}
+
+/// The salts that the dice gave in a session are those of the new passwords that it asked for, in order.
+pub fn the_salts_are_thrown<Origin, P>()
+    ensures { (rows : PlaceTable (acts Origin) P) (first : Row (acts Origin) P) (old new : World Origin) (ending : Ending)
+        (held : Held rows first old new ending) → ThrowsSalts (gives thrown (deeds_of held)) old new }
+{}
+
+/// At the end of a session none is open at the port that it opened and didn't ask to close.
+pub fn the_session_is_closed<Origin, P>()
+    ensures { (rows : PlaceTable (acts Origin) P) (first : Row (acts Origin) P) (old new : World Origin)
+        (ending : Ending) → Held rows first old new ending → new.office.opened ≡ None }
+{}

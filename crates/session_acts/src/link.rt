@@ -1,0 +1,100 @@
+//! The link to a server, while it is up.
+ghost use Rattle.std.specs.Prelude.{◌≡◌, None};
+ghost use Rattle.fw_outside.specs.DialerView.{DialerView};
+ghost use Rattle.fw_outside.specs.SinkView.{SinkView};
+ghost use Rattle.session_acts.specs.Link.{PassesSo, link_view};
+ghost use Rattle.session_acts.specs.Met.{Clears, Dialing, Hears, Takes};
+
+use crate::Silence;
+use fw_outside::{Dialed, Dialer, Failed, Heard, LineReader, Sink, Source, Stop};
+use fw_types::Dest;
+
+// No more bytes than these are taken from a client, or from a server over one link.
+pub(crate) const MOST_TAKEN: u64 = 1 << 40;
+
+/// A link that is up, and the buffer behind which the server is heard.
+#[derive(Drop)]
+pub(crate) struct Link<I, O> {
+    from: I,
+    to: O,
+    reader: LineReader,
+}
+
+// The next line of a source, one that is too long, or the end.
+pub(crate) fn heed<S: Source>(reader: &mut LineReader, from: &mut S) -> Result<Heard, Silence>
+    ensures { (outlet : SinkView) → Hears result
+        (record { inlet = S.source_view from.old; reader = reader.old; outlet = outlet })
+        (record { inlet = S.source_view from.new; reader = reader.new; outlet = outlet }) }
+{
+    match reader.next(from) {
+        Heard::Stopped(Stop::Idle) => Err(Silence::Quiet),
+        Heard::Stopped(Stop::Failed) => Err(Silence::Broken),
+        Heard::Stopped(Stop::Spent) => Err(Silence::Limit),
+        heard => Ok(heard),
+    }
+}
+
+// Hangs a link up, if one is up.
+pub(crate) fn clear<D: Dialer>(dialer: &mut D, link: &mut Option<Link<D::In, D::Out>>)
+    ensures clears { Clears (link_view D.In.source_view D.Out.sink_view link.old)
+        (D.dialer_view dialer.old) (D.dialer_view dialer.new) }
+    ensures none { link.new ≡ None }
+{
+    if let Some(up) = link.take() {
+        dialer.hang_up(up.from, up.to);
+    }
+}
+
+// Hangs a link up, if one is up, and dials.
+pub(crate) fn connect<D: Dialer>(
+    dialer: &mut D,
+    link: &mut Option<Link<D::In, D::Out>>,
+    dest: &Dest,
+) -> bool
+    ensures { Dialing dest.now result
+        (record { dialer = D.dialer_view dialer.old; link = link_view D.In.source_view D.Out.sink_view link.old })
+        (record { dialer = D.dialer_view dialer.new; link = link_view D.In.source_view D.Out.sink_view link.new }) }
+{
+    clear(dialer, link);
+    match dialer.dial(dest) {
+        Dialed::Up(from, to) => {
+            *link = Some(Link {
+                from,
+                to,
+                reader: LineReader::new(MOST_TAKEN),
+            });
+            true
+        }
+        Dialed::Refused => false,
+    }
+}
+
+// The next line of the server, one that is too long, or the end, which it is too where no link is up.
+pub(crate) fn take_line<I: Source, O: Sink>(link: &mut Option<Link<I, O>>) -> Result<Heard, Silence>
+    ensures { (dialer : DialerView) → Takes result (link_view I.source_view O.sink_view link.old)
+        (record { dialer = dialer; link = link_view I.source_view O.sink_view link.old })
+        (record { dialer = dialer; link = link_view I.source_view O.sink_view link.new }) }
+{
+    let Some(mut up) = link.take() else {
+        return Ok(Heard::Stopped(Stop::End));
+    };
+    let heard = heed(&mut up.reader, &mut up.from);
+    *link = Some(up);
+    heard
+}
+
+// Gives the server a text, where a link is up.
+pub(crate) fn pass_text<I: Source, O: Sink>(
+    link: &mut Option<Link<I, O>>,
+    text: &[u8],
+) -> Result<(), Failed>
+    ensures { PassesSo text.now result (link_view I.source_view O.sink_view link.old)
+        (link_view I.source_view O.sink_view link.new) }
+{
+    let Some(mut up) = link.take() else {
+        return Ok(());
+    };
+    let passed = up.to.give(text);
+    *link = Some(up);
+    passed
+}

@@ -1,0 +1,75 @@
+ghost use Rattle.std.specs.Prelude.{◌≡◌, is_some, Ok};
+ghost use Rattle.session_acts.specs.Acts.Act.{Ask, Dial, HangUp, Hear, Log, Pass, Reach, Renew, Say, Take};
+ghost use Rattle.session_acts.specs.Met.{Acted, Jotted, Met, Tried};
+ghost use Rattle.session_acts.specs.World.{World};
+
+use crate::Cause;
+use auth_events::{Reply, Request};
+use fw_outside::Heard;
+use fw_types::{Dest, Name};
+
+/// Where a session takes place: its acts, one by one.
+pub trait Stage {
+    /// What the answers of the port stand on.
+    type Origin;
+
+    /// What the session meets.
+    ghost world: { Self → World Self.Origin };
+
+    /// Whether a session is open that wasn't asked to close.
+    fn is_open(&self) -> bool
+        ensures { result ≡ is_some (world self.now).office.opened };
+
+    /// Whether a link is up.
+    fn is_linked(&self) -> bool
+        ensures { result ≡ is_some (world self.now).server.link };
+
+    /// The next line of the client, one that is too long, or the end.
+    fn hear(&mut self) -> Result<Heard, Cause>
+        ensures { Acted Hear result (world self.old) (world self.new) };
+
+    /// Gives the client a text.
+    fn say(&mut self, text: &[u8]) -> Result<(), Cause>
+        ensures { Acted (Say text.now) result (world self.old) (world self.new) };
+
+    /// Gives the client a text, or a front of it where the client's sink fails.
+    fn attempt(&mut self, text: &[u8])
+        ensures { Tried text.now (world self.old) (world self.new) };
+
+    /// Gives the log a text.
+    fn log(&mut self, text: &[u8]) -> Result<(), Cause>
+        ensures { Acted (Log text.now) result (world self.old) (world self.new) };
+
+    /// Gives the log a text, or a front of it where the log fails.
+    fn jot(&mut self, text: &[u8])
+        ensures { Jotted text.now (world self.old) (world self.new) };
+
+    /// Asks the port, at a moment of the clock, for the session that is open.
+    fn ask(&mut self, request: Request) -> Result<Reply, Cause>
+        ensures { Acted (Ask request) result (world self.old) (world self.new) };
+
+    /// Asks the port for a new password, the MD5 digest of which is told, with a salt of the dice. The salt comes with the
+    /// reply.
+    fn renew(&mut self, name: Name, hash: [u8; 16]) -> Result<([u8; 8], Reply), Cause>
+        ensures { Acted (Renew name hash) result (world self.old) (world self.new) };
+
+    /// Hangs up a link that is up and asks for a link to the destination; whether it came up.
+    fn dial(&mut self, dest: &Dest) -> bool
+        ensures { Met (Dial dest.now) (Ok result) (world self.old) (world self.new) };
+
+    /// Hangs up a link that is up and asks for a link to the destination, which has to come up.
+    fn reach(&mut self, dest: &Dest) -> Result<(), Cause>
+        ensures { Acted (Reach dest.now) result (world self.old) (world self.new) };
+
+    /// The next line of the server, one that is too long, or the end, which it is too where no link is up.
+    fn take(&mut self) -> Result<Heard, Cause>
+        ensures { Acted Take result (world self.old) (world self.new) };
+
+    /// Gives the server a text, where a link is up.
+    fn pass(&mut self, text: &[u8]) -> Result<(), Cause>
+        ensures { Acted (Pass text.now) result (world self.old) (world self.new) };
+
+    /// Hangs up a link that is up.
+    fn hang_up(&mut self)
+        ensures { Met HangUp (Ok tt) (world self.old) (world self.new) };
+}
