@@ -35,7 +35,7 @@ pub(crate) fn tell_dice(asked: &[u8], out: &mut Told) {
 }
 
 // One take of at most four bytes.
-fn tell_take(source: &mut MemSource, out: &mut Told) {
+pub(crate) fn tell_take(source: &mut MemSource, out: &mut Told) {
     let mut buffer = [0; 4];
     match source.take(&mut buffer) {
         Ok(Got::Bytes(count)) => add_word(out, &buffer[..count]),
