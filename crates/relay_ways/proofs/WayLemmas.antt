@@ -1,7 +1,7 @@
 -- How a way goes on from one piece to the next, and how it ends.
 use Rattle.std.proofs.Common.{◌≡◌, ◌≢◌, ℕ, ◌+◌, ◌<◌, ◌≤◌, ◌⊎◌, inl, inr, false, List, [], ◌∷◌, ◌++◌, length, take, refl, sym, ap, ◌∙◌, subst, append_assoc, length-append, arith}
 use Rattle.std.specs.Prelude.{◌==◌}
-use Rattle.std.proofs.lemmas.Bool.{cases_eq, cases_lt, eq-eqb, eqb-false, ne_eqb}
+use Rattle.std.proofs.lemmas.Bool.{cases_eq, eq-eqb, ne_eqb}
 use Rattle.std.proofs.lemmas.List.{append-nil, length-take-le}
 use Rattle.fw_outside.specs.Counts.{Grew}
 use Rattle.fw_outside.specs.LineReaderView.{TookBytes}
@@ -19,11 +19,11 @@ holding_none old = rw (grown-nil old.given) refl
 holding_more : (one more : List ℕ) (old : SinkView) → holding more (holding one old) ≡ holding (one ++ more) old
 holding_more one more old = rw (grown-append old.given one more) refl
 
-pub moves_none : (from : SourceView) (to : SinkView) → Moves 0 from from to to
+moves_none : (from : SourceView) (to : SinkView) → Moves 0 from from to to
 moves_none from to = record { bytes = []; long = refl; takes = pulled_none from; gives = holding_none to }
 
 -- what was moved in two goes was moved
-pub moves_on : (n m both : ℕ) (before at after : SourceView) (old now new : SinkView) → n + m ≡ both → Moves n before at old now → Moves m at after now new → Moves both before after old new
+moves_on : (n m both : ℕ) (before at after : SourceView) (old now new : SinkView) → n + m ≡ both → Moves n before at old now → Moves m at after now new → Moves both before after old new
 moves_on n m both before at after old now new is one two =
     let long = length-append one.bytes two.bytes in
     record {
@@ -162,29 +162,4 @@ copies_cut n most buffer piece before after old new fits small came failed is =
         rose = cut.rose;
         is = cut.is;
       };
-    }
-
-below_by : (a b : ℕ) → (a ≡ b → ⊥) → a ≤ b → (a < b) ⊎ (b ≤ a) → a < b
-below_by a b other most (inl less) = less
-below_by a b other most (inr least) = absurd (other (omega (arith, most, least)))
-
-below_of : (a b : ℕ) → (a ≡ b → ⊥) → a ≤ b → a < b
-below_of a b other most = below_by a b other most (cases_lt a b)
-
--- a way that came to no limit would have come to no greater one
-pub copies_wider : (how : WayEnd) (room most : ℕ) (before after : SourceView) (old new : SinkView) → room ≤ most → is_spent how ≡ false → Copies room how before after old new → Copies most how before after old new
-copies_wider how room most before after old new less is copies =
-    let parts : length copies.bytes ≡ length copies.part + length copies.rest = ap length copies.cut ∙ length-append copies.part copies.rest in
-    let other = eqb-false (length copies.part) room (sym copies.spent ∙ is) in
-    let below : length copies.part < room = below_of (length copies.part) room other (let within = copies.within in omega (arith, parts, within)) in
-    record {
-      bytes = copies.bytes;
-      part = copies.part;
-      rest = copies.rest;
-      middle = copies.middle;
-      takes = copies.takes;
-      cut = copies.cut;
-      within = let within = copies.within in omega (arith, within, less);
-      spent = is ∙ less_not (length copies.part) most (omega (arith, below, less));
-      ends = copies.ends;
     }
