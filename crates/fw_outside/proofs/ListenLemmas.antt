@@ -20,11 +20,11 @@ use Rattle.fw_outside.specs.ToldList.{grown, preceded}
 use Rattle.fw_outside.specs.LineReaderView.{LeavesSource, Listens, TakesNothing, TookBytes, Reads, LineReaderView, stops_at_limit, rest_of}
 use Rattle.fw_outside.proofs.LineLemmas.{heard_kept, heard_line, no_first_line, take_twice}
 
-grown-append : (told : Option (List ℕ)) (a b : List ℕ) → grown (grown told a) b ≡ grown told (a ++ b)
+pub grown-append : (told : Option (List ℕ)) (a b : List ℕ) → grown (grown told a) b ≡ grown told (a ++ b)
 grown-append None a b = refl
 grown-append (Some bytes) a b = ap Some (append_assoc bytes a b)
 
-grown-nil : (told : Option (List ℕ)) → grown told [] ≡ told
+pub grown-nil : (told : Option (List ℕ)) → grown told [] ≡ told
 grown-nil None = refl
 grown-nil (Some bytes) = ap Some (append-nil bytes)
 
@@ -37,7 +37,7 @@ preceded-nil None = refl
 preceded-nil (Some bytes) = refl
 
 -- bytes that were taken one after another were taken together
-pulled_on : (a b : List ℕ) (first now new : SourceView) → TookBytes a first now → TookBytes b now new → TookBytes (a ++ b) first new
+pub pulled_on : (a b : List ℕ) (first now new : SourceView) → TookBytes a first now → TookBytes b now new → TookBytes (a ++ b) first new
 pulled_on a b first now new one two =
     let left : now.left ≡ one.left = rw one.is refl in
     record {
@@ -48,7 +48,7 @@ pulled_on a b first now new one two =
       is = rw (two.is, one.is, grown-append first.taken a b) refl;
     }
 
-pulled_none : (first : SourceView) → TookBytes [] first first
+pub pulled_none : (first : SourceView) → TookBytes [] first first
 pulled_none first = record { left = first.left; next = preceded-nil first.left; count = first.amount; grew = grew_none first.amount; is = rw (grown-nil first.taken) refl }
 
 -- what was read of a line so far

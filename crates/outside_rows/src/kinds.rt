@@ -8,6 +8,7 @@ use crate::values::{
     tell_host, tell_name, tell_number, tell_octets, tell_order, tell_party, tell_peer, tell_port,
     tell_verb, tell_verbs,
 };
+use crate::ways::tell_way;
 use fw_types::{NoMemory, read_numbered_port, read_port};
 use row_lines::{Rows, Told, add};
 use std::alloc::Global;
@@ -50,6 +51,7 @@ impl Rows for Kinds {
             "dialer" => tell_dialer(alloc, asked, out),
             "keeper" => tell_keeper(alloc, asked, out),
             "lines" => tell_lines(alloc, asked, out),
+            "way" => tell_way(alloc, asked, out),
             "dice" => {
                 tell_dice(asked, out);
                 Ok(())

@@ -1,5 +1,5 @@
-//! Rows of the plain types, the devices in memory and the reader of lines: each row of `data/` says what is
-//! told of what is asked, by the kinds that [`kinds`] knows. `row_lines` says how a row is written.
+//! Rows of the plain types, the devices in memory, the reader of lines and the ways of a relay: each row of `data/` says
+//! what is told of what is asked, by the kinds that [`kinds`] knows. `row_lines` says how a row is written.
 #![tactic(auto)]
 
 mod devices;
@@ -9,6 +9,7 @@ mod kinds;
 mod lines;
 mod signature;
 mod values;
+mod ways;
 
 use kinds::Kinds;
 use row_lines::compare;
