@@ -1,5 +1,5 @@
 -- Media, and the images of them.
-use Rattle.std.proofs.Common.{◌≡◌, ℕ, ◌+◌, ◌-◌, ◌<◌, ◌≤◌, Bool, true, false, ◌||◌, List, [], ◌∷◌, ◌++◌, length, take, drop, get_or, refl, sym, ap, subst, ◌∙◌, length-append, length-drop, arith, ◌⊎◌, inl, inr}
+use Rattle.std.proofs.Common.{max, ◌≡◌, ℕ, ◌+◌, ◌-◌, ◌<◌, ◌≤◌, Bool, true, false, ◌||◌, List, [], ◌∷◌, ◌++◌, length, take, drop, get_or, refl, sym, ap, subst, ◌∙◌, length-append, length-drop, arith, ◌⊎◌, inl, inr}
 use Rattle.std.specs.List.{list_any}
 use Rattle.std.proofs.lemmas.Bool.Decides.{nat_tests}
 use Rattle.std.proofs.lemmas.List.{get_or_append_left, get_or-append_right, get_or-take, get_or-drop, get_or_past, ext_get_or, length-take, length-take-le}
@@ -39,13 +39,19 @@ free_before at n written place e =
     let parts = or_false (list_any (is_within place) written) (list_any (is_within place) ((at, n) ∷ [])) (sym (list_any-append (is_within place) written ((at, n) ∷ [])) ∙ e) in
     (parts.0, (or_false (is_within place (at, n)) false parts.1).0)
 
-pub written_lost : (m : Medium) (at : ℕ) (bytes image : List ℕ) → IsImage m image → IsImage (written_at at bytes m) image
-written_lost m at bytes image is = record {
+-- a range noted as written, whatever is written there
+pub noted_lost : (m : Medium) (at n : ℕ) (image : List ℕ) → IsImage m image → IsImage (record m { written = m.written ++ (at, n) ∷ []; greatest = max m.greatest (at + n) }) image
+noted_lost m at n image is = record {
   bytes = is.bytes;
   no_shorter = is.no_shorter;
   no_longer = omega (arith, is.no_longer);
-  kept = λ place lt free. is.kept place lt (free_before at (length bytes) m.written place free).0;
+  kept = λ place lt free. is.kept place lt (free_before at n m.written place free).0;
 }
+
+pub written_lost : (m : Medium) (at : ℕ) (bytes image : List ℕ) → IsImage m image → IsImage (written_at at bytes m) image
+written_lost m at bytes image is =
+    let noted = noted_lost m at (length bytes) image is in
+    record { bytes = noted.bytes; no_shorter = noted.no_shorter; no_longer = noted.no_longer; kept = noted.kept }
 
 pub cut_lost : (m : Medium) (len : ℕ) (image : List ℕ) → IsImage m image → IsImage (cut_at len m) image
 cut_lost m len image is = record {
