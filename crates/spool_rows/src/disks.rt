@@ -9,12 +9,13 @@ use row_lines::{
 use std::alloc::Global;
 use std::str;
 
-fn bytes_of(alloc: Global, digits: &[u8]) -> Result<Vec<u8>, NoMemory> {
+/// The bytes of pairs of hexadecimal digits.
+pub(crate) fn bytes_of(alloc: Global, digits: &[u8]) -> Result<Vec<u8>, NoMemory> {
     from_hex(alloc, str::from_utf8(digits).unwrap_or(""))
 }
 
-// Call numbers between commas, `-` for none, or `N+` for N and all later.
-fn calls_of(alloc: Global, text: &[u8]) -> Result<Calls, NoMemory> {
+/// Call numbers between commas, `-` for none, or `N+` for N and all later.
+pub(crate) fn calls_of(alloc: Global, text: &[u8]) -> Result<Calls, NoMemory> {
     match text {
         [first @ .., b'+'] => Ok(Calls::onward(number_of(first))),
         _ => Calls::of(alloc, &numbers_of(alloc, text)?),

@@ -1,6 +1,7 @@
 //! The kinds of row.
 
 use crate::disks::{tell_crash, tell_disk};
+use crate::formats::{tell_crashes, tell_format};
 use crate::slots::{base_of, tell_base, tell_head, tell_length, tell_slot};
 use fw_types::NoMemory;
 use row_lines::{Rows, Told, add};
@@ -37,6 +38,8 @@ impl Rows for Kinds {
             "put" | "front" | "behind" => tell_base(alloc, &self.base, kind, asked, out)?,
             "disk" => tell_disk(alloc, asked, out)?,
             "crash" => tell_crash(alloc, asked, out)?,
+            "format" => tell_format(alloc, asked, out)?,
+            "format-crashes" => tell_crashes(alloc, asked, out)?,
             _ => add(out, b"no such kind"),
         }
         Ok(())

@@ -1,8 +1,9 @@
-//! Rows of slots' bytes and of disks in memory: each row of `data/` says what is told of what is asked, by the kinds that [`kinds`] knows.
+//! Rows of slots' bytes, of disks in memory and of slots on them: each row of `data/` says what is told of what is asked, by the kinds that [`kinds`] knows.
 //! `row_lines` says how a row is written.
 #![tactic(auto)]
 
 mod disks;
+mod formats;
 mod kinds;
 mod slots;
 
