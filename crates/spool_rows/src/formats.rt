@@ -49,7 +49,8 @@ fn formatted(alloc: Global, asked: &[u8], out: &mut Told) -> Result<MemDisk, NoM
     }
 }
 
-/// `format DIGITS. FAILS => free 7 DIGITS`, or `broken 7 DIGITS`: what comes of formatting a disk, and its bytes as read.
+/// `format DIGITS. FAILS => free 7 DIGITS`, or `broken 7 DIGITS`: what comes of formatting a disk, and its bytes as
+/// read.
 pub(crate) fn tell_format(alloc: Global, asked: &[u8], out: &mut Told) -> Result<(), NoMemory> {
     let disk = formatted(alloc, asked, out)?;
     add_hex(out, disk.bytes());

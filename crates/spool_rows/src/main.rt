@@ -1,5 +1,5 @@
-//! Rows of slots' bytes, of disks in memory and of slots on them: each row of `data/` says what is told of what is asked, by the kinds that [`kinds`] knows.
-//! `row_lines` says how a row is written.
+//! Rows of slots' bytes, of disks in memory and of slots on them: each row of `data/` says what is told of what is
+//! asked, by the kinds that [`kinds`] knows. `row_lines` says how a row is written.
 #![tactic(auto)]
 
 mod disks;

@@ -56,8 +56,8 @@ pub(crate) fn base_of(alloc: Global, asked: &[u8], out: &mut Told) -> Result<Vec
     Ok(bytes)
 }
 
-/// `put PLACE DIGITS`, `front LENGTH` and `behind DIGITS`: the base with bytes put at a place, its front of this length,
-/// and the base with bytes behind it, each told as by `slot`.
+/// `put PLACE DIGITS`, `front LENGTH` and `behind DIGITS`: the base with bytes put at a place, its front of this
+/// length, and the base with bytes behind it, each told as by `slot`.
 pub(crate) fn tell_base(
     alloc: Global,
     base: &[u8],

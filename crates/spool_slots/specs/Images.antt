@@ -1,4 +1,5 @@
--- What images of a slot's disk are read as. Of each call a clause says which of these every image is, at each moment:
+-- What images of a slot's disk are read as. Of the calls, of which there is `format` so far, it is to be said which of
+-- these every image is at each moment:
 --   format               any bytes; after Ok free
 --   start, add, abandon  free
 --   finish               free before the gate is written, and from then on free or whole; after Ok whole

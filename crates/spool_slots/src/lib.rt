@@ -1,9 +1,8 @@
-//! Slots: files on disks, each of which holds one message or none, in such a way that a crash at any moment leaves a slot
-//! that can be read.
+//! Slots: files on disks, each of which holds one message or none.
 //!
-//! Each state of a slot is a type that owns the slot's disk. What every image of the disk is read as, at each moment of
-//! each call, is a clause of the call, by the definitions of `specs/Images.antt`. So far there are [`format()`], which
-//! makes a free slot of any disk, and the states [`Free`] and [`Broken`].
+//! Each state of a slot is a type that owns the slot's disk. What every image of the disk is read as, which is what a
+//! crash may leave, is said by the definitions of `specs/Images.antt`. So far there are [`format()`], which makes a free
+//! slot of any disk, and the states [`Free`] and [`Broken`].
 #![tactic(auto)]
 
 mod broken;
