@@ -1,3 +1,4 @@
+pub mod MemDiskLemmas
 pub mod MemKeeperLemmas
 pub mod CallCounterLemmas
 pub mod MemDialerLemmas

@@ -7,3 +7,7 @@ pub mod MemSourceView
 pub mod CallCounter
 pub mod MemSinkView
 pub mod MemClockView
+pub mod Noted
+pub mod HeldMedium
+pub mod MemDiskView
+pub mod Past

@@ -6,22 +6,30 @@
 //! is memory, is said by no clause. [`MemClock`] and [`MemDice`] give exactly the moments and the numbers that they
 //! were made with. [`MemDialer`] brings up the links that it was given, in order, and refuses exactly the calls that it is
 //! told, those past its room, and those for which no link is left.
+//! were made with. [`MemDisk`] fails at the calls that it is told, and where it has no memory for a change; a crash of it
+//! leaves an image of its medium, which a number picks.
 #![tactic(auto)]
 
 mod call_counter;
 mod calls;
+mod medium;
 mod mem_clock;
 mod mem_dialer;
 mod mem_dice;
+mod mem_disk;
 mod mem_files;
 mod mem_keeper;
 mod mem_sink;
 mod mem_source;
+mod past;
+mod picking;
+mod tape;
 
 pub use calls::Calls;
 pub use mem_clock::MemClock;
 pub use mem_dialer::MemDialer;
 pub use mem_dice::MemDice;
+pub use mem_disk::MemDisk;
 pub use mem_files::MemFiles;
 pub use mem_keeper::MemKeeper;
 pub use mem_sink::MemSink;

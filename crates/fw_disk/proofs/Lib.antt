@@ -1,0 +1,2 @@
+pub mod MediumLemmas
+pub mod MomentLemmas

@@ -1,0 +1,6 @@
+-- What the laws speak of.
+use Rattle.std.specs.Prelude.{ℕ, ◌<◌, List, get_or}
+
+-- each member is a byte
+abbrev pub AreBytes : List ℕ → Type 0
+AreBytes bytes = (place : ℕ) → get_or bytes place 0 < 256

@@ -1,0 +1,4 @@
+pub mod Medium
+pub mod DiskView
+pub mod Moments
+pub mod Laws

@@ -1,0 +1,11 @@
+-- A medium at which something is noted and not yet done.
+use Rattle.std.specs.Prelude.{ℕ, ◌+◌, min, max, [], ◌∷◌, ◌++◌}
+use Rattle.fw_disk.specs.Medium.{Medium}
+
+-- after a range was noted as written, before anything is
+abbrev pub noted_at : ℕ → ℕ → Medium → Medium
+noted_at at len m = record m { written = m.written ++ (at, len) ∷ []; greatest = max m.greatest (at + len) }
+
+-- after a length was noted, before anything is cut
+abbrev pub lowered_to : ℕ → Medium → Medium
+lowered_to len m = record m { least = min m.least len }

@@ -1,0 +1,8 @@
+use Rattle.slot_bytes.proofs.SlotLemmas.{reads_again, reads_free}
+use Rattle.slot_bytes.proofs.laws.again.Goals as goal
+
+pub returns-clause-kept : goal.returns-clause-kept
+returns-clause-kept c = reads_again
+
+pub returns-clause-free : goal.returns-clause-free
+returns-clause-free c = reads_free

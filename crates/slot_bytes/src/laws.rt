@@ -1,0 +1,28 @@
+//! What holds of all slot files.
+ghost use Rattle.std.specs.Prelude.{◌≡◌, ◌==◌, ◌++◌, ℕ, List, if◌then◌else◌};
+ghost use Rattle.byte_reader.specs.Reading.{IsBytes};
+ghost use Rattle.byte_reader.specs.Exact.{InRange, IsStable};
+ghost use Rattle.slot_bytes.specs.Layout.{Mail, IsMail, slot_bytes};
+ghost use Rattle.slot_bytes.specs.Reading.{Head, head_at, reads};
+ghost use Rattle.slot_bytes.specs.Reading.Reading.{Free, Whole, Aside, Bad};
+ghost use Rattle.slot_bytes.specs.Files.{IsFreeFile, IsKeptFile, IsSlotFile, IsLongestBeginning};
+
+/// What is written is read again, whatever follows it.
+pub fn again()
+    ensures kept { (gate aside : ℕ) (m : Mail) (rest : List ℕ) → InRange 1 255 gate → InRange 0 255 aside → IsMail m →
+        reads (slot_bytes gate aside m ++ rest) ≡ (if aside == 0 then Whole m else Aside m) }
+    ensures free { (bytes : List ℕ) → IsFreeFile bytes → reads bytes ≡ Free }
+{}
+
+/// Bytes are bad exactly where they are no slot file, and the bad place is the length of the longest prefix that begins
+/// some slot file.
+pub fn first_bad_byte()
+    ensures longest { (bytes : List ℕ) (at : ℕ) → IsBytes bytes → reads bytes ≡ Bad at → IsLongestBeginning bytes at }
+    ensures none { (bytes : List ℕ) (at : ℕ) → reads bytes ≡ Bad at → IsSlotFile bytes → ⊥ }
+    ensures one { (bytes : List ℕ) (m n : ℕ) → IsLongestBeginning bytes m → IsLongestBeginning bytes n → m ≡ n }
+{}
+
+/// What a front decides of the head stands, whatever follows the front.
+pub fn a_front_decides()
+    ensures head { IsStable Head head_at }
+{}

@@ -1,0 +1,47 @@
+//! The kinds of row.
+
+use crate::disks::{tell_crash, tell_disk};
+use crate::formats::{tell_crashes, tell_format};
+use crate::slots::{base_of, tell_base, tell_head, tell_length, tell_slot};
+use fw_types::NoMemory;
+use row_lines::{Rows, Told, add};
+use std::alloc::Global;
+
+/// Knows the kinds of row.
+#[derive(Drop)]
+pub(crate) struct Kinds {
+    // The slot of the last line `base`.
+    base: Vec<u8>,
+}
+
+impl Kinds {
+    pub(crate) fn new(alloc: Global) -> Kinds {
+        Kinds {
+            base: Vec::new(alloc),
+        }
+    }
+}
+
+impl Rows for Kinds {
+    fn tell(
+        &mut self,
+        alloc: Global,
+        kind: &str,
+        asked: &[u8],
+        out: &mut Told,
+    ) -> Result<(), NoMemory> {
+        match kind {
+            "slot" => tell_slot(alloc, asked, out)?,
+            "head" => tell_head(alloc, out)?,
+            "length" => tell_length(asked, out),
+            "base" => self.base = base_of(alloc, asked, out)?,
+            "put" | "front" | "behind" => tell_base(alloc, &self.base, kind, asked, out)?,
+            "disk" => tell_disk(alloc, asked, out)?,
+            "crash" => tell_crash(alloc, asked, out)?,
+            "format" => tell_format(alloc, asked, out)?,
+            "format-crashes" => tell_crashes(alloc, asked, out)?,
+            _ => add(out, b"no such kind"),
+        }
+        Ok(())
+    }
+}

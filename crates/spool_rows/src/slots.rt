@@ -1,0 +1,100 @@
+//! What is told of slots' bytes.
+
+use fw_types::{NoMemory, Octets, OctetsList};
+use row_lines::{Told, add, add_hex, add_number, add_word, cut_word, from_hex, number_of};
+use slot_bytes::{Message, Slot, SlotFault, head_bytes, length_bytes, read_slot};
+use std::alloc::Global;
+use std::str;
+
+fn bytes_of(alloc: Global, digits: &[u8]) -> Result<Vec<u8>, NoMemory> {
+    from_hex(alloc, str::from_utf8(digits).unwrap_or(""))
+}
+
+fn tell_message(message: &Message, out: &mut Told) {
+    add_word(out, b"from [");
+    add(out, message.from.bytes());
+    add(out, b"] to");
+    for rcpt in message.rcpts.as_slice() {
+        add_word(out, b"[");
+        add(out, rcpt.bytes());
+        add(out, b"]");
+    }
+    add_word(out, b"body");
+    add_hex(out, message.body.bytes());
+}
+
+fn tell_bytes(alloc: Global, bytes: &[u8], out: &mut Told) -> Result<(), NoMemory> {
+    match read_slot(alloc, bytes) {
+        Ok(Slot::Free) => add(out, b"free"),
+        Ok(Slot::Whole(message)) => {
+            add(out, b"full");
+            tell_message(&message, out);
+        }
+        Ok(Slot::Aside(message)) => {
+            add(out, b"aside");
+            tell_message(&message, out);
+        }
+        Err(SlotFault::Bad { at }) => {
+            add(out, b"bad at");
+            add_number(out, at as u64);
+        }
+        Err(SlotFault::NoMemory) => return Err(NoMemory),
+    }
+    Ok(())
+}
+
+/// `slot DIGITS => free`, `full MESSAGE`, `aside MESSAGE` or `bad at PLACE`.
+pub(crate) fn tell_slot(alloc: Global, asked: &[u8], out: &mut Told) -> Result<(), NoMemory> {
+    tell_bytes(alloc, &bytes_of(alloc, asked)?, out)
+}
+
+/// `base DIGITS => N bytes`: the slot that further rows change.
+pub(crate) fn base_of(alloc: Global, asked: &[u8], out: &mut Told) -> Result<Vec<u8>, NoMemory> {
+    let bytes = bytes_of(alloc, asked)?;
+    add_number(out, bytes.len() as u64);
+    add_word(out, b"bytes");
+    Ok(bytes)
+}
+
+/// `put PLACE DIGITS`, `front LENGTH` and `behind DIGITS`: the base with bytes put at a place, its front of this
+/// length, and the base with bytes behind it, each told as by `slot`.
+pub(crate) fn tell_base(
+    alloc: Global,
+    base: &[u8],
+    kind: &str,
+    asked: &[u8],
+    out: &mut Told,
+) -> Result<(), NoMemory> {
+    let (first, second) = cut_word(asked);
+    let mut bytes = Vec::from_slice(alloc, base)?;
+    let place = number_of(first) as usize;
+    match kind {
+        "front" => bytes.truncate(place),
+        "behind" => bytes.extend_from_slice(&bytes_of(alloc, first)?)?,
+        _ => {
+            for (byte, new) in bytes.iter_mut().skip(place).zip(&bytes_of(alloc, second)?) {
+                *byte = *new;
+            }
+        }
+    }
+    tell_bytes(alloc, &bytes, out)
+}
+
+/// `head => DIGITS`: what is written of a message from `a@b` to `c@d` that is begun, from byte 1 on.
+pub(crate) fn tell_head(alloc: Global, out: &mut Told) -> Result<(), NoMemory> {
+    let rcpt = Octets::copy(alloc, b"c@d")?;
+    let mut rcpts = OctetsList::new(alloc);
+    match rcpts.push(rcpt) {
+        Ok(()) => {
+            add_hex(out, &head_bytes(alloc, b"a@b", &rcpts)?);
+            Ok(())
+        }
+        Err(_) => Err(NoMemory),
+    }
+}
+
+/// `length NUMBER => DIGITS`: a body's length in eight bytes.
+pub(crate) fn tell_length(asked: &[u8], out: &mut Told) {
+    let len = number_of(asked).min(u64::from(u32::MAX)) as u32;
+    add_hex(out, &length_bytes(len));
+}

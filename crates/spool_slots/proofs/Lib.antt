@@ -1,0 +1,2 @@
+pub mod ShutLemmas
+pub mod ClearingLemmas

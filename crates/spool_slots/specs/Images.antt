@@ -1,0 +1,31 @@
+-- What images of a slot's disk are read as. Of the calls, of which there is `format` so far, it is to be said which of
+-- these every image is at each moment:
+--   format               any bytes; after Ok free
+--   start, add, abandon  free
+--   finish               free before the gate is written, and from then on free or whole; after Ok whole
+--   message              whole
+--   set_aside            whole or aside; after Ok aside
+--   release              whole or free, or aside or free; after Ok free
+--   open                 an image that was possible at its start; after it what it reads as
+use Rattle.std.specs.Prelude.{◌≡◌, ℕ, List, ◌⊎◌}
+use Rattle.slot_bytes.specs.Layout.{Mail}
+use Rattle.slot_bytes.specs.Reading.{reads}
+use Rattle.slot_bytes.specs.Reading.Reading.{Free, Whole, Aside}
+
+abbrev pub IsFreeImage : List ℕ → Type 0
+IsFreeImage image = reads image ≡ Free
+
+abbrev pub IsWholeImage : Mail → List ℕ → Type 0
+IsWholeImage m image = reads image ≡ Whole m
+
+abbrev pub IsAsideImage : Mail → List ℕ → Type 0
+IsAsideImage m image = reads image ≡ Aside m
+
+abbrev pub IsFreeOrWhole : Mail → List ℕ → Type 0
+IsFreeOrWhole m image = IsFreeImage image ⊎ IsWholeImage m image
+
+abbrev pub IsWholeOrAside : Mail → List ℕ → Type 0
+IsWholeOrAside m image = IsWholeImage m image ⊎ IsAsideImage m image
+
+abbrev pub IsFreeOrAside : Mail → List ℕ → Type 0
+IsFreeOrAside m image = IsFreeImage image ⊎ IsAsideImage m image

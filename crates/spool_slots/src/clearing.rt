@@ -1,0 +1,33 @@
+ghost use Rattle.std.specs.Prelude.{◌≡◌, IfOk, IfErr, OnOk, OnErr};
+ghost use Rattle.fw_outside.specs.Counts.{Rose};
+ghost use Rattle.fw_disk.specs.Moments.{EachImage, Now};
+ghost use Rattle.spool_slots.specs.Images.{IsFreeImage};
+ghost use Rattle.spool_slots.specs.States.{HasCleared, IsBrokenIn, IsFormatted};
+
+use crate::{Broken, Free};
+use fw_disk::{Disk, Failed};
+
+// Makes the disk two synced zeros.
+#[tactic(auto, using(crate::proofs::ClearingLemmas::from_the_start, crate::proofs::ClearingLemmas::has_cleared))]
+fn clear<D: Disk>(disk: &mut D) -> Result<(), Failed>
+    ensures ok { OnOk result (HasCleared (D.disk_view disk.old) (D.disk_view disk.new)) }
+    ensures err { OnErr result (Rose (D.disk_view disk.old).faults (D.disk_view disk.new).faults) }
+{
+    disk.cut(0)?;
+    disk.write_at(0, &[0, 0])?;
+    disk.sync()
+}
+
+/// Makes a free slot of any disk: what stood on it is lost.
+#[tactic(auto, using(crate::proofs::ShutLemmas::told_shut, crate::proofs::ShutLemmas::told_free))]
+pub fn format<D: Disk>(number: u32, disk: D) -> Result<Free<D>, Broken<D>>
+    ensures ok { IfOk result (λ free. IsFormatted number (D.disk_view disk) free) }
+    ensures images { IfOk result (λ free. Now (EachImage IsFreeImage) free.disk) }
+    ensures err { IfErr result (λ broken. IsBrokenIn number (D.disk_view disk) broken) }
+{
+    let mut disk = disk;
+    match clear(&mut disk) {
+        Ok(()) => Ok(Free::of(number, disk)),
+        Err(Failed) => Err(Broken::of(number, disk, false)),
+    }
+}
