@@ -22,14 +22,18 @@ pub fn both_ways<
     up_limit: u64,
     down_limit: u64,
 ) -> (WayEnd, WayEnd)
-    ensures up { Copies up_limit result.0 (S.source_view from.old) (S.source_view from.new) (O.sink_view server_out.old) (O.sink_view server_out.new) }
-    ensures down { Copies down_limit result.1 (I.source_view server_in.old) (I.source_view server_in.new) (K.sink_view to.old) (K.sink_view to.new) }
+    ensures up { Copies up_limit result.0 (S.source_view from.old) (S.source_view from.new)
+        (O.sink_view server_out.old) (O.sink_view server_out.new) }
+    ensures down { Copies down_limit result.1 (I.source_view server_in.old) (I.source_view server_in.new)
+        (K.sink_view to.old) (K.sink_view to.new) }
 {
     let mut up = || -> WayEnd
-        ensures { Copies up_limit result (S.source_view from.entry.now) (S.source_view from.exit.now) (O.sink_view server_out.entry.now) (O.sink_view server_out.exit.now) }
+        ensures { Copies up_limit result (S.source_view from.entry.now) (S.source_view from.exit.now)
+            (O.sink_view server_out.entry.now) (O.sink_view server_out.exit.now) }
     { copy_way(from, server_out, up_limit) };
     let mut down = || -> WayEnd
-        ensures { Copies down_limit result (I.source_view server_in.entry.now) (I.source_view server_in.exit.now) (K.sink_view to.entry.now) (K.sink_view to.exit.now) }
+        ensures { Copies down_limit result (I.source_view server_in.entry.now) (I.source_view server_in.exit.now)
+            (K.sink_view to.entry.now) (K.sink_view to.exit.now) }
     { copy_way(server_in, to, down_limit) };
     join_mut(rt, &mut up, &mut down)
 }

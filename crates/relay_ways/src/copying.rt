@@ -10,10 +10,12 @@ const PIECE: usize = 4096;
 // Moves one piece of at most so many bytes, and tells how many they were, or how the way ended instead.
 fn move_piece<S: Source, K: Sink>(from: &mut S, to: &mut K, most: u64) -> Result<usize, WayEnd>
     requires { 0 < most }
-    ensures moves { IfOk result (λ count. Moves count (S.source_view from.old) (S.source_view from.new) (K.sink_view to.old) (K.sink_view to.new)) }
+    ensures moves { IfOk result (λ count. Moves count (S.source_view from.old) (S.source_view from.new)
+        (K.sink_view to.old) (K.sink_view to.new)) }
     ensures some { IfOk result (λ count. 0 < count) }
     ensures most { IfOk result (λ count. count ≤ most) }
-    ensures copies { IfErr result (λ end. Copies most end (S.source_view from.old) (S.source_view from.new) (K.sink_view to.old) (K.sink_view to.new)) }
+    ensures copies { IfErr result (λ end. Copies most end (S.source_view from.old) (S.source_view from.new)
+        (K.sink_view to.old) (K.sink_view to.new)) }
 {
     let mut buffer = [0; PIECE];
     let room = most.min(PIECE as u64) as usize;
@@ -35,7 +37,8 @@ fn move_piece<S: Source, K: Sink>(from: &mut S, to: &mut K, most: u64) -> Result
 /// tells the sink that no more comes. It takes at most `limit` bytes. Where it took so many it stops and asks for no
 /// end, so the sink isn't told of one.
 pub fn copy_way<S: Source, K: Sink>(from: &mut S, to: &mut K, limit: u64) -> WayEnd
-    ensures { Copies limit result (S.source_view from.old) (S.source_view from.new) (K.sink_view to.old) (K.sink_view to.new) }
+    ensures { Copies limit result (S.source_view from.old) (S.source_view from.new)
+        (K.sink_view to.old) (K.sink_view to.new) }
 {
     let mut left = limit;
     while left > 0 {
