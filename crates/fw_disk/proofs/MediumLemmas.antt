@@ -1,11 +1,11 @@
 -- Media, and the images of them.
-use Rattle.std.proofs.Common.{max, ◌≡◌, ℕ, ◌+◌, ◌-◌, ◌<◌, ◌≤◌, Bool, true, false, ◌||◌, List, [], ◌∷◌, ◌++◌, length, take, drop, get_or, refl, sym, ap, subst, ◌∙◌, length-append, length-drop, arith, ◌⊎◌, inl, inr}
+use Rattle.std.proofs.Common.{max, ◌≡◌, ℕ, ◌+◌, ◌-◌, ◌<◌, ◌≤◌, Bool, true, false, ◌||◌, List, [], ◌∷◌, ◌++◌, length, take, drop, get_or, set, refl, sym, ap, subst, ◌∙◌, length-append, length-drop, arith, ◌⊎◌, inl, inr}
 use Rattle.std.specs.List.{list_any}
 use Rattle.std.proofs.lemmas.Bool.Decides.{nat_tests}
-use Rattle.std.proofs.lemmas.List.{get_or_append_left, get_or-append_right, get_or-take, get_or-drop, get_or_past, ext_get_or, length-take, length-take-le}
+use Rattle.std.proofs.lemmas.List.{get_or_append_left, get_or-append_right, get_or-take, get_or-drop, get_or_past, ext_get_or, length-take, length-take-le, length-set, get_or-set_same, get_or-set_other}
 use Rattle.std.proofs.lemmas.List.Folds.{list_any-append}
-use Rattle.fw_disk.specs.Medium.{Medium, IsImage, is_within, laid_over, written_at, cut_at, settled}
-use Rattle.fw_disk.specs.Laws.{AreBytes}
+use Rattle.fw_disk.specs.Medium.{Medium, IsImage, is_within, is_written, laid_over, written_at, cut_at, settled}
+use Rattle.fw_disk.specs.Laws.{AreBytes, IsLoose}
 
 -- ---- after a sync
 
@@ -149,4 +149,41 @@ cut_seen m len le is =
       no_shorter = omega (arith, short);
       no_longer = omega (arith, short, is.no_longer);
       kept = λ place lt free. get_or-take len m.seen place 0 (omega (arith, lt)) ∙ is.kept place (omega (arith, lt)) free;
+    }
+
+-- ---- a loose byte may be any
+
+set_here : (image : List ℕ) (place byte other : ℕ) → other ≡ place → byte < 256 → get_or (set image place byte) other 0 < 256
+set_here image place byte other e fits =
+    elim (less_or place (length image)) [
+      | inl lt ↦
+          let at : get_or (set image place byte) other 0 ≡ byte = ap (λ (i : ℕ). get_or (set image place byte) i 0) e ∙ get_or-set_same image place byte 0 lt in
+          subst (λ (b : ℕ). b < 256) (sym at) fits
+      | inr le ↦
+          let past : get_or (set image place byte) other 0 ≡ 0 = get_or_past (set image place byte) other 0 (omega (arith, e, le, length-set image place byte)) in
+          subst (λ (b : ℕ). b < 256) (sym past) (omega arith)
+    ]
+
+set_bytes : (image : List ℕ) (place byte : ℕ) → AreBytes image → byte < 256 → AreBytes (set image place byte)
+set_bytes image place byte are fits other =
+    elim (less_or other place) [
+      | inl lt ↦ subst (λ (b : ℕ). b < 256) (sym (get_or-set_other image place other byte 0 (λ e. omega (arith, lt, e)))) (are other)
+      | inr le ↦ elim (less_or place other) [
+        | inl lt ↦ subst (λ (b : ℕ). b < 256) (sym (get_or-set_other image place other byte 0 (λ e. omega (arith, lt, e)))) (are other)
+        | inr more ↦ set_here image place byte other (omega (arith, le, more)) fits
+      ]
+    ]
+
+loose_other : (m : Medium) (place other : ℕ) → IsLoose m place → other < m.least → is_written m other ≡ false → other ≡ place → ⊥
+loose_other m place other (inl le) lt free e = omega (arith, le, lt, e)
+loose_other m place other (inr written) lt free e = let same : is_written m other ≡ is_written m place = ap (is_written m) e in cc (same, free, written)
+
+pub loose_any : (m : Medium) (image : List ℕ) (place byte : ℕ) → IsImage m image → IsLoose m place → byte < 256 → IsImage m (set image place byte)
+loose_any m image place byte is loose fits =
+    let len : length (set image place byte) ≡ length image = length-set image place byte in
+    record {
+      bytes = set_bytes image place byte is.bytes fits;
+      no_shorter = omega (arith, len, is.no_shorter);
+      no_longer = omega (arith, len, is.no_longer);
+      kept = λ other lt free. get_or-set_other image place other byte 0 (loose_other m place other loose lt free) ∙ is.kept other lt free;
     }

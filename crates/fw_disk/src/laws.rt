@@ -1,7 +1,7 @@
 //! What holds of all media and all disks.
-ghost use Rattle.std.specs.Prelude.{◌≡◌, ◌≤◌, ℕ, List, length};
+ghost use Rattle.std.specs.Prelude.{◌≡◌, ◌<◌, ◌≤◌, ℕ, List, length, set};
 ghost use Rattle.fw_disk.specs.Medium.{Medium, IsImage, settled, written_at, cut_at};
-ghost use Rattle.fw_disk.specs.Laws.{AreBytes};
+ghost use Rattle.fw_disk.specs.Laws.{AreBytes, IsLoose};
 
 /// After a sync the bytes as read are the only image.
 pub fn a_sync_leaves_one_image()
@@ -22,4 +22,10 @@ pub fn a_change_may_be_lost()
     ensures written { (m : Medium) (at : ℕ) (bytes image : List ℕ) → IsImage m image →
         IsImage (written_at at bytes m) image }
     ensures cut { (m : Medium) (len : ℕ) (image : List ℕ) → IsImage m image → IsImage (cut_at len m) image }
+{}
+
+/// In an image a byte at the least length or past it, or in a range written since the sync, may be any.
+pub fn a_loose_byte_is_any()
+    ensures { (m : Medium) (image : List ℕ) (place byte : ℕ) → IsImage m image → IsLoose m place → byte < 256 →
+        IsImage m (set image place byte) }
 {}

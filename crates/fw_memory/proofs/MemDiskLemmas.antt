@@ -1,5 +1,5 @@
 -- Disks in memory, and the images that numbers pick.
-use Rattle.std.proofs.Common.{◌≡◌, ℕ, zero, suc, ◌+◌, ◌-◌, ◌%◌, ◌<◌, ◌≤◌, Bool, true, false, cond, nat_eq, nat_lt, List, [], ◌∷◌, ◌++◌, length, get_or, refl, sym, ap, subst, ◌∙◌, arith, ◌⊎◌, inl, inr}
+use Rattle.std.proofs.Common.{◌≡◌, ℕ, zero, suc, ◌+◌, ◌-◌, ◌/◌, ◌%◌, ◌<◌, ◌≤◌, Bool, true, false, cond, nat_eq, nat_lt, List, [], ◌∷◌, ◌++◌, length, get_or, refl, sym, ap, subst, ◌∙◌, arith, ◌⊎◌, inl, inr}
 use Rattle.std.proofs.lemmas.Bool.Decides.{nat_tests}
 use Rattle.std.proofs.lemmas.List.{get_or_past}
 use Rattle.fw_disk.specs.Medium.{Medium, IsImage, is_written, cut_at, written_at, laid_over}
@@ -9,7 +9,7 @@ use Rattle.std.specs.Prelude.{Result, Ok, Err, OnOk, OnErr}
 use Rattle.fw_types.specs.declared.no_memory.NoMemory.{NoMemory}
 use Rattle.fw_disk.proofs.MediumLemmas.{noted_lost, cut_lost, written_seen}
 use Rattle.fw_memory.specs.Noted.{noted_at, lowered_to}
-use Rattle.fw_memory.specs.MemDiskView.{is_kept, loose_byte, picked, picked_byte, picked_from, picked_len}
+use Rattle.fw_memory.specs.MemDiskView.{is_kept, loose_byte, picked, picked_byte, picked_from, picked_len, torn_byte}
 
 -- ---- a call that failed
 
@@ -67,11 +67,18 @@ small_or : (b : Bool) (x y : ℕ) → x < 256 → y < 256 → cond b x y < 256
 small_or true x y h k = h
 small_or false x y h k = k
 
+torn_small : (m : Medium) (first place : ℕ) → AreBytes m.seen → AreBytes m.synced → torn_byte m first place < 256
+torn_small m first place seen synced = small_or (nat_lt place first) (get_or m.seen place 0) (get_or m.synced place 0) (seen place) (synced place)
+
+counted_small : (rest place : ℕ) → (rest + place) % 256 < 256
+counted_small rest place = omega arith
+
 picked_small : (m : Medium) (pick place : ℕ) → AreBytes m.seen → AreBytes m.synced → picked_byte m pick place < 256
 picked_small m pick place seen synced =
     small_or (is_kept m place) (get_or m.synced place 0) (loose_byte m pick place) (synced place)
-    (small_or (nat_eq (pick % 4) 0) (get_or m.seen place 0) (cond (nat_eq (pick % 4) 1) (get_or m.synced place 0) ((pick + place) % 256)) (seen place)
-    (small_or (nat_eq (pick % 4) 1) (get_or m.synced place 0) ((pick + place) % 256) (synced place) (omega arith)))
+    (small_or (nat_eq (pick % 4) 0) (get_or m.seen place 0) (cond (nat_eq (pick % 4) 1) (get_or m.synced place 0) (cond (nat_eq (pick % 4) 2) (torn_byte m (pick / 4) place) ((pick / 4 + place) % 256))) (seen place)
+    (small_or (nat_eq (pick % 4) 1) (get_or m.synced place 0) (cond (nat_eq (pick % 4) 2) (torn_byte m (pick / 4) place) ((pick / 4 + place) % 256)) (synced place)
+    (small_or (nat_eq (pick % 4) 2) (torn_byte m (pick / 4) place) ((pick / 4 + place) % 256) (torn_small m (pick / 4) place seen synced) (counted_small (pick / 4) place))))
 
 less_or : (a b : ℕ) → (a < b) ⊎ (b ≤ a)
 less_or a b = grind arith
@@ -80,12 +87,17 @@ len_by : (b : Bool) (x y low high : ℕ) → low ≤ x → x ≤ high → low �
 len_by true x y low high p q r s = (p, q)
 len_by false x y low high p q r s = (r, s)
 
+spread : (least greatest rest : ℕ) → least ≤ greatest → (least ≤ least + rest % (greatest - least + 1)) × (least + rest % (greatest - least + 1) ≤ greatest)
+spread least greatest rest le =
+    let below : rest % (greatest - least + 1) < greatest - least + 1 = omega arith in
+    (omega arith, omega (arith, below, le))
+
 pub picked_len_fits : (m : Medium) (pick : ℕ) → IsImage m m.seen → (m.least ≤ picked_len m pick) × (picked_len m pick ≤ m.greatest)
 picked_len_fits m pick is =
     let low : m.least ≤ length m.seen = is.no_shorter in
     let high : length m.seen ≤ m.greatest = is.no_longer in
-    let rest : pick % (m.greatest - m.least + 1) < m.greatest - m.least + 1 = omega arith in
-    len_by (nat_eq pick 0) (length m.seen) (m.least + pick % (m.greatest - m.least + 1)) m.least m.greatest low high (omega arith) (omega arith)
+    let fits = spread m.least m.greatest (pick / 4) (omega (arith, low, high)) in
+    len_by (nat_eq pick 0) (length m.seen) (m.least + pick / 4 % (m.greatest - m.least + 1)) m.least m.greatest low high fits.0 fits.1
 
 kept_byte : (m : Medium) (pick place : ℕ) → is_kept m place ≡ true → picked_byte m pick place ≡ get_or m.synced place 0
 kept_byte m pick place e = rw e refl

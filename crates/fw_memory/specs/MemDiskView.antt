@@ -1,5 +1,5 @@
 -- A disk in memory, and what a crash leaves of it.
-use Rattle.std.specs.Prelude.{◌≡◌, ℕ, zero, suc, ◌+◌, ◌-◌, ◌%◌, ◌==◌, nat_lt, Bool, not, ◌&&◌, List, [], ◌∷◌, length, get_or, Some, if◌then◌else◌}
+use Rattle.std.specs.Prelude.{◌≡◌, ℕ, zero, suc, ◌+◌, ◌-◌, ◌/◌, ◌%◌, ◌==◌, nat_lt, Bool, not, ◌&&◌, List, [], ◌∷◌, length, get_or, Some, if◌then◌else◌}
 use Rattle.fw_outside.specs.Counts.{counted}
 use Rattle.fw_disk.specs.Medium.{Medium, is_written}
 use Rattle.fw_disk.specs.DiskView.{Tape, DiskView}
@@ -23,18 +23,28 @@ pub record CountsCall (old new : MemDiskView) : Type 0 where
 
 -- ---- the image that a number picks
 
--- 0 picks the bytes as read, and each other number one of the lengths that an image may have
+-- A number is a mode, its remainder by 4, and its rest, its quotient by 4: so each mode comes with each rest.
+
+-- 0 picks the bytes as read, and the rest of each other number one of the lengths that an image may have
 abbrev pub picked_len : Medium → ℕ → ℕ
-picked_len m pick = if pick == 0 then length m.seen else m.least + pick % (m.greatest - m.least + 1)
+picked_len m pick = if pick == 0 then length m.seen else m.least + pick / 4 % (m.greatest - m.least + 1)
 
 -- whether a crash keeps the synced byte at a place
 abbrev pub is_kept : Medium → ℕ → Bool
 is_kept m place = nat_lt place m.least && not (is_written m place)
 
--- a byte that a crash needn't keep: by the number's remainder by 4 the one as read, the synced one (0 where there is
--- none), or another
+-- as read below a place and synced from there on, 0 where there is none
+abbrev pub torn_byte : Medium → ℕ → ℕ → ℕ
+torn_byte m first place = if nat_lt place first then get_or m.seen place 0 else get_or m.synced place 0
+
+-- a byte that a crash needn't keep: by the mode the one as read, the synced one (0 where there is none), torn at the
+-- place that the rest names, or the one that the rest and the place count
 abbrev pub loose_byte : Medium → ℕ → ℕ → ℕ
-loose_byte m pick place = if pick % 4 == 0 then get_or m.seen place 0 else if pick % 4 == 1 then get_or m.synced place 0 else (pick + place) % 256
+loose_byte m pick place =
+    if pick % 4 == 0 then get_or m.seen place 0
+    else if pick % 4 == 1 then get_or m.synced place 0
+    else if pick % 4 == 2 then torn_byte m (pick / 4) place
+    else (pick / 4 + place) % 256
 
 abbrev pub picked_byte : Medium → ℕ → ℕ → ℕ
 picked_byte m pick place = if is_kept m place then get_or m.synced place 0 else loose_byte m pick place

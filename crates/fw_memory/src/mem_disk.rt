@@ -1,9 +1,10 @@
-ghost use Rattle.std.specs.Prelude.{◌≡◌, ◌≤◌, ℕ, length, not, is_ok, false, [], None, IfOk, OnOk};
+ghost use Rattle.std.specs.Prelude.{◌≡◌, ◌≤◌, ℕ, length, not, is_ok, false, [], None, IfOk, OnErr, OnOk};
 ghost use Rattle.fw_outside.specs.Counts.{Rose, counted};
 ghost use Rattle.fw_disk.specs.Medium.{IsImage, cut_at, settled, written_at};
-ghost use Rattle.fw_disk.specs.DiskView.{Changes, Doubts, IsFront, Reads, Syncs};
+ghost use Rattle.fw_disk.specs.DiskView.{Changes, Doubts, IsFront, Reads, Syncs, onward};
 ghost use Rattle.fw_memory.specs.CallsView.{comes_at};
 ghost use Rattle.fw_memory.specs.MemDiskView.{CountsCall, disk_view_of, picked};
+ghost use Rattle.fw_memory.specs.Noted.{IsNoted, lowered_to};
 
 use crate::Calls;
 use crate::picking::picked;
@@ -122,6 +123,7 @@ impl Disk for MemDisk {
     fn write_at(&mut self, at: u64, bytes: &[u8]) -> Result<(), Failed>
         requires { at ≤ length self.old.tape.now.seen }
         ensures changes { Changes result (written_at at bytes.now) (disk_view_of self.old) (disk_view_of self.new) }
+        ensures noted { OnErr result (IsNoted at (length bytes.now) self.old.tape self.new.tape) }
         ensures answer { OnOk result (comes_at self.old.fails self.old.calls ≡ false) }
         ensures once { CountsCall self.old self.new }
     {
@@ -135,6 +137,7 @@ impl Disk for MemDisk {
     fn cut(&mut self, len: u64) -> Result<(), Failed>
         requires { len ≤ length self.old.tape.now.seen }
         ensures changes { Changes result (cut_at len) (disk_view_of self.old) (disk_view_of self.new) }
+        ensures noted { OnErr result (self.new.tape ≡ onward (lowered_to len self.old.tape.now) self.old.tape) }
         ensures answer { OnOk result (comes_at self.old.fails self.old.calls ≡ false) }
         ensures once { CountsCall self.old self.new }
     {
@@ -160,7 +163,8 @@ impl Disk for MemDisk {
 
     // Who knows that this disk tells what it holds has no cause to call it.
     fn doubt(&mut self)
-        ensures { Doubts (disk_view_of self.old) (disk_view_of self.new) }
+        ensures doubts { Doubts (disk_view_of self.old) (disk_view_of self.new) }
+        ensures same { self.new ≡ record self.old { faults = self.new.faults } }
     {
         let _ = self.fail();
     }

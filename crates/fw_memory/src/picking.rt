@@ -1,9 +1,9 @@
 //! The image of a medium that a number picks.
-ghost use Rattle.std.specs.Prelude.{◌≡◌, ◌≤◌, length, get_or, IfOk};
+ghost use Rattle.std.specs.Prelude.{◌≡◌, ◌≤◌, ◌+◌, ◌%◌, length, get_or, IfOk};
 ghost use Rattle.std.specs.List.{list_any};
 ghost use Rattle.fw_disk.specs.Laws.{AreBytes};
 ghost use Rattle.fw_disk.specs.Medium.{IsImage, is_within, is_written};
-ghost use Rattle.fw_memory.specs.MemDiskView.{is_kept, loose_byte, picked, picked_byte, picked_len};
+ghost use Rattle.fw_memory.specs.MemDiskView.{is_kept, loose_byte, picked, picked_byte, picked_len, torn_byte};
 
 use crate::medium::HeldMedium;
 use fw_types::NoMemory;
@@ -44,6 +44,22 @@ fn is_kept(medium: &HeldMedium, place: u64) -> bool
     place < least && !is_written(medium.written(), place)
 }
 
+fn torn_byte(medium: &HeldMedium, first: u64, place: u64) -> u8
+    ensures { result ≡ torn_byte medium.now first place }
+{
+    if place < first {
+        byte_or_zero(medium.seen(), place)
+    } else {
+        byte_or_zero(medium.synced(), place)
+    }
+}
+
+fn counted_byte(rest: u64, place: u64) -> u8
+    ensures { result ≡ (rest + place) % 256 }
+{
+    ((rest % 256 + place % 256) % 256) as u8
+}
+
 fn loose_byte(medium: &HeldMedium, pick: u64, place: u64) -> u8
     ensures { result ≡ loose_byte medium.now pick place }
 {
@@ -51,8 +67,10 @@ fn loose_byte(medium: &HeldMedium, pick: u64, place: u64) -> u8
         byte_or_zero(medium.seen(), place)
     } else if pick % 4 == 1 {
         byte_or_zero(medium.synced(), place)
+    } else if pick % 4 == 2 {
+        torn_byte(medium, pick / 4, place)
     } else {
-        ((pick % 256 + place % 256) % 256) as u8
+        counted_byte(pick / 4, place)
     }
 }
 
@@ -76,9 +94,9 @@ fn picked_len(medium: &HeldMedium, pick: u64) -> u64
     }
     let more = greatest - least;
     if more == u64::MAX {
-        return pick;
+        return pick / 4;
     }
-    least + pick % (more + 1)
+    least + pick / 4 % (more + 1)
 }
 
 /// The image that a number picks.

@@ -1,7 +1,7 @@
 ghost use Rattle.std.specs.Prelude.{◌≡◌, ◌≤◌, length, [], OnOk, OnErr, false};
 ghost use Rattle.fw_disk.specs.Medium.{IsImage, cut_at, settled, synced_now, written_at};
 ghost use Rattle.fw_disk.specs.DiskView.{IsTorn, changed, onward};
-ghost use Rattle.fw_memory.specs.Noted.{noted_at};
+ghost use Rattle.fw_memory.specs.Noted.{IsNoted, lowered_to, noted_at};
 
 use crate::medium::HeldMedium;
 use crate::past::Past;
@@ -74,6 +74,7 @@ impl HeldTape {
         ensures ok { OnOk result (self.new ≡ changed (written_at at piece.now) self.old) }
         ensures told { OnOk result (failing ≡ false) }
         ensures err { OnErr result (IsTorn (written_at at piece.now) self.old self.new) }
+        ensures noted { OnErr result (IsNoted at (length piece.now) self.old self.new) }
     {
         self.begin(at, piece.len())?;
         if failing {
@@ -91,6 +92,7 @@ impl HeldTape {
         ensures ok { OnOk result (self.new ≡ changed (cut_at len) self.old) }
         ensures told { OnOk result (failing ≡ false) }
         ensures err { OnErr result (IsTorn (cut_at len) self.old self.new) }
+        ensures noted { OnErr result (self.new ≡ onward (lowered_to len self.old.now) self.old) }
     {
         self.past = Past::after(&self.medium, &self.past);
         self.medium.lower(len);

@@ -1,5 +1,5 @@
 -- What slot files are read as, and the first byte that can't go on one.
-use Rattle.std.proofs.Common.{◌≡◌, ℕ, zero, suc, ◌+◌, ◌-◌, ◌≤◌, Bool, true, false, cond, nat_eq, lit≤, List, [], ◌∷◌, ◌++◌, length, take, drop, Result, Ok, Err, refl, sym, ap, subst, ◌∙◌, append_assoc, length-append, length-drop, arith, inl, inr}
+use Rattle.std.proofs.Common.{◌≡◌, ℕ, zero, suc, ◌+◌, ◌-◌, ◌≤◌, Bool, true, false, cond, nat_eq, lit≤, List, [], ◌∷◌, ◌++◌, length, take, drop, Result, Ok, Err, refl, sym, ap, subst, ◌∙◌, append_assoc, length-append, length-drop, arith, ◌⊎◌, inl, inr}
 use Rattle.std.proofs.lemmas.Bool.Decides.{nat_tests}
 use Rattle.std.proofs.lemmas.List.{append-nil, take-append-drop, take_at}
 use Rattle.byte_reader.specs.Reading.{IsBytes, Read}
@@ -167,6 +167,35 @@ bad_none bytes at e (inl free) = let good = reads_free bytes free in absurd (cc 
 bad_none bytes at e (inr kept) =
     let good : reads bytes ≡ cond (nat_eq kept.aside 0) (Whole kept.m) (Aside kept.m) = ap reads kept.parts ∙ reads_again kept.gate kept.aside kept.m kept.rest kept.open_gate kept.mark kept.mail in
     not_bad (nat_eq kept.aside 0) kept.m at (sym good ∙ e)
+
+-- ---- bytes that are no slot file are bad
+
+abbrev IsSlotOr : List ℕ → Reading → Type 0
+IsSlotOr bytes reading = IsSlotFile bytes ⊎ ((at : ℕ) × (reading ≡ Bad at))
+
+closed_some : (gate : ℕ) (tail : List ℕ) → gate ≡ 0 → IsSlotOr (gate ∷ tail) (free_or_short tail)
+closed_some gate [] is = inr (1, refl)
+closed_some gate (aside ∷ tail) is = let free : IsFreeFile (gate ∷ aside ∷ tail) = record { long = omega arith; gate = is } in inl (inl free)
+
+open_some : (bytes : List ℕ) (read : Read Kept) → IsBytes bytes → whole_at bytes ≡ read → IsSlotOr bytes (kept_or_bad (length bytes) read)
+open_some bytes (Err left) fits e = inr (length bytes - left, refl)
+open_some bytes (Ok x) fits e =
+    let s : FitsWhole x.0 × (bytes ≡ spell_whole x.0 ++ x.1) = reads_whole.sound bytes x fits e in
+    let parts : bytes ≡ slot_bytes x.0.0.gate x.0.0.aside (mail_of x.0) ++ x.1 = s.1 ∙ ap (λ (w : List ℕ). w ++ x.1) (kept_bytes x.0 s.0) in
+    let is : IsKeptFile bytes = record { gate = x.0.0.gate; aside = x.0.0.aside; m = mail_of x.0; rest = x.1; open_gate = s.0.0.gate; mark = s.0.0.aside; mail = mail_fits x.0 s.0; parts = parts } in
+    inl (inr is)
+
+either_some : (bytes : List ℕ) (b : Bool) (one other : Reading) → (b ≡ true → IsSlotOr bytes one) → (b ≡ false → IsSlotOr bytes other) → IsSlotOr bytes (cond b one other)
+either_some bytes true one other h k = h refl
+either_some bytes false one other h k = k refl
+
+pub bad_some : (bytes : List ℕ) → IsBytes bytes → IsSlotFile bytes ⊎ ((at : ℕ) × (reads bytes ≡ Bad at))
+unfolding reads
+bad_some [] fits = inr (0, refl)
+bad_some (gate ∷ tail) fits =
+    either_some (gate ∷ tail) (nat_eq gate 0) (free_or_short tail) (kept_or_bad (length (gate ∷ tail)) (whole_at (gate ∷ tail)))
+    (λ shut_gate. let is : gate ≡ 0 = grind (arith, nat_tests) in closed_some gate tail is)
+    (λ open_gate. open_some (gate ∷ tail) (whole_at (gate ∷ tail)) fits refl)
 
 pub one_place : (bytes : List ℕ) (m n : ℕ) → IsLongestBeginning bytes m → IsLongestBeginning bytes n → m ≡ n
 one_place bytes m n a b =

@@ -1,5 +1,5 @@
 //! What holds of all slot files.
-ghost use Rattle.std.specs.Prelude.{◌≡◌, ◌==◌, ◌++◌, ℕ, List, if◌then◌else◌};
+ghost use Rattle.std.specs.Prelude.{◌≡◌, ◌==◌, ◌++◌, ◌⊎◌, ℕ, List, if◌then◌else◌};
 ghost use Rattle.byte_reader.specs.Reading.{IsBytes};
 ghost use Rattle.byte_reader.specs.Exact.{InRange, IsStable};
 ghost use Rattle.slot_bytes.specs.Layout.{Mail, IsMail, slot_bytes};
@@ -19,6 +19,7 @@ pub fn again()
 pub fn first_bad_byte()
     ensures longest { (bytes : List ℕ) (at : ℕ) → IsBytes bytes → reads bytes ≡ Bad at → IsLongestBeginning bytes at }
     ensures none { (bytes : List ℕ) (at : ℕ) → reads bytes ≡ Bad at → IsSlotFile bytes → ⊥ }
+    ensures some { (bytes : List ℕ) → IsBytes bytes → IsSlotFile bytes ⊎ ((at : ℕ) × (reads bytes ≡ Bad at)) }
     ensures one { (bytes : List ℕ) (m n : ℕ) → IsLongestBeginning bytes m → IsLongestBeginning bytes n → m ≡ n }
 {}
 

@@ -16,6 +16,7 @@ fn call_laws() {
     fw_disk::laws::a_sync_leaves_one_image();
     fw_disk::laws::the_bytes_as_read_are_an_image();
     fw_disk::laws::a_change_may_be_lost();
+    fw_disk::laws::a_loose_byte_is_any();
     slot_bytes::laws::again();
     slot_bytes::laws::first_bad_byte();
     slot_bytes::laws::a_front_decides();
