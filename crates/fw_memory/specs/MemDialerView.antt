@@ -28,7 +28,7 @@ pub record MemDialerView : Type 0 where
   pub link_idles : ℕ
   pub waits : ℕ
 
--- nothing was taken of the link or given to it, and nothing is counted
+-- nothing was taken of the link or given to it, and no failure or idleness is counted
 pub record IsNewLink (link : MemSourceView × MemSinkView) : Type 0 where
   pub taken : link.0.taken ≡ []
   pub faults : link.0.faults ≡ 0

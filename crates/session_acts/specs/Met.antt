@@ -102,13 +102,13 @@ abbrev pub reply_of : Result Reply PortFault → Option Reply
 reply_of (Ok reply) = Some reply
 reply_of (Err fault) = None
 
--- the session that is open after a request was asked: one that is asked to close isn't open any more
+-- the session that is open after a request was asked: the one that was opened last, if it wasn't asked to close
 abbrev pub opened_then : Request → Option Reply → Option ℕ → Option ℕ
 opened_then (requests.Open console) (Some (replies.Opened sid)) opened = Some sid
 opened_then requests.Close reply opened = None
 opened_then request reply opened = opened
 
--- the number that is told with a request
+-- the number that is told with a request: 0 where no session is open
 abbrev pub number_told : Option ℕ → ℕ
 number_told opened = unwrap_or opened 0
 

@@ -40,7 +40,8 @@ pub fn the_links_are_hung_up<Origin, P>()
         (ending : Ending) → Held rows first old new ending → new.server.link ≡ None }
 {}
 
-/// A session asked each request for the session that was open, at a moment of the clock. What was answered stands in the
+/// A session asked each request for the session that it opened last and didn't ask to close, or for number 0 where there
+/// was none, at a moment of the clock. What was answered stands in the
 /// port's history as it was asked and answered, behind all that was seen before, but for what was refused because no more
 /// entries fit (`entered`). The port says that it refused where it said so before or where one was so refused (`refused`).
 /// Where these entries are the whole history, nothing else is in it (`whole`).
@@ -57,13 +58,15 @@ pub fn the_talk_is_entered<Origin, P>()
         map said_of new.office.port.seen ≡ filter is_entered (answered (gives asked (deeds_of held))) }
 {}
 
-/// The salts that the dice gave in a session are those of the new passwords that it asked for, in order.
+/// The salts that the dice gave in a session are those of the passwords that it renewed, in order. A new password that is
+/// asked for with a salt of the script's own is none of these.
 pub fn the_salts_are_thrown<Origin, P>()
     ensures { (rows : PlaceTable (acts Origin) P) (first : Row (acts Origin) P) (old new : World Origin) (ending : Ending)
         (held : Held rows first old new ending) → ThrowsSalts (gives thrown (deeds_of held)) old new }
 {}
 
-/// At the end of a session none is open at the port that it opened and didn't ask to close.
+/// At the end of a session, the one that it opened last at the port was asked to close. One that was open when another was
+/// opened isn't followed any more.
 pub fn the_session_is_closed<Origin, P>()
     ensures { (rows : PlaceTable (acts Origin) P) (first : Row (acts Origin) P) (old new : World Origin)
         (ending : Ending) → Held rows first old new ending → new.office.opened ≡ None }
