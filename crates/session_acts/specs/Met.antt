@@ -1,5 +1,5 @@
 -- What an act, with its outcome, does to each part of what the session meets.
-use Rattle.std.specs.Prelude.{◌≡◌, ℕ, ◌≤◌, Bool, true, false, List, length, Option, Some, None, Result, Ok, Err, unwrap_or}
+use Rattle.std.specs.Prelude.{◌≡◌, ℕ, ◌-◌, ◌^◌, ◌≤◌, Bool, true, false, List, length, Option, Some, None, Result, Ok, Err, unwrap_or}
 use Rattle.auth_events.specs.Port.{Asks, Port}
 use Rattle.auth_events.specs.declared.port.PortFault.{PortFault}
 use Rattle.auth_events.specs.declared.reply.Reply.{Reply}
@@ -108,9 +108,10 @@ opened_then (requests.Open console) (Some (replies.Opened sid)) opened = Some si
 opened_then requests.Close reply opened = None
 opened_then request reply opened = opened
 
--- the number that is told with a request: 0 where no session is open
+-- the number that is told with a request: where no session is open the last that there is, which no session of a history
+-- of fewer than 2 ^ 64 entries has
 abbrev pub number_told : Option ℕ → ℕ
-number_told opened = unwrap_or opened 0
+number_told opened = unwrap_or opened (2 ^ 64 - 1)
 
 -- the port was asked, at a moment of the clock, for the session that is open
 pub record Asking {Origin : Type 0} (request : Request) (reply : Result Reply PortFault) (old new : Office Origin) : Type 0 where

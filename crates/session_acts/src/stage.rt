@@ -44,7 +44,8 @@ pub trait Stage {
     fn jot(&mut self, text: &[u8])
         ensures { Jotted text.now (world self.old) (world self.new) };
 
-    /// Asks the port, at a moment of the clock, for the session that is open.
+    /// Asks the port, at a moment of the clock, for the session that is open. Where none is, the number told is 2^64 - 1:
+    /// numbers are places in a history, so no session has it in one of fewer than 2^64 entries.
     fn ask(&mut self, request: Request) -> Result<Reply, Cause>
         ensures { Acted (Ask request) result (world self.old) (world self.new) };
 
