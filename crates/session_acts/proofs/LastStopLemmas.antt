@@ -1,5 +1,5 @@
 -- A session stops at one act, behind which nothing but what is owed is done; and of what it lacks memory.
-use Rattle.std.proofs.Common.{◌≡◌, refl, sym, ap, subst, ◌∙◌, ℕ, Bool, true, false, ◌||◌, List, [], ◌∷◌, ◌++◌, map, Option, Some, None, Result, Ok, Err, append_assoc}
+use Rattle.std.proofs.Common.{◌≡◌, refl, sym, ap, ◌∙◌, ℕ, Bool, true, false, ◌||◌, List, [], ◌∷◌, ◌++◌, map, Option, Some, None, Result, Ok, Err, append_assoc}
 use Rattle.std.proofs.lemmas.List.Folds.{list_any-append}
 use Rattle.auth_events.specs.declared.port.PortFault.{PortFault}
 use Rattle.auth_events.specs.declared.port.PortFault.TheVariants as faults
@@ -11,7 +11,7 @@ use Rattle.fw_types.specs.declared.ending.Ending.{Ending}
 use Rattle.fw_types.specs.declared.ending.Ending.TheVariants as endings
 use Rattle.session_acts.specs.Acts.{Act, Halt, cause_by, fault_cause, silence_cause}
 use Rattle.session_acts.specs.Acts.Act.{Hear, Say, Try, Log, Note, Ask, Renew, Dial, Reach, Take, Pass, HangUp}
-use Rattle.session_acts.specs.Deeds.{Deed, deed_last, deeds_ran, done}
+use Rattle.session_acts.specs.Deeds.{Deed, deed_last, done}
 use Rattle.session_acts.specs.LastStop.{StopsLast, is_no_memory, lacked_memory, one_lacked_memory}
 use Rattle.session_acts.specs.Met.{acts}
 use Rattle.session_acts.specs.Session.{Held, closing, deeds_of, ending_by, ending_closed, ending_of, freeing, owed}

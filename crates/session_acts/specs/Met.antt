@@ -122,6 +122,16 @@ pub record Asking {Origin : Type 0} (request : Request) (reply : Result Reply Po
   pub asks : Asks reply (number_told old.opened) moment request old.port port
   pub is : new ≡ record old { clock = clock; port = port; opened = opened_then request (reply_of reply) old.opened }
 
+-- whether a new password is asked for
+abbrev pub is_password : Request → Bool
+is_password (requests.Password name salt hash) = true
+is_password _ = false
+
+-- a request, which isn't for a new password, was asked: a new password is asked for by `Renew` alone
+pub record AskingOther {Origin : Type 0} (request : Request) (reply : Result Reply PortFault) (old new : Office Origin) : Type 0 where
+  pub other : is_password request ≡ false
+  pub asking : Asking request reply old new
+
 -- the dice gave this salt, with which a new password was asked for
 pub record Renewing {Origin : Type 0} (name hash salt : List ℕ) (reply : Result Reply PortFault) (old new : Office Origin) : Type 0 where
   pub dice : DiceView
@@ -133,7 +143,7 @@ Renews name hash (Ok salted) old new = Renewing name hash salted.0 (Ok salted.1)
 Renews name hash (Err salted) old new = Renewing name hash salted.0 (Err salted.1) old new
 
 abbrev pub AtOffice : {Origin : Type 0} (act : Act) → Outcome act → Office Origin → Office Origin → Type 0
-AtOffice (Ask request) outcome old new = Asking request outcome old new
+AtOffice (Ask request) outcome old new = AskingOther request outcome old new
 AtOffice (Renew name hash) outcome old new = Renews name hash outcome old new
 AtOffice act outcome old new = new ≡ old
 

@@ -61,8 +61,7 @@ pub fn the_talk_is_entered<Origin, P>()
         map said_of new.office.port.seen ≡ filter is_entered (answered (gives asked (deeds_of held))) }
 {}
 
-/// The salts that the dice gave in a session are those of the passwords that it renewed, in order. A new password that is
-/// asked for with a salt of the script's own is none of these.
+/// The salts that the dice gave in a session are those of the new passwords that it asked for, in order.
 pub fn the_salts_are_thrown<Origin, P>()
     ensures { (rows : PlaceTable (acts Origin) P) (first : Row (acts Origin) P) (old new : World Origin) (ending : Ending)
         (held : Held rows first old new ending) → ThrowsSalts (gives thrown (deeds_of held)) old new }
@@ -76,14 +75,14 @@ pub fn the_session_is_closed<Origin, P>()
 {}
 
 /// A session whose dialogue stopped did acts, then the one at which it stopped, for a cause of that act, and then nothing but
-/// what was owed: after the log failed, say, nothing is told or dialed.
+/// what was owed. If the log fails at a line that has to be logged, say, nothing is told or dialed after it.
 pub fn a_stop_is_last<Origin, P>()
     ensures { (rows : PlaceTable (acts Origin) P) (first : Row (acts Origin) P) (old new : World Origin) (ending : Ending)
         (cause : Cause) (held : Held rows first old new ending) → held.dialogue ≡ Err cause → StopsLast cause held }
 {}
 
-/// A session that ends for want of memory asked something, or asked for a new password, that got no answer for that, the
-/// close that was owed among them.
+/// In a session that ends for want of memory some request got no answer for that, be it one of the script's or the close that
+/// was owed.
 pub fn the_memory_was_lacking<Origin, P>()
     ensures { (rows : PlaceTable (acts Origin) P) (first : Row (acts Origin) P) (old new : World Origin) (ending : Ending)
         (held : Held rows first old new ending) → ending ≡ NoMemory → one_lacked_memory (deeds_of held) ≡ true }
