@@ -33,9 +33,11 @@ pub record IsNewLink (link : MemSourceView × MemSinkView) : Type 0 where
   pub taken : link.0.taken ≡ []
   pub faults : link.0.faults ≡ 0
   pub idles : link.0.idles ≡ 0
+  pub takes : link.0.calls ≡ 0
   pub given : link.1.given ≡ []
   pub unshut : link.1.shut ≡ false
   pub unfailed : link.1.faults ≡ 0
+  pub gifts : link.1.calls ≡ 0
 
 abbrev pub link_view_of : MemSourceView × MemSinkView → LinkView
 link_view_of link = record { from = source_view_of link.0; to = sink_view_of link.1 }
@@ -67,7 +69,8 @@ abbrev pub is_up : {I O : Type 0} → Dialed I O → Bool
 is_up (Up from to) = true
 is_up Refused = false
 
--- one more call was made, its entry stands where there is room, and what was told stands
+-- one more call was made, its entry stands where there is room, it is counted where it is refused, and what was told
+-- stands
 pub record CountsAsk (ask : Ask) (old new : MemDialerView) : Type 0 where
   pub room : new.room ≡ old.room
   pub fails : new.fails ≡ old.fails
@@ -77,6 +80,7 @@ pub record CountsAsk (ask : Ask) (old new : MemDialerView) : Type 0 where
   pub ended : new.ended ≡ old.ended
   pub ended_room : new.ended_room ≡ old.ended_room
   pub ended_past : new.ended_past ≡ old.ended_past
+  pub refusals : new.refusals ≡ (if brings_up old then old.refusals else counted old.refusals)
   pub link_faults : new.link_faults ≡ old.link_faults
   pub link_idles : new.link_idles ≡ old.link_idles
   pub waits : new.waits ≡ old.waits

@@ -131,7 +131,7 @@ module _ {Origin : Type 0} where
   stop_counted (Try text) halt old new met = absurd halt
   stop_counted (Log text) halt old new met = subst (λ (s : SinkView). Rose old.logs.faults s.faults) (sym met.logs.is) met.logs.rose
   stop_counted (Note text) halt old new met = absurd halt
-  stop_counted (Ask request) halt old new met = fault_counted request halt old.office old new refl met.office
+  stop_counted (Ask request) halt old new met = fault_counted request halt old.office old new refl met.office.asking
   stop_counted (Renew name hash) halt old new met =
       fault_counted (requests.Password name halt.0 hash) halt.1 (record (old.office) { dice = met.office.dice }) old new refl met.office.asking
   stop_counted (Dial dest) halt old new met = absurd halt
@@ -277,7 +277,7 @@ module _ {Origin : Type 0} where
   caused_done None answer devices names between new before all = tt
   caused_done (Some sid) (Ok reply) devices names between new before all = tt
   caused_done (Some sid) (Err fault) devices names between new before all =
-      let counted : Counted (fault_cause fault) between all.0 = fault_counted requests.Close fault between.office between all.0 refl all.1.office in
+      let counted : Counted (fault_cause fault) between all.0 = fault_counted requests.Close fault between.office between all.0 refl all.1.office.asking in
       let since : Counted (fault_cause fault) (at_first devices names) all.0 = counted_since (fault_cause fault) (at_first devices names) between all.0 before counted in
       caused_closing fault devices names new (subst (λ (w : World Origin). Counted (fault_cause fault) (at_first devices names) w) all.2 since)
 

@@ -14,3 +14,5 @@ pub mod ToldLemmas
 pub mod StaysLemmas
 pub mod TurnLemmas
 mod Rows
+pub mod LastStopLemmas
+pub mod RefusalLemmas

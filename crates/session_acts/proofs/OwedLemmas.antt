@@ -102,7 +102,7 @@ module _ {Origin : Type 0} where
   closing_opened : (opened : Option ℕ) (answer : Result Reply PortFault) (old new : World Origin) → old.office.opened ≡ opened → DeedsAll (closing opened answer) old new → new.office.opened ≡ None
   closing_opened None answer old new is all = ap (λ (w : World Origin). w.office.opened) (sym all) ∙ is
   closing_opened (Some sid) answer old new is all =
-      ap (λ (w : World Origin). w.office.opened) (sym all.2) ∙ ap (λ (o : Office Origin). o.opened) all.1.office.is ∙ closed_then (reply_of answer) old.office.opened
+      ap (λ (w : World Origin). w.office.opened) (sym all.2) ∙ ap (λ (o : Office Origin). o.opened) all.1.office.asking.is ∙ closed_then (reply_of answer) old.office.opened
 
   -- and no session is open
   pub held_closed : {P : Type 0} (rows : PlaceTable (acts Origin) P) (first : Row (acts Origin) P) (old new : World Origin) (ending : Ending) → Held rows first old new ending → new.office.opened ≡ None

@@ -43,7 +43,7 @@ a_salt_is_thrown_though_none_answers = refl
 a_renewal_is_a_password : asked (Renew (codes "mjr") []) (Ok (5 ∷ [], replies.Ok)) ≡ (requests.Password (codes "mjr") (5 ∷ []) [], Some replies.Ok) ∷ []
 a_renewal_is_a_password = refl
 
-a_number_is_told_behind_its_open : numbers_told None ((requests.Open false, Some (replies.Opened 7)) ∷ (requests.Close, None) ∷ (requests.Close, None) ∷ []) ≡ 0 ∷ 7 ∷ 0 ∷ []
+a_number_is_told_behind_its_open : numbers_told None ((requests.Open false, Some (replies.Opened 7)) ∷ (requests.Close, None) ∷ (requests.Close, None) ∷ []) ≡ 18446744073709551615 ∷ 7 ∷ 18446744073709551615 ∷ []
 a_number_is_told_behind_its_open = refl
 
 a_close_without_an_answer_closes : opened_then requests.Close None (Some 7) ≡ None

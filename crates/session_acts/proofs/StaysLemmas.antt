@@ -100,7 +100,7 @@ module _ {Origin : Type 0} where
       subst (λ (o : Office Origin). PortKeeps old.port o.port) (sym h.is) (asks_port reply (number_told old.opened) h.moment request old.port h.port h.asks)
 
   office_keeps : (act : Act) (outcome : Outcome act) (old new : Office Origin) → AtOffice act outcome old new → PortKeeps old.port new.port
-  office_keeps (Ask request) outcome old new h = asking_keeps request outcome old new h
+  office_keeps (Ask request) outcome old new h = asking_keeps request outcome old new h.asking
   office_keeps (Renew name hash) (Ok salted) old new h = asking_keeps (requests.Password name salted.0 hash) (Ok salted.1) (record old { dice = h.dice }) new h.asking
   office_keeps (Renew name hash) (Err salted) old new h = asking_keeps (requests.Password name salted.0 hash) (Err salted.1) (record old { dice = h.dice }) new h.asking
   office_keeps Hear outcome old new h = same_office old new h

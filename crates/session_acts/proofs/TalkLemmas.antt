@@ -1,5 +1,5 @@
 -- What a session asked came to this at the port, the clock and the dice.
-use Rattle.std.proofs.Common.{◌≡◌, refl, sym, ap, subst, ◌∙◌, ℕ, suc, ◌+◌, List, [], ◌∷◌, ◌++◌, length, Option, Some, None, Result, Ok, Err}
+use Rattle.std.proofs.Common.{◌≡◌, refl, sym, ap, subst, ◌∙◌, ℕ, suc, ◌+◌, false, List, [], ◌∷◌, ◌++◌, length, Option, Some, None, Result, Ok, Err}
 use Rattle.std.proofs.lemmas.List.{length-append}
 use Rattle.auth_events.specs.Port.{Asks, Port}
 use Rattle.auth_events.specs.declared.port.PortFault.{PortFault}
@@ -11,8 +11,8 @@ use Rattle.session_acts.specs.Acts.{Act, Outcome}
 use Rattle.session_acts.specs.Acts.Act.{Hear, Say, Try, Log, Note, Ask, Renew, Dial, Reach, Take, Pass, HangUp}
 use Rattle.session_acts.specs.Deeds.{Gains}
 use Rattle.session_acts.specs.Laws.{Adds}
-use Rattle.session_acts.specs.Met.{Asking, AtOffice, Met, Renewing, number_told, opened_then, reply_of}
-use Rattle.session_acts.specs.Talk.{AtPort, Entered, ThrowsSalts, asked, numbers_told, opened_after, renewed, salted, thrown}
+use Rattle.session_acts.specs.Met.{Asking, AtOffice, Met, Renewing, is_password, number_told, opened_then, reply_of}
+use Rattle.session_acts.specs.Talk.{AtPort, Entered, ThrowsSalts, asked, numbers_told, opened_after, renewed, salt_of, salted, thrown}
 use Rattle.session_acts.specs.World.{Office, World}
 use Rattle.session_acts.proofs.EntryLemmas.{at_both, at_no_reply, at_none, at_reply}
 use Rattle.session_acts.proofs.LinkedLemmas.{adds_both, adds_none, adds_one}
@@ -30,6 +30,11 @@ numbers_both opened (ask ∷ asks) others = ap (λ z. number_told opened ∷ z) 
 one_number : (opened : Option ℕ) (asks : List (Request × Option Reply)) → length (numbers_told opened asks) ≡ length asks
 one_number opened [] = refl
 one_number opened (ask ∷ asks) = ap suc (one_number (opened_then ask.0 ask.1 opened) asks)
+
+-- what isn't a new password has no salt
+no_salt : (request : Request) → is_password request ≡ false → salt_of request ≡ []
+no_salt (requests.Password name salt hash) other = absurd (cc)
+no_salt request other = refl
 
 -- ---- deeds
 
@@ -59,7 +64,7 @@ module _ {Origin : Type 0} where
       record { moments = entered.moments; one_each = entered.one_each; told = entered.told; opened = entered.opened; port = entered.port }
 
   entered_one : (act : Act) (outcome : Outcome act) (old new : Office Origin) → AtOffice act outcome old new → Entered (asked act outcome) old new
-  entered_one (Ask request) outcome old new h = entered_asking request outcome old new h
+  entered_one (Ask request) outcome old new h = entered_asking request outcome old new h.asking
   entered_one (Renew name hash) (Ok salts) old new h = entered_renewing name hash salts.0 (Ok salts.1) old new h
   entered_one (Renew name hash) (Err salts) old new h = entered_renewing name hash salts.0 (Err salts.1) old new h
   entered_one Hear outcome old new h = same_talk old new h
@@ -109,7 +114,8 @@ module _ {Origin : Type 0} where
 
   thrown_one : (act : Act) (outcome : Outcome act) (old new : Office Origin) → AtOffice act outcome old new → Adds (thrown act outcome) old.dice.told new.dice.told
   thrown_one (Ask request) outcome old new h =
-      subst (λ (d : DiceView). Adds [] old.dice.told d.told) (sym (asking_dice request outcome old new h)) (adds_none old.dice.told)
+      let same = subst (λ (d : DiceView). Adds [] old.dice.told d.told) (sym (asking_dice request outcome old new h.asking)) (adds_none old.dice.told) in
+      subst (λ (salts : List (List ℕ)). Adds salts old.dice.told new.dice.told) (sym (no_salt request h.other)) same
   thrown_one (Renew name hash) (Ok salts) old new h = renewing_dice name hash salts.0 (Ok salts.1) old new h
   thrown_one (Renew name hash) (Err salts) old new h = renewing_dice name hash salts.0 (Err salts.1) old new h
   thrown_one Hear outcome old new h = same_dice old new h

@@ -60,8 +60,9 @@ pub record TakesFor {Origin : Type 0} (ending : Ending) (old new : Devices Origi
   pub all : length took.bytes ≡ most_taken → is_spent_ending ending ≡ true
 
 -- The client's source or sink failed, or the log; a link that was hung up had failed, or had been idle, or the client was;
--- a link was refused; all that may be was taken of the client or of a link; the port failed, or something strange came from
--- it. What caused the other endings isn't counted, and no session ends as denied.
+-- a link was refused; all that may be was taken of the client, or of the link that was hung up last, where that is told,
+-- which may be one of before the session; the port failed, or something strange came from it. What caused the other
+-- endings isn't counted, and no session ends as denied.
 abbrev pub Caused : {Origin : Type 0} → Ending → Devices Origin → Devices Origin → Type 0
 Caused ClientFault old new = Rose old.inlet.faults new.inlet.faults ⊎ Rose old.outlet.faults new.outlet.faults
 Caused ServerFault old new = Rose old.dialer.link_faults new.dialer.link_faults

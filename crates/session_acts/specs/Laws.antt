@@ -1,5 +1,5 @@
 -- What a list of deeds comes to at each device.
-use Rattle.std.specs.Prelude.{◌≡◌, ℕ, ◌+◌, Bool, true, false, List, [], ◌∷◌, length, Option, Some, None, Result, Ok, Err}
+use Rattle.std.specs.Prelude.{◌≡◌, ℕ, ◌+◌, ◌-◌, ◌^◌, ◌≤◌, min, Bool, true, false, List, [], ◌∷◌, length, Option, Some, None, Result, Ok, Err}
 use Rattle.fw_outside.specs.DialerView.{LinkView}
 use Rattle.fw_outside.specs.ToldList.{grown}
 use Rattle.fw_outside.specs.declared.ask.Ask.TheVariants.{Main}
@@ -82,3 +82,24 @@ pub record LinksDialer {Origin : Type 0} (ups : List Dest) (old new : World Orig
   pub links : List LinkView
   pub ended : Adds links old.server.dialer.ended new.server.dialer.ended
   pub each : length links + up_now new.server.link ≡ up_now old.server.link + length ups
+
+-- ---- which destinations were refused
+
+abbrev pub missed : {Never : Type 0} → Dest → Result Bool Never → List Dest
+missed dest (Ok true) = []
+missed dest (Ok false) = dest ∷ []
+missed dest (Err never) = []
+
+abbrev pub unreached : {Done Halted : Type 0} → Dest → Result Done Halted → List Dest
+unreached dest (Ok up) = []
+unreached dest (Err halt) = dest ∷ []
+
+-- the destinations that were dialed or reached in vain
+abbrev pub refused : (act : Act) → Outcome act → List Dest
+refused (Dial dest) outcome = missed dest outcome
+refused (Reach dest) outcome = unreached dest outcome
+refused act outcome = []
+
+-- each of these was counted, as far as the count goes
+abbrev pub CountsRefusals : {Origin : Type 0} → List Dest → World Origin → World Origin → Type 0
+CountsRefusals dests old new = min (old.server.dialer.refusals + length dests) (2 ^ 64 - 1) ≤ new.server.dialer.refusals

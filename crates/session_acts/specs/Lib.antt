@@ -9,3 +9,4 @@ pub mod Met
 pub mod Session
 pub mod Talk
 pub mod World
+pub mod LastStop

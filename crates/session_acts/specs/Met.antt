@@ -1,5 +1,5 @@
 -- What an act, with its outcome, does to each part of what the session meets.
-use Rattle.std.specs.Prelude.{◌≡◌, ℕ, ◌≤◌, Bool, true, false, List, length, Option, Some, None, Result, Ok, Err, unwrap_or}
+use Rattle.std.specs.Prelude.{◌≡◌, ℕ, ◌-◌, ◌^◌, ◌≤◌, Bool, true, false, List, length, Option, Some, None, Result, Ok, Err, unwrap_or}
 use Rattle.auth_events.specs.Port.{Asks, Port}
 use Rattle.auth_events.specs.declared.port.PortFault.{PortFault}
 use Rattle.auth_events.specs.declared.reply.Reply.{Reply}
@@ -102,15 +102,16 @@ abbrev pub reply_of : Result Reply PortFault → Option Reply
 reply_of (Ok reply) = Some reply
 reply_of (Err fault) = None
 
--- the session that is open after a request was asked: one that is asked to close isn't open any more
+-- the session that is open after a request was asked: the one that was opened last, if it wasn't asked to close
 abbrev pub opened_then : Request → Option Reply → Option ℕ → Option ℕ
 opened_then (requests.Open console) (Some (replies.Opened sid)) opened = Some sid
 opened_then requests.Close reply opened = None
 opened_then request reply opened = opened
 
--- the number that is told with a request
+-- the number that is told with a request: where no session is open the last that there is, which no session of a history
+-- of fewer than 2 ^ 64 entries has
 abbrev pub number_told : Option ℕ → ℕ
-number_told opened = unwrap_or opened 0
+number_told opened = unwrap_or opened (2 ^ 64 - 1)
 
 -- the port was asked, at a moment of the clock, for the session that is open
 pub record Asking {Origin : Type 0} (request : Request) (reply : Result Reply PortFault) (old new : Office Origin) : Type 0 where
@@ -120,6 +121,16 @@ pub record Asking {Origin : Type 0} (request : Request) (reply : Result Reply Po
   pub gave_time : GaveTime moment old.clock clock
   pub asks : Asks reply (number_told old.opened) moment request old.port port
   pub is : new ≡ record old { clock = clock; port = port; opened = opened_then request (reply_of reply) old.opened }
+
+-- whether a new password is asked for
+abbrev pub is_password : Request → Bool
+is_password (requests.Password name salt hash) = true
+is_password _ = false
+
+-- a request, which isn't for a new password, was asked: a new password is asked for by `Renew` alone
+pub record AskingOther {Origin : Type 0} (request : Request) (reply : Result Reply PortFault) (old new : Office Origin) : Type 0 where
+  pub other : is_password request ≡ false
+  pub asking : Asking request reply old new
 
 -- the dice gave this salt, with which a new password was asked for
 pub record Renewing {Origin : Type 0} (name hash salt : List ℕ) (reply : Result Reply PortFault) (old new : Office Origin) : Type 0 where
@@ -132,7 +143,7 @@ Renews name hash (Ok salted) old new = Renewing name hash salted.0 (Ok salted.1)
 Renews name hash (Err salted) old new = Renewing name hash salted.0 (Err salted.1) old new
 
 abbrev pub AtOffice : {Origin : Type 0} (act : Act) → Outcome act → Office Origin → Office Origin → Type 0
-AtOffice (Ask request) outcome old new = Asking request outcome old new
+AtOffice (Ask request) outcome old new = AskingOther request outcome old new
 AtOffice (Renew name hash) outcome old new = Renews name hash outcome old new
 AtOffice act outcome old new = new ≡ old
 

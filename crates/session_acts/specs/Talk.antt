@@ -29,11 +29,16 @@ asked (Renew name hash) outcome = renewed name hash outcome
 asked act outcome = []
 
 -- the salts with which new passwords were asked for
+abbrev pub salt_of : Request → List (List ℕ)
+salt_of (Password name salt hash) = salt ∷ []
+salt_of _ = []
+
 abbrev pub salted : Result (List ℕ × Reply) (List ℕ × PortFault) → List (List ℕ)
 salted (Ok salts) = salts.0 ∷ []
 salted (Err salts) = salts.0 ∷ []
 
 abbrev pub thrown : (act : Act) → Outcome act → List (List ℕ)
+thrown (Ask request) outcome = salt_of request
 thrown (Renew name hash) outcome = salted outcome
 thrown act outcome = []
 

@@ -15,8 +15,8 @@ pub record Speaker : Type 0 where
   pub reader : LineReaderView
   pub outlet : SinkView
 
--- where a session asks: the port, the clock and the dice, and the number of the session that it has opened there and not
--- asked to close
+-- where a session asks: the port, the clock and the dice, and the number of the session that it opened last there, if it
+-- wasn't asked to close
 pub record Office (Origin : Type 0) : Type 0 where
   pub port : Port Origin
   pub clock : ClockView

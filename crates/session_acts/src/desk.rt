@@ -81,7 +81,7 @@ fn opened_then(
     }
 }
 
-// Asks the port, at a moment of the clock, for the session that is open.
+// Asks the port, at a moment of the clock, for the session that is open, or where none is for number 2^64 - 1.
 fn ask<P: AuthPort, C: Clock>(
     port: &mut P,
     clock: &mut C,
@@ -93,7 +93,7 @@ fn ask<P: AuthPort, C: Clock>(
         (record { port = P.port port.new; clock = C.clock_view clock.new; dice = dice; opened = opened.new }) }
 {
     let moment = clock.now();
-    let sid = opened.unwrap_or(0);
+    let sid = opened.unwrap_or(u64::MAX);
     let reply = port.ask(sid, moment, request.twin());
     *opened = opened_then(&request, &reply, *opened);
     reply

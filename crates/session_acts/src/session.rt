@@ -127,8 +127,8 @@ where
 }
 
 /// A session: what its script does first, and then turn by turn what it does at each place, to its end or to the act at
-/// which it stops. Then a link that is up is hung up, and a session that is open is asked to close. It takes at most 2^40
-/// bytes from the client, and as many over one link.
+/// which it stops. Then a link that is up is hung up, and the session that was opened last is asked to close if it wasn't.
+/// It takes at most 2^40 bytes from the client.
 pub fn session_over<P, S, K, G, D, C, R, T>(
     script: &T,
     port: &mut P,

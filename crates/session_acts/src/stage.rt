@@ -1,6 +1,6 @@
-ghost use Rattle.std.specs.Prelude.{◌≡◌, is_some, Ok};
+ghost use Rattle.std.specs.Prelude.{◌≡◌, false, is_some, Ok};
 ghost use Rattle.session_acts.specs.Acts.Act.{Ask, Dial, HangUp, Hear, Log, Pass, Reach, Renew, Say, Take};
-ghost use Rattle.session_acts.specs.Met.{Acted, Jotted, Met, Tried};
+ghost use Rattle.session_acts.specs.Met.{Acted, Jotted, Met, Tried, is_password};
 ghost use Rattle.session_acts.specs.World.{World};
 
 use crate::Cause;
@@ -44,8 +44,11 @@ pub trait Stage {
     fn jot(&mut self, text: &[u8])
         ensures { Jotted text.now (world self.old) (world self.new) };
 
-    /// Asks the port, at a moment of the clock, for the session that is open.
+    /// Asks the port, at a moment of the clock, for the session that is open. Where none is, the number told is 2^64 - 1:
+    /// numbers are places in a history, so no session has it in one of fewer than 2^64 entries.
+    /// A new password isn't asked for so, but by `renew`.
     fn ask(&mut self, request: Request) -> Result<Reply, Cause>
+        requires { is_password request ≡ false }
         ensures { Acted (Ask request) result (world self.old) (world self.new) };
 
     /// Asks the port for a new password, the MD5 digest of which is told, with a salt of the dice. The salt comes with the
