@@ -1,8 +1,8 @@
 -- What a disk means, and what its calls do to that.
-use Rattle.std.specs.Prelude.{◌≡◌, ℕ, ◌≤◌, min, ◌-◌, List, ◌∷◌, length, take, drop, Option, Some, None, IfSome, option_map, Result, Ok, Err, ◌⊎◌}
+use Rattle.std.specs.Prelude.{◌≡◌, ℕ, ◌≤◌, min, ◌-◌, List, [], ◌∷◌, length, take, drop, Option, Some, None, IfSome, option_map, Result, Ok, Err, ◌⊎◌}
 use Rattle.fw_outside.specs.declared.failed.Failed.{Failed}
 use Rattle.fw_outside.specs.Counts.{Rose}
-use Rattle.fw_disk.specs.Medium.{Medium, IsImage, synced_now}
+use Rattle.fw_disk.specs.Medium.{Medium, IsImage, synced_now, written_at}
 
 -- the medium now, and what it was before, the latest first
 pub record Tape : Type 0 where
@@ -96,3 +96,11 @@ Syncs (Err _) old new = HasFailed old new
 -- what counting a failure leaves
 abbrev pub Doubts : DiskView → DiskView → Type 0
 Doubts old new = HasFailed old new
+
+-- ---- setting a byte
+
+-- a byte was written at a place, and then all was synced
+pub record HasSetByte (at byte : ℕ) (old new : DiskView) : Type 0 where
+  pub middle : DiskView
+  pub wrote : middle ≡ record old { told = option_map (changed (written_at at (byte ∷ []))) old.told }
+  pub syncs : HasSynced middle new

@@ -9,6 +9,8 @@
 
 mod disk;
 pub mod laws;
+mod setting;
 
 pub use disk::Disk;
 pub use fw_outside::Failed;
+pub use setting::set_byte;
