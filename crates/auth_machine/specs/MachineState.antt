@@ -1,4 +1,5 @@
 -- What the code has at hand, as a state.
+-- No public clause cites this: it says what private functions know.
 use Rattle.std.specs.Prelude.{◌<◌}
 use Rattle.std.specs.Vec.{vec_capacity, vec_len}
 use Rattle.auth_machine.specs.State.{State}

@@ -1,4 +1,5 @@
 -- Where the words of a line are kept: a single one in the value itself, more in memory of their own.
+-- No public clause cites this: it says what private functions know.
 use Rattle.std.specs.Prelude.{List, [], ◌∷◌}
 use Rattle.host_pattern.specs.declared.word.Word.{Word}
 use Rattle.netperm_table.specs.declared.words.Storage.{Storage}
