@@ -1,4 +1,5 @@
--- Replies of a server of the File Transfer Protocol, in the whole text that it sends (RFC 959, 4.2).
+-- Replies of a server of the File Transfer Protocol, in the whole text that it sends (RFC 959, 4.2). Other than
+-- there, a line of three digits alone ends a reply, too.
 use Rattle.std.specs.Prelude.{ℕ, ◌≡◌, ◌+◌, ◌<◌, ◌≤◌, Bool, ◌&&◌, ◌||◌, ◌==◌, not, nat_le, List, [], ◌∷◌, ◌++◌, length, take, slice_index, Option, Some, None, if◌then◌else◌}
 use Rattle.std.specs.Char.{is_ascii_digit}
 use Rattle.std.specs.List.{find, list_all, slice_split, sum_by, take_while}

@@ -1,4 +1,5 @@
--- Six decimal numbers, which are an address and a port (RFC 959, 4.1.2, PORT and PASV).
+-- Six decimal numbers, which are an address and a port (RFC 959, 4.1.2, PORT and PASV; 5.3.2, where a number is 1 to 255:
+-- here it may be 0, as servers send it).
 use Rattle.std.specs.Prelude.{◌≡◌, ℕ, ◌+◌, ◌*◌, ◌/◌, ◌%◌, ◌<◌, Bool, true, false, ◌&&◌, ◌==◌, not, nat_le, All, List, [], ◌∷◌, ◌++◌, length, drop, map, slice_index, Option, Some, None, if◌then◌else◌}
 use Rattle.std.specs.Char.{is_ascii_digit}
 use Rattle.std.specs.Fmt.{decimal}

@@ -28,9 +28,12 @@ fn call_laws() {
     telnet::laws::line_ends();
     telnet::laws::plain_texts();
     telnet::laws::whole_texts();
+    telnet::laws::first_lines();
     smap_lines::laws::written_bodies();
     smap_lines::laws::cut_texts();
     smap_lines::laws::whole_bodies();
+    smap_lines::laws::paths();
+    smap_lines::laws::commands();
 }
 
 fn main(rt: HostRuntime) -> io::Result<ExitCode> {

@@ -1,4 +1,5 @@
--- The paths of mail (RFC 821, section 4.1.2), without the forms that name hosts on the way.
+-- The paths of mail (RFC 821, section 4.1.2), without the forms that name hosts on the way, quoted local parts and
+-- addresses in brackets.
 use Rattle.std.specs.Prelude.{◌≡◌, ℕ, ◌+◌, ◌==◌, Bool, false, ◌&&◌, ◌||◌, not, nat_lt, nat_le, List, [], ◌∷◌, ◌++◌, IsTrue, length, take, drop, codes, count_by, position, Option, Some, None, option_and_then, Result, Ok, Err, if◌then◌else◌}
 use Rattle.std.specs.List.{list_all, list_any}
 use Rattle.smap_lines.specs.Blank.{behind_blanks, is_blank}

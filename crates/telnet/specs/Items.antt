@@ -1,4 +1,4 @@
--- The items of a text and their data (RFC 854, "TELNET COMMAND STRUCTURE"; subnegotiation: RFC 855, section 3).
+-- The items of a text and their data (RFC 854, "TELNET COMMAND STRUCTURE"; subnegotiation: RFC 855, its closing note).
 -- An item is a byte below 255, which is data; IAC IAC, which is the data byte 255; IAC SB up to the IAC SE that ends it;
 -- IAC with WILL, WON'T, DO or DON'T and an option's code; or IAC with any other byte. IAC is 255.
 use Rattle.std.specs.Prelude.{ℕ, zero, suc, ◌==◌, Bool, true, ◌&&◌, not, nat_le, List, [], ◌∷◌, ◌++◌, length, Option, Some, None, if◌then◌else◌}

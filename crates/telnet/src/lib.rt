@@ -1,4 +1,4 @@
-//! What a client of Telnet says, line by line (RFC 854; subnegotiations: RFC 855, section 3).
+//! What a client of Telnet says, line by line (RFC 854; subnegotiations: RFC 855, its closing note on them).
 //!
 //! A text is read as items: bytes below 255, a doubled 255, which is the data byte 255, commands, negotiations of an
 //! option and subnegotiations. All but the first two give no data. The data are cut at LF, CR LF and CR NUL; a CR
