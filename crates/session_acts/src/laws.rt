@@ -34,7 +34,8 @@ pub fn the_dialer_is_asked<Origin, P>()
         (held : Held rows first old new ending) → CallsDialer (gives called (deeds_of held)) old new }
 {}
 
-/// Every link that came up in a session was hung up (`links`), and none is up at its end (`none`).
+/// As many links were hung up in a session as came up in it, where the dialer tells (`links`), and none is up at its end
+/// (`none`).
 pub fn the_links_are_hung_up<Origin, P>()
     ensures links { (rows : PlaceTable (acts Origin) P) (first : Row (acts Origin) P) (old new : World Origin)
         (ending : Ending) (held : Held rows first old new ending) →
