@@ -1,13 +1,16 @@
 //! Devices in memory, for tests and for runs that are told beforehand what each device does.
 //!
-//! They tell all that they hold; [`MemClock`] and [`MemDice`] do so as long as their calls can be counted in 64 bits.
-//! [`MemSource`], [`MemSink`] and [`MemKeeper`] fail exactly at the calls that they are told, and so do the sources
-//! that [`MemFiles`] gives. It gives none for a name that it lacks; that it gives one for each other name, where there
-//! is memory, is said by no clause. [`MemClock`] and [`MemDice`] give exactly the moments and the numbers that they
-//! were made with. [`MemDialer`] brings up the links that it was given, in order, and refuses exactly the calls that it is
-//! told, those past its room, and those for which no link is left.
-//! were made with. [`MemDisk`] fails at the calls that it is told, and where it has no memory for a change; a crash of it
-//! leaves an image of its medium, which a number picks.
+//! They tell all that they hold, but for lists for which there is no more room or number: those of [`MemDialer`] past
+//! its room, and those of [`MemClock`] and [`MemDice`] once their calls can't be counted in 64 bits.
+//!
+//! [`MemSource`] and [`MemKeeper`] fail exactly at the calls that they are told, and so do the sources that
+//! [`MemFiles`] gives. [`MemSink`] fails at those and at a gift for which there is no room, and at no other.
+//! [`MemFiles`] gives no source for a name that it lacks; that it gives one for each other name, if there is memory, is
+//! said by no clause. [`MemClock`] gives the moments that it was made with, then the last one again, and 0 if it has
+//! none. [`MemDice`] count up from the number that they were made with. [`MemDialer`] brings up the links that it was
+//! given, in order, and refuses exactly the calls that it is told, those past its room, and those for which no link is
+//! left. [`MemDisk`] fails at the calls that it is told, and if it has no memory for a change; a crash of it leaves an
+//! image of its medium, which a number picks.
 #![tactic(auto)]
 
 mod call_counter;
