@@ -1,11 +1,14 @@
 pub mod Acting
 pub mod AheadLemmas
 pub mod CauseLemmas
+pub mod CourseLemmas
 pub mod DeedLemmas
 pub mod DeviceLemmas
 pub mod EntryLemmas
+pub mod HearingLemmas
 pub mod KeptLemmas
 pub mod LinkedLemmas
+pub mod OneSessionLemmas
 pub mod OwedLemmas
 pub mod SpentLemmas
 pub mod StageLemmas

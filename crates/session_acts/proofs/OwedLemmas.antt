@@ -23,7 +23,7 @@ ends_told (Ok done) (Ok closed) opened answer tells = tells
 ends_told (Ok done) (Err cause) opened answer tells = tells
 ends_told (Err cause) closed opened answer tells = refl
 
-closed_then : (reply : Option Reply) (opened : Option ℕ) → opened_then requests.Close reply opened ≡ None
+pub closed_then : (reply : Option Reply) (opened : Option ℕ) → opened_then requests.Close reply opened ≡ None
 closed_then None opened = refl
 closed_then (Some reply) opened = refl
 

@@ -1,8 +1,10 @@
 pub mod Acts
 pub mod Causes
 pub mod Closing
+pub mod Course
 pub mod Deeds
 pub mod Distance
+pub mod Hearing
 pub mod Laws
 pub mod Link
 pub mod Met

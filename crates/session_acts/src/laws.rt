@@ -1,11 +1,17 @@
 //! What holds of every session, whatever its script.
-ghost use Rattle.std.specs.Prelude.{◌≡◌, ◌||◌, [], true, None, Err, filter, length, map};
-ghost use Rattle.std.specs.List.{list_any};
+ghost use Rattle.std.specs.Prelude.{◌≡◌, ◌≢◌, ◌||◌, Bool, [], true, None, Err, filter, length, map};
+ghost use Rattle.std.specs.List.{AllByRecursion, list_any};
 ghost use Rattle.auth_events.specs.Port.{places};
+ghost use Rattle.auth_events.specs.declared.reply.Reply.{Reply};
+ghost use Rattle.auth_events.specs.declared.request.Request.TheVariants.{Open};
 ghost use Rattle.fw_acts.specs.Acts.{Row, PlaceTable};
+ghost use Rattle.fw_acts.specs.Acts.Row.{Do};
 ghost use Rattle.fw_types.specs.declared.ending.Ending.{Ending};
 ghost use Rattle.fw_types.specs.declared.ending.Ending.TheVariants.{NoMemory};
+ghost use Rattle.session_acts.specs.Acts.Act.{Ask};
+ghost use Rattle.session_acts.specs.Course.{AreOfOne, Course, CourseState, KeepsCourse};
 ghost use Rattle.session_acts.specs.Deeds.{gives};
+ghost use Rattle.session_acts.specs.Hearing.{TakesHeard, heard_in};
 ghost use Rattle.session_acts.specs.LastStop.{StopsLast, one_lacked_memory};
 ghost use Rattle.session_acts.specs.Laws.{CallsDialer, CountsRefusals, LinksDialer, TellsClient, TellsLog, called, linked, logged, refused, told};
 ghost use Rattle.session_acts.specs.Met.{acts};
@@ -19,6 +25,15 @@ ghost use Rattle.session_acts.specs.declared.cause.Cause.{Cause};
 pub fn the_client_is_told<Origin, P>()
     ensures { (rows : PlaceTable (acts Origin) P) (first : Row (acts Origin) P) (old new : World Origin) (ending : Ending)
         (held : Held rows first old new ending) → TellsClient (gives told (deeds_of held)) old new }
+{}
+
+/// What a session took of a client of which nothing was pending is what its deeds heard, one piece after another: each line
+/// with its end, and what was read for nothing where no line was heard. Behind that at most 4,096 bytes were taken, which
+/// are pending. So a session that stops has taken no more beyond the line, or the end, to which the act belongs.
+pub fn the_client_is_heard<Origin, P>()
+    ensures { (rows : PlaceTable (acts Origin) P) (first : Row (acts Origin) P) (old new : World Origin) (ending : Ending)
+        (held : Held rows first old new ending) → old.client.reader.pending ≡ [] →
+        TakesHeard (gives heard_in (deeds_of held)) old.client new.client }
 {}
 
 /// What the log was given by a session is what its deeds log and note, one after another: of a text at which the log
@@ -73,6 +88,31 @@ pub fn the_salts_are_thrown<Origin, P>()
 pub fn the_session_is_closed<Origin, P>()
     ensures { (rows : PlaceTable (acts Origin) P) (first : Row (acts Origin) P) (old new : World Origin)
         (ending : Ending) → Held rows first old new ending → new.office.opened ≡ None }
+{}
+
+/// In a session whose rows keep the course, and before which none was open, nothing is asked, or Open first, with this
+/// `console`. Where that is answered `Opened`, Close is asked once, as the last, be it by the rows or since it was owed, and
+/// Open not again; else nothing more is asked (`course`). All its entries have one number, the place of the first of them
+/// (`one`), which is 0 where they are the whole history (`whole`). Where the first row begins by asking Open, something is
+/// asked, whatever the rows keep (`begun`).
+pub fn a_session_is_closed_once<Origin, P>()
+    ensures course { (console : Bool) (may_be : P → CourseState → Bool) (rows : PlaceTable (acts Origin) P)
+        (first : Row (acts Origin) P) (old new : World Origin) (ending : Ending)
+        (held : Held rows first old new ending) → KeepsCourse console may_be rows first → old.office.opened ≡ None →
+        Course console (gives asked (deeds_of held)) }
+    ensures one { (console : Bool) (may_be : P → CourseState → Bool) (rows : PlaceTable (acts Origin) P)
+        (first : Row (acts Origin) P) (old new : World Origin) (ending : Ending)
+        (held : Held rows first old new ending) → KeepsCourse console may_be rows first → old.office.opened ≡ None →
+        (entered : Entered (gives asked (deeds_of held)) old.office new.office) →
+        AreOfOne entered.port.places entered.port.entries }
+    ensures whole { (console : Bool) (may_be : P → CourseState → Bool) (rows : PlaceTable (acts Origin) P)
+        (first : Row (acts Origin) P) (old new : World Origin) (ending : Ending) → Held rows first old new ending →
+        KeepsCourse console may_be rows first → old.office.opened ≡ None → old.office.port.mine ≡ [] →
+        new.office.port.mine ≡ places (length new.office.port.seen) →
+        AllByRecursion (λ entry. entry.sid ≡ 0) new.office.port.seen }
+    ensures begun { (console : Bool) (rows : PlaceTable (acts Origin) P) (go : Reply → Row (acts Origin) P)
+        (old new : World Origin) (ending : Ending) (held : Held rows (Do (Ask (Open console)) go) old new ending) →
+        gives asked (deeds_of held) ≢ [] }
 {}
 
 /// A session whose dialogue stopped did acts, then the one at which it stopped, for a cause of that act, and then nothing but
