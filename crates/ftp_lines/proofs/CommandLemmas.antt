@@ -1,19 +1,19 @@
 -- Commands that are written as a verb, a space and an argument are read back (RFC 959, 4.1 and 5.3).
-use Rattle.std.proofs.Common.{◌≡◌, ℕ, ◌+◌, ◌≤◌, Bool, true, false, cond, All, List, [], ◌∷◌, ◌++◌, length, take, drop, get_or, refl, sym, ap, ◌∙◌, subst, arith, append_assoc, length-append, IsTrue}
+use Rattle.std.proofs.Common.{◌≡◌, ℕ, ◌+◌, ◌<◌, ◌≤◌, Bool, true, false, cond, All, List, [], ◌∷◌, ◌++◌, length, take, drop, get_or, refl, sym, ap, ◌∙◌, ◌⊎◌, inl, inr, subst, arith, append_assoc, length-append, IsTrue}
 use Rattle.std.specs.Prelude.{◌&&◌, ◌||◌, nat_le, nat_lt, not, Option, Some, None}
 use Rattle.std.specs.Char.{is_ascii_alphabetic, to_ascii_uppercase}
 use Rattle.std.specs.List.{after_first, before_first, list_all, list_any, position_or_len}
 use Rattle.std.specs.Str.{str_to_ascii_uppercase}
-use Rattle.std.proofs.lemmas.Bool.{le-leb, leb-true, or_from}
+use Rattle.std.proofs.lemmas.Bool.{cases_lt, eqb-true, le-leb, leb-true, lt-ltb, ltb-true, or_from}
 use Rattle.std.proofs.lemmas.Bool.Decides.{nat_tests}
-use Rattle.std.proofs.lemmas.List.{drop_at, get_or_append_left, length-drop, length-map, length-take, length_push, take-append-drop, take_at}
+use Rattle.std.proofs.lemmas.List.{drop_all, drop_at, get_or_append_left, length-drop, length-map, length-take, length_push, take-append-drop, take_all, take_at}
 use Rattle.std.proofs.lemmas.List.Folds.{list_any-append, list_any_none}
-use Rattle.std.proofs.lemmas.List.Sums.{AllPass-from_list_all, position_or_len_is}
+use Rattle.std.proofs.lemmas.List.Sums.{AllPass-from_list_all, passes_at_first, position_or_len_is, split_at_first}
 use Rattle.std.proofs.lemmas.Option.{cond_some}
 use Rattle.std.proofs.Math.Seq.{get_or-append_seam}
 use Rattle.fw_types.specs.Verb.{is_verb, verb_of}
 use Rattle.fw_types.proofs.VerbLemmas.{upper_is_verb, upper_twice}
-use Rattle.ftp_lines.specs.Command.{ftp_command_of, is_barred, is_command_text, is_space, with_argument}
+use Rattle.ftp_lines.specs.Command.{IsCommand, ftp_command_of, is_barred, is_command_text, is_space, with_argument}
 
 chosen : {A : Type 0} → (b : Bool) (x y : A) → b ≡ true → cond b x y ≡ x
 chosen true x y h = refl
@@ -166,3 +166,90 @@ again line verb arg is =
     written verb arg (upper_verb line verb arg p)
     (text_from (nat_le (length text) 512) (list_any is_barred text)
     (le-leb (length text) 512 (again_long line verb arg p)) (again_barred line verb arg p))
+
+-- a line is a command exactly where it is a word alone, or a word, a space and an argument
+
+first_of_three : (a b c : Bool) → (a && b && c) ≡ true → a ≡ true
+first_of_three true b c h = refl
+first_of_three false b c h = absurd (cc (h))
+
+three_from : (a b c : Bool) → a ≡ true → b ≡ true → c ≡ true → (a && b && c) ≡ true
+three_from true true true h k l = refl
+three_from true true false h k l = absurd (cc (l))
+three_from true false c h k l = absurd (cc (k))
+three_from false b c h k l = absurd (cc (h))
+
+whole_by : (line verb arg : List ℕ) → Parted line verb arg
+    → (position_or_len is_space line < length line) ⊎ (length line ≤ position_or_len is_space line)
+    → ((line ≡ before_first is_space line) × (arg ≡ [])) ⊎ (line ≡ before_first is_space line ++ 32 ∷ arg)
+whole_by line verb arg p (inl inside) =
+    let word = before_first is_space line in
+    inr (split_at_first is_space line 0 inside
+    ∙ ap (λ b. word ++ b ∷ after_first is_space line)
+    (eqb-true (get_or line (position_or_len is_space line) 0) 32 (passes_at_first is_space line 0 inside))
+    ∙ ap (λ rest. word ++ 32 ∷ rest) p.behind)
+whole_by line verb arg p (inr past) =
+    inl (
+      sym (take_all (position_or_len is_space line) line past),
+      sym p.behind ∙ drop_all (position_or_len is_space line + 1) line (omega (arith, past)),
+    )
+
+pub command_is : (line verb arg : List ℕ) → ftp_command_of line ≡ Some (verb, arg) → IsCommand line verb arg
+command_is line verb arg is =
+    let p = parted line verb arg is in
+    let word = before_first is_space line in
+    let text = text_parts (nat_le (length line) 512) (list_any is_barred line) p.fits in
+    let long_enough = first_of_three (nat_lt 0 (length word)) (nat_le (length word) 16) (list_all is_ascii_alphabetic word) p.good in
+    let short_enough = second_of (nat_lt 0 (length word)) (nat_le (length word) 16) (list_all is_ascii_alphabetic word) p.good in
+    let all_letters = third_of (nat_lt 0 (length word)) (nat_le (length word) 16) (list_all is_ascii_alphabetic word) p.good in
+    record {
+      word = word;
+      whole = whole_by line verb arg p (cases_lt (position_or_len is_space line) (length line));
+      some = ltb-true 0 (length word) long_enough;
+      few = leb-true (length word) 16 short_enough;
+      letters = all_letters;
+      upper = p.upper;
+      short = leb-true (length line) 512 text.0;
+      plain = text.1;
+    }
+
+read_parts : (line word verb arg : List ℕ) → is_command_text line ≡ true → verb_of word ≡ Some verb
+    → before_first is_space line ≡ word → after_first is_space line ≡ arg → ftp_command_of line ≡ Some (verb, arg)
+read_parts line word verb arg fits is before behind =
+    chosen (is_command_text line)
+    (with_argument (verb_of (before_first is_space line)) (after_first is_space line)) None fits
+    ∙ ap (λ w. with_argument (verb_of w) (after_first is_space line)) before
+    ∙ ap (λ rest. with_argument (verb_of word) rest) behind
+    ∙ ap (λ v. with_argument v arg) is
+
+no_space : (word : List ℕ) → is_verb word ≡ true → position_or_len is_space word ≡ length word
+no_space word h =
+    position_or_len_is is_space word (length word) 0 (omega arith)
+    (λ k less. letter_no_space (get_or word k 0) (letters_of word h k 0 less))
+    (λ less. absurd (omega (arith, less)))
+
+before_alone : (word : List ℕ) → is_verb word ≡ true → before_first is_space word ≡ word
+before_alone word h = ap (λ n. take n word) (no_space word h) ∙ take_all (length word) word (omega arith)
+
+after_alone : (word : List ℕ) → is_verb word ≡ true → after_first is_space word ≡ []
+after_alone word h = ap (λ n. drop (n + 1) word) (no_space word h) ∙ drop_all (length word + 1) word (omega arith)
+
+read_by : (line verb arg word : List ℕ) → is_verb word ≡ true → verb_of word ≡ Some verb → is_command_text line ≡ true
+    → ((line ≡ word) × (arg ≡ [])) ⊎ (line ≡ word ++ 32 ∷ arg) → ftp_command_of line ≡ Some (verb, arg)
+read_by line verb arg word good is fits (inl alone) =
+    read_parts line word verb arg fits is (ap (before_first is_space) alone.0 ∙ before_alone word good)
+    (ap (after_first is_space) alone.0 ∙ after_alone word good ∙ sym alone.1)
+read_by line verb arg word good is fits (inr whole) =
+    read_parts line word verb arg fits is (ap (before_first is_space) whole ∙ before_space word arg good)
+    (ap (after_first is_space) whole ∙ after_space word arg good)
+
+pub is_command : (line verb arg : List ℕ) → IsCommand line verb arg → ftp_command_of line ≡ Some (verb, arg)
+is_command line verb arg c =
+    let good : is_verb c.word ≡ true =
+    three_from (nat_lt 0 (length c.word)) (nat_le (length c.word) 16) (list_all is_ascii_alphabetic c.word)
+    (lt-ltb 0 (length c.word) c.some) (le-leb (length c.word) 16 c.few) c.letters in
+    let is : verb_of c.word ≡ Some verb =
+    chosen (is_verb c.word) (Some (str_to_ascii_uppercase c.word)) None good ∙ ap Some c.upper in
+    let fits =
+    text_from (nat_le (length line) 512) (list_any is_barred line) (le-leb (length line) 512 c.short) c.plain in
+    read_by line verb arg c.word good is fits c.whole

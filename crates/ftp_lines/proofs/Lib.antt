@@ -8,3 +8,5 @@ mod FeedingLemmas
 mod FirstCodeLemmas
 mod SixLemmas
 mod ReaderStateLemmas
+mod SixPlaceLemmas
+mod HeardLemmas

@@ -132,7 +132,7 @@ both : (a b : Bool) → (a && b) ≡ true → (a ≡ true) × (b ≡ true)
 both true b h = (refl, h)
 both false b h = absurd (cc)
 
-digits_no_comma : (ds : List ℕ) → list_all is_ascii_digit ds ≡ true → All (λ b. is_comma b ≡ false) ds
+pub digits_no_comma : (ds : List ℕ) → list_all is_ascii_digit ds ≡ true → All (λ b. is_comma b ≡ false) ds
 digits_no_comma [] h = All-nil (λ b. is_comma b ≡ false)
 digits_no_comma (d ∷ ds) h =
     let p = both (is_ascii_digit d) (list_all is_ascii_digit ds) h in
@@ -177,11 +177,11 @@ joined_split a b c d e f after sa sb sc sd se =
     first ∙ ap (λ ps. decimal a ∷ ps) (second ∙ ap (λ ps. decimal b ∷ ps) (third ∙ ap (λ ps. decimal c ∷ ps) (fourth ∙ ap (λ ps. decimal d ∷ ps) fifth)))
 
 -- the last part goes on up to the next comma, and the digits that stand first in it are the number's
-record Begins (ds : List ℕ) (parts : List (List ℕ)) : Type 0 where
-  first : List ℕ
-  rest : List (List ℕ)
-  is : parts ≡ (ds ++ first) ∷ rest
-  beyond : is_ascii_digit (slice_index first 0) ≡ false
+pub record Begins (ds : List ℕ) (parts : List (List ℕ)) : Type 0 where
+  pub first : List ℕ
+  pub rest : List (List ℕ)
+  pub is : parts ≡ (ds ++ first) ∷ rest
+  pub beyond : is_ascii_digit (slice_index first 0) ≡ false
 
 begins_by : (comma : Bool) (b : ℕ) (parts : List (List ℕ)) → is_ascii_digit b ≡ false → Begins [] (cond comma ([] ∷ parts) (onto_first b parts))
 begins_by true b parts h = record { first = []; rest = parts; is = refl; beyond = refl }
@@ -192,14 +192,14 @@ begins_on : (d : ℕ) (ds : List ℕ) (comma : Bool) (parts : List (List ℕ)) �
 begins_on d ds true parts h begins = absurd (cc)
 begins_on d ds false parts h begins = record { first = begins.first; rest = begins.rest; is = ap (onto_first d) begins.is; beyond = begins.beyond }
 
-begins : (ds after : List ℕ) → list_all is_ascii_digit ds ≡ true → IsBeyond after → Begins ds (slice_split is_comma (ds ++ after))
+pub begins : (ds after : List ℕ) → list_all is_ascii_digit ds ≡ true → IsBeyond after → Begins ds (slice_split is_comma (ds ++ after))
 begins [] [] h beyond = record { first = []; rest = []; is = refl; beyond = refl }
 begins [] (b ∷ bs) h beyond = begins_by (is_comma b) b (slice_split is_comma bs) beyond
 begins (d ∷ ds) after h beyond =
     let p = both (is_ascii_digit d) (list_all is_ascii_digit ds) h in
     begins_on d ds (is_comma d) (slice_split is_comma (ds ++ after)) (digit_no_comma d p.0) (begins ds after p.1 beyond)
 
-run_of-digits : (ds first : List ℕ) → list_all is_ascii_digit ds ≡ true → is_ascii_digit (slice_index first 0) ≡ false → run_of (ds ++ first) ≡ ds
+pub run_of-digits : (ds first : List ℕ) → list_all is_ascii_digit ds ≡ true → is_ascii_digit (slice_index first 0) ≡ false → run_of (ds ++ first) ≡ ds
 run_of-digits [] [] h beyond = refl
 run_of-digits [] (b ∷ bs) h beyond = take_while-cons is_ascii_digit b bs ∙ rw beyond refl
 run_of-digits (d ∷ ds) first h beyond =
@@ -288,7 +288,7 @@ cond_same : (b : Bool) (o : Option ℕ) → cond b o o ≡ o
 cond_same true o = refl
 cond_same false o = refl
 
-octet_in-other : (text : List ℕ) → list_all is_ascii_digit text ≡ false → octet_in text ≡ None
+pub octet_in-other : (text : List ℕ) → list_all is_ascii_digit text ≡ false → octet_in text ≡ None
 octet_in-other text other =
     let none : is_number text ≡ false = and_right (nat_lt 0 (length text) && nat_le (length text) 10) (list_all is_ascii_digit text) other in
     rw none (cond_same (nat_le (length text) 3) None)

@@ -71,3 +71,18 @@ IsBeyond text = is_ascii_digit (slice_index text 0) ≡ false
 -- no six numbers begin in a text before what follows it
 abbrev pub IsPassed : List ℕ → List ℕ → Type 0
 IsPassed before rest = (at : ℕ) → at < length before → six_at (drop at (before ++ rest)) ≡ None
+
+-- a text that begins with six numbers, each of which has all digits that stand there
+pub record IsLeadingSix (text : List ℕ) (six : List ℕ × ℕ) : Type 0 where
+  pub numbers : List ℕ
+  pub rest : List ℕ
+  pub whole : text ≡ numbers ++ rest
+  pub is : six_of numbers ≡ Some six
+  pub beyond : IsBeyond rest
+
+-- the leftmost place of a text at which six numbers begin
+pub record IsLeftmostSix (text : List ℕ) (six : List ℕ × ℕ) : Type 0 where
+  pub at : ℕ
+  pub within : at < length text
+  pub here : six_at (drop at text) ≡ Some six
+  pub none_before : (place : ℕ) → place < at → six_at (drop place text) ≡ None

@@ -2,8 +2,8 @@
 
 use crate::every::tell_every;
 use crate::ftp::{tell_command, tell_find_six, tell_read_six, tell_write_six};
-use crate::heard::tell_telnet;
-use crate::mail::{tell_body, tell_mail, tell_path};
+use crate::heard::{tell_first_line, tell_telnet};
+use crate::mail::{tell_bodies, tell_body, tell_mail, tell_path};
 use crate::replies::{tell_first_code, tell_replies};
 use fw_types::NoMemory;
 use row_lines::{Rows, Told, add};
@@ -22,10 +22,12 @@ pub(crate) fn tell_text(kind: &str, asked: &[u8], out: &mut Told) {
         "read-six" => tell_read_six(asked, out),
         "find-six" => tell_find_six(asked, out),
         "telnet" => tell_telnet(asked, out),
+        "first-line" => tell_first_line(asked, out),
         "mail" => tell_mail(asked, out),
         "path" => tell_path(asked, false, out),
         "path-or-none" => tell_path(asked, true, out),
         "body" => tell_body(asked, out),
+        "bodies" => tell_bodies(asked, out),
         _ => add(out, b"no such kind"),
     }
 }

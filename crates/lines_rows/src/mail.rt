@@ -76,3 +76,31 @@ impl Feeding for Data {
 pub(crate) fn tell_body(asked: &[u8], out: &mut Told) {
     tell_fed::<Data>(asked, out);
 }
+
+/// The reader of bodies, one behind the other.
+#[derive(Drop)]
+struct Bodies {
+    reader: MailBody,
+}
+
+impl Feeding for Bodies {
+    fn begin() -> Bodies {
+        Bodies {
+            reader: MailBody::new(),
+        }
+    }
+
+    fn feed(&mut self, byte: u8, out: &mut Told) {
+        match self.reader.feed(byte) {
+            BodyStep::Bytes(bytes) => add(out, bytes.as_slice()),
+            BodyStep::End => add(out, b"|End|"),
+        }
+    }
+
+    fn look(&self, _out: &mut Told) {}
+}
+
+/// `bodies TEXT => BODY|End|BODY|End|..`: what follows the end of a body is fed on to the same reader.
+pub(crate) fn tell_bodies(asked: &[u8], out: &mut Told) {
+    tell_fed::<Bodies>(asked, out);
+}

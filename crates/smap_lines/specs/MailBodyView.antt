@@ -1,5 +1,6 @@
 -- How a body is read byte by byte.
-use Rattle.std.specs.Prelude.{◌≡◌, ℕ, Bool, true, false, List, [], ◌∷◌, ◌++◌, Some}
+use Rattle.std.specs.Prelude.{◌≡◌, ℕ, Bool, true, false, ◌||◌, List, [], ◌∷◌, ◌++◌, Some}
+use Rattle.std.specs.Str.{bytes_eq}
 use Rattle.smap_lines.specs.Body.{body_after, body_from}
 use Rattle.smap_lines.specs.declared.body.BodyStep.{BodyStep}
 use Rattle.smap_lines.specs.declared.body.BodyStep.TheVariants.{Bytes, End}
@@ -8,6 +9,12 @@ use Rattle.smap_lines.specs.declared.body.BodyStep.TheVariants.{Bytes, End}
 pub record MailBodyView : Type 0 where
   pub middle : Bool
   pub pending : List ℕ
+
+-- What may be held back, in the middle of a line or not: nothing; in the middle a CR, which may begin the line's end;
+-- else a period, or a period and CR, which may begin the line that ends the body.
+abbrev pub may_be_held : Bool → List ℕ → Bool
+may_be_held true pending = bytes_eq pending [] || bytes_eq pending (13 ∷ [])
+may_be_held false pending = bytes_eq pending [] || bytes_eq pending (46 ∷ []) || bytes_eq pending (46 ∷ 13 ∷ [])
 
 -- However the text goes on, the body of what is still to be read, of this byte and of the rest is what the step gives, and
 -- then the body of what is still to be read and of the rest. At its end nothing is left to be given, and the rest is left.

@@ -1,4 +1,4 @@
-ghost use Rattle.std.specs.Prelude.{◌≡◌, ◌≤◌, [], false, length, None};
+ghost use Rattle.std.specs.Prelude.{◌≡◌, ◌≤◌, [], false, length, IsTrue, None};
 ghost use Rattle.smap_lines.specs.Body.{body_from};
 
 use crate::place::Place;
@@ -30,7 +30,7 @@ impl Model for MailBody {
 }
 
 impl MailBody {
-    ghost use Rattle.smap_lines.specs.MailBodyView.{GivesBody};
+    ghost use Rattle.smap_lines.specs.MailBodyView.{GivesBody, may_be_held};
 
     /// A reader at the beginning of a body.
     pub fn new() -> MailBody
@@ -41,11 +41,13 @@ impl MailBody {
         }
     }
 
-    /// Takes the next byte of the data. Behind the end of a body it stands at the beginning of another.
+    /// Takes the next byte of the data. It holds back at most a period that begins a line, such a period and CR, or a
+    /// CR. Behind the end of a body it stands at the beginning of another.
     pub fn feed(&mut self, byte: u8) -> BodyStep
         ensures gives { GivesBody result self.old self.new byte }
         ensures prompt { body_from self.new.middle self.new.pending ≡ None }
         ensures held { length self.new.pending ≤ 2 }
+        ensures pending { IsTrue (may_be_held self.new.middle self.new.pending) }
         ensures end { result ≡ BodyStep.End → self.new ≡ record { middle = false; pending = [] } }
     {
         if self.place.is_last(byte) {

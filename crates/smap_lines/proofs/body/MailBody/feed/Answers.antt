@@ -3,7 +3,7 @@ use Rattle.smap_lines.specs.Place.{view_at}
 use Rattle.smap_lines.specs.MailBodyView.{GivesBody, MailBodyView}
 use Rattle.smap_lines.specs.declared.body.BodyStep.TheVariants.{End}
 use Rattle.smap_lines.specs.declared.place.Place.TheVariants.{Start}
-use Rattle.smap_lines.proofs.PlaceLemmas.{ends, unended}
+use Rattle.smap_lines.proofs.PlaceLemmas.{ends, held_back, unended}
 use Rattle.smap_lines.proofs.body.MailBody.feed.Goals as goal
 
 pub returns-then-is_last-clause-gives : goal.returns-then-is_last-clause-gives
@@ -16,3 +16,9 @@ returns-then-is_last-clause-prompt c = unended Start
 
 pub returns-clause-prompt : goal.returns-clause-prompt
 returns-clause-prompt c = unended c.behind-place.result.0
+
+pub returns-then-is_last-clause-pending : goal.returns-then-is_last-clause-pending
+returns-then-is_last-clause-pending c = held_back Start
+
+pub returns-clause-pending : goal.returns-clause-pending
+returns-clause-pending c = held_back c.behind-place.result.0
