@@ -18,6 +18,7 @@
 
 mod copying;
 mod cut;
+pub mod laws;
 mod line;
 mod part;
 mod read_line;
