@@ -12,6 +12,7 @@
 
 mod cause;
 mod desk;
+mod dummies;
 pub mod laws;
 mod link;
 mod script;
@@ -21,6 +22,7 @@ mod stage;
 mod telling;
 
 pub use cause::Cause;
+pub use dummies::{NoSource, Nowhere, Silent};
 pub use script::Script;
 pub use session::session_over;
 pub use silence::Silence;
