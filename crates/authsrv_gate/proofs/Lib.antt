@@ -1,0 +1,5 @@
+pub mod CourseLemmas
+mod DistanceLemmas
+pub mod ServerlessLemmas
+mod SessionLemmas
+mod TurnLemmas
