@@ -4,6 +4,7 @@ use Rattle.auth_events.specs.declared.reply.Reply.{Reply}
 use Rattle.auth_events.specs.declared.reply.Reply.TheVariants as replies
 use Rattle.auth_events.specs.declared.request.Request.{Request}
 use Rattle.auth_events.specs.declared.request.Request.TheVariants as requests
+use Rattle.fw_acts.specs.Acts.{PlaceTable}
 use Rattle.fw_acts.specs.Acts.Row.{Do, At}
 use Rattle.fw_acts.specs.Histories.{Keeps, Leaves, Watch}
 use Rattle.fw_outside.specs.declared.heard.Heard.{Heard}
@@ -64,13 +65,16 @@ module _ (Origin : Type 0) (console : Bool) where
   listed_course (Some name) reply = (tt, λ done. refl)
   listed_course None reply = end_course (is_no_such reply) reply
 
-  place_course : (place : Place) → Leaves watch (Do (rows.act place) (rows.go place)) Going
+  abbrev own_rows : PlaceTable (acts Origin) Place
+  own_rows = rows
+
+  place_course : (place : Place) → Leaves watch (Do (own_rows.act place) (own_rows.go place)) Going
   place_course Waiting = (tt, λ heard. heard_course heard)
   place_course (Listing after) = (refl, λ reply. listed_course (shown_name reply) reply)
 
-  rows_course : Keeps rows watch
+  rows_course : Keeps own_rows watch
   rows_course place state holds =
-      subst (λ (s : CourseState). Leaves watch (Do (rows.act place) (rows.go place)) s) (sym (going state holds)) (place_course place)
+      subst (λ (s : CourseState). Leaves watch (Do (own_rows.act place) (own_rows.go place)) s) (sym (going state holds)) (place_course place)
 
   opened_course : (reply : Reply) → Leaves watch (opened_row reply) (state_opened (Some reply))
   opened_course (replies.Opened sid) = (tt, λ done. refl)
@@ -80,5 +84,5 @@ module _ (Origin : Type 0) (console : Bool) where
   opened_course (replies.Shown summary) = (tt, λ done. tt)
   opened_course (replies.Denied denial) = (tt, λ done. tt)
 
-  pub keeps_course : KeepsCourse console may_be rows (session_row console)
+  pub keeps_course : KeepsCourse {Origin = Origin} console may_be rows (session_row console)
   keeps_course = record { begins = (refl, opened_course); goes_on = rows_course }

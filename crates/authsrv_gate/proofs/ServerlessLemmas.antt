@@ -49,6 +49,6 @@ module _ (Origin : Type 0) where
   leads_serverless None = tt
   leads_serverless (Some place) = tt
 
-  pub keeps_serverless : (console : Bool) → KeepsServerless rows (session_row console)
+  pub keeps_serverless : (console : Bool) → KeepsServerless {Origin = Origin} rows (session_row console)
   keeps_serverless console =
       record { begins = (refl, λ reply. (refl, λ done. leads_serverless (opened_place reply))); goes_on = rows_serverless }

@@ -15,6 +15,7 @@ use Rattle.session_acts.specs.Distance.{ahead_of_client}
 use Rattle.session_acts.specs.Met.{Met}
 use Rattle.session_acts.specs.World.{World}
 use Rattle.session_acts.specs.declared.cause.Cause.{Cause}
+use Rattle.session_acts.specs.declared.form.Form.TheVariants.{Lines}
 use Rattle.session_acts.proofs.AheadLemmas.{heard_ahead, met_ahead}
 use Rattle.authsrv_gate.proofs.DistanceLemmas.{below, clash, positive, rises, step_times}
 use Rattle.authsrv_gate.specs.Distance.{IsFresh, IsNext, IsPlace, distance, left_at, listed_place, rank, rank_of, times, wide}
@@ -81,12 +82,12 @@ fresh_near (Some place) old new fresh less =
     let most : left_at place < suc (wide 32) = fresh_left place fresh in
     omega (arith, step, most)
 
-pub near_line : {Origin : Type 0} (heard : Heard) (old mid new : World Origin) (next : Option Place) → Met Hear (Ok heard) old mid → ahead_of_client new ≤ ahead_of_client mid → IsNext heard next
+pub near_line : {Origin : Type 0} (heard : Heard) (old mid new : World Origin) (next : Option Place) → Met (Hear Lines) (Ok heard) old mid → ahead_of_client new ≤ ahead_of_client mid → IsNext heard next
     → IfSome next (λ p. distance p new < distance Waiting old)
 near_line (Line line) old mid new next met more fresh =
-    let less = heard_ahead (Line line) old mid tt met in fresh_near next old new fresh (omega (arith, less, more))
+    let less = heard_ahead Lines (Line line) old mid tt met in fresh_near next old new fresh (omega (arith, less, more))
 near_line TooLong old mid new next met more fresh =
-    let less = heard_ahead TooLong old mid tt met in fresh_near next old new fresh (omega (arith, less, more))
+    let less = heard_ahead Lines TooLong old mid tt met in fresh_near next old new fresh (omega (arith, less, more))
 near_line (Stopped stop) old mid new next met more none = rw none tt
 
 -- ---- lists

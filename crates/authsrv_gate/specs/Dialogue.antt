@@ -14,6 +14,7 @@ use Rattle.session_acts.specs.Acts.{Act, Answer}
 use Rattle.session_acts.specs.Acts.Act.{Hear, Say, Ask, Renew}
 use Rattle.session_acts.specs.Met.{acts}
 use Rattle.session_acts.specs.Session.{leads}
+use Rattle.session_acts.specs.declared.form.Form.TheVariants.{Lines}
 use Rattle.authsrv_lines.specs.Fault.{wire_fault_text}
 use Rattle.authsrv_lines.specs.Reply.{reply_line}
 use Rattle.authsrv_lines.specs.Request.{request_of}
@@ -57,7 +58,7 @@ opened_place (replies.Denied denial) = None
 
 -- the places: the session waits for a line, or for the next record of a list
 abbrev pub act_at : Place → Act
-act_at Waiting = Hear
+act_at Waiting = Hear Lines
 act_at (Listing after) = Ask (requests.List after)
 
 module _ {Origin : Type 0} where

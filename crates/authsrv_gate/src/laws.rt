@@ -13,12 +13,17 @@ ghost use Rattle.session_acts.specs.Session.{Held, deeds_of};
 ghost use Rattle.session_acts.specs.Talk.{Entered, ThrowsSalts, answered, asked, is_entered, is_refused_as_full, said_of, thrown};
 ghost use Rattle.session_acts.specs.World.{World};
 
+use crate::Place;
+use session_acts::laws;
+
 /// What a client was given by a session is the texts that it said, one after another, and a front of the one at which
 /// it stopped, if it did at one; closing tells nothing.
 pub fn the_client_is_told<Origin>()
     ensures { (console : Bool) (old new : World Origin) (ending : Ending)
         (held : Held rows (session_row console) old new ending) → TellsClient (gives told (deeds_of held)) old new }
-{}
+{
+    laws::the_client_is_told::<Origin, Place>()
+}
 
 /// A session asked each request for the session that was open, at a moment of the clock. What was answered stands in
 /// the port's history as it was asked and answered, behind all that was seen before, but for what was refused because
@@ -35,14 +40,18 @@ pub fn the_talk_is_entered<Origin>()
         (held : Held rows (session_row console) old new ending) →
         old.office.port.mine ≡ [] → new.office.port.mine ≡ places (length new.office.port.seen) →
         map said_of new.office.port.seen ≡ filter is_entered (answered (gives asked (deeds_of held))) }
-{}
+{
+    laws::the_talk_is_entered::<Origin, Place>()
+}
 
 /// The salts that the dice gave in a session are those of the new passwords that it asked for, in order.
 pub fn the_salts_are_thrown<Origin>()
     ensures { (console : Bool) (old new : World Origin) (ending : Ending)
         (held : Held rows (session_row console) old new ending) →
         ThrowsSalts (gives thrown (deeds_of held)) old new }
-{}
+{
+    laws::the_salts_are_thrown::<Origin, Place>()
+}
 
 /// A session that begins with none open asks something (`begun`), Open first. Where that is answered `Opened` it asks
 /// Close once, as the last, and Open not again; else it asks nothing more (`course`). All its entries have one number,
@@ -61,11 +70,13 @@ pub fn a_session_is_closed<Origin>()
         (held : Held rows (session_row console) old new ending) → old.office.opened ≡ None →
         old.office.port.mine ≡ [] → new.office.port.mine ≡ places (length new.office.port.seen) →
         AllByRecursion (λ entry. entry.sid ≡ 0) new.office.port.seen }
-{}
+{
+    laws::a_session_is_closed_once::<Origin, Place>()
+}
 
 /// The rows keep the course of requests (`course`), and speak with no server (`serverless`). So what `session_acts` says
 /// of such rows holds of a longer script that runs them, too.
 pub fn what_the_rows_keep<Origin>()
-    ensures course { (console : Bool) → KeepsCourse {Origin} console may_be rows (session_row console) }
-    ensures serverless { (console : Bool) → KeepsServerless {Origin} rows (session_row console) }
+    ensures course { (console : Bool) → KeepsCourse {Origin = Origin} console may_be rows (session_row console) }
+    ensures serverless { (console : Bool) → KeepsServerless {Origin = Origin} rows (session_row console) }
 {}

@@ -10,7 +10,7 @@ use crate::Place;
 use crate::rows::{heard_row, listed_row, session_row};
 use auth_events::Request;
 use fw_types::Name;
-use session_acts::{Cause, Script, Stage};
+use session_acts::{Cause, Form, Script, Stage};
 
 /// A session of `authsrv`, of a client at the console or not: it does the rows of `specs/Dialogue.antt`.
 #[derive(Drop)]
@@ -25,7 +25,7 @@ fn line_turn<D: Stage>(stage: &mut D) -> Result<Option<Place>, Cause>
     ensures nearer { IfOk result (λ next. IfSome next (λ p.
         distance p (D.world stage.new) < distance Place.Waiting (D.world stage.old))) }
 {
-    let heard = stage.hear()?;
+    let heard = stage.hear(Form::Lines)?;
     heard_row(stage, heard)
 }
 

@@ -51,14 +51,5 @@ pub fn authsrv_session<P: AuthPort, S: Source, K: Sink, C: Clock, R: Dice>(
     let script = AuthsrvScript { console };
     let mut logs = Silent;
     let mut dialer = Nowhere::new();
-    session_over(
-        &script,
-        port,
-        from,
-        to,
-        &mut logs,
-        &mut dialer,
-        clock,
-        dice,
-    )
+    session_over(&script, port, from, to, &mut logs, &mut dialer, clock, dice)
 }

@@ -1,5 +1,5 @@
 -- A session whose rows speak with no server leaves the dialer as it was.
-use Rattle.std.proofs.Common.{◌≡◌, refl, sym, ap, subst, ◌∙◌, true, false, List, [], ◌∷◌, map, Option, None, Result, Ok, Err}
+use Rattle.std.proofs.Common.{◌≡◌, refl, sym, ap, subst, ◌∙◌, ℕ, true, false, List, [], ◌∷◌, map, Option, None, Result, Ok, Err}
 use Rattle.fw_acts.specs.Acts.{Row, Step, PlaceTable}
 use Rattle.fw_acts.specs.Acts.Row.{Do, At, Over}
 use Rattle.fw_acts.specs.Histories.{AllMay, Leaves}
@@ -20,7 +20,7 @@ use Rattle.session_acts.proofs.OwedLemmas.{closing_server}
 
 module _ {Origin : Type 0} where
   met_serverless : (act : Act) (outcome : Outcome act) (old new : World Origin) → is_serverless act ≡ true → Met act outcome old new → new.server ≡ old.server
-  met_serverless (Hear) outcome old new is met = met.server
+  met_serverless (Hear form) outcome old new is met = met.server
   met_serverless (Say text) outcome old new is met = met.server
   met_serverless (Try text) outcome old new is met = met.server
   met_serverless (Log text) outcome old new is met = met.server
@@ -68,3 +68,7 @@ module _ {Origin : Type 0} where
       → new.dialer ≡ old.dialer
   session_serverless rows first old new ending session keeps =
       ap (λ (d : Devices Origin). d.dialer) (sym session.leaves) ∙ ap (λ (s : Server). s.dialer) (held_serverless rows first (at_first old session.names) session.last ending session.held keeps refl)
+
+-- a line that is logged before is no server's matter
+pub logged_serverless : {Origin P : Type 0} {rows : PlaceTable (acts Origin) P} {first : Row (acts Origin) P} (line : List ℕ) → KeepsServerless rows first → KeepsServerless rows (Do (Log line) (λ done. first))
+logged_serverless line keeps = record { begins = (refl, λ done. keeps.begins); goes_on = keeps.goes_on }

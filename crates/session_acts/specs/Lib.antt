@@ -3,7 +3,9 @@ pub mod Causes
 pub mod Closing
 pub mod Course
 pub mod Deeds
+pub mod Denying
 pub mod Distance
+pub mod Forms
 pub mod Hearing
 pub mod Laws
 pub mod Link
