@@ -1,4 +1,4 @@
-use Rattle.authsrv_gate.proofs.session.turn.Goals as goal
+use Rattle.authsrv_gate.proofs.script.AuthsrvScriptScript.turn.Goals as goal
 
 pub returns-in-Waiting-clause-ran : goal.returns-in-Waiting-clause-ran
 returns-in-Waiting-clause-ran g c = rw c.in-Waiting.is c.line_turn.ensures.ran
