@@ -1,23 +1,27 @@
 pub mod Acting
 pub mod AheadLemmas
+pub mod AskCountLemmas
 pub mod CauseLemmas
 pub mod ClientLemmas
 pub mod CourseLemmas
 pub mod DeedLemmas
 pub mod DeviceLemmas
 pub mod EntryLemmas
+pub mod FullPortLemmas
 pub mod HearingLemmas
 pub mod KeptLemmas
 pub mod LinkedLemmas
 pub mod OneSessionLemmas
 pub mod OwedLemmas
 pub mod ServerlessLemmas
+pub mod PassingLemmas
 pub mod SpentLemmas
 pub mod StageLemmas
 pub mod TalkLemmas
 pub mod ToldLemmas
 pub mod StaysLemmas
 pub mod TurnLemmas
+pub mod WaitedLemmas
 mod Rows
 pub mod LastStopLemmas
 pub mod RefusalLemmas

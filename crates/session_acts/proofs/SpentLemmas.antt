@@ -108,7 +108,7 @@ module _ {Origin : Type 0} where
   closing_client None answer old new all = ap (λ (w : World Origin). w.client) (sym all)
   closing_client (Some sid) answer old new all = ap (λ (w : World Origin). w.client) (sym all.2) ∙ all.1.client
 
-  owed_client : (mid new : World Origin) (answer : Result Reply PortFault) → DeedsAll (owed mid answer) mid new → new.client ≡ mid.client
+  pub owed_client : (mid new : World Origin) (answer : Result Reply PortFault) → DeedsAll (owed mid answer) mid new → new.client ≡ mid.client
   owed_client mid new answer all =
       let parted = deeds_parted (freeing mid.server.link) (closing mid.office.opened answer) mid new all in
       closing_client mid.office.opened answer parted.mid new parted.after ∙ freeing_client mid.server.link mid parted.mid parted.before
