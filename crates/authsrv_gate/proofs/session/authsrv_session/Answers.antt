@@ -1,4 +1,4 @@
-use Rattle.authsrv_gate.proofs.SessionLemmas.{at_nowhere, exact, over_lent, own_by}
+use Rattle.authsrv_gate.proofs.SessionLemmas.{at_nowhere, exact, never, over_lent, own_by}
 use Rattle.authsrv_gate.specs.Dialogue.{rows, session_row}
 use Rattle.session_acts.specs.Causes.{SessionKeeps}
 use Rattle.session_acts.specs.Serverless.{TakesExactly}
@@ -22,4 +22,4 @@ returns-clause-spent g c =
 
 pub returns-clause-own : goal.returns-clause-own
 returns-clause-own g c =
-    own_by c.session_over.result _ _ _ _ _ _ _ _ _ _ (over_lent c.args.console _ _ c.session_over.result c.session_over.ensures.session c.new-dialer.ensures)
+    own_by c.session_over.result _ _ (over_lent c.args.console _ _ c.session_over.result c.session_over.ensures.session c.new-dialer.ensures) never
