@@ -2,6 +2,7 @@ pub mod Acting
 pub mod AheadLemmas
 pub mod AloneLemmas
 pub mod CauseLemmas
+pub mod ClientLemmas
 pub mod CourseLemmas
 pub mod DeedLemmas
 pub mod DeviceLemmas

@@ -1,5 +1,6 @@
 pub mod Acts
 pub mod Causes
+pub mod Client
 pub mod Closing
 pub mod Course
 pub mod Deeds
