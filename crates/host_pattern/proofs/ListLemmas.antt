@@ -1,10 +1,14 @@
 -- Lists of patterns, one pattern or word further.
-use Rattle.std.proofs.Common.{◌≡◌, ℕ, ◌+◌, ◌≤◌, ◌<◌, List, [], ◌∷◌, length, map, drop, Bool, true, false, not, ◌==◌, refl, sym, ◌∙◌, ap, arith, get_or, inl, inr}
-use Rattle.std.proofs.lemmas.Bool.{cases_eq, ne_eqb}
+use Rattle.std.proofs.Common.{◌≡◌, ◌≢◌, ℕ, ◌+◌, ◌≤◌, ◌<◌, List, [], ◌∷◌, length, map, drop, Bool, true, false, cond, not, ◌==◌, ◌⊎◌, refl, sym, ◌∙◌, ap, arith, get_or, inl, inr, position, nat_lt, Option, Some, None, Result, Ok, Err}
+use Rattle.std.specs.List.{enumerate_from, filter_map}
+use Rattle.std.proofs.lemmas.Bool.{cases_eq, cases_lt, le-ltb, lt-ltb, ne_eqb}
 use Rattle.std.proofs.lemmas.List.{drop_more, drop_all, drop-map, length-map}
 use Rattle.fw_types.specs.declared.peer.Peer.{Peer}
-use Rattle.host_pattern.specs.Pattern.{Written, read_as, begins_negated, body_of, written}
-use Rattle.host_pattern.specs.PatternList.{matches, list_matches, patterns_tested}
+use Rattle.host_pattern.specs.declared.fault.PatternFault.{PatternFault}
+use Rattle.host_pattern.specs.declared.fault.PatternFault.TheVariants.{Empty, TooLong}
+use Rattle.host_pattern.specs.declared.word.Word.{Word}
+use Rattle.host_pattern.specs.Pattern.{Written, read_as, begins_negated, body_of, is_body_byte, parsed, unless_bad, written}
+use Rattle.host_pattern.specs.PatternList.{bad, good, matches, list_matches, list_parsed, patterns_tested, unless_any_bad}
 
 pub first_decides : (p : Written) (ps : List Written) (party : Peer) → matches party p ≡ true → list_matches (p ∷ ps) party ≡ not p.negated
 unfolding list_matches
@@ -84,3 +88,59 @@ read_written (b ∷ t) = elim (cases_eq b 33) [
 pub texts_written : (texts : List (List ℕ)) → texts ≡ map written (map read_as texts)
 texts_written [] = refl
 texts_written (t ∷ texts) = ap (λ x. x ∷ texts) (sym (read_written t)) ∙ ap (λ xs. written (read_as t) ∷ xs) (texts_written texts)
+
+-- Words that were checked.
+
+is_read_as : (t : List ℕ) (p : Written) → parsed t ≡ Ok p → read_as t ≡ p
+unfolding parsed
+is_read_as t p e = by (length (body_of t) == 0) e
+  where
+    last : (at : Option ℕ) → unless_bad at (read_as t) ≡ Ok p → read_as t ≡ p
+    last None e = cc
+    last (Some at) e = absurd (cc)
+
+    long : (v : Bool) → cond v (Err TooLong) (unless_bad (position (λ b. not (is_body_byte b)) (body_of t)) (read_as t)) ≡ Ok p → read_as t ≡ p
+    long true e = absurd (cc)
+    long false e = last (position (λ b. not (is_body_byte b)) (body_of t)) e
+
+    by : (v : Bool) → cond v (Err Empty) (cond (nat_lt 255 (length (body_of t))) (Err TooLong) (unless_bad (position (λ b. not (is_body_byte b)) (body_of t)) (read_as t))) ≡ Ok p → read_as t ≡ p
+    by true e = absurd (cc)
+    by false e = long (nat_lt 255 (length (body_of t))) e
+
+-- where no word is bad, the patterns are those that the texts of all words are read as
+all_read : (n : ℕ) (words : List Word) → filter_map bad (enumerate_from n words) ≡ [] → map read_as (map (λ (w : Word). w.text) words) ≡ filter_map good words
+all_read n [] h = refl
+all_read n (w ∷ words) h = by (parsed w.text) refl (λ more. all_read (n + 1) words more)
+  where
+    by : (r : Result Written PatternFault) → parsed w.text ≡ r → (filter_map bad (enumerate_from (n + 1) words) ≡ [] → map read_as (map (λ (w : Word). w.text) words) ≡ filter_map good words) → map read_as (map (λ (w : Word). w.text) (w ∷ words)) ≡ filter_map good (w ∷ words)
+    by (Ok p) e more = rw (e, is_read_as w.text p e) (ap (λ ps. p ∷ ps) (more (rw e at h)))
+    by (Err why) e more = absurd (let h = rw e at h in (cc))
+
+record Checked (words : List Word) : Type 0 where
+  some : 0 < length words
+  few : length words ≤ 64
+  none : filter_map bad (enumerate_from 0 words) ≡ []
+
+checked : (words : List Word) (patterns : List Written) → list_parsed words ≡ Ok patterns → Checked words
+unfolding list_parsed
+checked words patterns e = by (cases_eq (length words) 0) (cases_lt 64 (length words))
+  where
+    clean : (bads : List (ℕ × PatternFault)) → unless_any_bad bads (filter_map good words) ≡ Ok patterns → bads ≡ []
+    clean [] e = refl
+    clean (first ∷ others) e = absurd (cc)
+
+    by : (length words ≡ 0) ⊎ (length words ≢ 0) → (64 < length words) ⊎ (length words ≤ 64) → Checked words
+    by (inl zero) more = absurd (let e = rw zero at e in (cc))
+    by (inr ne) (inl over) = absurd (let e = rw (ne_eqb (length words) 0 ne, lt-ltb 64 (length words) over) at e in (cc))
+    by (inr ne) (inr within) =
+        let read = rw (ne_eqb (length words) 0 ne, le-ltb 64 (length words) within) at e in
+        record { some = omega arith; few = within; none = clean (filter_map bad (enumerate_from 0 words)) read }
+
+pub copies : (words : List Word) (texts : List (List ℕ)) → texts ≡ map (λ (w : Word). w.text) words → list_parsed words ≡ Ok (filter_map good words) → map read_as texts ≡ filter_map good words
+copies words texts e read = rw e (all_read 0 words (checked words (filter_map good words) read).none)
+
+pub some : (words : List Word) (texts : List (List ℕ)) → texts ≡ map (λ (w : Word). w.text) words → list_parsed words ≡ Ok (filter_map good words) → 0 < length texts
+some words texts e read = let is = checked words (filter_map good words) read in rw e (omega (arith, is.some, length-map words (λ (w : Word). w.text)))
+
+pub few : (words : List Word) (texts : List (List ℕ)) → texts ≡ map (λ (w : Word). w.text) words → list_parsed words ≡ Ok (filter_map good words) → length texts ≤ 64
+few words texts e read = let is = checked words (filter_map good words) read in rw e (omega (arith, is.few, length-map words (λ (w : Word). w.text)))

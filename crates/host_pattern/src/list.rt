@@ -1,6 +1,7 @@
-ghost use Rattle.std.specs.Prelude.{◌≡◌, ◌≢◌, ◌+◌, ◌<◌, ◌≤◌, [], ◌∷◌, ◌++◌, length, map, Ok, Err, OnOk, IfOk, IfErr};
-ghost use Rattle.host_pattern.specs.Pattern.{begins_negated, parsed, read_as, written};
-ghost use Rattle.host_pattern.specs.PatternList.{list_parsed, list_matches, matches, patterns_tested};
+ghost use Rattle.std.specs.Prelude.{◌≡◌, ◌≢◌, ◌+◌, ◌<◌, ◌≤◌, List, [], ◌∷◌, ◌++◌, length, map, Ok, Err, OnOk, IfOk, IfErr, IsTrue, is_ok};
+ghost use Rattle.std.specs.List.{enumerate_from, filter_map};
+ghost use Rattle.host_pattern.specs.Pattern.{Written, begins_negated, parsed, read_as, written};
+ghost use Rattle.host_pattern.specs.PatternList.{bad, good, list_parsed, list_matches, matches, patterns_tested, unless_any_bad};
 
 use crate::fault::{ListFault, PatternFault};
 use crate::pattern::{Pattern, check_body, test_body, unmarked};
@@ -64,17 +65,44 @@ fn add(alloc: Global, texts: &mut OctetsList, text: &[u8]) -> Result<(), NoMemor
     }
 }
 
+// Whether each of the words is a pattern, or the first that is none.
+fn check_each(words: &[Word]) -> Result<(), ListFault>
+    ensures ok { OnOk result (filter_map bad (enumerate_from 0 words.now) ≡ []) }
+    ensures err { IfErr result (λ e. (patterns : List Written) →
+        unless_any_bad (filter_map bad (enumerate_from 0 words.now)) patterns ≡ Err e) }
+    ensures own { IfErr result (λ e. e ≢ ListFault.NoMemory) }
+{
+    for (at, word) in words.iter().enumerate() {
+        match check(word.text.bytes()) {
+            Ok(()) => (),
+            Err(why) => return Err(ListFault::Bad { at, why }),
+        }
+    }
+    Ok(())
+}
+
+// The texts of the words.
+fn texts_of(alloc: Global, words: &[Word]) -> Result<OctetsList, NoMemory>
+    ensures { IfOk result (λ texts. texts ≡ map (λ w. w.text) words.now) }
+{
+    let mut texts = OctetsList::new(alloc);
+    for word in words {
+        add(alloc, &mut texts, word.text.bytes())?;
+    }
+    Ok(texts)
+}
+
 impl PatternList {
-    /// The list of patterns that the words are, quoted or not.
+    /// Whether the words, quoted or not, are a list of patterns. It takes no memory.
     ///
     /// # Errors
     ///
-    /// The first that applies: `None` where there are no words, `TooMany` where there are over 64, `Bad` at the first
-    /// word that is no pattern. Or `NoMemory`.
+    /// Those of [`PatternList::parse`] but `NoMemory`.
     #[tactic(auto, unfolding(crate::specs::PatternList::list_parsed))]
-    pub fn parse(alloc: Global, words: &[Word]) -> Result<PatternList, ListFault>
-        ensures ok { IfOk result (λ list. list_parsed words.now ≡ Ok list) }
-        ensures err { IfErr result (λ e. e ≢ ListFault.NoMemory → list_parsed words.now ≡ Err e) }
+    pub fn check(words: &[Word]) -> Result<(), ListFault>
+        ensures ok { OnOk result (list_parsed words.now ≡ Ok (filter_map good words.now)) }
+        ensures err { IfErr result (λ e. list_parsed words.now ≡ Err e) }
+        ensures own { IfErr result (λ e. e ≢ ListFault.NoMemory) }
     {
         if words.is_empty() {
             return Err(ListFault::None);
@@ -82,14 +110,35 @@ impl PatternList {
         if words.len() > MOST {
             return Err(ListFault::TooMany);
         }
-        let mut texts = OctetsList::new(alloc);
-        for (at, word) in words.iter().enumerate() {
-            let text = word.text.bytes();
-            match check(text) {
-                Ok(()) => add(alloc, &mut texts, text)?,
-                Err(why) => return Err(ListFault::Bad { at, why }),
-            }
+        check_each(words)
+    }
+
+    /// The list of patterns that the words are, quoted or not.
+    ///
+    /// # Errors
+    ///
+    /// The first that applies: `None` where there are no words, `TooMany` where there are over 64, `Bad` at the first
+    /// word that is no pattern. Or `NoMemory`, only where the words are a list of patterns: no memory is taken before
+    /// that is known.
+    pub fn parse(alloc: Global, words: &[Word]) -> Result<PatternList, ListFault>
+        ensures ok { IfOk result (λ list. list_parsed words.now ≡ Ok list) }
+        ensures err { IfErr result (λ e. e ≢ ListFault.NoMemory → list_parsed words.now ≡ Err e) }
+        ensures memory { IfErr result (λ e. e ≡ ListFault.NoMemory → IsTrue (is_ok (list_parsed words.now))) }
+    {
+        match PatternList::check(words) {
+            Ok(()) => PatternList::copied(alloc, words),
+            Err(fault) => Err(fault),
         }
+    }
+
+    // The list of patterns that the words are.
+    #[tactic(auto, using(crate::proofs::ListLemmas::copies, crate::proofs::ListLemmas::some, crate::proofs::ListLemmas::few))]
+    fn copied(alloc: Global, words: &[Word]) -> Result<PatternList, ListFault>
+        requires { list_parsed words.now ≡ Ok (filter_map good words.now) }
+        ensures ok { IfOk result (λ list. list ≡ filter_map good words.now) }
+        ensures err { IfErr result (λ e. e ≡ ListFault.NoMemory) }
+    {
+        let texts = texts_of(alloc, words)?;
         Ok(PatternList { texts })
     }
 

@@ -1,4 +1,5 @@
 pub mod FindLemmas
+mod LawLemmas
 pub mod LineLemmas
 pub mod ProgressLemmas
 mod Rows

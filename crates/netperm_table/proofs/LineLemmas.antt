@@ -44,41 +44,65 @@ not_zero n some = grind (arith, nat_tests)
 pub lines_one : (line : List ℕ) → IsOneLine line → 0 < length line → lines line ≡ line ∷ []
 lines_one line one some = ap lines_of_parts (slice_split_none is_lf line one) ∙ rw (not_zero (length line) some) refl
 
--- the first line of a text, which has so many bytes at least, but for a CR that is dropped
+-- the first line of a text, which has so many bytes at least
 pub record FirstLine (text : List ℕ) (long : ℕ) : Type 0 where
   pub first : List ℕ
   pub more : List (List ℕ)
   pub is : lines text ≡ first ∷ more
-  pub least : long ≤ length first + 1
+  pub least : long ≤ length first
 
-stripped_least : (line : List ℕ) → length line ≤ length (strip_carriage_return line) + 1
-stripped_least line = by (slice_index line (length line - 1) == 13) (length-take-le (length line - 1) line (omega arith))
-  where
-    by : (v : Bool) → length (take (length line - 1) line) ≡ length line - 1 → length line ≤ length (cond v (take (length line - 1) line) line) + 1
-    by true h = omega arith
-    by false h = omega arith
+stripped_by : (v : Bool) (line : List ℕ) → length (take (length line - 1) line) ≡ length line - 1
+    → (length line ≤ length (cond v (take (length line - 1) line) line) + 1) × (length (cond v (take (length line - 1) line) line) ≤ length line)
+stripped_by true line h = (omega arith, omega arith)
+stripped_by false line h = (omega arith, omega arith)
+
+-- at most one byte is dropped
+pub stripped_least : (line : List ℕ) → length line ≤ length (strip_carriage_return line) + 1
+stripped_least line = (stripped_by (slice_index line (length line - 1) == 13) line (length-take-le (length line - 1) line (omega arith))).0
+
+pub stripped_most : (line : List ℕ) → length (strip_carriage_return line) ≤ length line
+stripped_most line = (stripped_by (slice_index line (length line - 1) == 13) line (length-take-le (length line - 1) line (omega arith))).1
+
+pub over_long : (line bytes : List ℕ) → 2049 < length line + length bytes → 2048 < length (strip_carriage_return (line ++ bytes))
+over_long line bytes over = omega (arith, stripped_least (line ++ bytes), length-append line bytes)
 
 -- bytes without LF are the beginning of one line
-pub first_line : (line rest : List ℕ) → IsOneLine line → 0 < length line + length rest → FirstLine (line ++ rest) (length line)
+pub first_line : (line rest : List ℕ) → IsOneLine line → 0 < length line + length rest → FirstLine (line ++ rest) (length (strip_carriage_return line))
 first_line line [] one some =
     let whole = lines_one line one (omega arith) in
-    record { first = line; more = []; is = rw (append-nil line) whole; least = omega arith }
+    record { first = line; more = []; is = rw (append-nil line) whole; least = stripped_most line }
 first_line line (b ∷ rest) one some = by (is_lf b) refl (λ h. first_line (line ++ b ∷ []) rest (All-push (λ b. (b == 10) ≡ false) line b one h) (omega (arith, length-append line (b ∷ []))))
   where
-    ends : b ≡ 10 → FirstLine (line ++ b ∷ rest) (length line)
-    ends h = record { first = strip_carriage_return line; more = lines rest; is = rw h (lines_first line rest one); least = stripped_least line }
+    ends : b ≡ 10 → FirstLine (line ++ b ∷ rest) (length (strip_carriage_return line))
+    ends h = record { first = strip_carriage_return line; more = lines rest; is = rw h (lines_first line rest one); least = omega arith }
 
     lf : is_lf b ≡ true → b ≡ 10
     lf h = grind (arith, nat_tests)
 
-    goes_on : FirstLine ((line ++ b ∷ []) ++ rest) (length (line ++ b ∷ [])) → FirstLine (line ++ b ∷ rest) (length line)
+    goes_on : FirstLine ((line ++ b ∷ []) ++ rest) (length (strip_carriage_return (line ++ b ∷ []))) → FirstLine (line ++ b ∷ rest) (length (strip_carriage_return line))
     goes_on longer = record {
       first = longer.first;
       more = longer.more;
       is = rw (sym (append_assoc line (b ∷ []) rest)) longer.is;
-      least = omega (arith, longer.least, length-append line (b ∷ []));
+      least = omega (arith, longer.least, stripped_most line, stripped_least (line ++ b ∷ []), length-append line (b ∷ []));
     }
 
-    by : (v : Bool) → is_lf b ≡ v → (is_lf b ≡ false → FirstLine ((line ++ b ∷ []) ++ rest) (length (line ++ b ∷ []))) → FirstLine (line ++ b ∷ rest) (length line)
+    by : (v : Bool) → is_lf b ≡ v → (is_lf b ≡ false → FirstLine ((line ++ b ∷ []) ++ rest) (length (strip_carriage_return (line ++ b ∷ [])))) → FirstLine (line ++ b ∷ rest) (length (strip_carriage_return line))
     by true h more = ends (lf h)
     by false h more = goes_on (more h)
+
+-- the lines of a text whose last line ended, and then those of what follows
+pub lines_then : (line text rest : List ℕ) → IsOneLine line → lines (line ++ (text ++ 10 ∷ rest)) ≡ lines (line ++ (text ++ 10 ∷ [])) ++ lines rest
+lines_then line [] rest one = lines_first line rest one ∙ ap (λ ls. ls ++ lines rest) (sym (lines_first line [] one))
+lines_then line (b ∷ text) rest one =
+    by (is_lf b) refl (lines_then [] text rest (λ k d lt. absurd (omega arith))) (λ h. lines_then (line ++ b ∷ []) text rest (All-push (λ b. (b == 10) ≡ false) line b one h))
+  where
+    lf : is_lf b ≡ true → b ≡ 10
+    lf h = grind (arith, nat_tests)
+
+    by : (v : Bool) → is_lf b ≡ v → lines (text ++ 10 ∷ rest) ≡ lines (text ++ 10 ∷ []) ++ lines rest
+        → (is_lf b ≡ false → lines ((line ++ b ∷ []) ++ (text ++ 10 ∷ rest)) ≡ lines ((line ++ b ∷ []) ++ (text ++ 10 ∷ [])) ++ lines rest)
+        → lines (line ++ b ∷ (text ++ 10 ∷ rest)) ≡ lines (line ++ b ∷ (text ++ 10 ∷ [])) ++ lines rest
+    by true h after more =
+        rw (lf h) (lines_first line (text ++ 10 ∷ rest) one ∙ ap (λ ls. strip_carriage_return line ∷ ls) after ∙ ap (λ ls. ls ++ lines rest) (sym (lines_first line (text ++ 10 ∷ []) one)))
+    by false h after more = rw (sym (append_assoc line (b ∷ []) (text ++ 10 ∷ rest)), sym (append_assoc line (b ∷ []) (text ++ 10 ∷ []))) (more h)

@@ -12,7 +12,7 @@ use Rattle.netperm_table.specs.declared.table_fault.TableFault.TheVariants.{Long
 use Rattle.netperm_table.specs.Progress.{Progress, no_progress, AddsLine, Leads, ShowsFault, table_with}
 use Rattle.netperm_table.specs.Reading.{reading}
 use Rattle.netperm_table.specs.Table.{with_lines, line_then, table_from, table_of}
-use Rattle.netperm_table.proofs.LineLemmas.{FirstLine, IsOneLine, first_line, lines_first, lines_one}
+use Rattle.netperm_table.proofs.LineLemmas.{FirstLine, IsOneLine, first_line, lines_first, lines_one, stripped_most}
 
 with_lines-append : (a b : List Line) (r : Result (List Line) TableFault) → with_lines a (with_lines b r) ≡ with_lines (a ++ b) r
 with_lines-append a b (Ok more) = ap Ok (sym (append_assoc a b more))
@@ -82,23 +82,23 @@ pub many_lines : (p : Progress) (bytes : List ℕ) → IsOneLine p.line → 6553
 many_lines p bytes one over some = record {
   same = λ rest.
       let first = first_line p.line (bytes ++ rest) one (omega (arith, length-append bytes rest)) in
-      first_fault p.made p.number (length p.line) (p.line ++ (bytes ++ rest)) ManyLines first (many p.number first.first over);
+      first_fault p.made p.number (length (strip_carriage_return p.line)) (p.line ++ (bytes ++ rest)) ManyLines first (many p.number first.first over);
 }
 
-not_over : (number : ℕ) → number ≤ 65535 → nat_lt 65535 number ≡ false
+pub not_over : (number : ℕ) → number ≤ 65535 → nat_lt 65535 number ≡ false
 not_over number within = grind (arith, nat_tests)
 
 -- no line has more than 2,048 bytes
-long : (number : ℕ) (bytes : List ℕ) → number ≤ 65535 → 2048 < length bytes → reading number bytes ≡ Err (LongLine number)
+pub long : (number : ℕ) (bytes : List ℕ) → number ≤ 65535 → 2048 < length bytes → reading number bytes ≡ Err (LongLine number)
 long number bytes within over = rw (not_over number within, lt-ltb 2048 (length bytes) over) refl
 
-pub long_line : (p : Progress) (bytes : List ℕ) → IsOneLine p.line → IsOneLine bytes → p.number ≤ 65535 → 2049 < length p.line + length bytes → ShowsFault p bytes (LongLine p.number)
+pub long_line : (p : Progress) (bytes : List ℕ) → IsOneLine p.line → IsOneLine bytes → p.number ≤ 65535 → 2048 < length (strip_carriage_return (p.line ++ bytes)) → ShowsFault p bytes (LongLine p.number)
 long_line p bytes one also within over = record {
   same = λ rest.
-      let length_is = length-append p.line bytes in
+      let some = stripped_most (p.line ++ bytes) in
       let first = first_line (p.line ++ bytes) rest (All-append (λ b. (b == 10) ≡ false) p.line bytes one also) (omega arith) in
       rw (sym (append_assoc p.line bytes rest))
-      (first_fault p.made p.number (length (p.line ++ bytes)) ((p.line ++ bytes) ++ rest) (LongLine p.number) first (long p.number first.first within (omega (arith, first.least))));
+      (first_fault p.made p.number (length (strip_carriage_return (p.line ++ bytes))) ((p.line ++ bytes) ++ rest) (LongLine p.number) first (long p.number first.first within (omega (arith, first.least))));
 }
 
 -- the text ends after a line that ended

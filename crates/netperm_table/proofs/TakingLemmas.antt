@@ -1,9 +1,8 @@
 -- How reading a table takes from its source.
 use Rattle.std.proofs.Common.{◌≡◌, ◌≢◌, ℕ, ◌+◌, ◌<◌, List, [], ◌++◌, take, refl, sym, ap, subst, ◌∙◌, append_assoc, length, length-append, inl, inr, true, false, arith}
 use Rattle.std.proofs.lemmas.Bool.Decides.{nat_tests}
-use Rattle.std.specs.Prelude.{◌⊎◌, ◌||◌, filter, nat_lt, Option, Some, None, Result, Ok, Err}
+use Rattle.std.specs.Prelude.{◌⊎◌, ◌||◌, nat_lt, Option, Some, None, Result, Ok, Err}
 use Rattle.std.proofs.lemmas.List.{append-nil, length-take-le}
-use Rattle.std.proofs.lemmas.List.Elements.{filter-append}
 use Rattle.fw_outside.specs.FilesView.{has_failed}
 use Rattle.fw_outside.proofs.CountLemmas.{grew_by, grew_none}
 use Rattle.fw_outside.specs.Counts.{Grew, Rose}
@@ -12,10 +11,9 @@ use Rattle.fw_outside.specs.ToldList.{grown, preceded, IsOver}
 use Rattle.netperm_table.specs.declared.line.Line.{Line}
 use Rattle.netperm_table.specs.declared.table_fault.TableFault.{TableFault}
 use Rattle.netperm_table.specs.declared.table_fault.TableFault.TheVariants.{LongLine, NulByte, NoColon, NoKeyword, OpenQuote, NoAttribute, ManyLines, ReadFault, NoMemory}
-use Rattle.netperm_table.specs.Bytes.{is_lf}
 use Rattle.netperm_table.specs.Progress.{Progress, Leads, ShowsFault, no_progress, table_with}
 use Rattle.netperm_table.specs.Table.{table_of}
-use Rattle.netperm_table.specs.Taking.{AreLinesOf, IsFaultOf, SourceAfterRead, is_read_fault, line_ends, TookFront, Took, TookAll}
+use Rattle.netperm_table.specs.Taking.{AreLinesOf, IsFaultOf, SourceAfterRead, is_read_fault, TookFront, Took, TookAll}
 use Rattle.netperm_table.proofs.ProgressLemmas.{leads_start, starts}
 
 grown-append : (told : Option (List ℕ)) (a b : List ℕ) → grown (grown told a) b ≡ grown told (a ++ b)
@@ -26,10 +24,6 @@ preceded-append : (a b : List ℕ) (rest : Option (List ℕ)) → preceded a (pr
 preceded-append a b None = refl
 preceded-append a b (Some rest) = ap Some (sym (append_assoc a b rest))
 
--- how many lines end in bytes, and then in others
-pub ends-append : (a b : List ℕ) → line_ends (a ++ b) ≡ line_ends a + line_ends b
-ends-append a b = ap length (filter-append is_lf a b) ∙ length-append (filter is_lf a) (filter is_lf b)
-
 -- what was taken since the first was read
 pub record ReadsOn (first now : SourceView) (reader : Progress) : Type 0 where
   pub part : List ℕ
@@ -39,7 +33,6 @@ pub record ReadsOn (first now : SourceView) (reader : Progress) : Type 0 where
   pub grew : Grew (length part) first.amount count
   pub is : now ≡ record first { taken = grown first.taken part; left = rest; amount = count }
   pub leads : Leads no_progress part reader []
-  pub number : reader.number ≡ line_ends part + 1
 
 grown-nil : (told : Option (List ℕ)) → grown told [] ≡ told
 grown-nil None = refl
@@ -58,7 +51,6 @@ reads_nothing first = record {
   grew = grew_none first.amount;
   is = rw (grown-nil first.taken) refl;
   leads = leads_start no_progress [];
-  number = refl;
 }
 
 pub took : (first now : SourceView) (reader : Progress) → ReadsOn first now reader → Took first now
@@ -76,9 +68,10 @@ is_more first now new reader n piece r came =
     let faults : now.faults ≡ first.faults = rw r.is refl in
     let idles : now.idles ≡ first.idles = rw r.is refl in
     let waits : now.waits ≡ first.waits = rw r.is refl in
-    came.is ∙ rw (taken, faults, idles, waits, grown-append first.taken r.part (take n piece)) refl
+    let waited : now.waited ≡ first.waited = rw r.is refl in
+    came.is ∙ rw (taken, faults, idles, waits, waited, grown-append first.taken r.part (take n piece)) refl
 
-grew_more : (first now new : SourceView) (reader : Progress) (n : ℕ) (piece : List ℕ) (r : ReadsOn first now reader) (came : Came n piece now new) → Grew (length (r.part ++ take n piece)) first.amount came.count
+pub grew_more : (first now new : SourceView) (reader : Progress) (n : ℕ) (piece : List ℕ) (r : ReadsOn first now reader) (came : Came n piece now new) → Grew (length (r.part ++ take n piece)) first.amount came.count
 grew_more first now new reader n piece r came =
     let amount : now.amount ≡ r.count = rw r.is refl in
     let whole : length (r.part ++ take n piece) ≡ length r.part + n = length-append r.part (take n piece) ∙ ap (λ m. length r.part + m) (length-take-le n piece came.fits) in
@@ -105,8 +98,8 @@ shows_more reader part piece fault first second = record {
 }
 
 -- and was read
-pub reads_more : (first now new : SourceView) (reader after : Progress) (n : ℕ) (piece : List ℕ) → ReadsOn first now reader → Came n piece now new → Leads reader (take n piece) after [] → after.number ≡ reader.number + line_ends (take n piece) → ReadsOn first new after
-reads_more first now new reader after n piece r came leads number = record {
+pub reads_more : (first now new : SourceView) (reader after : Progress) (n : ℕ) (piece : List ℕ) → ReadsOn first now reader → Came n piece now new → Leads reader (take n piece) after [] → ReadsOn first new after
+reads_more first now new reader after n piece r came leads = record {
   part = r.part ++ take n piece;
   rest = came.rest;
   next = next_more first now new reader n piece r came;
@@ -114,7 +107,6 @@ reads_more first now new reader after n piece r came leads number = record {
   grew = grew_more first now new reader n piece r came;
   is = is_more first now new reader n piece r came;
   leads = leads_more reader r.part (take n piece) after r.leads leads;
-  number = omega (arith, number, r.number, ends-append r.part (take n piece));
 }
 
 fault_of_left : (left : Option (List ℕ)) (e : TableFault) → ((text : List ℕ) → left ≡ Some text → e ≢ NoMemory → table_of text ≡ Err e) → IsFaultOf left e
@@ -189,16 +181,20 @@ leaves_failed first now new reader r failed = by failed
     idles : now.idles ≡ first.idles
     idles = rw r.is refl
 
+    waits : now.waits ≡ first.waits
+    waits = rw r.is refl
+
     by : Broke now new ⊎ Idled now new → TookFront first new
     by (inl broke) = record {
       part = r.part;
       rest = r.rest;
       faults = broke.count;
       idles = first.idles;
+      waited = first.waited;
       next = r.next;
       count = r.count;
       grew = r.grew;
-      rose = inl (rw (← faults) broke.rose, refl);
+      rose = inl (rw (← faults) broke.rose, refl, refl);
       is = broke.is ∙ rw r.is refl;
     }
     by (inr idled) = record {
@@ -206,11 +202,12 @@ leaves_failed first now new reader r failed = by failed
       rest = r.rest;
       faults = first.faults;
       idles = idled.count;
+      waited = first.waits;
       next = r.next;
       count = r.count;
       grew = r.grew;
-      rose = inr (rw (← idles) idled.rose, refl);
-      is = idled.is ∙ rw r.is refl;
+      rose = inr (rw (← idles) idled.rose, refl, refl);
+      is = idled.is ∙ rw (waits, r.is) refl;
     }
 
 -- a source that hadn't failed has failed exactly where the answer says so
@@ -227,7 +224,7 @@ rose_some before now rose = omega (arith, rose.1)
 stopped_failed : (old new : SourceView) → TookFront old new → has_failed new ≡ true
 stopped_failed old new s = rw s.is (some_failed s.faults s.idles (by s.rose))
   where
-    by : (Rose old.faults s.faults × (s.idles ≡ old.idles)) ⊎ (Rose old.idles s.idles × (s.faults ≡ old.faults)) → 0 < s.faults ⊎ 0 < s.idles
+    by : (Rose old.faults s.faults × (s.idles ≡ old.idles) × (s.waited ≡ old.waited)) ⊎ (Rose old.idles s.idles × (s.faults ≡ old.faults) × (s.waited ≡ old.waits)) → 0 < s.faults ⊎ 0 < s.idles
     by (inl rose) = inl (rose_some old.faults s.faults rose.0)
     by (inr rose) = inr (rose_some old.idles s.idles rose.0)
 

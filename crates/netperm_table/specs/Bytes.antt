@@ -5,10 +5,6 @@ use Rattle.std.specs.Prelude.{ℕ, Bool, ◌||◌, ◌==◌}
 abbrev pub is_nul : ℕ → Bool
 is_nul b = b == 0
 
--- an LF, which ends a line
-abbrev pub is_lf : ℕ → Bool
-is_lf b = b == 10
-
 -- a space or a tab
 abbrev pub is_blank : ℕ → Bool
 is_blank b = b == 32 || b == 9

@@ -1,5 +1,5 @@
 -- What is wrong with a table, as the log says it.
-use Rattle.std.specs.Prelude.{ℕ, ◌<◌, List, [], Option, Some, None, codes}
+use Rattle.std.specs.Prelude.{ℕ, List, [], Option, Some, None, codes}
 use Rattle.netperm_table.specs.declared.table_fault.TableFault.{TableFault}
 use Rattle.netperm_table.specs.declared.table_fault.TableFault.TheVariants.{LongLine, NulByte, NoColon, NoKeyword, OpenQuote, NoAttribute, ManyLines, ReadFault, NoMemory}
 
@@ -26,15 +26,3 @@ table_why_text (NoAttribute line) = codes "no attribute"
 table_why_text ManyLines = codes "many lines"
 table_why_text ReadFault = []
 table_why_text NoMemory = []
-
--- the line at fault comes after so many lines, where a line is at fault
-abbrev pub ComesAfter : ℕ → TableFault → Type 0
-ComesAfter lines (LongLine line) = lines < line
-ComesAfter lines (NulByte line) = lines < line
-ComesAfter lines (NoColon line) = lines < line
-ComesAfter lines (NoKeyword line) = lines < line
-ComesAfter lines (OpenQuote line) = lines < line
-ComesAfter lines (NoAttribute line) = lines < line
-ComesAfter lines ManyLines = lines < 65536
-ComesAfter lines ReadFault = Unit {0}
-ComesAfter lines NoMemory = Unit {0}

@@ -1,7 +1,7 @@
 -- How far a table was read, and what that says of what is still to come.
 -- No public clause cites these: they say what private functions answer.
-use Rattle.std.specs.Prelude.{◌≡◌, ℕ, ◌+◌, ◌*◌, List, [], ◌++◌, length, option_to_list, Option, Result, Ok, Err}
-use Rattle.std.specs.Str.Lines.{lines}
+use Rattle.std.specs.Prelude.{◌≡◌, ℕ, ◌+◌, ◌*◌, ◌<◌, ◌≤◌, ◌==◌, false, All, List, [], ◌++◌, length, option_to_list, Option, Result, Ok, Err}
+use Rattle.std.specs.Str.Lines.{lines, strip_carriage_return}
 use Rattle.netperm_table.specs.declared.line.Line.{Line}
 use Rattle.netperm_table.specs.declared.table_fault.TableFault.{TableFault}
 use Rattle.netperm_table.specs.Reading.{reading}
@@ -34,6 +34,12 @@ pub record AddsLine (number : ℕ) (bytes : List ℕ) (old new : List Line) : Ty
   pub line : Option Line
   pub read : reading number bytes ≡ Ok line
   pub kept : new ≡ old ++ option_to_list line
+
+-- the line that is being read is not too long yet, whether or not a CR at its end is dropped, and a line may have its number
+pub record MayGoOn (p : Progress) : Type 0 where
+  pub one : All (λ b. (b == 10) ≡ false) p.line
+  pub short : length (strip_carriage_return p.line) ≤ 2048
+  pub numbered : 0 < length p.line → p.number ≤ 65535
 
 -- how far it is, which grows with each byte
 abbrev pub reached : Progress → ℕ

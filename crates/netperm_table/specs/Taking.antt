@@ -1,13 +1,11 @@
 -- What reading a table does to its source.
-use Rattle.std.specs.Prelude.{◌≡◌, ℕ, ◌≤◌, ◌⊎◌, Bool, true, false, List, [], ◌++◌, length, filter, Option, Some, None, Result, Ok, Err, IfErr}
+use Rattle.std.specs.Prelude.{◌≡◌, ℕ, ◌≤◌, ◌⊎◌, Bool, true, false, List, [], ◌++◌, length, Option, Some, None, Result, Ok, Err}
 use Rattle.fw_outside.specs.Counts.{Grew, Rose}
 use Rattle.fw_outside.specs.SourceView.{SourceView}
 use Rattle.fw_outside.specs.ToldList.{grown, preceded, IsOver}
 use Rattle.netperm_table.specs.declared.line.Line.{Line}
 use Rattle.netperm_table.specs.declared.table_fault.TableFault.{TableFault}
 use Rattle.netperm_table.specs.declared.table_fault.TableFault.TheVariants.{ReadFault, NoMemory}
-use Rattle.netperm_table.specs.Bytes.{is_lf}
-use Rattle.netperm_table.specs.Fault.{ComesAfter}
 use Rattle.netperm_table.specs.Table.{table_of}
 
 -- the first of the bytes that were left were taken, and nothing else changed
@@ -30,11 +28,12 @@ pub record TookFront (old new : SourceView) : Type 0 where
   pub rest : Option (List ℕ)
   pub faults : ℕ
   pub idles : ℕ
+  pub waited : ℕ
   pub next : old.left ≡ preceded part rest
   pub count : ℕ
   pub grew : Grew (length part) old.amount count
-  pub rose : (Rose old.faults faults × (idles ≡ old.idles)) ⊎ (Rose old.idles idles × (faults ≡ old.faults))
-  pub is : new ≡ record old { taken = grown old.taken part; left = rest; amount = count; faults = faults; idles = idles }
+  pub rose : (Rose old.faults faults × (idles ≡ old.idles) × (waited ≡ old.waited)) ⊎ (Rose old.idles idles × (faults ≡ old.faults) × (waited ≡ old.waits))
+  pub is : new ≡ record old { taken = grown old.taken part; left = rest; amount = count; faults = faults; idles = idles; waited = waited }
 
 -- what an answer leaves of the source
 abbrev pub SourceAfterRead : Result (List Line) TableFault → SourceView → SourceView → Type 0
@@ -42,21 +41,19 @@ SourceAfterRead (Ok _) old new = TookAll old new
 SourceAfterRead (Err ReadFault) old new = TookFront old new
 SourceAfterRead (Err _) old new = Took old new
 
--- how many lines ended in these bytes
-abbrev pub line_ends : List ℕ → ℕ
-line_ends bytes = length (filter is_lf bytes)
+-- these bytes settle the fault: whatever follows them, it is the text's
+abbrev pub Settles : List ℕ → TableFault → Type 0
+Settles bytes fault = (rest : List ℕ) → table_of (bytes ++ rest) ≡ Err fault
 
--- no line that ended in these bytes is at fault, whatever follows
-abbrev pub ShowsNoFault : List ℕ → Type 0
-ShowsNoFault bytes = (rest : List ℕ) → IfErr (table_of (bytes ++ rest)) (ComesAfter (line_ends bytes))
-
--- what was taken shows no fault, but for the last take, which has at most 4,096 bytes, and nothing where the source failed
+-- reading stopped at the first take that settled a fault: what was taken before it settles none. A take has at most 4,096
+-- bytes, and the one in which the source failed has none.
 pub record TookToFault (fault : TableFault) (old new : SourceView) : Type 0 where
   pub front : List ℕ
   pub last : List ℕ
   pub next : old.left ≡ preceded (front ++ last) new.left
   pub is : new.taken ≡ grown old.taken (front ++ last)
-  pub clean : ShowsNoFault front
+  pub grew : Grew (length (front ++ last)) old.amount new.amount
+  pub unsettled : (any : TableFault) → ¬ Settles front any
   pub few : length last ≤ 4096
   pub none : fault ≡ ReadFault → last ≡ []
 

@@ -16,8 +16,8 @@ use std::alloc::Global;
 /// The greatest number of a line.
 pub(crate) const LAST_LINE: u32 = 65_535;
 
-// The most bytes of a line, without its end.
-const LONGEST: usize = 2048;
+/// The most bytes of a line, without its end.
+pub(crate) const LONGEST: usize = 2048;
 
 fn has_nul(bytes: &[u8]) -> bool
     ensures { result ≡ list_any is_nul bytes.now }

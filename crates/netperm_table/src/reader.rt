@@ -1,12 +1,11 @@
 //! Reading in pieces: the lines so far, and the line that is being read.
 ghost use Rattle.std.specs.Prelude.{◌≡◌, ◌≢◌, ◌<◌, ◌≤◌, ◌+◌, ◌==◌, false, [], ◌∷◌, ◌++◌, length, All, IfOk, IfErr, OnOk, Ok, Err, option_to_list};
-ghost use Rattle.netperm_table.specs.Progress.{AddsLine, Leads, ShowsFault, farthest, reached, no_progress, table_with};
+ghost use Rattle.netperm_table.specs.Progress.{AddsLine, Leads, MayGoOn, ShowsFault, farthest, reached, no_progress, table_with};
 ghost use Rattle.netperm_table.specs.Reading.{reading};
-ghost use Rattle.netperm_table.specs.Taking.{line_ends};
 
 use crate::cut::{cut_at_line_end, without_return};
 use crate::line::Line;
-use crate::read_line::{LAST_LINE, read_line};
+use crate::read_line::{LAST_LINE, LONGEST, read_line};
 use crate::table_fault::TableFault;
 use arrayvec::ArrayVec;
 use fw_types::append;
@@ -77,6 +76,7 @@ impl Reader {
         requires line { All (λ b. (b == 10) ≡ false) bytes.now }
         ensures ok { OnOk result (Leads self.old bytes.now self.new []) }
         ensures number { OnOk result (self.new.number ≡ self.old.number) }
+        ensures goes_on { OnOk result (MayGoOn self.new) }
         ensures far { OnOk result (reached self.new ≡ reached self.old + length bytes.now) }
         ensures within { OnOk result (reached self.new ≤ farthest) }
         ensures fault { IfErr result (λ e. ShowsFault self.old bytes.now e) }
@@ -86,6 +86,9 @@ impl Reader {
             return Err(TableFault::LongLine { line: self.number });
         }
         append(&mut self.line, bytes);
+        if without_return(self.line.as_slice()).len() > LONGEST {
+            return Err(TableFault::LongLine { line: self.number });
+        }
         Ok(())
     }
 
@@ -93,7 +96,7 @@ impl Reader {
     fn end_line(&mut self, alloc: Global) -> Result<(), TableFault>
         requires { self.old.number ≤ 65535 }
         ensures ok { OnOk result (Leads self.old (10 ∷ []) self.new []) }
-        ensures number { OnOk result (self.new.number ≡ self.old.number + 1) }
+        ensures goes_on { OnOk result (MayGoOn self.new) }
         ensures far { OnOk result (reached self.old < reached self.new) }
         ensures within { OnOk result (reached self.new ≤ farthest) }
         ensures fault { IfErr result (λ e. e ≢ TableFault.NoMemory → ShowsFault self.old (10 ∷ []) e) }
@@ -107,12 +110,10 @@ impl Reader {
     }
 
     // Reads on to the end of the line or of the bytes, and tells what is left of them.
-    #[tactic(auto, using(crate::proofs::StopLemmas::no_ends, crate::proofs::StopLemmas::ends_line))]
     fn read_on<'a>(&mut self, alloc: Global, bytes: &'a [u8]) -> Result<&'a [u8], TableFault>
         requires { 0 < length bytes.now }
         ensures ok { IfOk result (λ left. Leads self.old bytes.now self.new left.now) }
-        ensures number { IfOk result (λ left.
-            self.new.number + line_ends left.now ≡ self.old.number + line_ends bytes.now) }
+        ensures goes_on { OnOk result (MayGoOn self.new) }
         ensures far { OnOk result (reached self.old < reached self.new) }
         ensures within { OnOk result (reached self.new ≤ farthest) }
         ensures shorter { IfOk result (λ left. length left.now < length bytes.now) }
@@ -136,7 +137,7 @@ impl Reader {
     /// Reads the next bytes of the text.
     pub(crate) fn feed(&mut self, alloc: Global, bytes: &[u8]) -> Result<(), TableFault>
         ensures ok { OnOk result (Leads self.old bytes.now self.new []) }
-        ensures number { OnOk result (self.new.number ≡ self.old.number + line_ends bytes.now) }
+        ensures goes_on { OnOk result (0 < length bytes.now → MayGoOn self.new) }
         ensures far { OnOk result (0 < length bytes.now → reached self.old < reached self.new) }
         ensures within { OnOk result (0 < length bytes.now → reached self.new ≤ farthest) }
         ensures fault { IfErr result (λ e. e ≢ TableFault.NoMemory → ShowsFault self.old bytes.now e) }

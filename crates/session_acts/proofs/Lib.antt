@@ -1,6 +1,7 @@
 pub mod Acting
 pub mod AheadLemmas
 pub mod CauseLemmas
+pub mod ClientLemmas
 pub mod CourseLemmas
 pub mod DeedLemmas
 pub mod DeviceLemmas
@@ -10,6 +11,7 @@ pub mod KeptLemmas
 pub mod LinkedLemmas
 pub mod OneSessionLemmas
 pub mod OwedLemmas
+pub mod ServerlessLemmas
 pub mod SpentLemmas
 pub mod StageLemmas
 pub mod TalkLemmas

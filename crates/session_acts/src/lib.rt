@@ -11,9 +11,13 @@
 #![tactic(auto)]
 
 mod cause;
+mod denying;
 mod desk;
+mod dummies;
+mod form;
 pub mod laws;
 mod link;
+mod logged;
 mod script;
 mod session;
 mod silence;
@@ -21,6 +25,10 @@ mod stage;
 mod telling;
 
 pub use cause::Cause;
+pub use denying::{Denying, NoPlace};
+pub use dummies::{NoSource, Nowhere, Silent};
+pub use form::Form;
+pub use logged::Logged;
 pub use script::Script;
 pub use session::session_over;
 pub use silence::Silence;

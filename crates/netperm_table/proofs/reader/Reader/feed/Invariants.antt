@@ -1,12 +1,11 @@
-use Rattle.std.proofs.Common.{◌≡◌, ◌+◌, ◌<◌, ◌≤◌, length}
-use Rattle.netperm_table.specs.Progress.{Leads, farthest, reached}
-use Rattle.netperm_table.specs.Taking.{line_ends}
+use Rattle.std.proofs.Common.{◌<◌, ◌≤◌, length}
+use Rattle.netperm_table.specs.Progress.{Leads, MayGoOn, farthest, reached}
 use Rattle.netperm_table.proofs.reader.Reader.feed.Given as goal
 
 abbrev pub invariant-loop-rest : goal.invariant-loop-rest
 invariant-loop-rest l = record {
   leads : Leads l.fn.self l.fn.bytes l.self l.rest;
-  number : l.self.number + line_ends l.rest ≡ l.fn.self.number + line_ends l.fn.bytes;
+  goes_on : length l.rest < length l.fn.bytes → MayGoOn l.self;
   shorter : length l.rest ≤ length l.fn.bytes;
   far : reached l.fn.self ≤ reached l.self;
   farther : length l.rest < length l.fn.bytes → reached l.fn.self < reached l.self;

@@ -1,0 +1,6 @@
+mod ReadLemmas
+mod ImageLemmas
+mod SlotLemmas
+mod WorldLemmas
+pub mod RunLemmas
+mod EventLemmas
