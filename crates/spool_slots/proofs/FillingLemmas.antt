@@ -1,18 +1,20 @@
 -- Messages that are being written.
-use Rattle.std.proofs.Common.{◌≡◌, ℕ, ◌+◌, ◌-◌, ◌<◌, ◌≤◌, lit≤, List, [], ◌∷◌, ◌++◌, length, take, drop, Option, Some, None, refl, sym, ap, subst, ◌∙◌, append_assoc, append-nil, length-append, length-drop, arith}
+use Rattle.std.proofs.Common.{◌≡◌, ℕ, ◌+◌, ◌*◌, ◌-◌, ◌<◌, ◌≤◌, lit≤, List, [], ◌∷◌, ◌++◌, length, take, drop, Option, Some, None, refl, sym, ap, subst, ◌∙◌, append_assoc, append-nil, length-append, length-drop, arith}
 use Rattle.std.specs.Prelude.{IfSome, option_map}
 use Rattle.std.specs.List.{AllByRecursion}
 use Rattle.std.proofs.Math.Seq.{take-append_seam, drop-append-add}
 use Rattle.byte_reader.specs.Reading.{IsBytes}
+use Rattle.byte_reader.specs.Exact.{two}
 use Rattle.fw_disk.specs.Medium.{Medium, laid_over, written_at}
 use Rattle.fw_disk.specs.DiskView.{Tape, DiskView, changed, length_told}
 use Rattle.fw_disk.specs.Moments.{Through, Now, EachImage}
 use Rattle.fw_disk.proofs.MomentLemmas.{through_here, through_then, through_now}
-use Rattle.slot_bytes.specs.Layout.{Mail, IsMail, IsEnvelope, behind_marks}
+use Rattle.slot_bytes.specs.Layout.{Mail, IsMail, IsEnvelope, IsTextFrom, behind_marks, counted, each_counted}
 use Rattle.spool_slots.specs.Images.{IsFreeImage}
 use Rattle.spool_slots.specs.Filled.{HasAdded}
 use Rattle.spool_slots.specs.Media.{IsShut, IsVacant, Pen, begun, longer, draft_head, IsDraft, IsFilling}
-use Rattle.spool_slots.proofs.ShutLemmas.{shut_written, now_weaker, shut_free_now}
+use Rattle.spool_slots.specs.States.{SlotView}
+use Rattle.spool_slots.proofs.ShutLemmas.{shut_written, now_weaker, shut_free_now, vacant_free}
 
 -- ---- what is known of a slot that is being filled
 
@@ -187,8 +189,12 @@ written_added pen old new e h s = record {
       (after_change (IsDraft m pen) (IsDraft m (moved_pen pen)) (written_at pen.at pen.held) (written_draft m pen) old new e d);
 }
 
-pub has_written : (pen pen' : Pen) (old new : DiskView) → new ≡ record old { told = option_map (changed (written_at pen.at pen.held)) old.told } → pen' ≡ moved_pen pen → Now (IsFilling pen) old → Through IsShut old new → HasAdded [] pen old pen' new
-has_written pen pen' old new e p h s = subst (λ (x : Pen). HasAdded [] pen old x new) (sym p) (written_added pen old new e h s)
+pub has_written : (at : ℕ) (held : List ℕ) (pen pen' : Pen) (old new : DiskView) → at ≡ pen.at → held ≡ pen.held → new ≡ record old { told = option_map (changed (written_at at held)) old.told } → pen' ≡ moved_pen pen → Now (IsFilling pen) old → Through IsShut old new → HasAdded [] pen old pen' new
+has_written at held pen pen' old new ea eh e p h s =
+    let is : new ≡ record old { told = option_map (changed (written_at pen.at pen.held)) old.told } = e
+        ∙ ap (λ (n : ℕ). let v : DiskView = record old { told = option_map (changed (written_at n held)) old.told } in v) ea
+        ∙ ap (λ (l : List ℕ). let v : DiskView = record old { told = option_map (changed (written_at pen.at l)) old.told } in v) eh in
+    subst (λ (x : Pen). HasAdded [] pen old x new) (sym p) (written_added pen old new is h s)
 
 -- ---- beginning
 
@@ -260,3 +266,56 @@ added_shut piece pen pen' a b s = filling_shut pen' b s.filling
 
 pub added_length_place : (piece : List ℕ) (pen pen' : Pen) (a b : DiskView) → HasAdded piece pen a pen' b → IfSome (length_told b) (λ len. 6 ≤ len)
 added_length_place piece pen pen' a b s = filling_length_place pen' b s.filling
+
+-- the front of a piece was added, and the rest is left
+pub record HasAddedFront (piece rest : List ℕ) (pen : Pen) (old : DiskView) (pen' : Pen) (new : DiskView) : Type 0 where
+  pub front : List ℕ
+  pub parts : piece ≡ front ++ rest
+  pub added : HasAdded front pen old pen' new
+
+pub front_none : (piece : List ℕ) (pen : Pen) (view : DiskView) → Now (IsFilling pen) view → HasAddedFront piece piece pen view pen view
+front_none piece pen view h = record { front = []; parts = refl; added = has_added_nothing pen view h }
+
+pub front_more : (piece rest block after : List ℕ) (pen pen' pen'' : Pen) (a b c : DiskView) → HasAddedFront piece rest pen a pen' b → rest ≡ block ++ after → HasAdded block pen' b pen'' c → HasAddedFront piece after pen a pen'' c
+front_more piece rest block after pen pen' pen'' a b c f e s = record {
+  front = f.front ++ block;
+  parts = f.parts ∙ ap (λ (l : List ℕ). f.front ++ l) e ∙ sym (append_assoc f.front block after);
+  added = has_added_then f.front block pen pen' pen'' a b c f.added s;
+}
+
+pub front_all : (piece rest : List ℕ) (pen pen' pen'' : Pen) (a b c : DiskView) → HasAddedFront piece rest pen a pen' b → HasAdded rest pen' b pen'' c → HasAdded piece pen a pen'' c
+front_all piece rest pen pen' pen'' a b c f s = subst (λ (l : List ℕ). HasAdded l pen a pen'' c) (sym f.parts) (has_added_then f.front rest pen pen' pen'' a b c f.added s)
+
+pub front_filling : (piece rest : List ℕ) (pen pen' : Pen) (a b : DiskView) → HasAddedFront piece rest pen a pen' b → Now (IsFilling pen') b
+front_filling piece rest pen pen' a b f = f.added.filling
+
+pub front_moments : (piece rest : List ℕ) (pen pen' : Pen) (a b c : DiskView) → HasAddedFront piece rest pen a pen' b → Through IsShut b c → Through IsShut a c
+front_moments piece rest pen pen' a b c f t = through_then IsShut a b c f.added.moments t
+
+front_len : (piece rest : List ℕ) (pen pen' : Pen) (a b : DiskView) → HasAddedFront piece rest pen a pen' b → pen'.len + length rest ≡ pen.len + length piece
+front_len piece rest pen pen' a b f = omega (arith, f.added.len, ap length f.parts, length-append f.front rest)
+
+-- what is left fits, as the whole did
+pub front_fits : (piece rest : List ℕ) (pen pen' : Pen) (a b : DiskView) → HasAddedFront piece rest pen a pen' b → pen.len + length piece ≤ 67108864 → pen'.len + length rest ≤ 67108864
+front_fits piece rest pen pen' a b f small = omega (arith, small, front_len piece rest pen pen' a b f)
+
+-- ---- the head is small
+
+each_small : (texts : List (List ℕ)) → AllByRecursion (IsTextFrom 1 256) texts → length (each_counted texts) ≤ 258 * length texts
+each_small [] all = omega arith
+each_small (text ∷ texts) all =
+    let more : length (each_counted texts) ≤ 258 * length texts = each_small texts all.1 in
+    omega (arith, more, all.0.high, length-append (two (length text)) text, length-append (counted text) (each_counted texts))
+
+pub head_small : (from : List ℕ) (rcpts : List (List ℕ)) (head : List ℕ) → IsEnvelope from rcpts → head ≡ 0 ∷ behind_marks 49 0 from rcpts → 1 + length head ≤ 300000
+head_small from rcpts head is e =
+    let each : length (each_counted rcpts) ≤ 258 * length rcpts = each_small rcpts is.each in
+    omega (arith, ap length e, each, is.few, is.from_fits.high, length-append from (each_counted rcpts))
+
+-- ---- a slot that wasn't touched
+
+pub stays_free : (a b spelled : SlotView) → a ≡ spelled → b ≡ spelled → Now IsVacant spelled.disk → Through (EachImage IsFreeImage) a.disk b.disk
+stays_free a b spelled e f h =
+    let stays : Through (EachImage IsFreeImage) spelled.disk spelled.disk = through_here (EachImage IsFreeImage) spelled.disk (vacant_free spelled.disk h) in
+    let along : Through (EachImage IsFreeImage) a.disk spelled.disk = subst (λ (s : SlotView). Through (EachImage IsFreeImage) s.disk spelled.disk) (sym e) stays in
+    subst (λ (s : SlotView). Through (EachImage IsFreeImage) a.disk s.disk) (sym f) along

@@ -67,6 +67,7 @@ fn write_block<D: Disk>(disk: &mut D, pen: &mut Pen, piece: &[u8]) -> Result<(),
 }
 
 /// Adds a piece, and writes each full block.
+#[tactic(auto, using(crate::proofs::FillingLemmas::front_none, crate::proofs::FillingLemmas::front_more, crate::proofs::FillingLemmas::front_all, crate::proofs::FillingLemmas::front_filling, crate::proofs::FillingLemmas::front_moments, crate::proofs::FillingLemmas::front_fits))]
 pub(crate) fn add_all<D: Disk>(disk: &mut D, pen: &mut Pen, piece: &[u8]) -> Result<(), Failed>
     requires filling { Now (IsFilling pen.old) (D.disk_view disk.old) }
     requires few { length pen.old.held ≤ 8191 }

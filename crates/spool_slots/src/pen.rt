@@ -24,14 +24,15 @@ impl Model for Pen {
 
     ghost view = { λ p. record { at = p.at; held = p.held.items; len = p.len } };
 
-    ghost invariant = { λ p. (8192 ≤ vec_capacity p.held) × (vec_len p.held ≤ 8192)
+    ghost invariant = { λ p. (8192 ≤ vec_capacity p.held) × (vec_len p.held ≤ 8192) × (1 ≤ p.at)
         × (p.at + vec_len p.held ≤ 300000 + p.len) };
 }
 
 impl Pen {
     /// At this place, with nothing held.
     pub(crate) fn new(alloc: Global, at: u64) -> Result<Pen, NoMemory>
-        requires { at ≤ 300000 }
+        requires behind { 1 ≤ at }
+        requires small { at ≤ 300000 }
         ensures { IfOk result (λ pen. pen ≡ record { at = at; held = []; len = 0 }) }
     {
         let held = Vec::with_capacity(alloc, BLOCK)?;
@@ -39,7 +40,8 @@ impl Pen {
     }
 
     pub(crate) fn at(&self) -> u64
-        ensures { result ≡ self.now.at }
+        ensures at { result ≡ self.now.at }
+        ensures behind { 1 ≤ self.now.at }
     {
         self.at
     }

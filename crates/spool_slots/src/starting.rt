@@ -15,6 +15,7 @@ use slot_bytes::head_bytes;
 use std::alloc::Global;
 
 /// What is written first, from byte 1 on, and the pen at its end.
+#[tactic(auto, using(crate::proofs::FillingLemmas::head_small))]
 pub(crate) fn prepare(alloc: Global, from: &[u8], rcpts: &OctetsList) -> Result<(Vec<u8>, Pen), NoMemory>
     requires { IsEnvelope from.now rcpts.now }
     ensures head { IfOk result (λ x. x.0.items ≡ 0 ∷ behind_marks 49 0 from.now rcpts.now) }
