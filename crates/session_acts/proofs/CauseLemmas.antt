@@ -90,15 +90,11 @@ pub idled : (form : Form) (old new : Speaker) → Heeds form (Stopped stops.Idle
 idled form old new h =
     subst (λ (s : Speaker). Rose old.inlet.idles s.inlet.idles) (sym h.is) (halted_idles h.listens.reads.taken_now old.inlet h.listens.middle h.inlet h.listens.reads.takes h.listens.closes.1)
 
-<<<<<<< HEAD
 waited_so : (form : Form) (old new : Speaker) → Heeds form (Stopped stops.Idle) old new → new.inlet.waited ≡ new.inlet.waits
 waited_so form old new h =
     subst (λ (s : Speaker). s.inlet.waited ≡ s.inlet.waits) (sym h.is) (halted_waited h.listens.middle h.inlet h.listens.closes.1)
 
-used_up : (form : Form) (old new : Speaker) → Heeds form (Stopped stops.Spent) old new → new.reader.room ≡ 0
-=======
 pub used_up : (form : Form) (old new : Speaker) → Heeds form (Stopped stops.Spent) old new → new.reader.room ≡ 0
->>>>>>> 5ff9328c60177fd7baec47f045b8a323f2340ed6
 used_up form old new h = ap (λ (s : Speaker). s.reader.room) h.is ∙ eqb-true h.reader.room 0 (sym h.listens.spent)
 
 dropped : (text : List ℕ) (front : Front text) (old new : Speaker) → IsTold text (Err front) old new → Rose old.outlet.faults new.outlet.faults
