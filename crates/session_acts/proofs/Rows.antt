@@ -4,12 +4,18 @@ use Rattle.std.specs.Prelude.{Some, None, Ok, Err, true, false, codes}
 use Rattle.auth_events.specs.declared.port.PortFault.TheVariants as faults
 use Rattle.auth_events.specs.declared.reply.Reply.TheVariants as replies
 use Rattle.auth_events.specs.declared.request.Request.TheVariants as requests
+use Rattle.auth_events.specs.declared.denial.Denial.TheVariants as denials
+use Rattle.fw_outside.specs.declared.heard.Heard.TheVariants.{Stopped}
+use Rattle.fw_outside.specs.declared.heard.Stop.TheVariants as stops
 use Rattle.fw_types.specs.declared.dest.Dest.{Dest}
 use Rattle.fw_types.specs.declared.ending.Ending.TheVariants as endings
 use Rattle.session_acts.specs.Acts.{Front, cause_by}
 use Rattle.session_acts.specs.Acts.Act.{Hear, Say, Try, Log, Note, Ask, Renew, Dial, Reach, Take, Pass, HangUp}
 use Rattle.session_acts.specs.Deeds.{Deed, gives}
+use Rattle.session_acts.specs.FullPort.{limit_told}
+use Rattle.session_acts.specs.Hearing.{heard_in}
 use Rattle.session_acts.specs.Laws.{linked, logged, told}
+use Rattle.session_acts.specs.Passing.{passed_over}
 use Rattle.session_acts.specs.Met.{opened_then}
 use Rattle.session_acts.specs.Session.{closing, ending_of, freeing}
 use Rattle.session_acts.specs.Talk.{asked, numbers_told, thrown}
@@ -58,6 +64,22 @@ a_silent_server = refl
 
 a_silent_client : cause_by (Hear Lines) Limit ≡ causes.Spent
 a_silent_client = refl
+
+two_texts_are_passed : (dest : Dest) → passed_over None (record { act = Reach dest; outcome = Ok tt } ∷ record { act = Pass (codes "a"); outcome = Ok tt } ∷ record { act = Pass (codes "b"); outcome = Ok tt } ∷ record { act = HangUp; outcome = Ok tt } ∷ []) ≡ codes "ab" ∷ []
+two_texts_are_passed dest = refl
+
+a_dial_hangs_up : (dest : Dest) → passed_over None (record { act = Dial dest; outcome = Ok true } ∷ record { act = Pass (codes "a"); outcome = Ok tt } ∷ record { act = Dial dest; outcome = Ok false } ∷ record { act = Pass (codes "b"); outcome = Ok tt } ∷ []) ≡ codes "a" ∷ []
+a_dial_hangs_up dest = refl
+
+a_front_is_passed : (dest : Dest) → passed_over None (record { act = Reach dest; outcome = Ok tt } ∷ record { act = Pass (1 ∷ 2 ∷ []); outcome = Err cut_front } ∷ record { act = HangUp; outcome = Ok tt } ∷ []) ≡ (1 ∷ []) ∷ []
+unfolding cut_front
+a_front_is_passed dest = refl
+
+an_idle_client_is_heard_so : heard_in (Hear Lines) (Err Quiet) ≡ (Lines, Stopped stops.Idle) ∷ []
+an_idle_client_is_heard_so = refl
+
+a_full_port_tells_its_limit : limit_told (replies.Denied (denials.Full 3)) ≡ Some 3
+a_full_port_tells_its_limit = refl
 
 nothing_is_owed : closing None (Err faults.Link) ≡ []
 nothing_is_owed = refl

@@ -2,6 +2,7 @@
 //! also the shortest example of a script. The crate has nothing else.
 #![tactic(auto)]
 
+pub mod laws;
 mod relay;
 #[cfg(test)]
 mod relay_tests;
