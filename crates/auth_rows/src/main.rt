@@ -20,8 +20,8 @@ use std::mem::size_of;
 use std::process::ExitCode;
 use std::{env, fs, io, str};
 
-// So many entries fit into memory as the book's limits count on.
-const _: () = prove!(size_of::<Entry>() <= 512);
+// What an entry takes, on which the size of a history counts.
+const _: () = prove!(size_of::<Entry>() == 480);
 
 #[derive(Clone, Copy)]
 struct Count {

@@ -96,7 +96,8 @@ fn files_of(alloc: Global, texts: &[u8]) -> Result<MemFiles, NoMemory> {
     Ok(MemFiles::new(alloc, files, 8, Calls::none(), Calls::none()))
 }
 
-/// `files NAME=BYTES,.. NAME .. => TAKEN ..`: the first four bytes of each, or `-none`.
+/// `files NAME=BYTES,.. NAME .. => TAKEN .. NAME ..`: the first four bytes of each, or `-none`, and then the names that
+/// the files say were asked.
 pub(crate) fn tell_files(alloc: Global, asked: &[u8], out: &mut Told) -> Result<(), NoMemory> {
     let (texts, names) = cut_word(asked);
     let mut files = files_of(alloc, texts)?;
@@ -108,6 +109,9 @@ pub(crate) fn tell_files(alloc: Global, asked: &[u8], out: &mut Told) -> Result<
             }
             None => add_word(out, b"-none"),
         }
+    }
+    for name in files.asked() {
+        add_word(out, name.bytes());
     }
     Ok(())
 }
