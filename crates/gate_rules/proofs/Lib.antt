@@ -3,3 +3,6 @@ pub mod LawLemmas
 pub mod ListsLemmas
 pub mod RulesLemmas
 pub mod WordsLemmas
+pub mod LineFaultLemmas
+pub mod OptionCheckLemmas
+mod LeftmostLemmas

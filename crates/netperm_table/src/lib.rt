@@ -7,8 +7,8 @@
 //! - `Ok` has the lines of that text, and says that the source was read to its end;
 //! - a fault of a line is that of the first line that can't be read, and the first of the tests that this line fails;
 //! - `ReadFault` comes exactly where a take failed or nothing came in time, and what was read by then isn't answered;
-//! - at a fault, no line that had ended before the last take is at fault, and where the source failed, none that had
-//!   ended;
+//! - what was taken before the last take settles no fault, and where the source failed, all that was taken settles none:
+//!   `laws` says that a line settles its fault where it ends, and at the latest with its 2,050th byte;
 //! - in any case only a front of the text was taken, and nothing else of the source changed but the count of that
 //!   failure.
 //!
