@@ -3,4 +3,5 @@ pub mod MemKeeperLemmas
 pub mod CallCounterLemmas
 pub mod MemDialerLemmas
 pub mod MemSinkLemmas
+pub mod MemFilesLemmas
 mod Rows

@@ -28,11 +28,12 @@ pub record MemDialerView : Type 0 where
   pub link_idles : ℕ
   pub waits : ℕ
 
--- nothing was taken of the link or given to it, and nothing is counted
+-- nothing was taken of the link or given to it, and nothing is counted: its source was never idle
 pub record IsNewLink (link : MemSourceView × MemSinkView) : Type 0 where
   pub taken : link.0.taken ≡ []
   pub faults : link.0.faults ≡ 0
   pub idles : link.0.idles ≡ 0
+  pub unwaited : link.0.waited ≡ 0
   pub takes : link.0.calls ≡ 0
   pub given : link.1.given ≡ []
   pub unshut : link.1.shut ≡ false

@@ -16,7 +16,7 @@ pub record MemKeeperView : Type 0 where
 
 -- it tells all
 abbrev pub keeper_view_of : MemKeeperView → KeeperView
-keeper_view_of c = record { table = Some c.table; faults = c.faults }
+keeper_view_of c = record { table = Some c.table; faults = c.faults; calls = c.calls }
 
 -- the bytes under a name: in the place of those that stood there, or after all
 abbrev pub put : List ℕ → List ℕ → NamedBytes → NamedBytes

@@ -7,7 +7,8 @@ use Rattle.fw_outside.specs.Counts.{counted}
 use Rattle.fw_memory.specs.CallsView.{CallsView, comes_at}
 use Rattle.fw_outside.specs.SourceView.{SourceView}
 
--- the bytes taken and left, how many come at a call at most, the calls that fail and those that are idle, how many calls there were, and the counts
+-- the bytes taken and left, how many come at a call at most, the calls that fail and those that are idle, how many calls
+-- there were, the counts, how long it waits, and how long it waited when nothing came last
 pub record MemSourceView : Type 0 where
   pub taken : List ℕ
   pub left : List ℕ
@@ -18,14 +19,34 @@ pub record MemSourceView : Type 0 where
   pub faults : ℕ
   pub idles : ℕ
   pub waits : ℕ
+  pub waited : ℕ
 
 -- a new source: nothing is taken or counted, and it waits an hour
 abbrev pub new_mem_source : List ℕ → ℕ → CallsView → CallsView → MemSourceView
-new_mem_source bytes piece fails idle = record { taken = []; left = bytes; piece = piece; fails = fails; idle = idle; calls = 0; faults = 0; idles = 0; waits = 3600 }
+new_mem_source bytes piece fails idle = record {
+  taken = [];
+  left = bytes;
+  piece = piece;
+  fails = fails;
+  idle = idle;
+  calls = 0;
+  faults = 0;
+  idles = 0;
+  waits = 3600;
+  waited = 0;
+}
 
 -- it tells all
 abbrev pub source_view_of : MemSourceView → SourceView
-source_view_of s = record { taken = Some s.taken; left = Some s.left; amount = min (length s.taken) (2 ^ 64 - 1); faults = s.faults; idles = s.idles; waits = s.waits }
+source_view_of s = record {
+  taken = Some s.taken;
+  left = Some s.left;
+  amount = min (length s.taken) (2 ^ 64 - 1);
+  faults = s.faults;
+  idles = s.idles;
+  waits = s.waits;
+  waited = s.waited;
+}
 
 -- what comes into a buffer of this length: the end, or as many bytes as fit
 abbrev pub handed : MemSourceView → ℕ → Got

@@ -1,8 +1,9 @@
-ghost use Rattle.std.specs.Prelude.{◌≡◌, ◌+◌, ◌<◌, IfOk, IfSome, IfNone};
+ghost use Rattle.std.specs.Prelude.{◌≡◌, ◌⊎◌, ◌+◌, ◌<◌, [], ◌∷◌, ◌++◌, true, false, IfOk, IfSome, IfNone, OnOk, OnErr, if◌then◌else◌};
 ghost use Rattle.std.specs.Option.{option_copied};
 ghost use Rattle.std.specs.Str.{bytes_eq};
+ghost use Rattle.fw_outside.specs.ToldList.{AddsOne};
 ghost use Rattle.fw_outside.specs.FilesView.{Counts, MissesFile, Opens, TakesBack, bytes_under};
-ghost use Rattle.fw_memory.specs.MemFilesView.{IfHeld, IsSourceOf, KeepsFiles, files_view_of};
+ghost use Rattle.fw_memory.specs.MemFilesView.{CountsMissing, IfHeld, IsSourceOf, KeepsFiles, KeepsNames, NotesName, NotesNone, files_view_of};
 ghost use Rattle.fw_memory.specs.MemSourceView.{source_view_of};
 
 use crate::{Calls, MemSource};
@@ -19,6 +20,8 @@ pub struct MemFiles {
     piece: usize,
     fails: Calls,
     idle: Calls,
+    asked: Vec<Octets>,
+    asked_past: bool,
     missing: u64,
     read_faults: u64,
     out: u64,
@@ -35,6 +38,8 @@ impl Model for MemFiles {
       piece = s.piece;
       fails = s.fails;
       idle = s.idle;
+      asked = s.asked.items;
+      asked_past = s.asked_past;
       missing = s.missing;
       read_faults = s.read_faults;
       out = s.out;
@@ -63,7 +68,7 @@ fn find<'a>(files: &'a [(Octets, Octets)], name: &[u8]) -> Option<&'a Octets>
 impl MemFiles {
     /// Files with these names and bytes. Of a name that stands twice the first counts. Each source gives at most
     /// `piece` bytes at a call, fails at the calls in `fails` and is idle at those in `idle`. Memory for the sources
-    /// comes from `alloc`; where there is none, the file counts as missing.
+    /// and for the names that are asked comes from `alloc`; where there is none, the file counts as missing.
     pub fn new(
         alloc: Global,
         files: Vec<(Octets, Octets)>,
@@ -77,6 +82,8 @@ impl MemFiles {
           piece = piece;
           fails = fails;
           idle = idle;
+          asked = [];
+          asked_past = false;
           missing = 0;
           read_faults = 0;
           out = 0;
@@ -88,9 +95,43 @@ impl MemFiles {
             piece,
             fails,
             idle,
+            asked: Vec::new(alloc),
+            asked_past: false,
             missing: 0,
             read_faults: 0,
             out: 0,
+        }
+    }
+
+    /// The names for which a source was asked, in order: all of them, or the ones for which there was memory.
+    pub fn asked(&self) -> &[Octets]
+        ensures { result.now ≡ self.now.asked }
+    {
+        &self.asked
+    }
+
+    // Keeps one more name that was asked, unless there is no memory for it.
+    fn keep(&mut self, name: &[u8]) -> Result<(), NoMemory>
+        ensures ok { OnOk result (self.new ≡ record self.old { asked = self.old.asked ++ name.now ∷ [] }) }
+        ensures err { OnErr result (self.new ≡ self.old) }
+    {
+        let name = Octets::copy(self.alloc, name)?;
+        self.asked.push(name)?;
+        Ok(())
+    }
+
+    // Notes one more name that was asked, and says whether there was memory for it.
+    fn note(&mut self, name: &[u8]) -> bool
+        ensures is { self.new ≡ (if result then record self.old { asked = self.old.asked ++ name.now ∷ [] }
+            else record self.old { asked_past = true }) }
+        ensures adds { AddsOne name.now (files_view_of self.old).asked (files_view_of self.new).asked }
+    {
+        match self.keep(name) {
+            Ok(()) => true,
+            Err(NoMemory) => {
+                self.asked_past = true;
+                false
+            }
         }
     }
 
@@ -108,8 +149,7 @@ impl MemFiles {
     }
 
     fn miss(&mut self)
-        ensures misses { MissesFile (files_view_of self.old) (files_view_of self.new) }
-        ensures kept { KeepsFiles self.old self.new }
+        ensures { CountsMissing self.old self.new }
     {
         self.missing = self.missing.saturating_add(1);
     }
@@ -118,8 +158,7 @@ impl MemFiles {
     fn send(&mut self, source: MemSource) -> Option<MemSource>
         ensures same { IfSome result (λ sent. sent ≡ source) }
         ensures sent { IfSome result (λ _. self.new ≡ record self.old { out = self.old.out + 1 }) }
-        ensures missing { IfNone result (MissesFile (files_view_of self.old) (files_view_of self.new)) }
-        ensures kept { KeepsFiles self.old self.new }
+        ensures missing { IfNone result (CountsMissing self.old self.new) }
     {
         match self.out.checked_add(1) {
             Some(out) => {
@@ -133,9 +172,25 @@ impl MemFiles {
         }
     }
 
+    // Gives a source of the bytes under the name out, where there is one to be had.
+    fn give(&mut self, name: &[u8]) -> Option<MemSource>
+        ensures told { IfSome result (IsSourceOf self.old (bytes_under self.old.files name.now)) }
+        ensures sent { IfSome result (λ _. self.new ≡ record self.old { out = self.old.out + 1 }) }
+        ensures missing { IfNone result (CountsMissing self.old self.new) }
+    {
+        match self.open(name) {
+            Ok(Some(source)) => self.send(source),
+            _ => {
+                self.miss();
+                None
+            }
+        }
+    }
+
     fn count_fault(&mut self)
         ensures counts { Counts (files_view_of self.old) (files_view_of self.new) }
         ensures kept { KeepsFiles self.old self.new }
+        ensures names { KeepsNames self.old self.new }
     {
         self.read_faults = self.read_faults.saturating_add(1);
     }
@@ -149,22 +204,23 @@ impl Files for MemFiles {
     fn source(&mut self, name: &[u8]) -> Option<MemSource>
         ensures found { IfSome result (λ source.
             Opens name.now (source_view_of source) (files_view_of self.old) (files_view_of self.new)) }
-        ensures missing { IfNone result (MissesFile (files_view_of self.old) (files_view_of self.new)) }
+        ensures missing { IfNone result (MissesFile name.now (files_view_of self.old) (files_view_of self.new)) }
         ensures told { IfSome result (IsSourceOf self.old (bytes_under self.old.files name.now)) }
+        ensures noted { IfSome result (λ _. NotesName name.now self.old self.new) }
+        ensures noted_or_lost { NotesName name.now self.old self.new ⊎ NotesNone self.old self.new }
         ensures kept { KeepsFiles self.old self.new }
     {
-        match self.open(name) {
-            Ok(Some(source)) => self.send(source),
-            _ => {
-                self.miss();
-                None
-            }
+        if self.note(name) {
+            return self.give(name);
         }
+        self.miss();
+        None
     }
 
     fn back(&mut self, source: MemSource)
         ensures back { TakesBack (source_view_of source) (files_view_of self.old) (files_view_of self.new) }
         ensures kept { KeepsFiles self.old self.new }
+        ensures names { KeepsNames self.old self.new }
     {
         self.out = self.out.saturating_sub(1);
         if source.has_failed() {

@@ -2,7 +2,7 @@ ghost use Rattle.std.specs.Prelude.{◌≡◌, ◌≤◌, ◌++◌, ◌∷◌, [
 ghost use Rattle.std.specs.List.{position, position_or_len};
 ghost use Rattle.fw_outside.specs.FilesView.{bytes_under};
 ghost use Rattle.fw_memory.specs.MemKeeperView.{FailsAsTold, called, put, keeper_view_of};
-ghost use Rattle.fw_outside.specs.Counts.{Rose, counted};
+ghost use Rattle.fw_outside.specs.Counts.{Grew, Rose, counted};
 ghost use Rattle.fw_types.specs.Keyed.{Ascends, IsPlaceOf, is_named, placed, under, without};
 ghost use Rattle.fw_types.specs.Name.{is_before};
 ghost use Rattle.fw_memory.specs.CallsView.{comes_at};
@@ -162,6 +162,7 @@ impl MemKeeper {
     fn is_failing(&mut self) -> bool
         ensures answer { result ≡ comes_at self.old.fails self.old.calls }
         ensures is { self.new ≡ called self.old }
+        ensures grew { Grew 1 self.old.calls self.new.calls }
     {
         let call = self.calls;
         self.calls = call.saturating_add(1);

@@ -22,6 +22,7 @@ pub struct MemSource {
     faults: u64,
     idles: u64,
     waits: u32,
+    waited: u32,
 }
 
 impl Model for MemSource {
@@ -40,6 +41,7 @@ impl Model for MemSource {
       faults = s.faults;
       idles = s.idles;
       waits = s.waits;
+      waited = s.waited;
     } };
 
     ghost invariant = { λ s. (s.at ≤ length s.bytes) × (0 < s.piece) };
@@ -62,6 +64,7 @@ impl MemSource {
             faults: 0,
             idles: 0,
             waits: 3600,
+            waited: 0,
         }
     }
 
@@ -118,10 +121,11 @@ impl MemSource {
 
     fn idle(&mut self) -> Got
         ensures idles { Idled (source_view_of self.old) (source_view_of self.new) }
-        ensures is { self.new ≡ record self.old { idles = counted self.old.idles } }
+        ensures is { self.new ≡ record self.old { idles = counted self.old.idles; waited = self.old.waits } }
         ensures answer { result ≡ Got.Idle }
     {
         self.idles = self.idles.saturating_add(1);
+        self.waited = self.waits;
         Got::Idle
     }
 

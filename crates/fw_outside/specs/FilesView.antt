@@ -5,10 +5,13 @@ use Rattle.std.specs.Option.{option_map}
 use Rattle.std.specs.Str.{bytes_eq}
 use Rattle.fw_outside.specs.Counts.{Rose}
 use Rattle.fw_outside.specs.SourceView.{SourceView, fresh}
+use Rattle.fw_outside.specs.ToldList.{AddsOne}
 
--- names with their bytes, where the files tell; how often a name gave no source, and how often a source came back that had failed; how many sources are out, given and not yet back
+-- names with their bytes, where the files tell; the names for which a source was asked, in order, where they tell; how often a
+-- name gave no source, and how often a source came back that had failed; how many sources are out, given and not yet back
 pub record FilesView : Type 0 where
   pub holds : Option (List (List ℕ × List ℕ))
+  pub asked : Option (List (List ℕ))
   pub missing : ℕ
   pub read_faults : ℕ
   pub out : ℕ
@@ -22,18 +25,22 @@ abbrev pub IsUnder : Option (List (List ℕ × List ℕ)) → List ℕ → Optio
 IsUnder None name left = Unit {0}
 IsUnder (Some files) name left = IsSome left × (left ≡ bytes_under files name)
 
--- a new source of what stands under the name; one more is out
+-- a new source of what stands under the name, which was asked; one more is out
 pub record Opens (name : List ℕ) (source : SourceView) (old new : FilesView) : Type 0 where
   pub left : Option (List ℕ)
   pub new_source : source ≡ fresh left
   pub under : IsUnder old.holds name left
-  pub is : new ≡ record old { out = old.out + 1 }
+  pub asked : Option (List (List ℕ))
+  pub adds : AddsOne name old.asked asked
+  pub is : new ≡ record old { asked = asked; out = old.out + 1 }
 
--- no source, which is counted
-pub record MissesFile (old new : FilesView) : Type 0 where
+-- no source of the name, which was asked; that is counted
+pub record MissesFile (name : List ℕ) (old new : FilesView) : Type 0 where
+  pub asked : Option (List (List ℕ))
+  pub adds : AddsOne name old.asked asked
   pub count : ℕ
   pub rose : Rose old.missing count
-  pub is : new ≡ record old { missing = count }
+  pub is : new ≡ record old { asked = asked; missing = count }
 
 -- the source failed, or nothing came from it in time
 abbrev pub has_failed : SourceView → Bool

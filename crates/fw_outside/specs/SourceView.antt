@@ -8,7 +8,8 @@ use Rattle.fw_outside.specs.Counts.{Grew, Rose}
 use Rattle.fw_outside.specs.ToldList.{grown, preceded, IsOver}
 
 -- the bytes taken and those left, where the source tells; how many were taken, how often it failed, and how often nothing came
--- in time, as counts of 64 bits; how many seconds it waits
+-- in time, as counts of 64 bits; how many seconds it waits; and how many it waited when nothing came last, 0 where that never
+-- was
 pub record SourceView : Type 0 where
   pub taken : Option (List ℕ)
   pub left : Option (List ℕ)
@@ -16,10 +17,19 @@ pub record SourceView : Type 0 where
   pub faults : ℕ
   pub idles : ℕ
   pub waits : ℕ
+  pub waited : ℕ
 
 -- a new source of what is left: nothing is taken, nothing is counted, and it waits an hour
 abbrev pub fresh : Option (List ℕ) → SourceView
-fresh left = record { taken = option_map (λ _. []) left; left = left; amount = 0; faults = 0; idles = 0; waits = 3600 }
+fresh left = record {
+  taken = option_map (λ _. []) left;
+  left = left;
+  amount = 0;
+  faults = 0;
+  idles = 0;
+  waits = 3600;
+  waited = 0;
+}
 
 -- the source after `patience`
 abbrev pub waiting : SourceView → ℕ → SourceView
@@ -40,11 +50,11 @@ pub record CameToEnd (old new : SourceView) : Type 0 where
   pub over : IsOver old.left
   pub is : new ≡ old
 
--- nothing came in time, which is counted
+-- nothing came in time, which is counted, and it is noted how long the source waited
 pub record Idled (old new : SourceView) : Type 0 where
   pub count : ℕ
   pub rose : Rose old.idles count
-  pub is : new ≡ record old { idles = count }
+  pub is : new ≡ record old { idles = count; waited = old.waits }
 
 -- the source failed, which is counted
 pub record Broke (old new : SourceView) : Type 0 where

@@ -7,9 +7,9 @@ use fw_types::Dest;
 
 /// Who makes links to other hosts, and takes them back.
 pub trait Dialer: Drop {
-    type In: Source;
+    type In: Source + Send;
 
-    type Out: Sink;
+    type Out: Sink + Send;
 
     /// What was asked for and which links were hung up, the counts, and how long links wait.
     ghost dialer_view: { Self → DialerView };

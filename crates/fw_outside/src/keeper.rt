@@ -6,7 +6,7 @@ use fw_types::{Name, Octets};
 
 /// Whoever keeps bytes under names, for longer than a program runs.
 pub trait Keeper: Drop {
-    /// The names with their bytes, where the keeper tells them, and the count of failures.
+    /// The names with their bytes, where the keeper tells them, and the counts of failures and of calls.
     ghost keeper_view: { Self → KeeperView };
 
     /// Keeps the bytes under the name, in place of those that stood there.

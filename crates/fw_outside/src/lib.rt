@@ -37,7 +37,7 @@ pub use dice::Dice;
 pub use failed::Failed;
 pub use files::Files;
 pub use fw_types::{
-    Dest, Ending, Host, HostName, Name, NoMemory, Octets, OctetsList, Peer, Verb, VerbList,
+    Dest, Ending, Host, HostName, Message, Name, NoMemory, Octets, OctetsList, Peer, Verb, VerbList,
 };
 pub use heard::{Heard, Stop};
 pub use keep_fault::KeepFault;

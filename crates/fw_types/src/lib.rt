@@ -1,5 +1,5 @@
 //! The plain types that all of the firewall's programs speak of: names, hosts, peers, destinations, ports, verbs,
-//! numbers and lists of bytes, and how a session ends.
+//! numbers, lists of bytes and messages of mail, and how a session ends.
 //!
 //! Each is read exactly: [`Host::read`], [`HostName::read`], [`Name::read`], [`Verb::read`], [`read_number`],
 //! [`read_port`] and [`read_quad`] give a value exactly for the texts that they say. A host's name is put to lower case
@@ -12,6 +12,7 @@ mod dest;
 mod ending;
 mod host;
 mod host_name;
+mod message;
 mod name;
 mod no_memory;
 mod number;
@@ -29,6 +30,7 @@ pub use dest::Dest;
 pub use ending::Ending;
 pub use host::Host;
 pub use host_name::HostName;
+pub use message::Message;
 pub use name::{Name, is_name_byte};
 pub use no_memory::NoMemory;
 pub use number::{in_range, read_number};

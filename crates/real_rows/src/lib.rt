@@ -5,4 +5,6 @@
 #[cfg(test)]
 mod devices;
 #[cfg(test)]
+mod disk;
+#[cfg(test)]
 mod records;

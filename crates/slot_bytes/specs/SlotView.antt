@@ -1,7 +1,7 @@
 -- What a slot file was read as.
 use Rattle.std.specs.Prelude.{◌≡◌, ℕ, List, Result, Ok, Err}
 use Rattle.slot_bytes.specs.declared.head.Head as code
-use Rattle.slot_bytes.specs.declared.slot.Message as messages
+use Rattle.fw_types.specs.declared.message.Message as messages
 use Rattle.slot_bytes.specs.declared.slot.Slot as slots
 use Rattle.slot_bytes.specs.declared.slot.Slot.TheVariants as found
 use Rattle.slot_bytes.specs.declared.fault.SlotFault.{SlotFault}

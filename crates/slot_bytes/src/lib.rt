@@ -14,6 +14,7 @@ mod slot;
 mod writing;
 
 pub use fault::{HeadFault, SlotFault};
+pub use fw_types::Message;
 pub use head::{Head, read_head};
-pub use slot::{Message, Slot, read_slot};
+pub use slot::{Slot, read_slot};
 pub use writing::{head_bytes, length_bytes};

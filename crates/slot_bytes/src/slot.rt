@@ -6,16 +6,8 @@ ghost use Rattle.slot_bytes.specs.SlotView.{IsSlotRead, FirstBad, kept_view};
 
 use crate::{Head, HeadFault, SlotFault, read_head};
 use byte_reader::bytes_of;
-use fw_types::{Octets, OctetsList};
+use fw_types::{Message, Octets};
 use std::alloc::Global;
-
-/// A message as a slot keeps it.
-#[derive(Drop)]
-pub struct Message {
-    pub from: Octets,
-    pub rcpts: OctetsList,
-    pub body: Octets,
-}
 
 /// What a slot file is read as.
 #[derive(Drop)]

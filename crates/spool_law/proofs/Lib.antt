@@ -1,0 +1,4 @@
+mod ReadLemmas
+mod ImageLemmas
+mod SlotLemmas
+mod WorldLemmas

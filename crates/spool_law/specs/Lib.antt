@@ -1,0 +1,4 @@
+pub mod World
+pub mod Images
+pub mod Events
+pub mod Safe
