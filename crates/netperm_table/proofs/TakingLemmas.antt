@@ -68,7 +68,8 @@ is_more first now new reader n piece r came =
     let faults : now.faults ≡ first.faults = rw r.is refl in
     let idles : now.idles ≡ first.idles = rw r.is refl in
     let waits : now.waits ≡ first.waits = rw r.is refl in
-    came.is ∙ rw (taken, faults, idles, waits, grown-append first.taken r.part (take n piece)) refl
+    let waited : now.waited ≡ first.waited = rw r.is refl in
+    came.is ∙ rw (taken, faults, idles, waits, waited, grown-append first.taken r.part (take n piece)) refl
 
 pub grew_more : (first now new : SourceView) (reader : Progress) (n : ℕ) (piece : List ℕ) (r : ReadsOn first now reader) (came : Came n piece now new) → Grew (length (r.part ++ take n piece)) first.amount came.count
 grew_more first now new reader n piece r came =
@@ -180,16 +181,20 @@ leaves_failed first now new reader r failed = by failed
     idles : now.idles ≡ first.idles
     idles = rw r.is refl
 
+    waits : now.waits ≡ first.waits
+    waits = rw r.is refl
+
     by : Broke now new ⊎ Idled now new → TookFront first new
     by (inl broke) = record {
       part = r.part;
       rest = r.rest;
       faults = broke.count;
       idles = first.idles;
+      waited = first.waited;
       next = r.next;
       count = r.count;
       grew = r.grew;
-      rose = inl (rw (← faults) broke.rose, refl);
+      rose = inl (rw (← faults) broke.rose, refl, refl);
       is = broke.is ∙ rw r.is refl;
     }
     by (inr idled) = record {
@@ -197,11 +202,12 @@ leaves_failed first now new reader r failed = by failed
       rest = r.rest;
       faults = first.faults;
       idles = idled.count;
+      waited = first.waits;
       next = r.next;
       count = r.count;
       grew = r.grew;
-      rose = inr (rw (← idles) idled.rose, refl);
-      is = idled.is ∙ rw r.is refl;
+      rose = inr (rw (← idles) idled.rose, refl, refl);
+      is = idled.is ∙ rw (waits, r.is) refl;
     }
 
 -- a source that hadn't failed has failed exactly where the answer says so
@@ -218,7 +224,7 @@ rose_some before now rose = omega (arith, rose.1)
 stopped_failed : (old new : SourceView) → TookFront old new → has_failed new ≡ true
 stopped_failed old new s = rw s.is (some_failed s.faults s.idles (by s.rose))
   where
-    by : (Rose old.faults s.faults × (s.idles ≡ old.idles)) ⊎ (Rose old.idles s.idles × (s.faults ≡ old.faults)) → 0 < s.faults ⊎ 0 < s.idles
+    by : (Rose old.faults s.faults × (s.idles ≡ old.idles) × (s.waited ≡ old.waited)) ⊎ (Rose old.idles s.idles × (s.faults ≡ old.faults) × (s.waited ≡ old.waits)) → 0 < s.faults ⊎ 0 < s.idles
     by (inl rose) = inl (rose_some old.faults s.faults rose.0)
     by (inr rose) = inr (rose_some old.idles s.idles rose.0)
 

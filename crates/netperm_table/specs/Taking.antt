@@ -28,11 +28,12 @@ pub record TookFront (old new : SourceView) : Type 0 where
   pub rest : Option (List ℕ)
   pub faults : ℕ
   pub idles : ℕ
+  pub waited : ℕ
   pub next : old.left ≡ preceded part rest
   pub count : ℕ
   pub grew : Grew (length part) old.amount count
-  pub rose : (Rose old.faults faults × (idles ≡ old.idles)) ⊎ (Rose old.idles idles × (faults ≡ old.faults))
-  pub is : new ≡ record old { taken = grown old.taken part; left = rest; amount = count; faults = faults; idles = idles }
+  pub rose : (Rose old.faults faults × (idles ≡ old.idles) × (waited ≡ old.waited)) ⊎ (Rose old.idles idles × (faults ≡ old.faults) × (waited ≡ old.waits))
+  pub is : new ≡ record old { taken = grown old.taken part; left = rest; amount = count; faults = faults; idles = idles; waited = waited }
 
 -- what an answer leaves of the source
 abbrev pub SourceAfterRead : Result (List Line) TableFault → SourceView → SourceView → Type 0
