@@ -42,13 +42,13 @@ good_stays : {X Y : Type 0} (x : X) (second : Result Y Why) → Stays (Ok x) sec
 unfolding Stays
 good_stays x second why shown e = absurd (cc)
 
-unshown_stays : {X Y : Type 0} (why : Why) (second : Result Y Why) → is_shown why ≡ false → Stays {X = X} (Err why) second
+unshown_stays : (X : Type 0) {Y : Type 0} (why : Why) (second : Result Y Why) → is_shown why ≡ false → Stays {X = X} (Err why) second
 unfolding Stays
-unshown_stays why second none other shown e = absurd (let same : why ≡ other = cc in let shown = rw (sym same, none) at shown in (cc))
+unshown_stays X why second none other shown e = absurd (let same : why ≡ other = cc in let shown = rw (sym same, none) at shown in (cc))
 
-same_stays : {X Y : Type 0} (why : Why) → Stays {X = X} {Y = Y} (Err why) (Err why)
+same_stays : (X Y : Type 0) (why : Why) → Stays {X = X} {Y = Y} (Err why) (Err why)
 unfolding Stays
-same_stays why other shown e = let same : why ≡ other = cc in ap Err same
+same_stays X Y why other shown e = let same : why ≡ other = cc in ap Err same
 
 mapped_stays : {X Y A B : Type 0} (f : X → A) (g : Y → B) (first : Result X Why) (second : Result Y Why) → Stays first second → Stays (mapped f first) (mapped g second)
 unfolding Stays
@@ -89,7 +89,8 @@ patterns_stay (w ∷ words) more why shown e = by (list_all is_pattern (take 64 
         rw (also, no_more 64 (w ∷ words) more all) (ap Err same)
     by true all true h =
         let same : TooMany ≡ why = (let e = rw (some, all, h) at e in (cc)) in
-        rw (also, firsts h, all, over h) (ap Err same)
+        let every : list_all is_pattern (take 64 (w ∷ (words ++ more))) ≡ true = ap (list_all is_pattern) (firsts h) ∙ all in
+        rw (also, every, over h) (ap Err same)
     by true all false h = absurd (let e = rw (some, all, h) at e in (cc))
 
 -- host lists and options
@@ -177,8 +178,8 @@ list_more [] more = inr record { why = MissingValue; is = refl; none = refl }
 list_more (w ∷ words) more = by (is_open w) refl (list_any is_close words) refl
   where
     close : (v : Bool) → is_close w ≡ v → is_open w ≡ false → SameList (w ∷ words) more
-    close true e no = record { members = rw (no, e) refl; width = rw no refl }
-    close false e no = record { members = rw (no, e) refl; width = rw no refl }
+    close true e shut = record { members = rw (shut, e) refl; width = rw shut refl }
+    close false e shut = record { members = rw (shut, e) refl; width = rw shut refl }
 
     by : (v : Bool) → is_open w ≡ v → (closes : Bool) → list_any is_close words ≡ closes → SameList (w ∷ words) more ⊎ Unshown (members_of (w ∷ words))
     by false e closes h = inl (close (is_close w) refl e)
@@ -200,7 +201,7 @@ mapped_unshown : {X Y : Type 0} (f : X → Y) (read : Result X Why) → Unshown 
 mapped_unshown f read u = record { why = u.why; is = ap (mapped f) u.is; none = u.none }
 
 unshown : (first second : Result ParsedOption Why) (width longer all : ℕ) → Unshown first → OptionMore first second width longer all
-unshown first second width longer all u = Fault (rw u.is (unshown_stays u.why second u.none)) u.why u.is
+unshown first second width longer all u = Fault (rw u.is (unshown_stays _ u.why second u.none)) u.why u.is
 
 list_option : {X : Type 0} (make : X → ParsedOption) (next : List Word → Result X Why) (words more : List Word)
     → OptionMore (mapped make (and_then next (members_of words))) (mapped make (and_then next (members_of (words ++ more)))) (list_width words) (list_width (words ++ more)) (length words)
@@ -230,7 +231,7 @@ unfolding option_at width_at
 option_more service w words more = by (is_option w) refl (option_kind_of service w.text) refl
   where
     by : (v : Bool) → is_option w ≡ v → (known : Option OptionKind) → option_kind_of service w.text ≡ known → OptionMore (option_at service w words) (option_at service w (words ++ more)) (width_at service w words) (width_at service w (words ++ more)) (length words)
-    by false e known h = rw e (Fault (same_stays BadWord) BadWord refl)
+    by false e known h = rw e (Fault (same_stays _ _ BadWord) BadWord refl)
     by true e None h = rw (e, h) (Same refl refl)
     by true e (Some kind) h = rw (e, h) (kind_more kind words more)
 
@@ -239,7 +240,7 @@ unfolding options_after
 after_all service n words e = after_drop service n words ∙ ap (options_after service 0) (drop_all n words (omega arith))
 
 then_stays : (one : Result ParsedOption Why) (rest longer : Result (List ParsedOption) Why) → Stays rest longer → Stays (option_then one rest) (option_then one longer)
-then_stays (Err why) rest longer stays = same_stays why
+then_stays (Err why) rest longer stays = same_stays _ _ why
 then_stays (Ok option) rest longer stays = mapped_stays (λ options. option ∷ options) (λ options. option ∷ options) rest longer stays
 
 fault_stays : (first second : Result ParsedOption Why) (rest longer : Result (List ParsedOption) Why) (why : Why) → first ≡ Err why → Stays first second → Stays (option_then first rest) (option_then second longer)
@@ -274,9 +275,9 @@ said_stays service port words more =
 ruled_hosts : (number : ℕ) (permits : Bool) (hosts longer : Result (List Written) Why) (options later : Result Options Why) → Stays hosts longer
     → ((why : Why) → is_shown why ≡ true → options ≡ Err why → ⊥) → Stays (ruled number permits hosts options) (ruled number permits longer later)
 unfolding Stays
-ruled_hosts number permits (Ok hosts) longer (Ok options) later stays no why shown e = absurd (cc)
-ruled_hosts number permits (Ok hosts) longer (Err other) later stays no why shown e = absurd (no why shown (let same : other ≡ why = cc in ap Err same))
-ruled_hosts number permits (Err other) longer options later stays no why shown e =
+ruled_hosts number permits (Ok hosts) longer (Ok options) later stays none why shown e = absurd (cc)
+ruled_hosts number permits (Ok hosts) longer (Err other) later stays none why shown e = absurd (none why shown (let same : other ≡ why = cc in ap Err same))
+ruled_hosts number permits (Err other) longer options later stays none why shown e =
     let is : longer ≡ Err why = stays why shown (let same : other ≡ why = cc in ap Err same) in
     rw is refl
 
@@ -311,61 +312,61 @@ no_options_good why shown e = absurd (cc)
 deny_stays : (number : ℕ) (words more : List Word) → Stays (deny_effect number words) (deny_effect number (words ++ more))
 deny_stays number words more = ruled_hosts number false (hosts_alone words) (hosts_alone (words ++ more)) (Ok no_options) (Ok no_options) (hosts_stay words more) no_options_good
 
+target_err : (other : Why) (longer : Result Options Why) → Stays {X = Options} (Err other) longer → Stays {X = Options} (Err other) (with_target longer)
+unfolding Stays
+target_err other longer stays why shown e = let is : longer ≡ Err why = stays why shown e in rw is refl
+
 target_stays : (options longer : Result Options Why) → Stays options longer → Stays (with_target options) (with_target longer)
 target_stays (Ok options) longer stays = by (is_none options.plug_to)
   where
-    by : (v : Bool) → Stays (if v then Err {Options} {Why} MissingValue else Ok options) (with_target longer)
-    by true = unshown_stays MissingValue (with_target longer) refl
+    by : (v : Bool) → Stays {X = Options} (cond v (Err MissingValue) (Ok options)) (with_target longer)
+    by true = unshown_stays _ MissingValue (with_target longer) refl
     by false = good_stays options (with_target longer)
 target_stays (Err other) longer stays = target_err other longer stays
-  where
-    target_err : (other : Why) (longer : Result Options Why) → Stays {X = Options} (Err other) longer → Stays {X = Options} (Err other) (with_target longer)
-    unfolding Stays
-    target_err other longer stays why shown e = let is : longer ≡ Err why = stays why shown e in rw is refl
 
 no_target_good : (service : Service) (port : ℕ) (why : Why) → is_shown why ≡ true → with_target (options_of service port []) ≡ Err why → ⊥
 unfolding options_of built options_after
 no_target_good service port why shown e = let same : MissingValue ≡ why = cc in let shown = rw (sym same) at shown in absurd (cc)
 
 plug_stays : (service : Service) (number : ℕ) (port : Option ℕ) (words more : List Word) → Stays (plug_effect service number port words) (plug_effect service number port (words ++ more))
-plug_stays service number None words more = same_stays BadNumber
+plug_stays service number None words more = same_stays _ _ BadNumber
 plug_stays service number (Some port) words more =
     mapped_stays (where_ours (port == plug_port service)) (where_ours (port == plug_port service)) (plug_rule service number port words) (plug_rule service number port (words ++ more))
     (ruled_stays number true (λ options. with_target (options_of service port options)) words more (λ options longer. target_stays (options_of service port options) (options_of service port (options ++ longer)) (said_stays service port options longer)) (no_target_good service port))
 
 port_stays : (service : Service) (number : ℕ) (words more : List Word) → Stays (port_effect service number words) (port_effect service number (words ++ more))
-port_stays service number [] more = unshown_stays MissingValue (port_effect service number more) refl
+port_stays service number [] more = unshown_stays _ MissingValue (port_effect service number more) refl
 port_stays service number (w ∷ words) more = plug_stays service number (port_of w.text) words more
 
 -- settings and operations
 
 value_stays : (value : Result ℕ Why) (words more : List Word) → Stays (value_alone value words) (value_alone value (words ++ more))
-value_stays (Err why) words more = same_stays why
+value_stays (Err why) words more = same_stays _ _ why
 value_stays (Ok value) [] more = good_stays value (value_alone (Ok value) more)
-value_stays (Ok value) (w ∷ words) more = same_stays BadWord
+value_stays (Ok value) (w ∷ words) more = same_stays _ _ BadWord
 
 set_stays : (which : Setting) (words more : List Word) → Stays (set_to which words) (set_to which (words ++ more))
-set_stays which [] more = unshown_stays MissingValue (set_to which more) refl
+set_stays which [] more = unshown_stays _ MissingValue (set_to which more) refl
 set_stays which (w ∷ words) more = value_stays (value_of which w.text) words more
 
 tested_stays : (good : Bool) (rest longer : Result (List Written) Why) → Stays rest longer → Stays (if good then rest else Err BadWord) (if good then longer else Err BadWord)
 tested_stays true rest longer stays = stays
-tested_stays false rest longer stays = same_stays BadWord
+tested_stays false rest longer stays = same_stays _ _ BadWord
 
 operation_hosts_stay : (words more : List Word) → Stays (operation_hosts words) (operation_hosts (words ++ more))
-operation_hosts_stay [] more = unshown_stays MissingValue (operation_hosts more) refl
+operation_hosts_stay [] more = unshown_stays _ MissingValue (operation_hosts more) refl
 operation_hosts_stay (w ∷ words) more = hosts_stay (w ∷ words) more
 
 operation_at_stays : (words more : List Word) → Stays (operation_at words) (operation_at (words ++ more))
-operation_at_stays [] more = unshown_stays MissingValue (operation_at more) refl
+operation_at_stays [] more = unshown_stays _ MissingValue (operation_at more) refl
 operation_at_stays (w ∷ words) more = tested_stays (is_gateway_or_star w.text) (operation_hosts words) (operation_hosts (words ++ more)) (operation_hosts_stay words more)
 
 operation_of_stays : (words more : List Word) → Stays (operation_of words) (operation_of (words ++ more))
-operation_of_stays [] more = unshown_stays MissingValue (operation_of more) refl
+operation_of_stays [] more = unshown_stays _ MissingValue (operation_of more) refl
 operation_of_stays (w ∷ words) more = tested_stays (is_name_or_star w.text) (operation_at words) (operation_at (words ++ more)) (operation_at_stays words more)
 
 operation_stays : (words more : List Word) → Stays (read_operation words) (read_operation (words ++ more))
-operation_stays [] more = unshown_stays MissingValue (read_operation more) refl
+operation_stays [] more = unshown_stays _ MissingValue (read_operation more) refl
 operation_stays (w ∷ words) more = tested_stays (is_holder w.text) (operation_of words) (operation_of (words ++ more)) (operation_of_stays words more)
 
 -- lines

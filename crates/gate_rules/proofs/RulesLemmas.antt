@@ -1,6 +1,6 @@
 -- What lines say, one after the other.
 use Rattle.std.proofs.Common.{◌≡◌, ℕ, suc, ◌+◌, ◌<◌, ◌≤◌, List, [], ◌∷◌, length, get_or, drop, take, true, false, refl, sym, ap, ◌∙◌, arith, append_assoc}
-use Rattle.std.specs.Prelude.{is_ok, Option, Some, None, Result, Ok, Err, codes}
+use Rattle.std.specs.Prelude.{find, is_ok, Option, Some, None, Result, Ok, Err, codes}
 use Rattle.std.specs.List.{position_or_len, sum_by}
 use Rattle.std.specs.Option.{option_or}
 use Rattle.std.specs.Result.{result_err}
@@ -15,7 +15,7 @@ use Rattle.gate_rules.specs.declared.rule.Rule.{Rule}
 use Rattle.gate_rules.specs.declared.line_effect.LineEffect.{LineEffect}
 use Rattle.gate_rules.specs.declared.line_effect.LineEffect.TheVariants.{Nothing, Ruled, Set}
 use Rattle.gate_rules.specs.Reading.{RuleBook, and_effect, closed, effect_then, numbered, with_book}
-use Rattle.gate_rules.specs.Verdict.{rule_matches, rules_steps, tried}
+use Rattle.gate_rules.specs.Verdict.{decided_by, pattern_count, rule_matches, rules_steps, tried}
 
 -- a star is a pattern
 pub star_parsed : parsed (codes "*") ≡ Ok (record { negated = false; body = codes "*" })
@@ -65,6 +65,18 @@ steps_past peer rules i start steps rule lt at e done =
 pub steps_at_end : (peer : Peer) (rules : List Rule) (i start steps : ℕ) → length rules ≤ i → steps + rules_steps peer (drop i rules) ≡ start + rules_steps peer rules → steps ≡ start + rules_steps peer rules
 steps_at_end peer rules i start steps le done =
     let none : rules_steps peer (drop i rules) ≡ 0 = rw (drop_all i rules le) (no_steps peer) in
+    omega arith
+
+pub decided_past : (peer : Peer) (rules : List Rule) (i : ℕ) (rule : Rule) → i < length rules → rule ≡ get_or rules i rule → rule_matches peer rule ≡ false
+    → decided_by (find (rule_matches peer) (drop i rules)) ≡ decided_by (find (rule_matches peer) rules) → decided_by (find (rule_matches peer) (drop (i + 1) rules)) ≡ decided_by (find (rule_matches peer) rules)
+decided_past peer rules i rule lt at e done =
+    let here : find (rule_matches peer) (drop i rules) ≡ find (rule_matches peer) (drop (i + 1) rules) = rw (at_rule rules i rule lt at, e) refl in
+    sym (ap decided_by here) ∙ done
+
+pub count_past : (rules : List Rule) (i start steps next : ℕ) (rule : Rule) → i < length rules → rule ≡ get_or rules i rule → next ≤ steps + length rule.hosts
+    → steps + pattern_count (drop i rules) ≤ start + pattern_count rules → next + pattern_count (drop (i + 1) rules) ≤ start + pattern_count rules
+count_past rules i start steps next rule lt at few done =
+    let here : pattern_count (drop i rules) ≡ length rule.hosts + pattern_count (drop (i + 1) rules) = rw (at_rule rules i rule lt at) refl in
     omega arith
 
 -- faults that were looked for
