@@ -1,5 +1,6 @@
 -- What a port means, and what asking it does to that.
-use Rattle.std.specs.Prelude.{◌≡◌, ℕ, zero, suc, Bool, true, List, [], ◌∷◌, ◌++◌, length, Option, Some, None, Result, Ok, Err, IfSome}
+use Rattle.std.specs.Prelude.{◌≡◌, ℕ, ◌<◌, zero, suc, Bool, true, List, [], ◌∷◌, ◌++◌, length, slice_index, EachIndex, Option, Some, None, Result, Ok, Err, IfSome}
+use Rattle.std.specs.List.Sorted.{IsStrictlyIncreasing}
 use Rattle.fw_outside.specs.Counts.{Grew, Rose}
 use Rattle.auth_events.specs.Fits.{Fits}
 use Rattle.auth_events.specs.declared.entry.Entry.{Entry}
@@ -30,6 +31,11 @@ pub record Port (Origin : Type 0) : Type 0 where
 abbrev pub places : ℕ → List ℕ
 places zero = []
 places (suc n) = places n ++ n ∷ []
+
+-- these are places in a history, each below the next
+pub record ArePlaces (seen : List Entry) (mine : List ℕ) : Type 0 where
+  pub rising : IsStrictlyIncreasing mine
+  pub within : EachIndex mine (λ k. slice_index mine k < length seen)
 
 -- the number of the session to which a request at this place belongs: an Open's own place, else the one that was told
 abbrev pub session_at : Request → ℕ → ℕ → ℕ

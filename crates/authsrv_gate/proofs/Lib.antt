@@ -1,13 +1,5 @@
-pub mod Acts
-pub mod CauseLemmas
 pub mod CourseLemmas
-pub mod DeviceLemmas
-pub mod DistanceLemmas
-pub mod EntryLemmas
-pub mod KeptLemmas
-pub mod OwnLemmas
-pub mod SaltLemmas
-pub mod SpentLemmas
-pub mod TalkLemmas
-pub mod ToldLemmas
-pub mod TurnLemmas
+mod DistanceLemmas
+pub mod ServerlessLemmas
+mod SessionLemmas
+mod TurnLemmas

@@ -1,5 +1,5 @@
 -- Each turn comes nearer to the end.
-use Rattle.std.proofs.Common.{rules, arith, ◌≡◌, refl, sym, ap, subst, ℕ, suc, ◌+◌, ◌<◌, ◌≤◌, Bool, true, false, ◌&&◌, nat_lt, List, [], ◌∷◌, length, Option, Some, None, IfSome, IfOk, IsTrue, Result, Ok, Err}
+use Rattle.std.proofs.Common.{rules, arith, ◌≡◌, refl, sym, subst, ℕ, suc, ◌+◌, ◌<◌, ◌≤◌, Bool, true, false, ◌&&◌, nat_lt, List, [], ◌∷◌, length, Option, Some, None, IfSome, IfOk, IsTrue, Result, Ok, Err}
 use Rattle.std.specs.List.{AllByRecursion, list_all}
 use Rattle.std.proofs.lemmas.Bool.{ltb-true, ltb-false}
 use Rattle.auth_events.specs.Fits.{comes_after}
@@ -7,19 +7,18 @@ use Rattle.auth_events.specs.declared.reply.Reply.{Reply}
 use Rattle.auth_events.specs.declared.reply.Reply.TheVariants as replies
 use Rattle.auth_events.specs.declared.request.Request.TheVariants as requests
 use Rattle.fw_types.specs.Bytes.{is_name_byte}
-use Rattle.fw_outside.specs.Lines.{first_line}
 use Rattle.fw_types.specs.Name.{is_name}
 use Rattle.fw_outside.specs.declared.heard.Heard.{Heard}
 use Rattle.fw_outside.specs.declared.heard.Heard.TheVariants.{Line, TooLong, Stopped}
+use Rattle.session_acts.specs.Acts.Act.{Hear, Ask}
+use Rattle.session_acts.specs.Distance.{ahead_of_client}
+use Rattle.session_acts.specs.Met.{Met}
+use Rattle.session_acts.specs.World.{World}
+use Rattle.session_acts.specs.declared.cause.Cause.{Cause}
+use Rattle.session_acts.specs.declared.form.Form.TheVariants.{Lines}
+use Rattle.session_acts.proofs.AheadLemmas.{heard_ahead, met_ahead}
 use Rattle.authsrv_gate.proofs.DistanceLemmas.{below, clash, positive, rises, step_times}
-use Rattle.authsrv_gate.proofs.KeptLemmas.{Stays, heard_ahead}
-use Rattle.authsrv_gate.specs.Acts.{Asking, Hears, HearsLine, SessionView}
-use Rattle.authsrv_gate.specs.Distance.{IsFresh, IsNext, IsPlace, ahead, distance, left_at, listed_place, rank, rank_of, times, wide}
-use Rattle.fw_acts.specs.Acts.Row.{Over}
-use Rattle.fw_acts.specs.Ran.{Ran}
-use Rattle.fw_acts.proofs.RanLemmas.{ran_as}
-use Rattle.authsrv_gate.specs.Dialogue.{leads, rows, session_row}
-use Rattle.authsrv_gate.specs.declared.cause.Cause.{Cause}
+use Rattle.authsrv_gate.specs.Distance.{IsFresh, IsNext, IsPlace, distance, left_at, listed_place, rank, rank_of, times, wide}
 use Rattle.authsrv_gate.specs.declared.place.Place.{Place}
 use Rattle.authsrv_gate.specs.declared.place.Place.TheVariants.{Waiting, Listing}
 
@@ -70,47 +69,34 @@ mono_times x y w most = choose (nat_lt x y) refl
         let same : x ≡ y = omega (arith, most, least) in
         rw same (omega (arith))
 
-no_line : (bytes line : List ℕ) → first_line bytes ≡ Some (line, []) → 0 < length bytes
-no_line [] line is = absurd (cc)
-no_line (b ∷ bytes) line is = omega (arith)
-
 -- a fresh place is no further from the end than a whole list
 fresh_left : (place : Place) → IsFresh (Some place) → left_at place < suc (wide 32)
 fresh_left Waiting fresh = omega (arith)
 fresh_left (Listing None) fresh = omega (arith)
 fresh_left (Listing (Some name)) fresh = absurd fresh
 
-fresh_near : {Origin : Type 0} (next : Option Place) (old new : SessionView Origin) → IsFresh next → ahead new < ahead old → IfSome next (λ p. distance p new < distance Waiting old)
+fresh_near : {Origin : Type 0} (next : Option Place) (old new : World Origin) → IsFresh next → ahead_of_client new < ahead_of_client old → IfSome next (λ p. distance p new < distance Waiting old)
 fresh_near None old new fresh less = tt
 fresh_near (Some place) old new fresh less =
-    let step : times (ahead new) (suc (wide 32)) + suc (wide 32) ≤ times (ahead old) (suc (wide 32)) = step_times (ahead new) (ahead old) (suc (wide 32)) less in
+    let step : times (ahead_of_client new) (suc (wide 32)) + suc (wide 32) ≤ times (ahead_of_client old) (suc (wide 32)) = step_times (ahead_of_client new) (ahead_of_client old) (suc (wide 32)) less in
     let most : left_at place < suc (wide 32) = fresh_left place fresh in
     omega (arith, step, most)
 
-heard_less : {Origin : Type 0} (heard : Heard) (old mid new : SessionView Origin) → (h : Hears heard old mid) → 0 < length h.listens.bytes → Stays mid new → ahead new < ahead old
-heard_less heard old mid new h some stays =
-    let is : ahead old ≡ length h.listens.bytes + ahead mid = heard_ahead heard old mid h in
-    let nearer : ahead new ≤ ahead mid = stays.nearer in
-    omega (arith, is, some, nearer)
-
-pub near_line : {Origin : Type 0} (heard : Heard) (old mid new : SessionView Origin) (next : Option Place) → HearsLine heard old mid → Stays mid new → IsNext heard next
+pub near_line : {Origin : Type 0} (heard : Heard) (old mid new : World Origin) (next : Option Place) → Met (Hear Lines) (Ok heard) old mid → ahead_of_client new ≤ ahead_of_client mid → IsNext heard next
     → IfSome next (λ p. distance p new < distance Waiting old)
-near_line (Line line) old mid new next h stays fresh =
-    fresh_near next old new fresh (heard_less (Line line) old mid new h (no_line h.listens.bytes line.items h.listens.is_heard.is) stays)
-near_line TooLong old mid new next h stays fresh =
-    fresh_near next old new fresh (heard_less TooLong old mid new h (no_line h.listens.bytes h.listens.is_heard.line h.listens.is_heard.is) stays)
-near_line (Stopped stop) old mid new next h stays none = rw none tt
+near_line (Line line) old mid new next met more fresh =
+    let less = heard_ahead Lines (Line line) old mid tt met in fresh_near next old new fresh (omega (arith, less, more))
+near_line TooLong old mid new next met more fresh =
+    let less = heard_ahead Lines TooLong old mid tt met in fresh_near next old new fresh (omega (arith, less, more))
+near_line (Stopped stop) old mid new next met more none = rw none tt
 
 -- ---- lists
 
-same_ahead : {Origin : Type 0} (after : Option (List ℕ)) (reply : Reply) (old mid : SessionView Origin) → Asking (requests.List after) reply old mid → ahead mid ≡ ahead old
-same_ahead after reply old mid h = ap ahead h.is
-
-listed_left : {Origin : Type 0} (after : Option (List ℕ)) (reply : Reply) (old mid : SessionView Origin) → IsPlace (Listing after) → IsPlace (listed_place reply) → Asking (requests.List after) reply old mid
+listed_left : {Origin : Type 0} (after : Option (List ℕ)) (reply : Reply) (old mid : World Origin) → IsPlace (Listing after) → IsPlace (listed_place reply) → Met (Ask (requests.List after)) (Ok reply) old mid
     → left_at (listed_place reply) < left_at (Listing after)
 listed_left after (replies.Shown summary) old mid place form h =
     let most : rank_of after < wide 32 = rank_below after place in
-    let more : rank_of after < rank 32 summary.name = rank_rises after summary.name place form h.replies.fits in
+    let more : rank_of after < rank 32 summary.name = rank_rises after summary.name place form h.office.asking.asks.fits in
     let least : rank 32 summary.name < wide 32 = below 32 summary.name (named summary.name form).bytes in
     omega (arith, most, more, least)
 listed_left after (replies.Opened sid) old mid place form h = let most : rank_of after < wide 32 = rank_below after place in omega (arith, most)
@@ -119,31 +105,25 @@ listed_left after (replies.Challenge n word_seed) old mid place form h = let mos
 listed_left after replies.Ok old mid place form h = let most : rank_of after < wide 32 = rank_below after place in omega (arith, most)
 listed_left after (replies.Denied denial) old mid place form h = let most : rank_of after < wide 32 = rank_below after place in omega (arith, most)
 
-pub near_list : {Origin : Type 0} (after : Option (List ℕ)) (reply : Reply) (old mid new : SessionView Origin) → IsPlace (Listing after) → IsPlace (listed_place reply)
-    → Asking (requests.List after) reply old mid → Stays mid new → distance (listed_place reply) new < distance (Listing after) old
-near_list after reply old mid new place form h stays =
-    let same : ahead mid ≡ ahead old = same_ahead after reply old mid h in
-    let nearer : ahead new ≤ ahead mid = stays.nearer in
-    let most : ahead new ≤ ahead old = omega (arith, same, nearer) in
-    let bytes : times (ahead new) (suc (wide 32)) ≤ times (ahead old) (suc (wide 32)) = mono_times (ahead new) (ahead old) (suc (wide 32)) most in
+pub near_list : {Origin : Type 0} (after : Option (List ℕ)) (reply : Reply) (old mid new : World Origin) → IsPlace (Listing after) → IsPlace (listed_place reply)
+    → Met (Ask (requests.List after)) (Ok reply) old mid → ahead_of_client new ≤ ahead_of_client mid → distance (listed_place reply) new < distance (Listing after) old
+near_list after reply old mid new place form h more =
+    let before = met_ahead (Ask (requests.List after)) (Ok reply) old mid h in
+    let most : ahead_of_client new ≤ ahead_of_client old = omega (arith, before, more) in
+    let bytes : times (ahead_of_client new) (suc (wide 32)) ≤ times (ahead_of_client old) (suc (wide 32)) = mono_times (ahead_of_client new) (ahead_of_client old) (suc (wide 32)) most in
     let left : left_at (listed_place reply) < left_at (Listing after) = listed_left after reply old mid place form h in
     omega (arith, bytes, left)
 
 -- what follows a reply to a list is nearer
-pub near_next : {Origin : Type 0} (after : Option (List ℕ)) (reply : Reply) (old mid new : SessionView Origin) (result : Result (Option Place) Cause) → IsPlace (Listing after)
-    → Asking (requests.List after) reply old mid → Stays mid new → IfOk result (λ next. next ≡ Some (listed_place reply)) → IfOk result (λ next. IfSome next IsPlace)
+pub near_next : {Origin : Type 0} (after : Option (List ℕ)) (reply : Reply) (old mid new : World Origin) (result : Result (Option Place) Cause) → IsPlace (Listing after)
+    → Met (Ask (requests.List after)) (Ok reply) old mid → ahead_of_client new ≤ ahead_of_client mid → IfOk result (λ next. next ≡ Some (listed_place reply)) → IfOk result (λ next. IfSome next IsPlace)
     → IfOk result (λ next. IfSome next (λ p. distance p new < distance (Listing after) old))
-near_next after reply old mid new (Err cause) place h stays at form = tt
-near_next after reply old mid new (Ok next) place h stays at form =
+near_next after reply old mid new (Err cause) place h more at form = tt
+near_next after reply old mid new (Ok next) place h more at form =
     let listed : IsPlace (listed_place reply) = subst (λ (n : Option Place). IfSome n IsPlace) at form in
-    subst (λ (n : Option Place). IfSome n (λ p. distance p new < distance (Listing after) old)) (sym at) (near_list after reply old mid new place listed h stays)
+    subst (λ (n : Option Place). IfSome n (λ p. distance p new < distance (Listing after) old)) (sym at) (near_list after reply old mid new place listed h more)
 
--- ---- the dialogue
-
--- from the beginning of a session to a place, or to the end
-pub record Talks {Origin : Type 0} (console : Bool) (old now : SessionView Origin) (next : Option Place) : Type 0 where
-  pub ran : Ran rows (session_row console) leads old now (Ok next)
-  pub form : IfSome next IsPlace
+-- ---- the form of the next place
 
 pub fresh_form : (next : Option Place) → IsFresh next → IfSome next IsPlace
 fresh_form None fresh = tt
@@ -151,19 +131,7 @@ fresh_form (Some Waiting) fresh = tt
 fresh_form (Some (Listing None)) fresh = tt
 fresh_form (Some (Listing (Some name))) fresh = absurd fresh
 
--- how far it is, at most, to the end
-abbrev pub still : {Origin : Type 0} → Option Place → SessionView Origin → ℕ
-still None world = 0
-still (Some place) world = suc (distance place world)
-
-pub still_less : {Origin : Type 0} (next : Option Place) (place : Place) (old new : SessionView Origin) → IfSome next (λ p. distance p new < distance place old) → still next new < suc (distance place old)
-still_less None place old new less = omega (arith)
-still_less (Some p) place old new less = omega (arith, less)
-
-pub at_place : {Origin : Type 0} {console : Bool} {old now : SessionView Origin} {next : Option Place} {place : Place} → Talks console old now next → next ≡ Some place
-    → Ran rows (session_row console) leads old now (Ok (Some place))
-at_place {Origin} {console} {old} {now} {next} {place} talks is = subst (λ (n : Option Place). Ran rows (session_row console) leads old now (Ok n)) is talks.ran
-
-pub at_end : {Origin : Type 0} {console : Bool} {old now : SessionView Origin} {next : Option Place} → Talks console old now next → next ≡ None
-    → Ran rows (session_row console) (λ done. Over) old now (Ok (tt {0}))
-at_end {Origin} {console} {old} {now} {next} talks is = ran_as (subst (λ (n : Option Place). Ran rows (session_row console) leads old now (Ok n)) is talks.ran) refl
+pub next_form : (heard : Heard) (next : Option Place) → IsNext heard next → IfSome next IsPlace
+next_form (Line line) next fresh = fresh_form next fresh
+next_form TooLong next fresh = fresh_form next fresh
+next_form (Stopped stop) next none = rw none tt

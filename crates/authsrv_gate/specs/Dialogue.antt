@@ -10,8 +10,11 @@ use Rattle.fw_acts.specs.Acts.{Row, PlaceTable}
 use Rattle.fw_acts.specs.Acts.Row.{Do, At, Over}
 use Rattle.fw_outside.specs.declared.heard.Heard.{Heard}
 use Rattle.fw_outside.specs.declared.heard.Heard.TheVariants.{Line, TooLong, Stopped}
-use Rattle.authsrv_gate.specs.Acts.{Act, AnswerTo, acts}
-use Rattle.authsrv_gate.specs.Acts.Act.{Hear, Salt, Ask, Say}
+use Rattle.session_acts.specs.Acts.{Act, Answer}
+use Rattle.session_acts.specs.Acts.Act.{Hear, Say, Ask, Renew}
+use Rattle.session_acts.specs.Met.{acts}
+use Rattle.session_acts.specs.Session.{leads}
+use Rattle.session_acts.specs.declared.form.Form.TheVariants.{Lines}
 use Rattle.authsrv_lines.specs.Fault.{wire_fault_text}
 use Rattle.authsrv_lines.specs.Reply.{reply_line}
 use Rattle.authsrv_lines.specs.Request.{request_of}
@@ -55,15 +58,10 @@ opened_place (replies.Denied denial) = None
 
 -- the places: the session waits for a line, or for the next record of a list
 abbrev pub act_at : Place → Act
-act_at Waiting = Hear
+act_at Waiting = Hear Lines
 act_at (Listing after) = Ask (requests.List after)
 
 module _ {Origin : Type 0} where
-  -- where a row led: to a place, or to the end
-  abbrev pub leads : Option Place → Row (acts Origin) Place
-  leads None = Over
-  leads (Some place) = At place
-
   -- a line for the client, and then what follows
   abbrev pub say : List ℕ → Row (acts Origin) Place → Row (acts Origin) Place
   say line next = Do (Say (line ++ 10 ∷ [])) (λ done. next)
@@ -72,9 +70,9 @@ module _ {Origin : Type 0} where
   abbrev pub ask_row : Request → Row (acts Origin) Place
   ask_row request = Do (Ask request) (λ reply. say (reply_line reply) (At Waiting))
 
-  -- a new password is salted by the dice
+  -- a new password is salted by the dice, and the salt comes with the reply
   abbrev pub password_row : List ℕ → List ℕ → Row (acts Origin) Place
-  password_row name hash = Do Salt (λ salt. ask_row (requests.Password name salt hash))
+  password_row name hash = Do (Renew name hash) (λ salted. say (reply_line salted.1) (At Waiting))
 
   abbrev pub quit_row : Row (acts Origin) Place
   quit_row = Do (Ask requests.Close) (λ reply. say (reply_line reply) Over)
@@ -103,7 +101,7 @@ module _ {Origin : Type 0} where
   abbrev pub listed_row : Reply → Row (acts Origin) Place
   listed_row reply = listed_by (shown_name reply) reply
 
-  abbrev pub row_at : (place : Place) → AnswerTo (act_at place) → Row (acts Origin) Place
+  abbrev pub row_at : (place : Place) → Answer (act_at place) → Row (acts Origin) Place
   row_at Waiting heard = heard_row heard
   row_at (Listing after) reply = listed_row reply
 

@@ -1,12 +1,12 @@
 -- How far a session is from its end, at most: by the bytes that it may still hear, and in a list by the names that may still
 -- follow.
--- No public clause cites these: they say what private functions answer.
 use Rattle.std.specs.Prelude.{◌≡◌, ℕ, zero, suc, ◌+◌, ◌-◌, List, [], ◌∷◌, length, Option, Some, None, IsTrue}
 use Rattle.auth_events.specs.declared.reply.Reply.{Reply}
 use Rattle.fw_types.specs.Name.{is_name}
 use Rattle.fw_outside.specs.declared.heard.Heard.{Heard}
 use Rattle.fw_outside.specs.declared.heard.Heard.TheVariants.{Line, TooLong, Stopped}
-use Rattle.authsrv_gate.specs.Acts.{SessionView}
+use Rattle.session_acts.specs.Distance.{ahead_of_client}
+use Rattle.session_acts.specs.World.{World}
 use Rattle.authsrv_gate.specs.Dialogue.{shown_name}
 use Rattle.authsrv_gate.specs.declared.place.Place.{Place}
 use Rattle.authsrv_gate.specs.declared.place.Place.TheVariants.{Waiting, Listing}
@@ -32,16 +32,12 @@ abbrev pub rank_of : Option (List ℕ) → ℕ
 rank_of None = 0
 rank_of (Some name) = rank 32 name
 
--- the bytes that may still be heard
-abbrev pub ahead : {Origin : Type 0} → SessionView Origin → ℕ
-ahead world = length world.reader.pending + world.reader.room
-
 abbrev pub left_at : Place → ℕ
 left_at Waiting = 0
 left_at (Listing after) = wide 32 - rank_of after
 
-abbrev pub distance : {Origin : Type 0} → Place → SessionView Origin → ℕ
-distance place world = times (ahead world) (suc (wide 32)) + left_at place
+abbrev pub distance : {Origin : Type 0} → Place → World Origin → ℕ
+distance place world = times (ahead_of_client world) (suc (wide 32)) + left_at place
 
 -- where a list goes on from a reply
 abbrev pub listing_from : Option (List ℕ) → Place

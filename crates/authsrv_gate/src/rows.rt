@@ -1,50 +1,51 @@
 //! The rows of the dialogue.
-ghost use Rattle.std.specs.Prelude.{◌≡◌, ◌≤◌, ◌++◌, ◌∷◌, [], length, Some, None, codes, IfErr, IfOk, IfSome, IsTrue, OnOk};
+ghost use Rattle.std.specs.Prelude.{◌≡◌, ◌≤◌, ◌++◌, ◌∷◌, [], false, length, Some, None, codes, IfOk, IfSome, IsTrue};
 ghost use Rattle.fw_acts.specs.Acts.Row.{At, Do, Over};
 ghost use Rattle.fw_acts.specs.Ran.{Ran};
-ghost use Rattle.authsrv_gate.specs.Acts.{Saying, Stops};
-ghost use Rattle.authsrv_gate.specs.Acts.Act.{Ask, Say};
-ghost use Rattle.authsrv_gate.specs.declared.place.Place.TheVariants.{Waiting};
-ghost use Rattle.authsrv_gate.specs.Dialogue.{ask_row, heard_row, is_no_such, leads, line_row, listed_by, listed_row, opened_place, opened_row, password_row, quit_row, rows, say, session_row, shown_name};
-ghost use Rattle.authsrv_gate.specs.Distance.{IsFresh, IsNext, IsPlace, listed_place};
 ghost use Rattle.fw_types.specs.Name.{is_name};
 ghost use Rattle.authsrv_lines.specs.Fault.{wire_fault_text};
 ghost use Rattle.authsrv_lines.specs.Reply.{reply_line};
 ghost use Rattle.authsrv_lines.specs.Request.{request_of};
+ghost use Rattle.authsrv_gate.specs.Dialogue.{ask_row, heard_row, is_no_such, line_row, listed_by, listed_row, opened_place, opened_row, password_row, quit_row, rows, say, session_row, shown_name};
+ghost use Rattle.authsrv_gate.specs.Distance.{IsFresh, IsNext, IsPlace, listed_place};
+ghost use Rattle.authsrv_gate.specs.declared.place.Place.TheVariants.{Waiting};
+ghost use Rattle.session_acts.specs.Acts.Act.{Ask};
+ghost use Rattle.session_acts.specs.Met.{is_password};
+ghost use Rattle.session_acts.specs.Session.{leads};
 
-use crate::stage::Stage;
-use crate::{Cause, Place};
+use crate::Place;
 use arrayvec::ArrayVec;
 use auth_events::{Denial, Reply, Request};
 use authsrv_lines::{Wire, WireFault, read_request, reply_text};
 use fw_outside::Heard;
 use fw_types::{Name, append_byte, copy_of};
+use session_acts::{Cause, Stage, tell};
 
-// Gives the client a line and its end.
-fn say_line<D: Stage>(stage: &mut D, line: &[u8]) -> Result<(), Cause>
+// A line and its end.
+fn ended(line: &[u8]) -> ArrayVec<u8, 513>
     requires { length line.now ≤ 512 }
-    ensures said { OnOk result (Saying (line.now ++ 10 ∷ []) (D.world stage.old) (D.world stage.new)) }
-    ensures stopped { IfErr result (λ cause.
-        Stops (Say (line.now ++ 10 ∷ [])) cause (D.world stage.old) (D.world stage.new)) }
+    ensures { result.items ≡ line.now ++ 10 ∷ [] }
 {
     let mut text: ArrayVec<u8, 513> = copy_of(line);
     append_byte(&mut text, 10);
-    stage.say(text.as_slice())
+    text
 }
 
 // Gives the client a line, and comes to a place, or to the end.
-#[tactic(auto, using(crate::proofs::Acts::acting))]
-fn tell<D: Stage>(stage: &mut D, line: &[u8], place: Option<Place>) -> Result<Option<Place>, Cause>
+fn tell_line<D: Stage>(
+    stage: &mut D,
+    line: &[u8],
+    place: Option<Place>,
+) -> Result<Option<Place>, Cause>
     requires { length line.now ≤ 512 }
     ensures ran { Ran rows (say line.now (leads place)) leads (D.world stage.old) (D.world stage.new) result }
     ensures at { IfOk result (λ next. next ≡ place) }
 {
-    say_line(stage, line)?;
-    Ok(place)
+    let text = ended(line);
+    tell(stage, text.as_slice(), place)
 }
 
 // Gives the client a reply, and comes to a place, or to the end.
-#[tactic(auto, using(crate::proofs::Acts::acting))]
 fn tell_reply<D: Stage>(
     stage: &mut D,
     reply: &Reply,
@@ -56,12 +57,13 @@ fn tell_reply<D: Stage>(
 {
     let mut text = ArrayVec::new();
     reply_text(reply, &mut text);
-    tell(stage, text.as_slice(), place)
+    tell_line(stage, text.as_slice(), place)
 }
 
 // Asks, and tells the client the reply.
-#[tactic(auto, using(crate::proofs::Acts::acting))]
+#[tactic(auto, using(session_acts::proofs::Acting::acting))]
 fn ask_row<D: Stage>(stage: &mut D, request: Request) -> Result<Option<Place>, Cause>
+    requires { is_password request ≡ false }
     ensures ran { Ran rows (ask_row request) leads (D.world stage.old) (D.world stage.new) result }
     ensures at { IfOk result (λ next. next ≡ Some Waiting) }
 {
@@ -69,18 +71,18 @@ fn ask_row<D: Stage>(stage: &mut D, request: Request) -> Result<Option<Place>, C
     tell_reply(stage, &reply, Some(Place::Waiting))
 }
 
-// Asks for a new password, with a salt of the dice.
-#[tactic(auto, using(crate::proofs::Acts::acting))]
+// Asks for a new password, with a salt of the dice, and tells the client the reply.
+#[tactic(auto, using(session_acts::proofs::Acting::acting))]
 fn password_row<D: Stage>(stage: &mut D, name: Name, hash: [u8; 16]) -> Result<Option<Place>, Cause>
     ensures ran { Ran rows (password_row name hash) leads (D.world stage.old) (D.world stage.new) result }
     ensures at { IfOk result (λ next. next ≡ Some Waiting) }
 {
-    let salt = stage.salt();
-    ask_row(stage, Request::Password { name, salt, hash })
+    let salted = stage.renew(name, hash)?;
+    tell_reply(stage, &salted.1, Some(Place::Waiting))
 }
 
 // Asks for the session's end, and tells the client the reply.
-#[tactic(auto, using(crate::proofs::Acts::acting))]
+#[tactic(auto, using(session_acts::proofs::Acting::acting))]
 fn quit_row<D: Stage>(stage: &mut D) -> Result<Option<Place>, Cause>
     ensures ran { Ran rows quit_row leads (D.world stage.old) (D.world stage.new) result }
     ensures at { IfOk result (λ next. next ≡ None) }
@@ -90,17 +92,15 @@ fn quit_row<D: Stage>(stage: &mut D) -> Result<Option<Place>, Cause>
 }
 
 // Tells the client why a line asks for nothing.
-#[tactic(auto, using(crate::proofs::Acts::acting))]
 fn fault_row<D: Stage>(stage: &mut D, fault: WireFault) -> Result<Option<Place>, Cause>
     ensures ran { Ran rows (say (wire_fault_text fault) (At Waiting)) leads (D.world stage.old) (D.world stage.new)
         result }
     ensures at { IfOk result (λ next. next ≡ Some Waiting) }
 {
-    tell(stage, fault.text(), Some(Place::Waiting))
+    tell_line(stage, fault.text(), Some(Place::Waiting))
 }
 
 // Does what a line asks for.
-#[tactic(auto, using(crate::proofs::Acts::acting))]
 fn line_row<D: Stage>(stage: &mut D, line: &[u8]) -> Result<Option<Place>, Cause>
     ensures ran { Ran rows (line_row (request_of line.now)) leads (D.world stage.old) (D.world stage.new) result }
     ensures at { IfOk result IsFresh }
@@ -115,10 +115,9 @@ fn line_row<D: Stage>(stage: &mut D, line: &[u8]) -> Result<Option<Place>, Cause
 }
 
 // Asks for the session's end at the end of what the client says, who is told nothing.
-#[tactic(auto, using(crate::proofs::Acts::acting))]
+#[tactic(auto, using(session_acts::proofs::Acting::acting))]
 fn end_row<D: Stage>(stage: &mut D) -> Result<Option<Place>, Cause>
-    ensures ran { Ran rows (Do (Ask Request.Close) (λ reply.
-        Over)) leads (D.world stage.old) (D.world stage.new) result }
+    ensures ran { Ran rows (Do (Ask Request.Close) (λ reply. Over)) leads (D.world stage.old) (D.world stage.new) result }
     ensures at { IfOk result (λ next. next ≡ None) }
 {
     stage.ask(Request::Close)?;
@@ -126,7 +125,6 @@ fn end_row<D: Stage>(stage: &mut D) -> Result<Option<Place>, Cause>
 }
 
 // Does what was heard asks for.
-#[tactic(auto, using(crate::proofs::Acts::acting))]
 pub(crate) fn heard_row<D: Stage>(stage: &mut D, heard: Heard) -> Result<Option<Place>, Cause>
     ensures ran { Ran rows (heard_row heard) leads (D.world stage.old) (D.world stage.new) result }
     ensures at { IfOk result (IsNext heard) }
@@ -175,19 +173,17 @@ fn shown_name(reply: &Reply) -> Option<Name>
 }
 
 // Ends a list, with `ok` or with another denial.
-#[tactic(auto, using(crate::proofs::Acts::acting))]
 fn list_end<D: Stage>(stage: &mut D, reply: &Reply) -> Result<Option<Place>, Cause>
     ensures ran { Ran rows (listed_by None reply.now) leads (D.world stage.old) (D.world stage.new) result }
     ensures at { IfOk result (λ next. next ≡ Some Waiting) }
 {
     if is_no_such(reply) {
-        return tell(stage, b"ok", Some(Place::Waiting));
+        return tell_line(stage, b"ok", Some(Place::Waiting));
     }
     tell_reply(stage, reply, Some(Place::Waiting))
 }
 
 // Tells the client of a record, or ends the list.
-#[tactic(auto, using(crate::proofs::Acts::acting))]
 pub(crate) fn listed_row<D: Stage>(stage: &mut D, reply: &Reply) -> Result<Option<Place>, Cause>
     ensures ran { Ran rows (listed_row reply.now) leads (D.world stage.old) (D.world stage.new) result }
     ensures at { IfOk result (λ next. next ≡ Some (listed_place reply.now)) }
@@ -214,7 +210,7 @@ fn opened_place(reply: &Reply) -> Option<Place>
 }
 
 // Opens the session.
-#[tactic(auto, using(crate::proofs::Acts::acting))]
+#[tactic(auto, using(session_acts::proofs::Acting::acting))]
 pub(crate) fn session_row<D: Stage>(stage: &mut D, console: bool) -> Result<Option<Place>, Cause>
     ensures ran { Ran rows (session_row console) leads (D.world stage.old) (D.world stage.new) result }
     ensures at { IfOk result IsFresh }

@@ -7,19 +7,28 @@ use Rattle.fw_outside.specs.declared.source.Got.{Got}
 use Rattle.fw_outside.specs.declared.source.Got.TheVariants.{Bytes, End, Idle}
 use Rattle.fw_outside.specs.declared.failed.Failed.{Failed}
 
--- a source that tells only counts: so many bytes were taken, and so often it failed
-abbrev pub untold_source : ℕ → ℕ → ℕ → SourceView
-untold_source amount faults waits = record { taken = None; left = None; amount = amount; faults = faults; idles = 0; waits = waits }
+-- a source that tells only counts: so many bytes were taken, so often it failed, so often nothing came in time; and how long
+-- it waits, and waited when nothing came last
+abbrev pub untold_source : ℕ → ℕ → ℕ → ℕ → ℕ → SourceView
+untold_source amount faults idles waits waited = record {
+  taken = None;
+  left = None;
+  amount = amount;
+  faults = faults;
+  idles = idles;
+  waits = waits;
+  waited = waited;
+}
 
 -- a sink that tells nothing
 abbrev pub unseen : ℕ → SinkView
 unseen faults = record { given = None; shut = None; faults = faults }
 
--- a take hands on the next bytes of the reader, its end, or its failure, at which it loses nothing
+-- a take hands on the next bytes of the reader, its end, or its refusal, at which it loses nothing
 abbrev pub HandsOn : Result Got Failed → List ℕ → Option (List ℕ) → Option (List ℕ) → Type 0
 HandsOn (Ok (Bytes n)) buf old new = Consumes old new (take n buf)
 HandsOn (Ok End) buf old new = Consumes old new [] × IsAtEnd new
-HandsOn (Ok Idle) buf old new = ⊥
+HandsOn (Ok Idle) buf old new = Keeps old new
 HandsOn (Err _) buf old new = Keeps old new
 
 -- a gift that is answered with Ok stands whole at the writer's end

@@ -9,9 +9,9 @@ use Rattle.fw_outside.specs.declared.keep_fault.KeepFault.TheVariants.{Failed, N
 use Rattle.fw_real.specs.Statements.{create_text}
 use Rattle.fw_real.specs.declared.database.Database.{Database}
 
--- a keeper that tells nothing
-abbrev pub untold_keeper : ℕ → KeeperView
-untold_keeper faults = record { table = None; faults = faults }
+-- a keeper that tells only counts
+abbrev pub untold_keeper : ℕ → ℕ → KeeperView
+untold_keeper faults calls = record { table = None; faults = faults; calls = calls }
 
 -- the count after a refusal: want of memory is no failure
 abbrev pub after_fault : KeepFault → ℕ → ℕ

@@ -11,7 +11,7 @@ ghost use Rattle.fw_real.specs.Statements.{FailsToLoad, Loads, Runs, drop_text, 
 use crate::statements::{self, keep_fault_of};
 use fw_outside::KeepFault;
 use fw_types::{Name, Octets};
-use sqlite::{Connection, File, FileStore};
+use sqlite::{Connection, FileFrom, FileStore, Wary};
 use std::alloc::Global;
 use std::fs::OpenOptions;
 use std::io::{self, ErrorKind};
@@ -20,7 +20,7 @@ use std::str;
 
 /// An open file of records.
 pub(crate) struct Database {
-    connection: Connection<FileStore<File>>,
+    connection: Connection<FileStore<FileFrom<Wary>>>,
 }
 
 /// Closes the file: what its log holds is copied into it.
@@ -48,9 +48,9 @@ fn make_private(system: &HostRuntime, path: &str) -> io::Result<()> {
 fn connect(system: &HostRuntime, path: &str) -> Result<Database, KeepFault>
     ensures { IfOk result (λ database. HasCleanDisk (shown_by database) → IsOpened database.connection) }
 {
-    match Connection::open(system, path) {
+    match Connection::open_from(system, path, false, Wary) {
         Ok(connection) => Ok(Database { connection }),
-        Err(error) => Err(keep_fault_of(error)),
+        Err((error, _)) => Err(keep_fault_of(error)),
     }
 }
 

@@ -1,5 +1,5 @@
 ghost use Rattle.std.specs.Prelude.{◌≡◌, ◌∷◌, [], Some, None, Ok, Err, IfOk, IfErr, OnOk, OnErr, MatchOption};
-ghost use Rattle.fw_outside.specs.Counts.{counted};
+ghost use Rattle.fw_outside.specs.Counts.{Grew, counted};
 ghost use Rattle.fw_types.specs.Keyed.{Ascends};
 ghost use Rattle.fw_outside.specs.KeeperView.{AreLoaded, Refuses, Sets, entry_name};
 ghost use Rattle.sqlite.specs.declared.types.Value.TheVariants.{Text, Blob};
@@ -23,6 +23,7 @@ pub struct Records {
     path: Octets,
     database: Option<Database>,
     faults: u64,
+    calls: u64,
 }
 
 impl Records {
@@ -31,12 +32,14 @@ impl Records {
         ensures path { IfOk result (λ records. records.path ≡ path.now) }
         ensures closed { IfOk result (λ records. records.database ≡ None) }
         ensures faults { IfOk result (λ records. records.faults ≡ 0) }
+        ensures calls { IfOk result (λ records. records.calls ≡ 0) }
     {
         Ok(Records {
             system,
             path: Octets::copy(system.alloc(), path)?,
             database: None,
             faults: 0,
+            calls: 0,
         })
     }
 
@@ -46,6 +49,7 @@ impl Records {
             database ≡ old)) }
         ensures closed { OnErr result (StaysClosed self.old.database self.new.database) }
         ensures faults { self.new.faults ≡ self.old.faults }
+        ensures calls { self.new.calls ≡ self.old.calls }
         ensures path { self.new.path ≡ self.old.path }
     {
         match self.database.take() {
@@ -62,6 +66,7 @@ impl Records {
             Runs put_text (Text name.now ∷ Blob bytes.now ∷ []) old new (Err fault)) self.old.database
             self.new.database) }
         ensures faults { self.new.faults ≡ self.old.faults }
+        ensures calls { self.new.calls ≡ self.old.calls }
         ensures path { self.new.path ≡ self.old.path }
     {
         let mut database = self.take_open()?;
@@ -76,6 +81,7 @@ impl Records {
         ensures not_done { IfErr result (λ fault. StaysClosedOrDid (λ old new.
             Runs drop_text (Text name.now ∷ []) old new (Err fault)) self.old.database self.new.database) }
         ensures faults { self.new.faults ≡ self.old.faults }
+        ensures calls { self.new.calls ≡ self.old.calls }
         ensures path { self.new.path ≡ self.old.path }
     {
         let mut database = self.take_open()?;
@@ -91,6 +97,7 @@ impl Records {
         ensures not_done { IfErr result (λ fault. StaysClosedOrDid (λ old new.
             FailsToLoad old new fault) self.old.database self.new.database) }
         ensures faults { self.new.faults ≡ self.old.faults }
+        ensures calls { self.new.calls ≡ self.old.calls }
         ensures path { self.new.path ≡ self.old.path }
     {
         let mut database = self.take_open()?;
@@ -99,12 +106,26 @@ impl Records {
         answer
     }
 
-    // Counts a failure; want of memory isn't one.
+    // Counts a call.
+    fn count_call(&mut self)
+        ensures grew { Grew 1 self.old.calls self.new.calls }
+        ensures is { self.new ≡ record self.old { calls = counted self.old.calls } }
+    {
+        self.calls = self.calls.saturating_add(1);
+    }
+
+    // Counts a call, and a failure; want of memory isn't one.
     fn count(&mut self, fault: KeepFault) -> KeepFault
         ensures answer { result ≡ fault }
-        ensures refuses { Refuses fault (untold_keeper self.old.faults) (untold_keeper self.new.faults) }
-        ensures is { self.new ≡ record self.old { faults = after_fault fault self.old.faults } }
+        ensures refuses { Refuses fault (untold_keeper self.old.faults self.old.calls)
+            (untold_keeper self.new.faults self.new.calls) }
+        ensures is { self.new ≡ record self.old {
+          faults = after_fault fault self.old.faults;
+          calls = counted
+              self.old.calls;
+        } }
     {
+        self.count_call();
         if fault == KeepFault::Failed {
             self.faults = self.faults.saturating_add(1);
         }
@@ -113,11 +134,11 @@ impl Records {
 }
 
 impl Keeper for Records {
-    ghost keeper_view = { λ r. untold_keeper r.faults };
+    ghost keeper_view = { λ r. untold_keeper r.faults r.calls };
 
     fn put(&mut self, name: &Name, bytes: &[u8]) -> Result<(), KeepFault>
-        ensures sets { Sets result name.now (Some bytes.now) (untold_keeper self.old.faults) (untold_keeper
-            self.new.faults) }
+        ensures sets { Sets result name.now (Some bytes.now) (untold_keeper self.old.faults self.old.calls)
+            (untold_keeper self.new.faults self.new.calls) }
         ensures did { OnOk result (Did (λ old new.
             Runs put_text (Text name.now ∷ Blob bytes.now ∷ []) old new (Ok (record {}))) self.old.database
             self.new.database) }
@@ -127,13 +148,17 @@ impl Keeper for Records {
         ensures path { self.new.path ≡ self.old.path }
     {
         match self.put_in_file(name, bytes) {
-            Ok(()) => Ok(()),
+            Ok(()) => {
+                self.count_call();
+                Ok(())
+            }
             Err(fault) => Err(self.count(fault)),
         }
     }
 
     fn drop_name(&mut self, name: &Name) -> Result<(), KeepFault>
-        ensures sets { Sets result name.now None (untold_keeper self.old.faults) (untold_keeper self.new.faults) }
+        ensures sets { Sets result name.now None (untold_keeper self.old.faults self.old.calls)
+            (untold_keeper self.new.faults self.new.calls) }
         ensures did { OnOk result (Did (λ old new.
             Runs drop_text (Text name.now ∷ []) old new (Ok (record {}))) self.old.database self.new.database) }
         ensures not_done { IfErr result (λ fault. StaysClosedOrDid (λ old new.
@@ -141,16 +166,21 @@ impl Keeper for Records {
         ensures path { self.new.path ≡ self.old.path }
     {
         match self.drop_in_file(name) {
-            Ok(()) => Ok(()),
+            Ok(()) => {
+                self.count_call();
+                Ok(())
+            }
             Err(fault) => Err(self.count(fault)),
         }
     }
 
     fn load(&mut self) -> Result<Vec<(Name, Octets)>, KeepFault>
         ensures loaded { IfOk result (λ loaded.
-            AreLoaded loaded.items (untold_keeper self.old.faults) (untold_keeper self.new.faults)) }
+            AreLoaded loaded.items (untold_keeper self.old.faults self.old.calls)
+            (untold_keeper self.new.faults self.new.calls)) }
         ensures refused { IfErr result (λ fault.
-            Refuses fault (untold_keeper self.old.faults) (untold_keeper self.new.faults)) }
+            Refuses fault (untold_keeper self.old.faults self.old.calls)
+            (untold_keeper self.new.faults self.new.calls)) }
         ensures did { IfOk result (λ loaded. Did (λ old new.
             Loads old new loaded.items) self.old.database self.new.database) }
         ensures not_done { IfErr result (λ fault. StaysClosedOrDid (λ old new.
@@ -158,7 +188,10 @@ impl Keeper for Records {
         ensures path { self.new.path ≡ self.old.path }
     {
         match self.load_from_file() {
-            Ok(loaded) => Ok(loaded),
+            Ok(loaded) => {
+                self.count_call();
+                Ok(loaded)
+            }
             Err(fault) => Err(self.count(fault)),
         }
     }

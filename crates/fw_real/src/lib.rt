@@ -20,8 +20,10 @@ mod paths;
 mod raw_file;
 mod reading;
 mod slot_file;
+mod standard_input;
 mod statements;
 mod through;
+mod timed;
 mod writing;
 
 pub use clock::SystemClock;
@@ -32,4 +34,6 @@ pub use paths::Paths;
 pub use raw_file::RawFile;
 pub use reading::Reading;
 pub use slot_file::SlotFile;
+pub use standard_input::StandardInput;
+pub use timed::Timed;
 pub use writing::Writing;

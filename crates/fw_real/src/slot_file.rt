@@ -27,7 +27,12 @@ pub struct SlotFile {
 fn path_of(alloc: Global, folder: &str, number: u32) -> Result<String, AllocError>
     ensures { IfOk result (λ path. string_bytes path ≡ slot_path folder.now number) }
 {
-    format!(in alloc; "{folder}/slot{number}")
+    let mut path = String::new(alloc);
+    path.push_str(folder)?;
+    path.push_str("/slot")?;
+    let digits = number.to_string(alloc)?;
+    path.push_str(&digits)?;
+    Ok(path)
 }
 
 // The answer, or none where the file isn't there.
@@ -41,7 +46,10 @@ fn if_there<F>(answer: io::Result<F>) -> io::Result<Option<F>> {
 
 // Opens a file that is there, for this process alone.
 fn open_locked(system: &HostRuntime, path: &str) -> io::Result<File> {
-    let file = OpenOptions::new().read(true).write(true).open(system, path)?;
+    let file = OpenOptions::new()
+        .read(true)
+        .write(true)
+        .open(system, path)?;
     if !file.metadata()?.is_file() {
         return Err(io::Error::from(ErrorKind::InvalidInput));
     }

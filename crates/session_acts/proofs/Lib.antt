@@ -11,6 +11,7 @@ pub mod KeptLemmas
 pub mod LinkedLemmas
 pub mod OneSessionLemmas
 pub mod OwedLemmas
+pub mod ServerlessLemmas
 pub mod SpentLemmas
 pub mod StageLemmas
 pub mod TalkLemmas

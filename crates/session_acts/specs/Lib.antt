@@ -15,3 +15,5 @@ pub mod Session
 pub mod Talk
 pub mod World
 pub mod LastStop
+pub mod Dummies
+pub mod Serverless

@@ -17,6 +17,7 @@ ghost use Rattle.session_acts.specs.Hearing.{TakesHeard, heard_in};
 ghost use Rattle.session_acts.specs.LastStop.{StopsLast, one_lacked_memory};
 ghost use Rattle.session_acts.specs.Laws.{CallsDialer, CountsRefusals, LinksDialer, TellsClient, TellsLog, called, linked, logged, refused, told};
 ghost use Rattle.session_acts.specs.Met.{acts};
+ghost use Rattle.session_acts.specs.Serverless.{KeepsServerless};
 ghost use Rattle.session_acts.specs.Session.{Held, Session, deeds_of};
 ghost use Rattle.session_acts.specs.Talk.{Entered, ThrowsSalts, answered, asked, is_entered, is_refused_as_full, said_of, thrown};
 ghost use Rattle.session_acts.specs.World.{Devices, World};
@@ -59,6 +60,13 @@ pub fn the_links_are_hung_up<Origin, P>()
         LinksDialer (gives linked (deeds_of held)) old new }
     ensures none { (rows : PlaceTable (acts Origin) P) (first : Row (acts Origin) P) (old new : World Origin)
         (ending : Ending) → Held rows first old new ending → new.server.link ≡ None }
+{}
+
+/// A session whose rows speak with no server leaves the dialer as it was.
+pub fn no_server_is_met<Origin, P>()
+    ensures { (rows : PlaceTable (acts Origin) P) (first : Row (acts Origin) P) (old new : World Origin) (ending : Ending) →
+        Held rows first old new ending → KeepsServerless rows first → old.server.link ≡ None →
+        new.server ≡ old.server }
 {}
 
 /// A session asked each request for the session that it opened last and didn't ask to close, or for number 2^64 - 1

@@ -13,6 +13,7 @@
 mod cause;
 mod denying;
 mod desk;
+mod dummies;
 mod form;
 pub mod laws;
 mod link;
@@ -25,6 +26,7 @@ mod telling;
 
 pub use cause::Cause;
 pub use denying::{Denying, NoPlace};
+pub use dummies::{NoSource, Nowhere, Silent};
 pub use form::Form;
 pub use logged::Logged;
 pub use script::Script;

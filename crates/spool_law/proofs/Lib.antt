@@ -2,3 +2,5 @@ mod ReadLemmas
 mod ImageLemmas
 mod SlotLemmas
 mod WorldLemmas
+pub mod RunLemmas
+mod EventLemmas

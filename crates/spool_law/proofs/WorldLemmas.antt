@@ -20,7 +20,7 @@ use Rattle.spool_law.proofs.SlotLemmas.{IsAs, IsGood, IsUnopened, NoneAccepted, 
 
 -- ---- one slot put in its place
 
-either : (b : Bool) → (b ≡ true) ⊎ (b ≡ false)
+pub either : (b : Bool) → (b ≡ true) ⊎ (b ≡ false)
 either true = inl refl
 either false = inr refl
 
@@ -31,13 +31,13 @@ same_or k n =
       | inr e ↦ inr e
     ]
 
-here_is : (k n : ℕ) (s : Slot) (slots : ℕ → Slot) → nat_eq k n ≡ true → put n s slots k ≡ s
+pub here_is : (k n : ℕ) (s : Slot) (slots : ℕ → Slot) → nat_eq k n ≡ true → put n s slots k ≡ s
 here_is k n s slots e = ap (λ (b : Bool). cond b s (slots k)) e
 
-away_is : (k n : ℕ) (s : Slot) (slots : ℕ → Slot) → nat_eq k n ≡ false → put n s slots k ≡ slots k
+pub away_is : (k n : ℕ) (s : Slot) (slots : ℕ → Slot) → nat_eq k n ≡ false → put n s slots k ≡ slots k
 away_is k n s slots e = ap (λ (b : Bool). cond b s (slots k)) e
 
-itself : (n : ℕ) → nat_eq n n ≡ true
+pub itself : (n : ℕ) → nat_eq n n ≡ true
 itself n = grind (arith, nat_tests)
 
 put_each : (P : Slot → Type 0) (n : ℕ) (s : Slot) (slots : ℕ → Slot) → ((k : ℕ) → P (slots k)) → P s → (k : ℕ) → P (put n s slots k)

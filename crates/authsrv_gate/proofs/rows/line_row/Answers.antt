@@ -1,5 +1,6 @@
-use Rattle.std.proofs.Common.{refl, sym, ◌∙◌}
+use Rattle.std.proofs.Common.{refl, sym, ap, Ok, ◌∙◌}
 use Rattle.fw_acts.proofs.RanLemmas.{ran_here}
+use Rattle.authsrv_gate.proofs.CourseLemmas.{asks_other}
 use Rattle.authsrv_gate.proofs.rows.line_row.Goals as goal
 
 pub returns-in-Err-clause-ran : goal.returns-in-Err-clause-ran
@@ -16,3 +17,6 @@ returns-in-Ok-List-clause-ran g c = rw (sym c.read_request.ensures ∙ c.in-Ok-L
 
 pub returns-in-Ok-Quit-clause-ran : goal.returns-in-Ok-Quit-clause-ran
 returns-in-Ok-Quit-clause-ran g c = rw (sym c.read_request.ensures ∙ c.in-Ok-Quit.is, c.in-Ok-Quit.field-0-is) c.quit_row.ensures.ran
+
+pub ask_row-requires : goal.ask_row-requires
+ask_row-requires g c = asks_other c.args.line.now c.in-Ok-Ask.request (sym c.read_request.ensures ∙ c.in-Ok-Ask.is ∙ ap Ok c.in-Ok-Ask.field-0-is)

@@ -1,5 +1,5 @@
-use Rattle.authsrv_gate.proofs.Acts.{thrown}
+use Rattle.session_acts.proofs.Acting.{did}
 use Rattle.authsrv_gate.proofs.rows.password_row.Goals as goal
 
 pub returns-clause-ran : goal.returns-clause-ran
-returns-clause-ran g c = thrown c.salt-salt.ensures c.ask_row.ensures.ran
+returns-clause-ran g c = did c.in_ok-salted.ensures c.tell_reply.ensures.ran

@@ -1,8 +1,5 @@
-use Rattle.authsrv_gate.proofs.Acts.{asked, halted}
+use Rattle.session_acts.proofs.Acting.{did}
 use Rattle.authsrv_gate.proofs.rows.quit_row.Goals as goal
 
-pub returns-in_err-reply-clause-ran : goal.returns-in_err-reply-clause-ran
-returns-in_err-reply-clause-ran g c = halted _ c.in_err-reply.ensures.stopped c.from_residual.ensures.1
-
 pub returns-clause-ran : goal.returns-clause-ran
-returns-clause-ran g c = asked c.in_ok-reply.ensures.asked c.tell_reply.ensures.ran
+returns-clause-ran g c = did c.in_ok-reply.ensures c.tell_reply.ensures.ran

@@ -1,13 +1,25 @@
-use Rattle.std.proofs.Common.{rules}
-use Rattle.authsrv_gate.proofs.CauseLemmas.{session_caused, session_keeps}
-use Rattle.authsrv_gate.proofs.SpentLemmas.{session_spent}
+use Rattle.authsrv_gate.proofs.SessionLemmas.{at_nowhere, own_by}
+use Rattle.authsrv_gate.specs.Dialogue.{rows, session_row}
+use Rattle.session_acts.specs.Causes.{Caused, SessionKeeps, TakesFor}
+use Rattle.session_acts.specs.Session.{Session}
 use Rattle.authsrv_gate.proofs.session.authsrv_session.Goals as goal
 
+pub returns-clause-session : goal.returns-clause-session
+returns-clause-session g c =
+    at_nowhere (λ old new. Session rows (session_row c.args.console) old new c.session_over.result) c.args.console _ _ c.session_over.result c.session_over.ensures.session c.new-dialer.ensures c.session_over.ensures.session
+
 pub returns-clause-keeps : goal.returns-clause-keeps
-returns-clause-keeps g c = session_keeps c.args.console _ _ c.session_over.result (search rules)
+returns-clause-keeps g c =
+    at_nowhere (λ old new. SessionKeeps old new) c.args.console _ _ c.session_over.result c.session_over.ensures.session c.new-dialer.ensures c.session_over.ensures.keeps
 
 pub returns-clause-caused : goal.returns-clause-caused
-returns-clause-caused g c = session_caused c.args.console _ _ c.session_over.result (search rules)
+returns-clause-caused g c =
+    at_nowhere (λ old new. Caused c.session_over.result old new) c.args.console _ _ c.session_over.result c.session_over.ensures.session c.new-dialer.ensures c.session_over.ensures.caused
 
 pub returns-clause-spent : goal.returns-clause-spent
-returns-clause-spent g c = session_spent c.args.console _ _ c.session_over.result (search rules)
+returns-clause-spent g c =
+    at_nowhere (λ old new. TakesFor c.session_over.result old new) c.args.console _ _ c.session_over.result c.session_over.ensures.session c.new-dialer.ensures c.session_over.ensures.spent
+
+pub returns-clause-own : goal.returns-clause-own
+returns-clause-own g c =
+    own_by c.session_over.result _ _ _ _ _ _ _ _ _ _ (at_nowhere (λ old new. Caused c.session_over.result old new) c.args.console _ _ c.session_over.result c.session_over.ensures.session c.new-dialer.ensures c.session_over.ensures.caused)

@@ -1,0 +1,89 @@
+//! Devices that stand in for those which a kind of session doesn't have.
+ghost use Rattle.std.specs.Prelude.{◌≡◌, None};
+ghost use Rattle.fw_outside.specs.SourceView.{fresh};
+ghost use Rattle.session_acts.specs.Dummies.{nowhere, silent};
+
+use fw_outside::{Dialed, Dialer, Failed, Got, Sink, Source};
+use fw_types::Dest;
+use std::marker::Model;
+
+/// A sink that tells nothing of what it is given, and never fails: the log of a session that has none.
+#[derive(Drop)]
+pub struct Silent;
+
+impl Sink for Silent {
+    ghost sink_view = { λ sink. silent };
+
+    fn give(&mut self, _piece: &[u8]) -> Result<(), Failed> {
+        Ok(())
+    }
+
+    fn end(&mut self) -> Result<(), Failed> {
+        Ok(())
+    }
+}
+
+/// The source of a link that never comes up.
+#[derive(Drop)]
+pub enum NoSource {}
+
+impl Source for NoSource {
+    ghost source_view = { λ source. fresh None };
+
+    fn take(&mut self, _buf: &mut [u8]) -> Result<Got, Failed> {
+        match *self {}
+    }
+
+    fn patience(&mut self, _seconds: u32) {
+        match *self {}
+    }
+}
+
+/// A dialer that refuses all: that of a session which has no server.
+#[derive(Drop)]
+pub struct Nowhere {
+    refusals: u64,
+    waits: u32,
+}
+
+impl Model for Nowhere {
+    ghost use Rattle.fw_outside.specs.DialerView.{DialerView};
+    ghost use Rattle.session_acts.specs.Dummies.{refusing};
+
+    ghost Value = { DialerView };
+
+    ghost view = { λ dialer. refusing dialer.refusals dialer.waits };
+}
+
+impl Nowhere {
+    /// One that was asked for no link yet.
+    pub fn new() -> Nowhere
+        ensures { result ≡ nowhere }
+    {
+        Nowhere {
+            refusals: 0,
+            waits: 3600,
+        }
+    }
+}
+
+impl Dialer for Nowhere {
+    type In = NoSource;
+
+    type Out = Silent;
+
+    ghost dialer_view = { λ dialer. dialer };
+
+    fn dial(&mut self, _dest: &Dest) -> Dialed<NoSource, Silent> {
+        self.refusals = self.refusals.saturating_add(1);
+        Dialed::Refused
+    }
+
+    fn hang_up(&mut self, from: NoSource, _to: Silent) {
+        match from {}
+    }
+
+    fn patience(&mut self, seconds: u32) {
+        self.waits = seconds;
+    }
+}
