@@ -1,23 +1,18 @@
--- What a word shows stays, whatever words follow.
-use Rattle.std.proofs.Common.{◌≡◌, ℕ, zero, suc, ◌+◌, ◌<◌, ◌≤◌, Bool, true, false, ◌&&◌, List, [], ◌∷◌, ◌++◌, length, map, take, drop, refl, sym, ap, ◌∙◌, arith, inl, inr, length-append}
-use Rattle.std.specs.Prelude.{◌⊎◌, ◌==◌, cond, if◌then◌else◌, is_none, nat_lt, filter_map, Option, Some, None, Result, Ok, Err}
-use Rattle.std.specs.List.{list_all, list_any, position_or_len}
-use Rattle.std.proofs.lemmas.Bool.{cases_Bool}
-use Rattle.std.proofs.lemmas.Bool.Decides.{nat_tests}
-use Rattle.std.proofs.lemmas.List.{drop_all, take-append-le}
+-- What a word of a line shows stays, whatever words follow.
+use Rattle.std.proofs.Common.{◌≡◌, ℕ, zero, suc, ◌+◌, Bool, true, false, List, [], ◌∷◌, ◌++◌, length, map, take, refl, sym, ap, ◌∙◌, arith, inl, inr}
+use Rattle.std.specs.Prelude.{◌⊎◌, ◌==◌, cond, if◌then◌else◌, is_none, Option, Some, None, Result, Ok, Err}
+use Rattle.std.specs.List.{list_any, position_or_len}
+use Rattle.std.proofs.lemmas.List.{drop_all}
 use Rattle.fw_types.specs.Port.{port_of}
 use Rattle.host_pattern.specs.Pattern.{Written}
-use Rattle.host_pattern.specs.PatternList.{good}
 use Rattle.host_pattern.specs.declared.word.Word.{Word}
 use Rattle.netperm_table.specs.declared.line.Line.{Line}
 use Rattle.gate_rules.specs.declared.attribute.Attribute.{Attribute}
 use Rattle.gate_rules.specs.declared.attribute.Attribute.TheVariants as attribute
 use Rattle.gate_rules.specs.declared.fault.Why.{Why}
-use Rattle.gate_rules.specs.declared.fault.Why.TheVariants.{NoHosts, BadPattern, TooMany, UnknownOption, MissingValue, OpenBrace, BadNumber, BadWord}
-use Rattle.gate_rules.specs.declared.line_effect.LineEffect.{LineEffect}
+use Rattle.gate_rules.specs.declared.fault.Why.TheVariants.{MissingValue, OpenBrace, BadNumber, BadWord}
 use Rattle.gate_rules.specs.declared.line_effect.LineEffect.TheVariants.{Nothing}
 use Rattle.gate_rules.specs.declared.options.Options.{Options}
-use Rattle.gate_rules.specs.declared.options_builder.OptionsBuilder.{OptionsBuilder}
 use Rattle.gate_rules.specs.declared.option_kind.OptionKind.{OptionKind}
 use Rattle.gate_rules.specs.declared.option_kind.OptionKind.TheVariants as kind
 use Rattle.gate_rules.specs.declared.parsed_option.ParsedOption.{ParsedOption}
@@ -25,126 +20,15 @@ use Rattle.gate_rules.specs.declared.parsed_option.ParsedOption.TheVariants as i
 use Rattle.gate_rules.specs.declared.service.Service.{Service}
 use Rattle.gate_rules.specs.declared.setting.Setting.{Setting}
 use Rattle.gate_rules.specs.Attribute.{attribute_of}
-use Rattle.gate_rules.specs.Lists.{alone, and_then, between, hosts_alone, hosts_in, is_close, is_open, is_option, is_pattern, list_width, mapped, members_of, options_in, patterns_in, patterns_of, verbs_in, verbs_of}
+use Rattle.gate_rules.specs.Lists.{and_then, hosts_alone, hosts_in, is_close, is_open, is_option, list_width, mapped, members_of, options_in, patterns_of, verbs_of}
 use Rattle.gate_rules.specs.Operation.{is_gateway_or_star, is_holder, is_name_or_star, operation_at, operation_hosts, operation_of, read_operation}
-use Rattle.gate_rules.specs.Options.{builder_of, built, finished, no_options, option_at, option_if_known, option_kind_of, option_of_kind, option_then, options_after, options_of, width_as, width_at, width_by}
-use Rattle.gate_rules.specs.Reading.{deny_effect, effect_as, effect_of, operation_effect, permit_effect, plug_effect, plug_rule, port_effect, ruled, setting_effect, where_ours, with_target}
+use Rattle.gate_rules.specs.Options.{builder_of, built, finished, no_options, option_at, option_kind_of, option_of_kind, option_then, options_after, options_of, width_at, width_by}
+use Rattle.gate_rules.specs.Reading.{deny_effect, effect_as, effect_of, permit_effect, plug_effect, plug_rule, port_effect, ruled, where_ours, with_target}
 use Rattle.gate_rules.specs.Service.{plug_port}
 use Rattle.gate_rules.specs.Settings.{set_to, value_alone, value_of}
 use Rattle.gate_rules.specs.Why.{is_shown}
 use Rattle.gate_rules.proofs.OptionsBuilderLemmas.{after_drop}
-
--- a fault of the first that a word shows is one of the second
-Stays : {X Y : Type 0} → Result X Why → Result Y Why → Type 0
-Stays first second = (why : Why) → is_shown why ≡ true → first ≡ Err why → second ≡ Err why
-
-good_stays : {X Y : Type 0} (x : X) (second : Result Y Why) → Stays (Ok x) second
-unfolding Stays
-good_stays x second why shown e = absurd (cc)
-
-unshown_stays : (X : Type 0) {Y : Type 0} (why : Why) (second : Result Y Why) → is_shown why ≡ false → Stays {X = X} (Err why) second
-unfolding Stays
-unshown_stays X why second none other shown e = absurd (let same : why ≡ other = cc in let shown = rw (sym same, none) at shown in (cc))
-
-same_stays : (X Y : Type 0) (why : Why) → Stays {X = X} {Y = Y} (Err why) (Err why)
-unfolding Stays
-same_stays X Y why other shown e = let same : why ≡ other = cc in ap Err same
-
-mapped_stays : {X Y A B : Type 0} (f : X → A) (g : Y → B) (first : Result X Why) (second : Result Y Why) → Stays first second → Stays (mapped f first) (mapped g second)
-unfolding Stays
-mapped_stays f g (Ok x) second stays why shown e = absurd (cc)
-mapped_stays f g (Err other) second stays why shown e = let is = stays why shown (let same : other ≡ why = cc in ap Err same) in rw is refl
-
--- patterns
-
-no_more : (n : ℕ) (words more : List Word) → list_all is_pattern (take n words) ≡ false → list_all is_pattern (take n (words ++ more)) ≡ false
-no_more zero words more h = absurd (cc)
-no_more (suc n) [] more h = absurd (cc)
-no_more (suc n) (w ∷ words) more h = by (is_pattern w) refl (no_more n words more)
-  where
-    by : (v : Bool) → is_pattern w ≡ v → (list_all is_pattern (take n words) ≡ false → list_all is_pattern (take n (words ++ more)) ≡ false) → list_all is_pattern (take (suc n) (w ∷ (words ++ more))) ≡ false
-    by true e rest = rw e (rest (rw e at h))
-    by false e rest = rw e refl
-
-patterns_stay : (words more : List Word) → Stays (patterns_of words) (patterns_of (words ++ more))
-unfolding Stays patterns_of
-patterns_stay [] more why shown e = absurd (let same : NoHosts ≡ why = cc in let shown = rw (sym same) at shown in (cc))
-patterns_stay (w ∷ words) more why shown e = by (list_all is_pattern (take 64 (w ∷ words))) refl (nat_lt 64 (length (w ∷ words))) refl
-  where
-    some : (length (w ∷ words) == 0) ≡ false
-    some = grind (arith, nat_tests)
-
-    also : (length (w ∷ (words ++ more)) == 0) ≡ false
-    also = grind (arith, nat_tests)
-
-    over : nat_lt 64 (length (w ∷ words)) ≡ true → nat_lt 64 (length (w ∷ (words ++ more))) ≡ true
-    over h = let long : length (words ++ more) ≡ length words + length more = length-append words more in grind (arith, nat_tests)
-
-    firsts : nat_lt 64 (length (w ∷ words)) ≡ true → take 64 (w ∷ (words ++ more)) ≡ take 64 (w ∷ words)
-    firsts h = take-append-le 64 (w ∷ words) more (grind (arith, nat_tests))
-
-    by : (all : Bool) → list_all is_pattern (take 64 (w ∷ words)) ≡ all → (long : Bool) → nat_lt 64 (length (w ∷ words)) ≡ long → patterns_of (w ∷ (words ++ more)) ≡ Err why
-    by false all long h =
-        let same : BadPattern ≡ why = (let e = rw (some, all) at e in (cc)) in
-        rw (also, no_more 64 (w ∷ words) more all) (ap Err same)
-    by true all true h =
-        let same : TooMany ≡ why = (let e = rw (some, all, h) at e in (cc)) in
-        let every : list_all is_pattern (take 64 (w ∷ (words ++ more))) ≡ true = ap (list_all is_pattern) (firsts h) ∙ all in
-        rw (also, every, over h) (ap Err same)
-    by true all false h = absurd (let e = rw (some, all, h) at e in (cc))
-
--- host lists and options
-
-record NoOption (words more : List Word) : Type 0 where
-  hosts : hosts_in words ≡ words
-  options : options_in words ≡ []
-  longer : hosts_in (words ++ more) ≡ words ++ hosts_in more
-
-record SomeOption (words more : List Word) : Type 0 where
-  hosts : hosts_in (words ++ more) ≡ hosts_in words
-  first : Word
-  others : List Word
-  options : options_in words ≡ first ∷ others
-  longer : options_in (words ++ more) ≡ first ∷ (others ++ more)
-
-further : (n : ℕ) → 1 + n ≡ suc n
-further n = omega arith
-
-split : (words more : List Word) → NoOption words more ⊎ SomeOption words more
-split [] more = inl record { hosts = refl; options = refl; longer = refl }
-split (w ∷ words) more = by (is_option w) refl (split words more)
-  where
-    by : (v : Bool) → is_option w ≡ v → NoOption words more ⊎ SomeOption words more → NoOption (w ∷ words) more ⊎ SomeOption (w ∷ words) more
-    by true e rest = inr record { hosts = rw e refl; first = w; others = words; options = rw e refl; longer = rw e refl }
-    by false e (inl rest) = inl record {
-      hosts = rw (e, further (position_or_len is_option words)) (ap (λ ws. w ∷ ws) rest.hosts);
-      options = rw (e, further (position_or_len is_option words)) rest.options;
-      longer = rw (e, further (position_or_len is_option (words ++ more))) (ap (λ ws. w ∷ ws) rest.longer);
-    }
-    by false e (inr rest) = inr record {
-      hosts = rw (e, further (position_or_len is_option (words ++ more)), further (position_or_len is_option words)) (ap (λ ws. w ∷ ws) rest.hosts);
-      first = rest.first;
-      others = rest.others;
-      options = rw (e, further (position_or_len is_option words)) rest.options;
-      longer = rw (e, further (position_or_len is_option (words ++ more))) rest.longer;
-    }
-
-alone_stays : (hosts longer : Result (List Written) Why) (rest : List Word) → Stays hosts longer → Stays (alone hosts []) (alone longer rest)
-unfolding Stays
-alone_stays (Ok hosts) longer rest stays why shown e = absurd (cc)
-alone_stays (Err other) longer rest stays why shown e = let is = stays why shown (let same : other ≡ why = cc in ap Err same) in rw is refl
-
-alone_more : (hosts : Result (List Written) Why) (first : Word) (others more : List Word) → Stays (alone hosts (first ∷ others)) (alone hosts (first ∷ (others ++ more)))
-unfolding Stays
-alone_more (Ok hosts) first others more why shown e = e
-alone_more (Err other) first others more why shown e = e
-
-hosts_stay : (words more : List Word) → Stays (hosts_alone words) (hosts_alone (words ++ more))
-hosts_stay words more = by (split words more)
-  where
-    by : NoOption words more ⊎ SomeOption words more → Stays (hosts_alone words) (hosts_alone (words ++ more))
-    by (inl rest) = rw (rest.hosts, rest.options, rest.longer) (alone_stays (patterns_of words) (patterns_of (words ++ hosts_in more)) (options_in (words ++ more)) (patterns_stay words (hosts_in more)))
-    by (inr rest) = rw (rest.hosts, rest.options, rest.longer) (alone_more (patterns_of (hosts_in words)) rest.first rest.others more)
+use Rattle.gate_rules.proofs.StaysLemmas.{Stays, good_stays, unshown_stays, same_stays, mapped_stays, patterns_stay, NoOption, SomeOption, further, split, hosts_stay}
 
 -- lists of options
 
@@ -349,7 +233,7 @@ set_stays : (which : Setting) (words more : List Word) → Stays (set_to which w
 set_stays which [] more = unshown_stays _ MissingValue (set_to which more) refl
 set_stays which (w ∷ words) more = value_stays (value_of which w.text) words more
 
-tested_stays : (good : Bool) (rest longer : Result (List Written) Why) → Stays rest longer → Stays (if good then rest else Err BadWord) (if good then longer else Err BadWord)
+tested_stays : (passes : Bool) (rest longer : Result (List Written) Why) → Stays rest longer → Stays (if passes then rest else Err BadWord) (if passes then longer else Err BadWord)
 tested_stays true rest longer stays = stays
 tested_stays false rest longer stays = same_stays _ _ BadWord
 

@@ -1,8 +1,9 @@
-pub mod OptionsBuilderLemmas
 pub mod LawLemmas
-pub mod ListsLemmas
-pub mod RulesLemmas
-pub mod WordsLemmas
+pub mod LeftmostLemmas
 pub mod LineFaultLemmas
+pub mod ListsLemmas
 pub mod OptionCheckLemmas
-mod LeftmostLemmas
+pub mod OptionsBuilderLemmas
+pub mod RulesLemmas
+pub mod StaysLemmas
+pub mod WordsLemmas

@@ -14,9 +14,10 @@ use Rattle.gate_rules.specs.declared.options.Options.{Options}
 use Rattle.gate_rules.specs.declared.options_builder.OptionsBuilder.{OptionsBuilder}
 use Rattle.gate_rules.specs.declared.service.Service.{Service}
 use Rattle.gate_rules.specs.declared.setting.Setting.{Setting}
+use Rattle.gate_rules.specs.Faults.{target_among, target_fault}
 use Rattle.gate_rules.specs.Lists.{hosts_alone, hosts_in, mapped, options_in, patterns_of}
-use Rattle.gate_rules.specs.Options.{built, finished, no_options, options_of, target_among}
-use Rattle.gate_rules.specs.Reading.{deny_effect, permit_effect, plug_effect, plug_rule, ruled, setting_effect, target_fault, where_ours, with_target}
+use Rattle.gate_rules.specs.Options.{built, finished, no_options, options_of}
+use Rattle.gate_rules.specs.Reading.{deny_effect, permit_effect, plug_effect, plug_rule, ruled, setting_effect, where_ours, with_target}
 use Rattle.gate_rules.specs.Service.{plug_port}
 use Rattle.gate_rules.specs.Settings.{set_to}
 

@@ -13,7 +13,8 @@ use Rattle.host_pattern.specs.declared.fault.PatternFault.{PatternFault}
 use Rattle.host_pattern.specs.declared.word.Word.{Word}
 use Rattle.gate_rules.specs.declared.fault.Why.{Why}
 use Rattle.gate_rules.specs.declared.fault.Why.TheVariants.{BadPattern, NoHosts, TooMany}
-use Rattle.gate_rules.specs.Lists.{alone, is_pattern, is_verb_word, nothing_fault, patterns_of, verb_in, verbs_of}
+use Rattle.gate_rules.specs.Faults.{nothing_fault}
+use Rattle.gate_rules.specs.Lists.{alone, is_pattern, is_verb_word, patterns_of, verb_in, verbs_of}
 
 -- all were tested
 pub all_at_end : {X : Type 0} (p : X → Bool) (few : List X) (i : ℕ) → length few ≤ i → list_all p (drop i few) ≡ list_all p few → list_all p few ≡ true

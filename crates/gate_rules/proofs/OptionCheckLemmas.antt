@@ -11,8 +11,9 @@ use Rattle.gate_rules.specs.declared.fault.Why.{Why}
 use Rattle.gate_rules.specs.declared.parsed_option.ParsedOption.{ParsedOption}
 use Rattle.gate_rules.specs.declared.parsed_option.ParsedOption.TheVariants as is
 use Rattle.gate_rules.specs.declared.service.Service.{Service}
+use Rattle.gate_rules.specs.Faults.{is_target, target_among}
 use Rattle.gate_rules.specs.Lists.{mapped, patterns_in}
-use Rattle.gate_rules.specs.Options.{builder_of, built, first, is_target, option_then, options_after, option_at, target_among, target_by, width_at}
+use Rattle.gate_rules.specs.Options.{builder_of, built, first, option_then, options_after, option_at, target_by, width_at}
 use Rattle.gate_rules.proofs.OptionsBuilderLemmas.{after_drop, begins, here}
 
 pub no_list_fault : (list : Result (List Written) Why) → None ≡ result_err list → Ok false ≡ mapped is_target (mapped is.Dest list)

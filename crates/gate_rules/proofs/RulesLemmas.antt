@@ -14,7 +14,8 @@ use Rattle.gate_rules.specs.declared.fault.Why.{Why}
 use Rattle.gate_rules.specs.declared.rule.Rule.{Rule}
 use Rattle.gate_rules.specs.declared.line_effect.LineEffect.{LineEffect}
 use Rattle.gate_rules.specs.declared.line_effect.LineEffect.TheVariants.{Nothing, Ruled, Set}
-use Rattle.gate_rules.specs.Reading.{RuleBook, and_effect, closed, effect_then, numbered, with_book}
+use Rattle.gate_rules.specs.Faults.{numbered}
+use Rattle.gate_rules.specs.Reading.{RuleBook, and_effect, closed, effect_then, with_book}
 use Rattle.gate_rules.specs.Verdict.{decided_by, pattern_count, rule_matches, rules_steps, tried}
 
 -- a star is a pattern

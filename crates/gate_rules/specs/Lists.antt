@@ -1,5 +1,5 @@
 -- Lists of patterns and of verbs, word by word from the left.
-use Rattle.std.specs.Prelude.{ℕ, ◌+◌, Bool, not, ◌&&◌, ◌==◌, nat_lt, nat_eq, is_some, List, [], ◌∷◌, length, take, drop, filter_map, Option, Some, None, Result, Ok, Err, codes, if◌then◌else◌}
+use Rattle.std.specs.Prelude.{ℕ, ◌+◌, Bool, not, ◌&&◌, ◌==◌, nat_lt, nat_eq, is_some, List, [], ◌∷◌, length, take, drop, filter_map, Option, Result, Ok, Err, codes, if◌then◌else◌}
 use Rattle.std.specs.List.{list_all, list_any, starts_with, before_first, position_or_len}
 use Rattle.std.specs.Str.{bytes_eq}
 use Rattle.fw_types.specs.Verb.{verb_of}
@@ -100,8 +100,3 @@ alone (Ok patterns) (word ∷ words) = Err BadWord
 
 abbrev pub hosts_alone : List Word → Result (List Written) Why
 hosts_alone words = alone (patterns_of (hosts_in words)) (options_in words)
-
--- a word where none may be
-abbrev pub nothing_fault : List Word → Option Why
-nothing_fault [] = None
-nothing_fault (word ∷ words) = Some BadWord

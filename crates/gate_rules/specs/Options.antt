@@ -1,5 +1,5 @@
 -- The options of a line: how they are written, one after the other, and what they say together.
-use Rattle.std.specs.Prelude.{ℕ, zero, suc, Bool, true, false, List, [], ◌∷◌, length, map, Option, Some, None, Result, Ok, Err, unwrap_or, is_some, codes, if◌then◌else◌}
+use Rattle.std.specs.Prelude.{ℕ, zero, suc, Bool, true, false, List, [], ◌∷◌, length, map, Option, Some, None, Result, Ok, Err, unwrap_or, codes, if◌then◌else◌}
 use Rattle.std.specs.List.{list_any}
 use Rattle.std.specs.Option.{option_or}
 use Rattle.std.specs.Str.{bytes_eq}
@@ -229,11 +229,3 @@ added builder (is.Deny verbs) = record builder { deny = option_or builder.deny (
 added builder (is.Log verbs) = record builder { log = option_or builder.log (Some verbs) }
 added builder (is.PlugTo host) = record builder { target = option_or builder.target (Some host) }
 added builder (is.Port port) = record builder { port = option_or builder.port (Some port) }
-
--- whether the option is a target
-abbrev pub is_target : ParsedOption → Bool
-is_target option = is_some (target_by option)
-
--- whether there is a target among the options that these words are
-unfoldable pub target_among : Service → List Word → Result Bool Why
-target_among service words = mapped (λ builder. is_some builder.target) (built service words)

@@ -53,12 +53,6 @@ abbrev pub with_target : Result Options Why → Result Options Why
 with_target (Err why) = Err why
 with_target (Ok options) = if is_none options.plug_to then Err MissingValue else Ok options
 
--- the same by whether there is one
-abbrev pub target_fault : Result Bool Why → Option Why
-target_fault (Ok true) = None
-target_fault (Ok false) = Some MissingValue
-target_fault (Err why) = Some why
-
 -- a line for another port is read, and says nothing
 abbrev pub where_ours : Bool → LineEffect → LineEffect
 where_ours true effect = effect
@@ -123,11 +117,6 @@ effect_then number (Ok effect) (Ok book) = Ok (with_effect effect book)
 abbrev pub book_of : Service → List Line → Result RuleBook RuleFault
 book_of service [] = Ok (record { rules = []; settings = [] })
 book_of service (line ∷ lines) = effect_then line.number (effect_of service line) (book_of service lines)
-
--- what is wrong with a line, with its number
-abbrev pub numbered : ℕ → Option Why → Option RuleFault
-numbered number None = None
-numbered number (Some why) = Some (record { line = number; why = why })
 
 -- the line that permits every host
 abbrev pub everyone : Rule

@@ -3,8 +3,9 @@ ghost use Rattle.std.specs.Prelude.{◌≡◌, ℕ, List, ◌∷◌, filter};
 ghost use Rattle.std.specs.Option.{option_or};
 ghost use Rattle.std.specs.Result.{result_err};
 ghost use Rattle.netperm_table.specs.declared.line.Line.{Line};
+ghost use Rattle.gate_rules.specs.Faults.{numbered, target_fault};
 ghost use Rattle.gate_rules.specs.Options.{options_of};
-ghost use Rattle.gate_rules.specs.Reading.{book_of, deny_effect, effect_as, effect_of, is_of, numbered, permit_effect, plug_effect, port_effect, setting_effect, target_fault, with_target};
+ghost use Rattle.gate_rules.specs.Reading.{book_of, deny_effect, effect_as, effect_of, is_of, permit_effect, plug_effect, port_effect, setting_effect, with_target};
 
 use crate::attribute::{Attribute, attribute_of};
 use crate::lists::{hosts_alone_fault, patterns_fault};

@@ -1,7 +1,8 @@
 //! Lists of patterns and of verbs.
 ghost use Rattle.std.specs.Prelude.{◌≡◌, ◌≢◌, if◌then◌else◌, nat_lt, length, Some, None, Ok, Err, IfOk, IfErr, OnOk};
 ghost use Rattle.std.specs.Result.{result_err};
-ghost use Rattle.gate_rules.specs.Lists.{alone, between, hosts_alone, members_of, nothing_fault, patterns_in, patterns_of, verbs_in, verbs_of};
+ghost use Rattle.gate_rules.specs.Faults.{nothing_fault};
+ghost use Rattle.gate_rules.specs.Lists.{alone, between, hosts_alone, members_of, patterns_in, patterns_of, verbs_in, verbs_of};
 
 use crate::Why;
 use crate::words::{at_most, before_close, closes, hosts_in, is_close, is_open, options_in};

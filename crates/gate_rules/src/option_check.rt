@@ -1,7 +1,8 @@
 //! Whether the options of a line can be read, told without memory.
 ghost use Rattle.std.specs.Prelude.{◌≡◌, ◌||◌};
+ghost use Rattle.gate_rules.specs.Faults.{is_target, target_among};
 ghost use Rattle.gate_rules.specs.Lists.{mapped};
-ghost use Rattle.gate_rules.specs.Options.{exec_option, is_target, option_at, option_if_known, option_of_kind, target_among};
+ghost use Rattle.gate_rules.specs.Options.{exec_option, option_at, option_if_known, option_of_kind};
 
 use crate::lists::patterns_in_fault;
 use crate::option_kind::{OptionKind, option_kind_of};

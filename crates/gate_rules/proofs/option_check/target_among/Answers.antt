@@ -1,7 +1,8 @@
 use Rattle.std.proofs.Common.{◌≡◌, ◌+◌, ◌||◌, drop, sym, ◌∙◌, ap}
 use Rattle.std.specs.Prelude.{Result, Ok, Err}
+use Rattle.gate_rules.specs.Faults.{is_target}
 use Rattle.gate_rules.specs.Lists.{mapped}
-use Rattle.gate_rules.specs.Options.{is_target, option_at}
+use Rattle.gate_rules.specs.Options.{option_at}
 use Rattle.gate_rules.proofs.OptionCheckLemmas.{told_end, told_fault, told_next, told_start}
 use Rattle.gate_rules.proofs.option_check.target_among.Goals as goal
 

@@ -1,5 +1,6 @@
 use Rattle.std.proofs.Common.{◌≡◌, ◌-◌, length, drop}
-use Rattle.gate_rules.specs.Options.{options_after, target_among}
+use Rattle.gate_rules.specs.Faults.{target_among}
+use Rattle.gate_rules.specs.Options.{options_after}
 use Rattle.gate_rules.proofs.OptionCheckLemmas.{told_from}
 use Rattle.gate_rules.proofs.option_check.target_among.Given as goal
 
