@@ -2,7 +2,7 @@
 use Rattle.std.proofs.Common.{arith, ◌≡◌, refl, sym, ap, subst, ◌∙◌, ℕ, ◌<◌, ◌≤◌, ◌+◌, Bool, true, false, not, ◌&&◌, cond, List, [], ◌∷◌, ◌++◌, length, Option, None, IfSome, Ok}
 use Rattle.std.proofs.lemmas.List.{length_push}
 use Rattle.fw_outside.specs.Counts.{Rose}
-use Rattle.fw_outside.specs.KeeperView.{AreSame, KeeperView}
+use Rattle.fw_outside.specs.KeeperView.{AreSame, KeeperView, NamedBytes}
 use Rattle.auth_records.specs.Spelling.{Fields}
 use Rattle.auth_events.specs.Fits.{Fits}
 use Rattle.auth_events.specs.Port.{session_at}
@@ -13,14 +13,15 @@ use Rattle.auth_events.specs.declared.request.Request.{Request}
 use Rattle.auth_events.specs.declared.request.Request.TheVariants as requests
 use Rattle.auth_machine.proofs.FitLemmas.{IsOwn, own_answer}
 use Rattle.auth_machine.proofs.HistoryLemmas.{after_one_more, legal_one_more, unkept_one_more}
-use Rattle.auth_machine.proofs.TableLemmas.{clash, count_after, kept_unless, table_after, unkept_rose}
+use Rattle.auth_machine.proofs.TableLemmas.{called_if, lacking_faults, lacking_table, clash, count_after, kept_unless, table_after, unkept_rose}
 use Rattle.auth_machine.specs.Answer.{Answer, answer_of}
 use Rattle.auth_machine.specs.Answers.{full_answer, full_of, is_unkept, is_unkept_answer}
-use Rattle.auth_machine.specs.Book.{Asked, AddsEntry, EntersReply, KeeperAfterReply, Stands}
+use Rattle.auth_machine.specs.Book.{Asked, AddsEntry, CalledByReply, EntersReply, KeeperAfterReply, Stands, edits_records}
 use Rattle.auth_machine.specs.History.{CountsUnkept, HasRecords, IsStep, Origin, after, entries_of, unkept}
 use Rattle.auth_machine.specs.Policy.{PolicyView}
 use Rattle.auth_machine.specs.State.{State, Change, at_moment, changed, records_after}
 use Rattle.auth_machine.specs.Step.{answer, is_refused, keeps, proposed}
+use Rattle.auth_machine.specs.Keeping.{IsCalledIf, MayBeCalled}
 use Rattle.auth_machine.specs.Stepping.{Steps}
 
 -- ---- a session's number is told once
@@ -178,6 +179,7 @@ pub stands_with : (origin : Origin) (h : List Entry) (limit : ℕ) (refused : Bo
 stands_with origin h limit refused failed policy s new place sid at request reply kept before now book is fits own step =
     let next : Next origin h sid at request reply kept new before now = rebased origin h limit refused failed policy s new place sid at request reply kept before now book is step in
     record {
+      sound = book.sound;
       policy_is = book.policy_is;
       state_is = next_state origin h sid at request reply kept new before now next;
       legal = legal_one_more origin h (entry_of sid at request kept reply) book.legal
@@ -205,6 +207,8 @@ asked_with origin h limit refused failed policy s new place told sid at request 
     record {
       answers = subst (λ (full : Option ℕ). EntersReply full told at request reply limit h (h ++ entry_of sid at request kept reply ∷ []))
           (sym (step_not_full policy s place sid at request kept reply step.reply_is)) entered;
+      full = λ all. absurd (omega (arith, all, fits));
+      sound = book.sound;
       legal = stands.legal;
       within = stands.within;
     }
@@ -222,3 +226,31 @@ kept_with origin h limit refused failed policy s new place sid at request reply 
       is = refl;
       keeping = (rebased origin h limit refused failed policy s new place sid at request reply kept before now book is step).keeping;
     })
+
+-- and how often it calls it
+pub called_with : (origin : Origin) (h : List Entry) (limit : ℕ) (refused : Bool) (failed : ℕ) (policy : PolicyView) (s new : State) (place told sid at : ℕ) (request : Request) (reply : Reply) (kept : Bool) (before now : KeeperView)
+    → Stands h limit refused origin failed before policy s → place ≡ length h → sid ≡ session_at request place told
+    → Steps policy place sid at request reply kept s new before now
+    → CalledByReply (full_of reply) (edits_records told at request origin h) before now
+called_with origin h limit refused failed policy s new place told sid at request reply kept before now book is sid_is step =
+    let next : Next origin h sid at request reply kept new before now = rebased origin h limit refused failed policy s new place sid at request reply kept before now book is step in
+    let called : IsCalledIf (keeps origin.policy (after origin h) (length h) sid at request) before now =
+    called_if (keeps origin.policy (after origin h) (length h) sid at request) (proposed origin.policy (after origin h) (length h) sid at request).records kept before now next.keeping in
+    let own : sid ≡ session_at request (length h) told = sid_is ∙ ap (λ (n : ℕ). session_at request n told) is in
+    subst (λ (full : Option ℕ). CalledByReply full (edits_records told at request origin h) before now)
+    (sym (step_not_full policy s place sid at request kept reply step.reply_is))
+    (subst (λ (n : ℕ). IsCalledIf (keeps origin.policy (after origin h) (length h) n at request) before now) own called)
+
+-- a book stands where its keeper had no memory
+pub stands_lacking : (h : List Entry) (limit : ℕ) (refused : Bool) (origin : Origin) (failed : ℕ) (policy : PolicyView) (s : State) (b : Bool) (before now : KeeperView)
+    → Stands h limit refused origin failed before policy s → MayBeCalled b before now → Stands h limit refused origin failed now policy s
+stands_lacking h limit refused origin failed policy s b before now book lacks = record {
+  sound = book.sound;
+  policy_is = book.policy_is;
+  state_is = book.state_is;
+  legal = book.legal;
+  within = book.within;
+  full = book.full;
+  records = subst (λ (table : Option NamedBytes). IfSome table (λ t. AreSame t (entries_of (after origin h).records))) (sym (lacking_table b before now lacks)) book.records;
+  faults = let same = lacking_faults b before now lacks in rw same book.faults;
+}

@@ -1,6 +1,7 @@
 -- What asking a book does to it as a port.
 use Rattle.std.proofs.Common.{rules, arith, ◌≡◌, refl, sym, ap, subst, ◌∙◌, ℕ, suc, ◌<◌, ◌==◌, Bool, true, false, cond, List, [], ◌∷◌, ◌++◌, length, Option, Some, None, Ok}
 use Rattle.std.proofs.lemmas.List.{length_push}
+use Rattle.fw_outside.specs.Counts.{Grew}
 use Rattle.auth_events.specs.Fits.{Fits}
 use Rattle.auth_events.specs.Port.{Port, places, session_at, Stays}
 use Rattle.auth_events.specs.Port as ports
@@ -86,20 +87,20 @@ fits_answer policy s place sid at request kept reply is =
     either_fits request place (is_refused policy s place sid at request kept) (proposed policy s place sid at request).answer _ reply
     (own_proposal policy s place sid at request).fits (fits_denied request place denials.NotKept) is
 
-fits_last : (origin : Origin) (h : List Entry) (entry : Entry) → IsLegal origin (h ++ entry ∷ []) → Fits entry.request (length h) entry.reply
+pub fits_last : (origin : Origin) (h : List Entry) (entry : Entry) → IsLegal origin (h ++ entry ∷ []) → Fits entry.request (length h) entry.reply
 fits_last origin h entry legal =
     fits_answer origin.policy (after origin h) (length h) entry.sid entry.at entry.request entry.kept entry.reply (last_step origin h entry legal).reply
 
 -- ---- the port
 
-abbrev made : List Entry → List ℕ → Option ℕ → Bool → BookOrigin → Port BookOrigin
-made seen mine full refused origin = record { seen = seen; mine = mine; full = full; refused = refused; faults = 0; odd = 0; origin = origin; home = [] }
+abbrev made : List Entry → List ℕ → Option ℕ → Bool → ℕ → BookOrigin → Port BookOrigin
+made seen mine full refused asks origin = record { seen = seen; mine = mine; full = full; refused = refused; asks = asks; faults = 0; odd = 0; origin = origin; home = [] }
 
-same_port : (seen more : List Entry) (mine others : List ℕ) (full told : Option ℕ) (refused known : Bool) (origin other : BookOrigin) → seen ≡ more → mine ≡ others → full ≡ told → refused ≡ known → origin ≡ other
-    → made seen mine full refused origin ≡ made more others told known other
-same_port seen more mine others full told refused known origin other a b c d e =
-    ap (λ (x : List Entry). made x mine full refused origin) a ∙ ap (λ (x : List ℕ). made more x full refused origin) b ∙ ap (λ (x : Option ℕ). made more others x refused origin) c
-    ∙ ap (λ (x : Bool). made more others told x origin) d ∙ ap (λ (x : BookOrigin). made more others told known x) e
+same_port : (seen more : List Entry) (mine others : List ℕ) (full told : Option ℕ) (refused known : Bool) (asks : ℕ) (origin other : BookOrigin) → seen ≡ more → mine ≡ others → full ≡ told → refused ≡ known → origin ≡ other
+    → made seen mine full refused asks origin ≡ made more others told known asks other
+same_port seen more mine others full told refused known asks origin other a b c d e =
+    ap (λ (x : List Entry). made x mine full refused asks origin) a ∙ ap (λ (x : List ℕ). made more x full refused asks origin) b ∙ ap (λ (x : Option ℕ). made more others x refused asks origin) c
+    ∙ ap (λ (x : Bool). made more others told x asks origin) d ∙ ap (λ (x : BookOrigin). made more others told known asks x) e
 
 same_book_origin : (new old : BookView) → new.limit ≡ old.limit → new.origin ≡ old.origin → new.failed_before ≡ old.failed_before → book_origin new ≡ book_origin old
 same_book_origin new old limit origin failed = cc
@@ -132,9 +133,9 @@ next_place h entry =
     let more : length (h ++ entry ∷ []) ≡ suc (length h) = omega (arith, length_push h entry) in
     ap places more
 
-port_entered : (sid at : ℕ) (request : Request) (reply : Reply) (old new : BookView) → new.limit ≡ old.limit → new.origin ≡ old.origin → new.failed_before ≡ old.failed_before → new.refused ≡ old.refused
+port_entered : (sid at : ℕ) (request : Request) (reply : Reply) (old new : BookView) → new.limit ≡ old.limit → new.origin ≡ old.origin → new.failed_before ≡ old.failed_before → Grew 1 old.asks new.asks → new.refused ≡ old.refused
     → AddsEntry sid at request reply old.limit old.history new.history → IsLegal old.origin new.history → ports.Enters sid at request reply (book_port old) (book_port new)
-port_entered sid at request reply old new limit origin failed refused enters legal =
+port_entered sid at request reply old new limit origin failed counted refused enters legal =
     let entry : Entry = record { sid = session_at request (length old.history) sid; at = at; request = request; kept = enters.kept; reply = reply } in
     let same : old.history ++ [] ≡ old.history = nothing_more old.history in
     record {
@@ -142,43 +143,49 @@ port_entered sid at request reply old new limit origin failed refused enters leg
       place = length old.history;
       kept = enters.kept;
       full = full_at new.limit new.history;
+      asks = new.asks;
+      counts = counted;
       open_before = not_yet old.limit old.history enters.fits;
       is_place = ap length (sym same);
       fits = fits_last old.origin old.history entry (subst (IsLegal old.origin) enters.is legal);
-      is = same_port _ _ _ _ _ _ _ _ _ _
+      is = same_port _ _ _ _ _ _ _ _ _ _ _
           (enters.is ∙ ap (λ (h : List Entry). h ++ entry ∷ []) (sym same))
           (ap (λ (h : List Entry). places (length h)) enters.is ∙ next_place old.history entry)
           refl refused (same_book_origin new old limit origin failed);
     }
 
-port_full : (told : ℕ) (old new : BookView) → new.limit ≡ old.limit → new.origin ≡ old.origin → new.failed_before ≡ old.failed_before → new.refused ≡ true → IsFullAt told old.limit old.history new.history → ports.IsFull told (book_port old) (book_port new)
-port_full told old new limit origin failed refused full =
+port_full : (told : ℕ) (old new : BookView) → new.limit ≡ old.limit → new.origin ≡ old.origin → new.failed_before ≡ old.failed_before → Grew 1 old.asks new.asks → new.refused ≡ true → IsFullAt told old.limit old.history new.history → ports.IsFull told (book_port old) (book_port new)
+port_full told old new limit origin failed counted refused full =
     let at_limit : full_at old.limit old.history ≡ Some told = is_full old.limit old.history full.full ∙ ap (λ (n : ℕ). Some n) (sym full.limit_is) in
     record {
       others = [];
+      asks = new.asks;
+      counts = counted;
       stays = stays_at told (full_at old.limit old.history) at_limit;
-      is = same_port _ _ _ _ _ _ _ _ _ _
+      is = same_port _ _ _ _ _ _ _ _ _ _ _
           (full.is ∙ sym (nothing_more old.history))
           (ap (λ (h : List Entry). places (length h)) full.is)
           (ap (λ (n : ℕ). full_at n new.history) limit ∙ ap (full_at old.limit) full.is ∙ at_limit) refused (same_book_origin new old limit origin failed);
     }
 
-pub port_lacks : (old new : BookView) → new.limit ≡ old.limit → new.origin ≡ old.origin → new.failed_before ≡ old.failed_before → new.refused ≡ old.refused → new.history ≡ old.history → ports.RanOutOfMemory (book_port old) (book_port new)
-port_lacks old new limit origin failed refused same = record {
+pub port_lacks : (old new : BookView) → new.limit ≡ old.limit → new.origin ≡ old.origin → new.failed_before ≡ old.failed_before → Grew 1 old.asks new.asks → new.refused ≡ old.refused → new.history ≡ old.history → ports.RanOutOfMemory (book_port old) (book_port new)
+port_lacks old new limit origin failed counted refused same = record {
   others = [];
   full = full_at old.limit old.history;
+  asks = new.asks;
+  counts = counted;
   stays = stays (full_at old.limit old.history);
-  is = same_port _ _ _ _ _ _ _ _ _ _
+  is = same_port _ _ _ _ _ _ _ _ _ _ _
       (same ∙ sym (nothing_more old.history))
       (ap (λ (h : List Entry). places (length h)) same)
       (ap (λ (n : ℕ). full_at n new.history) limit ∙ ap (full_at old.limit) same) refused (same_book_origin new old limit origin failed);
 }
 
-replied : (sid at : ℕ) (request : Request) (reply : Reply) (full : Option ℕ) (old new : BookView) → full_of reply ≡ full → new.limit ≡ old.limit → new.origin ≡ old.origin → new.failed_before ≡ old.failed_before → new.refused ≡ refused_after full old.refused
+replied : (sid at : ℕ) (request : Request) (reply : Reply) (full : Option ℕ) (old new : BookView) → full_of reply ≡ full → new.limit ≡ old.limit → new.origin ≡ old.origin → new.failed_before ≡ old.failed_before → Grew 1 old.asks new.asks → new.refused ≡ refused_after full old.refused
     → EntersReply full sid at request reply old.limit old.history new.history → IsLegal old.origin new.history → ports.Replies sid at request reply (book_port old) (book_port new)
-replied sid at request reply None old new is limit origin failed same enters legal = entered reply is (port_entered sid at request reply old new limit origin failed same enters legal)
-replied sid at request reply (Some told) old new is limit origin failed noted full legal = refused sid at request reply is (port_full told old new limit origin failed noted full)
+replied sid at request reply None old new is limit origin failed counted same enters legal = entered reply is (port_entered sid at request reply old new limit origin failed counted same enters legal)
+replied sid at request reply (Some told) old new is limit origin failed counted noted full legal = refused sid at request reply is (port_full told old new limit origin failed counted noted full)
 
-pub port_replies : (sid at : ℕ) (request : Request) (reply : Reply) (old new : BookView) → new.limit ≡ old.limit → new.origin ≡ old.origin → new.failed_before ≡ old.failed_before → new.refused ≡ refused_by (Ok reply) old.refused
+pub port_replies : (sid at : ℕ) (request : Request) (reply : Reply) (old new : BookView) → new.limit ≡ old.limit → new.origin ≡ old.origin → new.failed_before ≡ old.failed_before → Grew 1 old.asks new.asks → new.refused ≡ refused_by (Ok reply) old.refused
     → Asked sid at request old.limit old.origin old.history (Ok reply) new.history → ports.Replies sid at request reply (book_port old) (book_port new)
-port_replies sid at request reply old new limit origin failed refused asked = replied sid at request reply (full_of reply) old new refl limit origin failed refused asked.answers asked.legal
+port_replies sid at request reply old new limit origin failed counted refused asked = replied sid at request reply (full_of reply) old new refl limit origin failed counted refused asked.answers asked.legal

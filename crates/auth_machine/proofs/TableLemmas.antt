@@ -1,16 +1,19 @@
 -- What the keeper has after it was called.
-use Rattle.std.proofs.Common.{arith, ◌≡◌, refl, sym, ap, subst, ◌∙◌, ℕ, ◌+◌, ◌-◌, ◌^◌, ◌≤◌, min, Bool, true, false, not, ◌&&◌, cond, List, [], ◌∷◌, Option, Some, None, option_map, is_some, IfSome}
+use Rattle.std.proofs.Common.{arith, ◌≡◌, refl, sym, ap, subst, ◌∙◌, ℕ, ◌+◌, ◌-◌, ◌^◌, ◌≤◌, min, Bool, true, false, not, ◌&&◌, cond, List, [], ◌∷◌, Option, Some, None, option_map, is_some, IfSome, inl, inr}
 use mathlib.Core.Bool.{true≢false}
 use Rattle.std.specs.Str.{bytes_eq}
 use Rattle.std.proofs.lemmas.Slice.Eq.{bytes_eq-Decides}
 use Rattle.fw_outside.specs.FilesView.{bytes_under}
-use Rattle.fw_outside.specs.Counts.{Rose}
+use Rattle.fw_outside.specs.Counts.{Grew, Rose}
+use Rattle.fw_outside.specs.declared.keep_fault.KeepFault.{KeepFault}
+use Rattle.fw_outside.specs.declared.keep_fault.KeepFault.TheVariants as faults
+use Rattle.std.specs.Prelude.{Result, Ok, Err, OnErr}
 use Rattle.fw_types.specs.Keyed.{without}
 use Rattle.fw_types.proofs.KeyedLemmas.{under_placed, under_without}
-use Rattle.fw_outside.specs.KeeperView.{AreSame, Stores, IsSetTo, IsToldSet, KeeperFailed, NamedBytes, KeeperView}
+use Rattle.fw_outside.specs.KeeperView.{AreSame, Sets, Stores, IsSetTo, IsToldSet, KeeperFailed, NamedBytes, KeeperView}
 use Rattle.auth_records.specs.Spelling.{Fields, spelling}
 use Rattle.auth_machine.specs.History.{record_entry, entries_of}
-use Rattle.auth_machine.specs.Keeping.{Calls, KeepsChange}
+use Rattle.auth_machine.specs.Keeping.{Calls, IsCalledIf, KeepsChange, MayBeCalled, kept_by}
 use Rattle.auth_machine.specs.State.{records_after, record_name, record_at}
 use Rattle.auth_machine.specs.Step.{is_record_change, is_record}
 use Rattle.auth_machine.specs.declared.record_change.RecordChange.{RecordChange}
@@ -140,7 +143,47 @@ pub table_after : (edit : RecordChange) (kept : Bool) (old new : KeeperView) (re
     → IfSome new.table (λ table. AreSame table (entries_of (cond (is_record_change edit records && not kept) records (records_after edit records))))
 table_after edit kept old new records keeps same = keeps_table (is_record_change edit records) edit kept old new records refl keeps same
 
--- ---- the keeper's count
+-- ---- the keeper's counts
+
+stored_called : (name : List ℕ) (value : Option (List ℕ)) (old new : KeeperView) → Stores name value old new → Grew 1 old.calls new.calls
+stored_called name value old new kept = subst (λ (keeper : KeeperView). Grew 1 old.calls keeper.calls) (sym kept.is) kept.called
+
+missed_called : (old new : KeeperView) → KeeperFailed old new → Grew 1 old.calls new.calls
+missed_called old new missed = subst (λ (keeper : KeeperView). Grew 1 old.calls keeper.calls) (sym missed.is) missed.called
+
+calls_called : (edit : RecordChange) (kept : Bool) (old new : KeeperView) → Calls edit kept old new → Grew 1 old.calls new.calls
+calls_called Leave kept old new calls = absurd calls
+calls_called (Put f) true old new calls = stored_called f.name (Some (spelling f)) old new calls
+calls_called (Put f) false old new calls = missed_called old new calls
+calls_called (Delete name) true old new calls = stored_called name None old new calls
+calls_called (Delete name) false old new calls = missed_called old new calls
+
+-- the keeper was called exactly where the records are edited
+pub called_if : (b : Bool) (edit : RecordChange) (kept : Bool) (old new : KeeperView) → KeepsChange b edit kept old new → IsCalledIf b old new
+called_if true edit kept old new keeps = calls_called edit kept old new keeps
+called_if false edit kept old new keeps = ap (λ (keeper : KeeperView). keeper.calls) keeps.1
+
+-- a keeper that may have been called has the table and the failures that it had
+pub lacking_table : (b : Bool) (old new : KeeperView) → MayBeCalled b old new → new.table ≡ old.table
+lacking_table true old new (inl same) = ap (λ (keeper : KeeperView). keeper.table) same
+lacking_table true old new (inr called) = ap (λ (keeper : KeeperView). keeper.table) called.is
+lacking_table false old new same = ap (λ (keeper : KeeperView). keeper.table) same
+
+pub lacking_faults : (b : Bool) (old new : KeeperView) → MayBeCalled b old new → new.faults ≡ old.faults
+lacking_faults true old new (inl same) = ap (λ (keeper : KeeperView). keeper.faults) same
+lacking_faults true old new (inr called) = ap (λ (keeper : KeeperView). keeper.faults) called.is
+lacking_faults false old new same = ap (λ (keeper : KeeperView). keeper.faults) same
+
+pub not_called : (b : Bool) (keeper : KeeperView) → MayBeCalled b keeper keeper
+not_called true keeper = inl refl
+not_called false keeper = refl
+
+-- a call that was refused for want of memory
+pub lacked : (b : Bool) (answer : Result (Unit {0}) KeepFault) (name : List ℕ) (value : Option (List ℕ)) (old new : KeeperView) → b ≡ true → Sets answer name value old new
+    → OnErr (kept_by answer) (MayBeCalled b old new)
+lacked b (Ok _) name value old new is sets = tt
+lacked b (Err faults.Failed) name value old new is sets = tt
+lacked b (Err faults.NoMemory) name value old new is sets = subst (λ (z : Bool). MayBeCalled z old new) (sym is) (inr sets)
 
 missed_rose : (old new : KeeperView) → KeeperFailed old new → Rose old.faults new.faults
 missed_rose old new missed = subst (λ (keeper : KeeperView). Rose old.faults keeper.faults) (sym missed.is) missed.rose

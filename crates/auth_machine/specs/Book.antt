@@ -5,17 +5,19 @@ use Rattle.fw_outside.specs.KeeperView.{KeeperView}
 use Rattle.fw_types.specs.declared.no_memory.NoMemory.{NoMemory}
 use Rattle.auth_events.specs.Port.{session_at}
 use Rattle.auth_events.specs.declared.entry.Entry.{Entry}
+use Rattle.auth_events.specs.declared.denial.Denial.TheVariants.{Full}
 use Rattle.auth_events.specs.declared.reply.Reply.{Reply}
+use Rattle.auth_events.specs.declared.reply.Reply.TheVariants.{Denied}
 use Rattle.auth_events.specs.declared.request.Request.{Request}
 use Rattle.auth_machine.specs.Answers.{full_of, is_unkept}
-use Rattle.auth_machine.specs.History.{CountsUnkept, HasRecords, IsLegal, Origin, after}
-use Rattle.auth_machine.specs.Keeping.{KeepsChange}
+use Rattle.auth_machine.specs.History.{CountsUnkept, HasRecords, IsLegal, IsSound, Origin, after}
+use Rattle.auth_machine.specs.Keeping.{IsCalledIf, KeepsChange, MayBeCalled}
 use Rattle.auth_machine.specs.Policy.{PolicyView}
 use Rattle.auth_machine.specs.State.{State}
 use Rattle.auth_machine.specs.Step.{keeps, proposed}
 
 -- the entries so far, how many fit, the policy and the loaded records, the keeper, how often it had failed when the book was
--- opened, and whether a request was answered that the history is full
+-- opened, whether a request was answered that the history is full, and how many requests were asked
 pub record BookView : Type 0 where
   pub history : List Entry
   pub limit : ℕ
@@ -23,10 +25,12 @@ pub record BookView : Type 0 where
   pub keeper : KeeperView
   pub failed_before : ℕ
   pub refused : Bool
+  pub asks : ℕ
 
--- the history is legal and fits, and is full where a request was refused for that; the state is that after it; the keeper
+-- the records that were loaded are sound; the history is legal and fits, and is full where a request was refused for that; the state is that after it; the keeper
 -- has the records, where it tells; and since the opening it failed at least as often as entries were not kept
 pub record Stands (history : List Entry) (limit : ℕ) (refused : Bool) (origin : Origin) (failed_before : ℕ) (keeper : KeeperView) (policy : PolicyView) (s : State) : Type 0 where
+  pub sound : IsSound origin
   pub policy_is : policy ≡ origin.policy
   pub state_is : s ≡ after origin history
   pub legal : IsLegal origin history
@@ -58,9 +62,12 @@ abbrev pub EntersAnswer : ℕ → ℕ → Request → Result Reply NoMemory → 
 EntersAnswer sid at request (Ok reply) limit before now = EntersReply (full_of reply) sid at request reply limit before now
 EntersAnswer sid at request (Err _) limit before now = now ≡ before
 
--- what asking answers and leaves of a history: it is legal and fits, whatever the answer
+-- what asking answers and leaves of a history: it is legal and fits, whatever the answer, and stands on sound records; where as
+-- many entries are there as fit, that is the answer, and never want of memory
 pub record Asked (sid at : ℕ) (request : Request) (limit : ℕ) (origin : Origin) (before : List Entry) (result : Result Reply NoMemory) (now : List Entry) : Type 0 where
   pub answers : EntersAnswer sid at request result limit before now
+  pub full : length before ≡ limit → result ≡ Ok (Denied (Full limit))
+  pub sound : IsSound origin
   pub legal : IsLegal origin now
   pub within : length now ≤ limit
 
@@ -75,6 +82,10 @@ refused_by (Err _) before = before
 
 -- ---- what it does to the keeper
 
+-- whether the machine has the records edited by this request, the next one after this history
+abbrev pub edits_records : ℕ → ℕ → Request → Origin → List Entry → Bool
+edits_records sid at request origin before = keeps origin.policy (after origin before) (length before) (session_at request (length before) sid) at request
+
 -- where the machine has it keep a record anew or drop one, the keeper has done so or has failed, and the entry says which;
 -- elsewhere it has what it had
 pub record KeeperFollows (origin : Origin) (before now : List Entry) (old new : KeeperView) : Type 0 where
@@ -87,9 +98,18 @@ abbrev pub KeeperAfterReply : Option ℕ → Origin → List Entry → List Entr
 KeeperAfterReply None origin before now old new = KeeperFollows origin before now old new
 KeeperAfterReply (Some told) origin before now old new = new ≡ old
 
-abbrev pub KeeperAfter : Result Reply NoMemory → Origin → List Entry → List Entry → KeeperView → KeeperView → Type 0
-KeeperAfter (Ok reply) origin before now old new = KeeperAfterReply (full_of reply) origin before now old new
-KeeperAfter (Err _) origin before now old new = new ≡ old
+abbrev pub KeeperAfter : Result Reply NoMemory → ℕ → ℕ → Request → Origin → List Entry → List Entry → KeeperView → KeeperView → Type 0
+KeeperAfter (Ok reply) sid at request origin before now old new = KeeperAfterReply (full_of reply) origin before now old new
+KeeperAfter (Err _) sid at request origin before now old new = MayBeCalled (edits_records sid at request origin before) old new
+
+-- the keeper is called once where a record changes, is made or is deleted, and elsewhere it isn't called
+abbrev pub CalledByReply : Option ℕ → Bool → KeeperView → KeeperView → Type 0
+CalledByReply None edits old new = IsCalledIf edits old new
+CalledByReply (Some told) edits old new = new.calls ≡ old.calls
+
+abbrev pub CalledBy : Result Reply NoMemory → Bool → KeeperView → KeeperView → Type 0
+CalledBy (Ok reply) edits old new = CalledByReply (full_of reply) edits old new
+CalledBy (Err _) edits old new = Unit {0}
 
 -- what is not kept the keeper has counted
 abbrev pub RoseIfUnkept : Result Reply NoMemory → KeeperView → KeeperView → Type 0

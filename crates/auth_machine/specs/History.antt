@@ -1,18 +1,24 @@
 -- Histories: which are legal, and what they leave.
-use Rattle.std.specs.Prelude.{◌≡◌, ℕ, suc, ◌+◌, ◌-◌, ◌^◌, ◌≤◌, min, true, false, List, [], ◌∷◌, map, IfSome, if◌then◌else◌}
+use Rattle.std.specs.Prelude.{◌≡◌, ℕ, suc, ◌+◌, ◌-◌, ◌^◌, ◌≤◌, min, true, false, All, List, [], ◌∷◌, map, IfSome, if◌then◌else◌}
 use Rattle.fw_outside.specs.KeeperView.{AreSame, NamedBytes, KeeperView}
-use Rattle.auth_records.specs.Spelling.{Fields, spelling}
+use Rattle.fw_types.specs.Keyed.{Ascends}
+use Rattle.auth_records.specs.Spelling.{Fields, HasForm, spelling}
 use Rattle.auth_events.specs.Port.{session_at}
 use Rattle.auth_events.specs.declared.entry.Entry.{Entry}
 use Rattle.auth_machine.specs.Answer.{answer_of}
 use Rattle.auth_machine.specs.Policy.{PolicyView}
-use Rattle.auth_machine.specs.State.{State, first_state}
+use Rattle.auth_machine.specs.State.{State, first_state, record_name}
 use Rattle.auth_machine.specs.Step.{answer, keeps, next_state}
 
 -- what a history stands on: the policy and the records that were loaded
 pub record Origin : Type 0 where
   pub policy : PolicyView
   pub records : List Fields
+
+-- the records that were loaded stand in the order of their names, each name once, and each has the form of a record
+pub record IsSound (origin : Origin) : Type 0 where
+  pub ordered : Ascends record_name origin.records
+  pub formed : All HasForm origin.records
 
 -- the state after one entry, and after several, the first of which has this place
 abbrev pub after_entry : PolicyView → State → ℕ → Entry → State

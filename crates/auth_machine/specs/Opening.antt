@@ -1,7 +1,7 @@
 -- Opening a book: what the records are that a keeper has, or which is the first bad one.
 use Rattle.std.specs.Prelude.{◌≡◌, ℕ, List, [], ◌∷◌, Result, Ok, Err, if◌then◌else◌}
 use Rattle.std.specs.Str.{bytes_eq}
-use Rattle.fw_outside.specs.KeeperView.{AreLoaded, KeeperFailed, NamedBytes, KeeperView}
+use Rattle.fw_outside.specs.KeeperView.{AreLoaded, IsCalled, KeeperFailed, NamedBytes, KeeperView}
 use Rattle.auth_records.specs.Reading.{decoded}
 use Rattle.auth_records.specs.Spelling.{Fields}
 use Rattle.auth_machine.specs.declared.open_fault.OpenFault.{OpenFault}
@@ -43,4 +43,4 @@ pub record ReadsAs (read : Result (List Fields) (List ℕ × ℕ)) (old new : Ke
 abbrev pub RefusesBook : OpenFault → KeeperView → KeeperView → Type 0
 RefusesBook LoadFault old new = KeeperFailed old new
 RefusesBook (BadRecord name at) old new = ReadsAs (Err (name, at)) old new
-RefusesBook NoMemory old new = new ≡ old
+RefusesBook NoMemory old new = IsCalled old new

@@ -28,6 +28,7 @@ book_port book = record {
   mine = places (length book.history);
   full = full_at book.limit book.history;
   refused = book.refused;
+  asks = book.asks;
   faults = 0;
   odd = 0;
   origin = book_origin book;

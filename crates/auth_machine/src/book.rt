@@ -1,9 +1,11 @@
-ghost use Rattle.std.specs.Prelude.{◌≡◌, ◌≤◌, [], IfErr, IfOk, IfSome, Ok, false, length};
+ghost use Rattle.std.specs.Prelude.{◌≡◌, ◌≤◌, All, [], IfErr, IfOk, IfSome, Ok, false, length};
 ghost use Rattle.std.specs.Bool.{OnTrue};
 ghost use Rattle.fw_types.specs.Keyed.{Ascends};
-ghost use Rattle.fw_outside.specs.KeeperView.{AreSame};
-ghost use Rattle.auth_machine.specs.Book.{KeeperAfter, Asked, RoseIfUnkept, Stands, refused_by};
-ghost use Rattle.auth_machine.specs.History.{CountsUnkept, HasRecords, IsLegal, entries_of};
+ghost use Rattle.fw_outside.specs.Counts.{Grew, counted};
+ghost use Rattle.fw_outside.specs.KeeperView.{AreSame, IsCalled};
+ghost use Rattle.auth_records.specs.Spelling.{HasForm};
+ghost use Rattle.auth_machine.specs.Book.{Asked, CalledBy, KeeperAfter, RoseIfUnkept, Stands, edits_records, refused_by};
+ghost use Rattle.auth_machine.specs.History.{CountsUnkept, HasRecords, IsLegal, IsSound, entries_of};
 ghost use Rattle.auth_machine.specs.Opening.{ReadsAs, RefusesBook};
 ghost use Rattle.auth_machine.specs.MachineState.{state_of};
 ghost use Rattle.auth_machine.specs.State.{record_name};
@@ -11,6 +13,7 @@ ghost use Rattle.auth_machine.specs.State.{record_name};
 use crate::loaded::Loaded;
 use crate::machine_state::MachineState;
 use crate::opening::load;
+use crate::room::make_room;
 use crate::step::{session_of, step};
 use crate::user_record::UserRecord;
 use crate::{OpenFault, Policy};
@@ -32,6 +35,7 @@ pub struct Book<K: Keeper> {
     history: Vec<Entry>,
     limit: u64,
     refused: bool,
+    asks: u64,
     origin: Snapshot<Loaded>,
 }
 
@@ -49,6 +53,7 @@ impl<K: Keeper> Model for Book<K> {
           K.keeper_view b.keeper;
       failed_before = (K.keeper_view b.at_opening.value).faults;
       refused = b.refused;
+      asks = b.asks;
     } };
 
     ghost invariant = { λ b. Stands b.history.items b.limit b.refused b.origin.value (K.keeper_view
@@ -64,7 +69,9 @@ impl<K: Keeper> Book<K> {
         records: Vec<UserRecord>,
         limit: u64,
     ) -> Book<K>
-        requires { IfSome (K.keeper_view keeper).table (λ table. AreSame table (entries_of records.items)) }
+        requires told { IfSome (K.keeper_view keeper).table (λ table. AreSame table (entries_of records.items)) }
+        requires ordered { Ascends record_name records.items }
+        requires formed { All HasForm records.items }
         ensures { result ≡ record {
           history = [];
           limit = limit;
@@ -75,8 +82,8 @@ impl<K: Keeper> Book<K> {
           };
           keeper = K.keeper_view keeper;
           failed_before = (K.keeper_view keeper).faults;
-          refused =
-              false;
+          refused = false;
+          asks = 0;
         } }
     {
         let loaded = Loaded { policy, records };
@@ -92,6 +99,7 @@ impl<K: Keeper> Book<K> {
             history: Vec::new(alloc),
             limit,
             refused: false,
+            asks: 0,
             origin,
         }
     }
@@ -101,7 +109,7 @@ impl<K: Keeper> Book<K> {
     /// # Errors
     ///
     /// `LoadFault` where the keeper failed, `BadRecord` with the least name under which no record with that name
-    /// stands, or `NoMemory`. The keeper comes back, and has what it had.
+    /// stands, or `NoMemory`. The keeper comes back, and has what it had; it was called once.
     pub fn open(
         alloc: Global,
         keeper: K,
@@ -109,13 +117,14 @@ impl<K: Keeper> Book<K> {
         limit: u64,
     ) -> Result<Book<K>, (K, OpenFault)>
         ensures reads { IfOk result (λ book. ReadsAs (Ok book.origin.records) (K.keeper_view keeper) book.keeper) }
-        ensures ordered { IfOk result (λ book. Ascends record_name book.origin.records) }
+        ensures sound { IfOk result (λ book. IsSound book.origin) }
         ensures encoded { IfOk result (λ book. HasRecords book.origin book.history book.keeper) }
-        ensures keeper { IfOk result (λ book. book.keeper ≡ K.keeper_view keeper) }
+        ensures keeper { IfOk result (λ book. IsCalled (K.keeper_view keeper) book.keeper) }
         ensures policy { IfOk result (λ book. book.origin.policy ≡ policy) }
         ensures history { IfOk result (λ book. book.history ≡ []) }
         ensures limit { IfOk result (λ book. book.limit ≡ limit) }
         ensures refused { IfOk result (λ book. book.refused ≡ false) }
+        ensures asks { IfOk result (λ book. book.asks ≡ 0) }
         ensures failed_before { IfOk result (λ book. book.failed_before ≡ (K.keeper_view keeper).faults) }
         ensures fault { IfErr result (λ e. RefusesBook e.1 (K.keeper_view keeper) (K.keeper_view e.0)) }
     {
@@ -126,22 +135,33 @@ impl<K: Keeper> Book<K> {
         }
     }
 
-    /// Asks this request for the session of this number, at this moment in seconds.
-    pub fn ask(&mut self, sid: u64, at: u64, request: Request) -> Result<Reply, NoMemory>
+    // Counts one more request.
+    fn count(&mut self)
+        ensures is { self.new ≡ record self.old { asks = counted self.old.asks } }
+        ensures counted { Grew 1 self.old.asks self.new.asks }
+    {
+        self.asks = self.asks.saturating_add(1);
+    }
+
+    // Enters this request with its reply, unless as many entries are there as fit.
+    fn enter(&mut self, sid: u64, at: u64, request: Request) -> Result<Reply, NoMemory>
         ensures asked { Asked sid at request self.old.limit self.old.origin self.old.history result self.new.history }
-        ensures keeper_follows { KeeperAfter result self.old.origin self.old.history self.new.history self.old.keeper
-            self.new.keeper }
+        ensures keeper_follows { KeeperAfter result sid at request self.old.origin self.old.history self.new.history
+            self.old.keeper self.new.keeper }
+        ensures keeper_called { CalledBy result (edits_records sid at request self.old.origin self.old.history)
+            self.old.keeper self.new.keeper }
         ensures keeper_failed { RoseIfUnkept result self.old.keeper self.new.keeper }
         ensures refused { self.new.refused ≡ refused_by result self.old.refused }
         ensures limit { self.new.limit ≡ self.old.limit }
         ensures origin { self.new.origin ≡ self.old.origin }
         ensures failed_before { self.new.failed_before ≡ self.old.failed_before }
+        ensures asks { self.new.asks ≡ self.old.asks }
     {
         if self.history.len() as u64 == self.limit {
             self.refused = true;
             return Ok(Reply::Denied(Denial::Full { limit: self.limit }));
         }
-        self.history.reserve(1)?;
+        make_room(&mut self.history)?;
         let place = self.history.len() as u64;
         let sid = session_of(&request, place, sid);
         let stepped = step(
@@ -165,9 +185,29 @@ impl<K: Keeper> Book<K> {
         Ok(reply)
     }
 
+    /// Asks this request for the session of this number, at this moment in seconds. Where as many entries are there as
+    /// fit it is answered that the history is full, which takes no memory.
+    pub fn ask(&mut self, sid: u64, at: u64, request: Request) -> Result<Reply, NoMemory>
+        ensures asked { Asked sid at request self.old.limit self.old.origin self.old.history result self.new.history }
+        ensures keeper_follows { KeeperAfter result sid at request self.old.origin self.old.history self.new.history
+            self.old.keeper self.new.keeper }
+        ensures keeper_called { CalledBy result (edits_records sid at request self.old.origin self.old.history)
+            self.old.keeper self.new.keeper }
+        ensures keeper_failed { RoseIfUnkept result self.old.keeper self.new.keeper }
+        ensures refused { self.new.refused ≡ refused_by result self.old.refused }
+        ensures limit { self.new.limit ≡ self.old.limit }
+        ensures origin { self.new.origin ≡ self.old.origin }
+        ensures failed_before { self.new.failed_before ≡ self.old.failed_before }
+        ensures counted { Grew 1 self.old.asks self.new.asks }
+    {
+        self.count();
+        self.enter(sid, at, request)
+    }
+
     /// All entries so far.
     pub fn history(&self) -> &[Entry]
         ensures is { result.now ≡ self.now.history }
+        ensures sound { IsSound self.now.origin }
         ensures legal { IsLegal self.now.origin result.now }
         ensures within { length result.now ≤ self.now.limit }
         ensures records { HasRecords self.now.origin self.now.history self.now.keeper }
@@ -188,6 +228,7 @@ impl<K: Keeper> Book<K> {
     pub fn close(self) -> (K, Vec<Entry>)
         ensures keeper { K.keeper_view result.0 ≡ self.keeper }
         ensures history { result.1.items ≡ self.history }
+        ensures sound { IsSound self.origin }
         ensures legal { IsLegal self.origin self.history }
         ensures records { HasRecords self.origin self.history self.keeper }
         ensures faults { CountsUnkept self.failed_before self.history self.keeper }

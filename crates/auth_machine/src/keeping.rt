@@ -2,7 +2,7 @@
 ghost use Rattle.std.specs.Prelude.{◌≡◌, IfOk, OnErr};
 ghost use Rattle.std.specs.Option.{option_copied};
 ghost use Rattle.auth_records.specs.Spelling.{Fields, spelling};
-ghost use Rattle.auth_machine.specs.Keeping.{Calls, KeepsChange, kept_by};
+ghost use Rattle.auth_machine.specs.Keeping.{Calls, KeepsChange, MayBeCalled, kept_by};
 ghost use Rattle.auth_machine.specs.State.{record_at};
 ghost use Rattle.auth_machine.specs.Step.{is_record_change, is_record};
 
@@ -48,7 +48,8 @@ fn put<K: Keeper>(
     ensures keeps { IfOk result (λ done.
         KeepsChange (is_record_change (RecordChange.Put user.now) records.now) (RecordChange.Put user.now) done
         (K.keeper_view keeper.old) (K.keeper_view keeper.new)) }
-    ensures same { OnErr result (K.keeper_view keeper.new ≡ K.keeper_view keeper.old) }
+    ensures lacks { OnErr result (MayBeCalled (is_record_change (RecordChange.Put user.now) records.now)
+        (K.keeper_view keeper.old) (K.keeper_view keeper.new)) }
 {
     let bytes = encode(alloc, &user.record)?;
     let current = record_at(records, &user.record.name);
@@ -68,7 +69,8 @@ pub(crate) fn keep<K: Keeper>(
     ensures keeps { IfOk result (λ kept.
         KeepsChange (is_record_change change.now records.now) change.now kept (K.keeper_view keeper.old) (K.keeper_view
         keeper.new)) }
-    ensures same { OnErr result (K.keeper_view keeper.new ≡ K.keeper_view keeper.old) }
+    ensures lacks { OnErr result (MayBeCalled (is_record_change change.now records.now) (K.keeper_view keeper.old)
+        (K.keeper_view keeper.new)) }
 {
     match change {
         RecordChange::Leave => Ok(true),

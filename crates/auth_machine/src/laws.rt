@@ -4,13 +4,14 @@ ghost use Rattle.std.specs.List.{AllByRecursion};
 ghost use Rattle.std.specs.Str.{bytes_eq};
 ghost use Rattle.fw_types.specs.Keyed.{Ascends};
 ghost use Rattle.auth_records.specs.Spelling.{Fields, OtpFields};
+ghost use Rattle.auth_events.specs.Fits.{Fits};
 ghost use Rattle.auth_events.specs.declared.denial.Denial.TheVariants as denials;
 ghost use Rattle.auth_events.specs.declared.entry.Entry.{Entry};
 ghost use Rattle.auth_events.specs.declared.reply.Reply.TheVariants as replies;
 ghost use Rattle.auth_events.specs.declared.reply.Summary.{Summary};
 ghost use Rattle.auth_events.specs.declared.request.Request.TheVariants as requests;
 ghost use Rattle.auth_machine.specs.Answer.{summary_profile};
-ghost use Rattle.auth_machine.specs.History.{IsLegal, Origin, after};
+ghost use Rattle.auth_machine.specs.History.{IsLegal, IsStep, Origin, after};
 ghost use Rattle.auth_machine.specs.Laws.{HasRankOf, IsGroupWizard, IsNewcomer, IsOutOfReach, SaysIfKept, ShowsLeast, ShowsNone};
 ghost use Rattle.auth_machine.specs.Logins.{FreesNone, HasLockOf, IsDenied, IsLockDenial, IsLocked, LoginStands, SomeLoginStands, phase_of, tries};
 ghost use Rattle.auth_machine.specs.Chains.{AreLeft, IsAcceptance, Lowers, SetsNone, accepted, later_word, otp_in_record};
@@ -114,4 +115,18 @@ pub fn group_wizards_stay_in_their_group()
 /// No entry of a history says that the history is full, and an entry says that it wasn't kept exactly where it wasn't.
 pub fn entries_say_if_kept()
     ensures { (origin : Origin) (history : List Entry) → IsLegal origin history → AllByRecursion SaysIfKept history }
+{}
+
+/// The last entry of a legal history is a step of the machine after those before it (`is_step`), and its reply fits its
+/// request (`fits`).
+pub fn the_last_entry_is_a_step()
+    ensures is_step { (origin : Origin) (before : List Entry) (entry : Entry) → IsLegal origin (before ++ entry ∷ [])
+        → IsStep origin.policy (after origin before) (length before) entry }
+    ensures fits { (origin : Origin) (before : List Entry) (entry : Entry) → IsLegal origin (before ++ entry ∷ [])
+        → Fits entry.request (length before) entry.reply }
+{}
+
+/// A front of a legal history is legal.
+pub fn a_front_is_legal()
+    ensures { (origin : Origin) (front more : List Entry) → IsLegal origin (front ++ more) → IsLegal origin front }
 {}

@@ -6,6 +6,7 @@ ghost use Rattle.auth_machine.specs.State.{at_moment, changed, first_state};
 use crate::apply::{change_challenges, change_records, change_sessions};
 use crate::change::Change;
 use crate::machine_ref::MachineRef;
+use crate::room::make_room;
 use crate::user_record::UserRecord;
 use crate::{Challenge, Session};
 use auth_events::Reply;
@@ -39,9 +40,9 @@ impl MachineState {
         ensures same { state_of self.new ≡ state_of self.old }
         ensures room { OnOk result (HasRoom self.new) }
     {
-        self.records.reserve(1)?;
-        self.sessions.reserve(1)?;
-        self.challenges.reserve(1)?;
+        make_room(&mut self.records)?;
+        make_room(&mut self.sessions)?;
+        make_room(&mut self.challenges)?;
         Ok(())
     }
 

@@ -1,7 +1,8 @@
 //! Reading all records that a keeper has.
-ghost use Rattle.std.specs.Prelude.{◌≡◌, Err, IfErr, IfOk, IfSome, MatchResult, Ok};
+ghost use Rattle.std.specs.Prelude.{◌≡◌, All, Err, IfErr, IfOk, IfSome, MatchResult, Ok};
 ghost use Rattle.fw_types.specs.Keyed.{Ascends};
-ghost use Rattle.fw_outside.specs.KeeperView.{AreSame};
+ghost use Rattle.fw_outside.specs.KeeperView.{AreSame, IsCalled};
+ghost use Rattle.auth_records.specs.Spelling.{HasForm};
 ghost use Rattle.auth_machine.specs.History.{record_entry, entries_of};
 ghost use Rattle.auth_machine.specs.Opening.{IsBadIn, ReadsAs, RefusesBook, record_in, records_in};
 ghost use Rattle.auth_machine.specs.State.{record_name};
@@ -20,6 +21,7 @@ const NAME_AT: usize = 14;
 fn read_entry(entry: &(Name, Octets)) -> Result<UserRecord, usize>
     ensures reads { MatchResult result (λ user. record_in entry.now ≡ Ok user) (λ at. record_in entry.now ≡ Err at) }
     ensures bytes { IfOk result (λ user. record_entry user ≡ entry.now) }
+    ensures formed { IfOk result HasForm }
 {
     match decode(entry.1.bytes()) {
         Err(fault) => Err(fault.at),
@@ -36,6 +38,7 @@ fn read_entry(entry: &(Name, Octets)) -> Result<UserRecord, usize>
 fn read_entries(alloc: Global, entries: &[(Name, Octets)]) -> Result<Vec<UserRecord>, OpenFault>
     ensures reads { IfOk result (λ records. records_in entries.now ≡ Ok records.items) }
     ensures bytes { IfOk result (λ records. entries_of records.items ≡ entries.now) }
+    ensures formed { IfOk result (λ records. All HasForm records.items) }
     ensures fault { IfErr result (IsBadIn entries.now) }
 {
     let mut records = Vec::new(alloc);
@@ -62,9 +65,10 @@ pub(crate) fn load<K: Keeper>(alloc: Global, keeper: &mut K) -> Result<Vec<UserR
     ensures reads { IfOk result (λ records.
         ReadsAs (Ok records.items) (K.keeper_view keeper.old) (K.keeper_view keeper.new)) }
     ensures ordered { IfOk result (λ records. Ascends record_name records.items) }
+    ensures formed { IfOk result (λ records. All HasForm records.items) }
     ensures told { IfOk result (λ records. IfSome (K.keeper_view keeper.new).table (λ table.
         AreSame table (entries_of records.items))) }
-    ensures same { IfOk result (λ records. K.keeper_view keeper.new ≡ K.keeper_view keeper.old) }
+    ensures called { IfOk result (λ _. IsCalled (K.keeper_view keeper.old) (K.keeper_view keeper.new)) }
     ensures refused { IfErr result (λ fault. RefusesBook fault (K.keeper_view keeper.old) (K.keeper_view keeper.new)) }
 {
     match keeper.load() {

@@ -1,7 +1,9 @@
 //! One step of the machine, with the keeper beside it.
 ghost use Rattle.std.specs.Prelude.{◌≡◌, IfOk, OnErr};
 ghost use Rattle.auth_events.specs.Port.{session_at};
+ghost use Rattle.auth_machine.specs.Keeping.{MayBeCalled};
 ghost use Rattle.auth_machine.specs.MachineState.{state_of};
+ghost use Rattle.auth_machine.specs.Step.{keeps};
 ghost use Rattle.auth_machine.specs.Stepping.{Steps};
 
 use crate::Policy;
@@ -45,7 +47,8 @@ pub(crate) fn step<K: Keeper>(
     ensures done { IfOk result (λ done. Steps policy.now place sid at request.now done.reply done.kept (state_of
         state.old) (state_of state.new) (K.keeper_view keeper.old) (K.keeper_view keeper.new)) }
     ensures state { OnErr result (state_of state.new ≡ state_of state.old) }
-    ensures keeper { OnErr result (K.keeper_view keeper.new ≡ K.keeper_view keeper.old) }
+    ensures keeper { OnErr result (MayBeCalled (keeps policy.now (state_of state.old) place sid at request.now)
+        (K.keeper_view keeper.old) (K.keeper_view keeper.new)) }
 {
     state.reserve()?;
     let change = change_of(policy, &state.at_moment(at), place, sid, request);

@@ -1,7 +1,8 @@
 ghost use Rattle.std.specs.Prelude.{◌≡◌, true};
 ghost use Rattle.authsrv_gate.specs.Dialogue.{rows, session_row};
 ghost use Rattle.authsrv_gate.specs.Session.{is_own, lent};
-ghost use Rattle.session_acts.specs.Causes.{Caused, SessionKeeps, TakesFor};
+ghost use Rattle.session_acts.specs.Causes.{SessionKeeps};
+ghost use Rattle.session_acts.specs.Serverless.{CausedAlone, TakesExactly};
 ghost use Rattle.session_acts.specs.Session.{Session};
 
 use crate::AuthsrvScript;
@@ -14,8 +15,8 @@ use session_acts::{Nowhere, Silent, session_over};
 /// The salts of new passwords come from the dice. It takes at most 2^40 bytes from the client.
 ///
 /// The answer is `Done` after `quit`, at the end of what the client says, or where the port denied to open a session;
-/// else why the session stopped, which the device that failed or was idle has counted. Where 2^40 bytes were taken it is
-/// `Spent`, and then nothing more is heard. After a stop, Close is asked of a session that is open and wasn't asked to
+/// else why the session stopped, which the device that failed or was idle has counted. It is `Spent` exactly
+/// where 2^40 bytes were taken, and then nothing more is heard. After a stop, Close is asked of a session that is open and wasn't asked to
 /// close; where the last Close gets no answer, the session isn't `Done`, but ends for that.
 pub fn authsrv_session<P: AuthPort, S: Source, K: Sink, C: Clock, R: Dice>(
     console: bool,
@@ -36,12 +37,12 @@ pub fn authsrv_session<P: AuthPort, S: Source, K: Sink, C: Clock, R: Dice>(
         (R.dice_view dice.old))
         (lent (P.port port.new) (S.source_view from.new) (K.sink_view to.new) (C.clock_view clock.new)
         (R.dice_view dice.new)) }
-    ensures caused { Caused result
+    ensures caused { CausedAlone result
         (lent (P.port port.old) (S.source_view from.old) (K.sink_view to.old) (C.clock_view clock.old)
         (R.dice_view dice.old))
         (lent (P.port port.new) (S.source_view from.new) (K.sink_view to.new) (C.clock_view clock.new)
         (R.dice_view dice.new)) }
-    ensures spent { TakesFor result
+    ensures spent { TakesExactly result
         (lent (P.port port.old) (S.source_view from.old) (K.sink_view to.old) (C.clock_view clock.old)
         (R.dice_view dice.old))
         (lent (P.port port.new) (S.source_view from.new) (K.sink_view to.new) (C.clock_view clock.new)

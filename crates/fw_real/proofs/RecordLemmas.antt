@@ -8,20 +8,20 @@ use Rattle.fw_real.specs.Statements.{Runs}
 use Rattle.fw_real.specs.declared.database.Database.{Database}
 
 -- the database that was open, or one that was opened for the call
-abbrev Was : Option Database → Database → Type 0
-Was old before = MatchOption old (IsOpen before) (λ database. before ≡ database)
+abbrev Was : List ℕ → Option Database → Database → Type 0
+Was path old before = MatchOption old (IsOpen path before) (λ database. before ≡ database)
 
-pub did_if_ok : {A : Type 0} (what : A → State → State → Type 0) (result : Result A KeepFault) (old : Option Database) (before after : Database)
-    → Was old before → (HasCleanDisk (shown_by after) → IfOk result (λ a. what a (shown_by before) (shown_by after)))
-    → IfOk result (λ a. Did (what a) old (Some after))
-did_if_ok what (Ok a) old before after was did = record { before = before; after = after; was = was; is = refl; did = did }
-did_if_ok what (Err fault) old before after was did = tt
+pub did_if_ok : {A : Type 0} (path : List ℕ) (what : A → State → State → Type 0) (result : Result A KeepFault) (old : Option Database) (before after : Database)
+    → Was path old before → (HasCleanDisk (shown_by after) → IfOk result (λ a. what a (shown_by before) (shown_by after)))
+    → IfOk result (λ a. Did path (what a) old (Some after))
+did_if_ok path what (Ok a) old before after was did = record { before = before; after = after; was = was; is = refl; did = did }
+did_if_ok path what (Err fault) old before after was did = tt
 
-pub did_if_err : {A : Type 0} (what : KeepFault → State → State → Type 0) (result : Result A KeepFault) (old : Option Database) (before after : Database)
-    → Was old before → (HasCleanDisk (shown_by after) → IfErr result (λ fault. what fault (shown_by before) (shown_by after)))
-    → IfErr result (λ fault. StaysClosedOrDid (what fault) old (Some after))
-did_if_err what (Ok a) old before after was did = tt
-did_if_err what (Err fault) old before after was did = inr (record { before = before; after = after; was = was; is = refl; did = did })
+pub did_if_err : {A : Type 0} (path : List ℕ) (what : KeepFault → State → State → Type 0) (result : Result A KeepFault) (old : Option Database) (before after : Database)
+    → Was path old before → (HasCleanDisk (shown_by after) → IfErr result (λ fault. what fault (shown_by before) (shown_by after)))
+    → IfErr result (λ fault. StaysClosedOrDid path (what fault) old (Some after))
+did_if_err path what (Ok a) old before after was did = tt
+did_if_err path what (Err fault) old before after was did = inr (record { before = before; after = after; was = was; is = refl; did = did })
 
 pub ran_if_ok : (text : List ℕ) (values : Row) (result : Result (Unit {0}) KeepFault) (old new : State)
     → Runs text values old new result → OnOk result (Runs text values old new (Ok (record {})))

@@ -1,6 +1,7 @@
 pub mod Disks
 pub mod Entries
 pub mod Moving
+pub mod Private
 pub mod Records
 pub mod Salts
 pub mod Seconds

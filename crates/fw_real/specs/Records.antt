@@ -1,5 +1,5 @@
 -- Records in a file.
-use Rattle.std.specs.Prelude.{◌≡◌, ◌⊎◌, ℕ, [], Option, Some, None, MatchOption, Ok}
+use Rattle.std.specs.Prelude.{◌≡◌, ◌⊎◌, ℕ, List, [], Option, Some, None, MatchOption, Ok}
 use Rattle.sqlite.specs.Files.{file_state, IsOpened}
 use Rattle.sqlite.specs.State.{State, HasCleanDisk, Executes}
 use Rattle.fw_outside.specs.Counts.{counted}
@@ -29,14 +29,18 @@ pub record IsReady (database : Database) : Type 0 where
   pub opened : IsOpened first.connection
   pub made : Executes create_text [] (shown_by first) (shown_by database) (Ok count)
 
-abbrev pub IsOpen : Database → Type 0
-IsOpen database = HasCleanDisk (shown_by database) → IsReady database
+abbrev pub IsReadyIfClean : Database → Type 0
+IsReadyIfClean database = HasCleanDisk (shown_by database) → IsReady database
 
--- this was done in the database that was open, or in one that was opened for it, and it is open now
-pub record Did (what : State → State → Type 0) (old new : Option Database) : Type 0 where
+-- it was opened by this path
+abbrev pub IsOpen : List ℕ → Database → Type 0
+IsOpen path database = (database.path.value ≡ path) × IsReadyIfClean database
+
+-- this was done in the database that was open, or in one that was opened for it by this path, and it is open now
+pub record Did (path : List ℕ) (what : State → State → Type 0) (old new : Option Database) : Type 0 where
   pub before : Database
   pub after : Database
-  pub was : MatchOption old (IsOpen before) (λ database. before ≡ database)
+  pub was : MatchOption old (IsOpen path before) (λ database. before ≡ database)
   pub is : new ≡ Some after
   pub did : HasCleanDisk (shown_by after) → what (shown_by before) (shown_by after)
 
@@ -45,5 +49,5 @@ abbrev pub StaysClosed : Option Database → Option Database → Type 0
 StaysClosed old new = (old ≡ None) × (new ≡ None)
 
 -- the file couldn't be opened, or this was done in it; so one that was open stays open
-abbrev pub StaysClosedOrDid : (State → State → Type 0) → Option Database → Option Database → Type 0
-StaysClosedOrDid what old new = StaysClosed old new ⊎ Did what old new
+abbrev pub StaysClosedOrDid : List ℕ → (State → State → Type 0) → Option Database → Option Database → Type 0
+StaysClosedOrDid path what old new = StaysClosed old new ⊎ Did path what old new

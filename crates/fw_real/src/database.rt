@@ -1,70 +1,65 @@
 //! The file of the records, while it is open.
-ghost use Rattle.std.specs.Prelude.{◌∷◌, [], IfOk, IfErr};
+ghost use Rattle.std.specs.Prelude.{◌≡◌, ◌∷◌, [], IfOk, IfErr};
 ghost use Rattle.sqlite.specs.Files.{IsOpened};
 ghost use Rattle.sqlite.specs.State.{HasCleanDisk};
 ghost use Rattle.sqlite.specs.declared.types.Value.TheVariants.{Text, Blob};
 ghost use Rattle.fw_types.specs.Keyed.{Ascends};
 ghost use Rattle.fw_outside.specs.KeeperView.{entry_name};
-ghost use Rattle.fw_real.specs.Records.{IsOpen, shown_by};
+ghost use Rattle.fw_real.specs.Records.{IsReadyIfClean, shown_by};
 ghost use Rattle.fw_real.specs.Statements.{FailsToLoad, Loads, Runs, drop_text, put_text, create_text};
 
+use crate::private::make_private;
 use crate::statements::{self, keep_fault_of};
 use fw_outside::KeepFault;
 use fw_types::{Name, Octets};
 use sqlite::{Connection, FileFrom, FileStore, Wary};
 use std::alloc::Global;
-use std::fs::OpenOptions;
-use std::io::{self, ErrorKind};
-use std::os::unix::fs::OpenOptionsExt;
+use std::snapshot::Snapshot;
 use std::str;
 
-/// An open file of records.
+/// An open file of records, and the path by which it was opened.
 pub(crate) struct Database {
     connection: Connection<FileStore<FileFrom<Wary>>>,
+    path: Snapshot<Octets>,
 }
 
 /// Closes the file: what its log holds is copied into it.
 impl Drop for Database {
     fn drop(self) {
-        let Database { connection } = self;
+        let Database {
+            connection,
+            path: _,
+        } = self;
         let _ = connection.close();
     }
 }
 
-// Makes an empty file that only its owner may read and write, where there is none of this path.
-fn make_private(system: &HostRuntime, path: &str) -> io::Result<()> {
-    let made = OpenOptions::new()
-        .write(true)
-        .create_new(true)
-        .mode(0o600)
-        .open(system, path);
-    match made {
-        Ok(_) => Ok(()),
-        Err(error) if error.kind() == ErrorKind::AlreadyExists => Ok(()),
-        Err(error) => Err(error),
-    }
-}
-
-fn connect(system: &HostRuntime, path: &str) -> Result<Database, KeepFault>
-    ensures { IfOk result (λ database. HasCleanDisk (shown_by database) → IsOpened database.connection) }
+// Opens the file of this path. That it is the file which stands there is the system's word.
+fn connect(system: &HostRuntime, path: &Octets) -> Result<Database, KeepFault>
+    ensures opened { IfOk result (λ database. HasCleanDisk (shown_by database) → IsOpened database.connection) }
+    ensures path { IfOk result (λ database. database.path.value ≡ path.now) }
 {
-    match Connection::open_from(system, path, false, Wary) {
-        Ok(connection) => Ok(Database { connection }),
+    let Ok(text) = str::from_utf8(path.bytes()) else {
+        return Err(KeepFault::Failed);
+    };
+    if make_private(system, text).is_err() {
+        return Err(KeepFault::Failed);
+    }
+    match Connection::open_from(system, text, false, Wary) {
+        Ok(connection) => Ok(Database {
+            connection,
+            path: Snapshot::of(path),
+        }),
         Err((error, _)) => Err(keep_fault_of(error)),
     }
 }
 
 impl Database {
     /// The database at the path, with the table of the records. Both are made where they are missing.
-    pub(crate) fn open(system: &HostRuntime, path: &[u8]) -> Result<Database, KeepFault>
-        ensures { IfOk result IsOpen }
+    pub(crate) fn open(system: &HostRuntime, path: &Octets) -> Result<Database, KeepFault>
+        ensures ready { IfOk result IsReadyIfClean }
+        ensures path { IfOk result (λ database. database.path.value ≡ path.now) }
     {
-        let Ok(path) = str::from_utf8(path) else {
-            return Err(KeepFault::Failed);
-        };
-        if make_private(system, path).is_err() {
-            return Err(KeepFault::Failed);
-        }
         let mut database = connect(system, path)?;
         database.make_table()?;
         Ok(database)
@@ -75,6 +70,7 @@ impl Database {
         ensures clean { HasCleanDisk (shown_by self.new) → HasCleanDisk (shown_by self.old) }
         ensures runs { HasCleanDisk (shown_by self.new) →
             Runs create_text [] (shown_by self.old) (shown_by self.new) result }
+        ensures path { self.new.path ≡ self.old.path }
     {
         statements::make_table(&mut self.connection)
     }

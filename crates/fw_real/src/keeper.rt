@@ -45,7 +45,7 @@ impl Records {
 
     // The open database, which is taken out, or the file opened.
     fn take_open(&mut self) -> Result<Database, KeepFault>
-        ensures open { IfOk result (λ database. MatchOption self.old.database (IsOpen database) (λ old.
+        ensures open { IfOk result (λ database. MatchOption self.old.database (IsOpen self.old.path database) (λ old.
             database ≡ old)) }
         ensures closed { OnErr result (StaysClosed self.old.database self.new.database) }
         ensures faults { self.new.faults ≡ self.old.faults }
@@ -54,15 +54,15 @@ impl Records {
     {
         match self.database.take() {
             Some(database) => Ok(database),
-            None => Database::open(&self.system, self.path.bytes()),
+            None => Database::open(&self.system, &self.path),
         }
     }
 
     fn put_in_file(&mut self, name: &Name, bytes: &[u8]) -> Result<(), KeepFault>
-        ensures did { OnOk result (Did (λ old new.
+        ensures did { OnOk result (Did self.old.path (λ old new.
             Runs put_text (Text name.now ∷ Blob bytes.now ∷ []) old new (Ok (record {}))) self.old.database
             self.new.database) }
-        ensures not_done { IfErr result (λ fault. StaysClosedOrDid (λ old new.
+        ensures not_done { IfErr result (λ fault. StaysClosedOrDid self.old.path (λ old new.
             Runs put_text (Text name.now ∷ Blob bytes.now ∷ []) old new (Err fault)) self.old.database
             self.new.database) }
         ensures faults { self.new.faults ≡ self.old.faults }
@@ -76,9 +76,9 @@ impl Records {
     }
 
     fn drop_in_file(&mut self, name: &Name) -> Result<(), KeepFault>
-        ensures did { OnOk result (Did (λ old new.
+        ensures did { OnOk result (Did self.old.path (λ old new.
             Runs drop_text (Text name.now ∷ []) old new (Ok (record {}))) self.old.database self.new.database) }
-        ensures not_done { IfErr result (λ fault. StaysClosedOrDid (λ old new.
+        ensures not_done { IfErr result (λ fault. StaysClosedOrDid self.old.path (λ old new.
             Runs drop_text (Text name.now ∷ []) old new (Err fault)) self.old.database self.new.database) }
         ensures faults { self.new.faults ≡ self.old.faults }
         ensures calls { self.new.calls ≡ self.old.calls }
@@ -92,9 +92,9 @@ impl Records {
 
     fn load_from_file(&mut self) -> Result<Vec<(Name, Octets)>, KeepFault>
         ensures ordered { IfOk result (λ loaded. Ascends entry_name loaded.items) }
-        ensures did { IfOk result (λ loaded. Did (λ old new.
+        ensures did { IfOk result (λ loaded. Did self.old.path (λ old new.
             Loads old new loaded.items) self.old.database self.new.database) }
-        ensures not_done { IfErr result (λ fault. StaysClosedOrDid (λ old new.
+        ensures not_done { IfErr result (λ fault. StaysClosedOrDid self.old.path (λ old new.
             FailsToLoad old new fault) self.old.database self.new.database) }
         ensures faults { self.new.faults ≡ self.old.faults }
         ensures calls { self.new.calls ≡ self.old.calls }
@@ -139,10 +139,10 @@ impl Keeper for Records {
     fn put(&mut self, name: &Name, bytes: &[u8]) -> Result<(), KeepFault>
         ensures sets { Sets result name.now (Some bytes.now) (untold_keeper self.old.faults self.old.calls)
             (untold_keeper self.new.faults self.new.calls) }
-        ensures did { OnOk result (Did (λ old new.
+        ensures did { OnOk result (Did self.old.path (λ old new.
             Runs put_text (Text name.now ∷ Blob bytes.now ∷ []) old new (Ok (record {}))) self.old.database
             self.new.database) }
-        ensures not_done { IfErr result (λ fault. StaysClosedOrDid (λ old new.
+        ensures not_done { IfErr result (λ fault. StaysClosedOrDid self.old.path (λ old new.
             Runs put_text (Text name.now ∷ Blob bytes.now ∷ []) old new (Err fault)) self.old.database
             self.new.database) }
         ensures path { self.new.path ≡ self.old.path }
@@ -159,9 +159,9 @@ impl Keeper for Records {
     fn drop_name(&mut self, name: &Name) -> Result<(), KeepFault>
         ensures sets { Sets result name.now None (untold_keeper self.old.faults self.old.calls)
             (untold_keeper self.new.faults self.new.calls) }
-        ensures did { OnOk result (Did (λ old new.
+        ensures did { OnOk result (Did self.old.path (λ old new.
             Runs drop_text (Text name.now ∷ []) old new (Ok (record {}))) self.old.database self.new.database) }
-        ensures not_done { IfErr result (λ fault. StaysClosedOrDid (λ old new.
+        ensures not_done { IfErr result (λ fault. StaysClosedOrDid self.old.path (λ old new.
             Runs drop_text (Text name.now ∷ []) old new (Err fault)) self.old.database self.new.database) }
         ensures path { self.new.path ≡ self.old.path }
     {
@@ -181,9 +181,9 @@ impl Keeper for Records {
         ensures refused { IfErr result (λ fault.
             Refuses fault (untold_keeper self.old.faults self.old.calls)
             (untold_keeper self.new.faults self.new.calls)) }
-        ensures did { IfOk result (λ loaded. Did (λ old new.
+        ensures did { IfOk result (λ loaded. Did self.old.path (λ old new.
             Loads old new loaded.items) self.old.database self.new.database) }
-        ensures not_done { IfErr result (λ fault. StaysClosedOrDid (λ old new.
+        ensures not_done { IfErr result (λ fault. StaysClosedOrDid self.old.path (λ old new.
             FailsToLoad old new fault) self.old.database self.new.database) }
         ensures path { self.new.path ≡ self.old.path }
     {

@@ -17,6 +17,7 @@ mod entries;
 mod file_disk;
 mod keeper;
 mod paths;
+mod private;
 mod raw_file;
 mod reading;
 mod slot_file;

@@ -4,11 +4,12 @@ ghost use Rattle.std.specs.Fmt.{decimal};
 ghost use Rattle.fw_real.specs.Slots.{slot_path};
 
 use crate::Place;
+use crate::private::make_private;
 use fw_types::{NoMemory, Octets};
 use std::alloc::{AllocError, Global};
 use std::fs::{self, DirBuilder, File, OpenOptions};
 use std::io::{self, ErrorKind};
-use std::os::unix::fs::{DirBuilderExt, OpenOptionsExt};
+use std::os::unix::fs::DirBuilderExt;
 use std::str;
 
 /// The file of a slot, `slotS` in the folder of the spool, where S is the slot's number in decimal.
@@ -67,20 +68,11 @@ fn or_there(answer: io::Result<()>) -> io::Result<()> {
     }
 }
 
-fn make_file(system: &HostRuntime, path: &str) -> io::Result<()> {
-    OpenOptions::new()
-        .write(true)
-        .create_new(true)
-        .mode(0o600)
-        .open(system, path)?
-        .sync_all()
-}
-
 // Makes the folder and the file where they are missing, for their owner alone, and sees to it that a crash leaves them
 // in their folders.
 fn make(system: &HostRuntime, folder: &str, path: &str) -> io::Result<()> {
     or_there(DirBuilder::new().mode(0o700).create(system, folder))?;
-    or_there(make_file(system, path))?;
+    make_private(system, path)?;
     fs::open(system, folder)?.sync_all()
 }
 

@@ -6,7 +6,7 @@
 use bastion::{Command, Device, Fault, World, places, read_command, run};
 use fw_memory::MemDice;
 use fw_outside::{Dice, Sink};
-use fw_real::{Paths, Reading, Records, Salts, SystemClock, Writing};
+use fw_real::{Paths, Reading, Records, Salts, StandardInput, SystemClock, Writing};
 use fw_types::Octets;
 use process::Process;
 use std::env;
@@ -26,6 +26,21 @@ fwtk(8) lists the exit statuses; netacl(8), authsrv(8) and netperm-table(5) have
 ";
 
 const VERSION: &[u8] = b"fwtk 2.1\n";
+
+/// Why the program stops.
+#[derive(Drop)]
+enum Stop {
+    /// For a fault of a run.
+    Fault(Fault),
+    /// The system gave no random bytes, so nothing was done.
+    NoRandomBytes,
+}
+
+impl From<Fault> for Stop {
+    fn from(fault: Fault) -> Stop {
+        Stop::Fault(fault)
+    }
+}
 
 // The words of the command line, or why there are none.
 fn read_words(rt: &HostRuntime) -> Result<Vec<Octets>, Fault> {
@@ -52,10 +67,19 @@ fn answer(words: &[Octets]) -> Option<&'static [u8]> {
     }
 }
 
-fn tell(rt: &HostRuntime, fault: Fault) -> u8 {
-    let line = fault.text();
-    let _ = Writing::new(rt.stderr()).give(line.as_slice());
-    fault.status()
+fn tell(rt: &HostRuntime, stop: &Stop) -> u8 {
+    let mut logs = Writing::new(rt.stderr());
+    match stop {
+        Stop::Fault(fault) => {
+            let line = fault.text();
+            let _ = logs.give(line.as_slice());
+            fault.status()
+        }
+        Stop::NoRandomBytes => {
+            let _ = logs.give(b"fault outside random\n");
+            4
+        }
+    }
 }
 
 // Whether the words ask for a session. No other command draws salts.
@@ -71,7 +95,7 @@ fn run_with<D: Dice>(
 ) -> Result<u8, Fault> {
     let mut world: World<Process<D>> = World {
         files: Paths::new(rt),
-        input: Reading::new(rt.stdin()),
+        input: Reading::new(StandardInput::of(rt.stdin())),
         output,
         logs: Writing::new(rt.stderr()),
         clock: SystemClock::new(rt),
@@ -81,27 +105,27 @@ fn run_with<D: Dice>(
     Ok(run(rt.alloc(), words, &mut world))
 }
 
-fn serve(rt: HostRuntime) -> Result<u8, Fault> {
+fn serve(rt: HostRuntime) -> Result<u8, Stop> {
     let words = read_words(&rt)?;
     let mut output = Writing::new(rt.stdout());
     if let Some(text) = answer(&words) {
         return match output.give(text) {
             Ok(()) => Ok(0),
-            Err(_) => Err(Fault::Outside(Device::Output)),
+            Err(_) => Err(Stop::Fault(Fault::Outside(Device::Output))),
         };
     }
     if !is_session(&words) {
-        return run_with(rt, &words, output, MemDice::new(0));
+        return Ok(run_with(rt, &words, output, MemDice::new(0))?);
     }
     match Salts::new(&rt) {
-        Ok(salts) => run_with(rt, &words, output, salts),
-        Err(_) => Err(Fault::Memory),
+        Ok(salts) => Ok(run_with(rt, &words, output, salts)?),
+        Err(_) => Err(Stop::NoRandomBytes),
     }
 }
 
 fn main(rt: HostRuntime) -> ExitCode {
     match serve(rt) {
         Ok(status) => ExitCode::from(status),
-        Err(fault) => ExitCode::from(tell(&rt, fault)),
+        Err(stop) => ExitCode::from(tell(&rt, &stop)),
     }
 }

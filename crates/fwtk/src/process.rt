@@ -2,8 +2,8 @@
 
 use bastion::Kit;
 use fw_outside::Dice;
-use fw_real::{Paths, Reading, Records, SystemClock, Writing};
-use std::io::{Stderr, Stdin, Stdout};
+use fw_real::{Paths, Reading, Records, StandardInput, SystemClock, Writing};
+use std::io::{Stderr, Stdout};
 use std::marker::PhantomData;
 
 /// The kinds of device that a process has, with dice of this kind.
@@ -15,7 +15,7 @@ pub struct Process<D: Dice> {
 impl<D: Dice> Kit for Process<D> {
     type Files = Paths<HostRuntime>;
 
-    type Input = Reading<Stdin>;
+    type Input = Reading<StandardInput>;
 
     type Output = Writing<Stdout>;
 

@@ -3,7 +3,9 @@
 use fw_outside::{Clock, Dice, Failed, Files, Got, Sink, Source};
 use fw_real::{Paths, Reading, Salts, SystemClock, Writing};
 use std::fs;
+use std::io::{self, ErrorKind};
 use std::test::Fail;
+use std::time::Duration;
 
 #[test]
 fn a_file_that_was_written_is_read(rt: HostRuntime) -> Result<(), Fail> {
@@ -51,5 +53,35 @@ fn the_clock_goes_and_salts_differ(rt: HostRuntime) -> Result<(), Fail> {
     let (mut salts, mut others) = (Salts::new(&rt)?, Salts::new(&rt)?);
     let (first, second) = (salts.salt(), salts.salt());
     assert!(rt; first != second && first != others.salt());
+    Ok(())
+}
+
+// A clock that stands at a moment, or can't be read.
+#[derive(Drop)]
+struct Still(Option<Duration>);
+
+impl std::time::Clock for Still {
+    fn monotonic(&self) -> io::Result<Duration> {
+        self.since_1970()
+    }
+
+    fn since_1970(&self) -> io::Result<Duration> {
+        match self.0 {
+            Some(duration) => Ok(duration),
+            None => Err(io::Error::from(ErrorKind::Other)),
+        }
+    }
+}
+
+#[test]
+fn now_is_the_seconds_of_the_system(rt: HostRuntime) -> Result<(), Fail> {
+    for (since, seconds) in [
+        (Some(Duration::from_millis(7_325_999)), 7325),
+        (Some(Duration::from_secs(u64::MAX)), u64::MAX),
+        (Some(Duration::from_millis(1)), 0),
+        (None, 0),
+    ] {
+        assert_eq!(rt; SystemClock::new(Still(since)).now(), seconds);
+    }
     Ok(())
 }

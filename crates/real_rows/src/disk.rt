@@ -36,7 +36,10 @@ fn a_slot_is_made_for_its_owner_and_kept(rt: HostRuntime) -> Result<(), Fail> {
     assert_eq!(rt; disk.sync(), Ok(()));
     let folder = fs::metadata(&rt, "real_rows_spool")?;
     let file = fs::metadata(&rt, "real_rows_spool/slot12")?;
-    assert_eq!(rt; (folder.mode() & 0o777, file.mode() & 0o777), (0o700, 0o600));
+    assert_eq!(rt;
+        (folder.mode() & 0o777, file.mode() & 0o777),
+        (0o700, 0o600)
+    );
     drop(disk);
     let mut again = opened(rt, b"real_rows_spool", 12)?;
     let mut buf = [0; 5];
@@ -118,7 +121,10 @@ impl RawFile for Halting {
         let place = self.place(at, self.len.min(8));
         let count = self.len.min(8).saturating_sub(place).min(2).min(buf.len());
         for i in 0..count {
-            if let (Some(to), Some(byte)) = (buf.get_mut(i), self.bytes.get(place.wrapping_add(i))) {
+            if let (Some(to), Some(byte)) = (
+                buf.get_mut(i),
+                self.bytes.get(place.wrapping_add(i)),
+            ) {
                 *to = *byte;
             }
         }
@@ -132,7 +138,10 @@ impl RawFile for Halting {
         let place = self.place(at, 8);
         let count = bytes.len().min(2);
         for i in 0..count {
-            if let (Some(to), Some(byte)) = (self.bytes.get_mut(place.wrapping_add(i)), bytes.get(i)) {
+            if let (Some(to), Some(byte)) = (
+                self.bytes.get_mut(place.wrapping_add(i)),
+                bytes.get(i),
+            ) {
                 *to = *byte;
             }
         }

@@ -8,3 +8,7 @@ mod devices;
 mod disk;
 #[cfg(test)]
 mod records;
+#[cfg(test)]
+mod streams;
+#[cfg(test)]
+mod threads;

@@ -80,11 +80,11 @@ faulted : (form : Form) (old new : Speaker) → Heeds form (Stopped stops.Failed
 faulted form old new h =
     subst (λ (s : Speaker). Rose old.inlet.faults s.inlet.faults) (sym h.is) (halted_faults h.listens.reads.taken_now old.inlet h.listens.middle h.inlet h.listens.reads.takes h.listens.closes.1)
 
-idled : (form : Form) (old new : Speaker) → Heeds form (Stopped stops.Idle) old new → Rose old.inlet.idles new.inlet.idles
+pub idled : (form : Form) (old new : Speaker) → Heeds form (Stopped stops.Idle) old new → Rose old.inlet.idles new.inlet.idles
 idled form old new h =
     subst (λ (s : Speaker). Rose old.inlet.idles s.inlet.idles) (sym h.is) (halted_idles h.listens.reads.taken_now old.inlet h.listens.middle h.inlet h.listens.reads.takes h.listens.closes.1)
 
-used_up : (form : Form) (old new : Speaker) → Heeds form (Stopped stops.Spent) old new → new.reader.room ≡ 0
+pub used_up : (form : Form) (old new : Speaker) → Heeds form (Stopped stops.Spent) old new → new.reader.room ≡ 0
 used_up form old new h = ap (λ (s : Speaker). s.reader.room) h.is ∙ eqb-true h.reader.room 0 (sym h.listens.spent)
 
 dropped : (text : List ℕ) (front : Front text) (old new : Speaker) → IsTold text (Err front) old new → Rose old.outlet.faults new.outlet.faults

@@ -1,5 +1,6 @@
 pub mod Acting
 pub mod AheadLemmas
+pub mod AloneLemmas
 pub mod CauseLemmas
 pub mod ClientLemmas
 pub mod CourseLemmas

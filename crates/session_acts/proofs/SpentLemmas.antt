@@ -108,7 +108,7 @@ module _ {Origin : Type 0} where
   closing_client None answer old new all = ap (λ (w : World Origin). w.client) (sym all)
   closing_client (Some sid) answer old new all = ap (λ (w : World Origin). w.client) (sym all.2) ∙ all.1.client
 
-  owed_client : (mid new : World Origin) (answer : Result Reply PortFault) → DeedsAll (owed mid answer) mid new → new.client ≡ mid.client
+  pub owed_client : (mid new : World Origin) (answer : Result Reply PortFault) → DeedsAll (owed mid answer) mid new → new.client ≡ mid.client
   owed_client mid new answer all =
       let parted = deeds_parted (freeing mid.server.link) (closing mid.office.opened answer) mid new all in
       closing_client mid.office.opened answer parted.mid new parted.after ∙ freeing_client mid.server.link mid parted.mid parted.before
@@ -121,15 +121,22 @@ module _ {Origin : Type 0} where
       let here = stopped rows left cause before mid comes in
       ap (λ (c : Cause). is_spent_ending (ending_by c)) here.why.is_cause ∙ stop_left here.act here.why.halt before mid here.why.met more none
 
-  pub session_spent : {P : Type 0} {rows : PlaceTable (acts Origin) P} {first : Row (acts Origin) P} {old new : Devices Origin} {ending : Ending} → Session rows first old new ending → TakesFor ending old new
-  session_spent {rows = rows} {old = old} {ending = ending} session =
+  -- where all was taken, the session ends by that
+  pub all_spent : {P : Type 0} {rows : PlaceTable (acts Origin) P} {first : Row (acts Origin) P} {old new : Devices Origin} {ending : Ending} (session : Session rows first old new ending)
+      → length (session_stays session).client.source.bytes ≡ most_taken → is_spent_ending ending ≡ true
+  all_spent {rows = rows} {old = old} session whole =
       let held = session.held in
       let start = at_first old session.names in
       let source = (session_stays session).client.source in
-      let room = source.room in
       let more : none_left held.ran.mid.client ≡ false = steps_left held.ran.steps start held.ran.mid held.ran.does refl in
       let same : session.last.client ≡ held.mid.client = owed_client held.mid session.last held.answer held.after in
+      ap is_spent_ending held.ends ∙ dialogue_left rows held.dialogue held.ran.left held.ran.mid held.mid held.mid.office.opened held.answer held.ran.comes more (sym (ap none_left same) ∙ none_by source.bytes session.last.client.reader.room source.room whole)
+
+  pub session_spent : {P : Type 0} {rows : PlaceTable (acts Origin) P} {first : Row (acts Origin) P} {old new : Devices Origin} {ending : Ending} → Session rows first old new ending → TakesFor ending old new
+  session_spent {old = old} {ending = ending} session =
+      let source = (session_stays session).client.source in
+      let room = source.room in
       subst (λ (d : Devices Origin). TakesFor ending old d) session.leaves (record {
         took = record { bytes = source.bytes; most = omega (arith, room); grew = source.grew; is = source.took };
-        all = λ whole. ap is_spent_ending held.ends ∙ dialogue_left rows held.dialogue held.ran.left held.ran.mid held.mid held.mid.office.opened held.answer held.ran.comes more (sym (ap none_left same) ∙ none_by source.bytes session.last.client.reader.room room whole);
+        all = λ whole. all_spent session whole;
       })

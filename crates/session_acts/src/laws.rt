@@ -17,7 +17,7 @@ ghost use Rattle.session_acts.specs.Hearing.{TakesHeard, heard_in};
 ghost use Rattle.session_acts.specs.LastStop.{StopsLast, one_lacked_memory};
 ghost use Rattle.session_acts.specs.Laws.{CallsDialer, CountsRefusals, LinksDialer, TellsClient, TellsLog, called, linked, logged, refused, told};
 ghost use Rattle.session_acts.specs.Met.{acts};
-ghost use Rattle.session_acts.specs.Serverless.{KeepsServerless};
+ghost use Rattle.session_acts.specs.Serverless.{CausedAlone, KeepsServerless, TakesExactly};
 ghost use Rattle.session_acts.specs.Session.{Held, Session, deeds_of};
 ghost use Rattle.session_acts.specs.Talk.{Entered, ThrowsSalts, answered, asked, is_entered, is_refused_as_full, said_of, thrown};
 ghost use Rattle.session_acts.specs.World.{Devices, World};
@@ -67,6 +67,15 @@ pub fn no_server_is_met<Origin, P>()
     ensures { (rows : PlaceTable (acts Origin) P) (first : Row (acts Origin) P) (old new : World Origin) (ending : Ending) →
         Held rows first old new ending → KeepsServerless rows first → old.server.link ≡ None →
         new.server ≡ old.server }
+{}
+
+/// A session whose rows speak with no server doesn't end by one, and is idle or spent only since the client was (`caused`).
+/// Of the client 2^40 bytes were taken exactly if the ending is `Spent` (`spent`). This holds over any dialer.
+pub fn no_server_ends_it<Origin, P>()
+    ensures caused { (rows : PlaceTable (acts Origin) P) (first : Row (acts Origin) P) (old new : Devices Origin)
+        (ending : Ending) → Session rows first old new ending → KeepsServerless rows first → CausedAlone ending old new }
+    ensures spent { (rows : PlaceTable (acts Origin) P) (first : Row (acts Origin) P) (old new : Devices Origin)
+        (ending : Ending) → Session rows first old new ending → KeepsServerless rows first → TakesExactly ending old new }
 {}
 
 /// A session asked each request for the session that it opened last and didn't ask to close, or for number 2^64 - 1

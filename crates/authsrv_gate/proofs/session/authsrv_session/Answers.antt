@@ -1,6 +1,7 @@
-use Rattle.authsrv_gate.proofs.SessionLemmas.{at_nowhere, own_by}
+use Rattle.authsrv_gate.proofs.SessionLemmas.{at_nowhere, exact, never, over_lent, own_by}
 use Rattle.authsrv_gate.specs.Dialogue.{rows, session_row}
-use Rattle.session_acts.specs.Causes.{Caused, SessionKeeps, TakesFor}
+use Rattle.session_acts.specs.Causes.{SessionKeeps}
+use Rattle.session_acts.specs.Serverless.{TakesExactly}
 use Rattle.session_acts.specs.Session.{Session}
 use Rattle.authsrv_gate.proofs.session.authsrv_session.Goals as goal
 
@@ -13,13 +14,12 @@ returns-clause-keeps g c =
     at_nowhere (λ old new. SessionKeeps old new) c.args.console _ _ c.session_over.result c.session_over.ensures.session c.new-dialer.ensures c.session_over.ensures.keeps
 
 pub returns-clause-caused : goal.returns-clause-caused
-returns-clause-caused g c =
-    at_nowhere (λ old new. Caused c.session_over.result old new) c.args.console _ _ c.session_over.result c.session_over.ensures.session c.new-dialer.ensures c.session_over.ensures.caused
+returns-clause-caused g c = over_lent c.args.console _ _ c.session_over.result c.session_over.ensures.session c.new-dialer.ensures
 
 pub returns-clause-spent : goal.returns-clause-spent
 returns-clause-spent g c =
-    at_nowhere (λ old new. TakesFor c.session_over.result old new) c.args.console _ _ c.session_over.result c.session_over.ensures.session c.new-dialer.ensures c.session_over.ensures.spent
+    at_nowhere (λ old new. TakesExactly c.session_over.result old new) c.args.console _ _ c.session_over.result c.session_over.ensures.session c.new-dialer.ensures (exact c.args.console _ _ c.session_over.result c.session_over.ensures.session)
 
 pub returns-clause-own : goal.returns-clause-own
 returns-clause-own g c =
-    own_by c.session_over.result _ _ _ _ _ _ _ _ _ _ (at_nowhere (λ old new. Caused c.session_over.result old new) c.args.console _ _ c.session_over.result c.session_over.ensures.session c.new-dialer.ensures c.session_over.ensures.caused)
+    own_by c.session_over.result _ _ (over_lent c.args.console _ _ c.session_over.result c.session_over.ensures.session c.new-dialer.ensures) never

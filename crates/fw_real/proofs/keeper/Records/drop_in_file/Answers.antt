@@ -10,7 +10,7 @@ returns-clause-did c =
     let before = c.in_ok-database.database in
     let after = c.drop_name-answer.new.self in
     let values = Text c.args.name.now ∷ [] in
-    did_if_ok (λ it old new. Runs drop_text values old new (Ok (record {}))) c.drop_name-answer.result c.args.self.now.database before after c.in_ok-database.ensures.open
+    did_if_ok c.args.self.now.path (λ it old new. Runs drop_text values old new (Ok (record {}))) c.drop_name-answer.result c.args.self.now.database before after c.in_ok-database.ensures.open
     (λ clean. ran_if_ok drop_text values c.drop_name-answer.result (shown_by before) (shown_by after) (c.drop_name-answer.ensures clean))
 
 pub returns-clause-not_done : goal.returns-clause-not_done
@@ -18,5 +18,5 @@ returns-clause-not_done c =
     let before = c.in_ok-database.database in
     let after = c.drop_name-answer.new.self in
     let values = Text c.args.name.now ∷ [] in
-    did_if_err (λ fault old new. Runs drop_text values old new (Err fault)) c.drop_name-answer.result c.args.self.now.database before after c.in_ok-database.ensures.open
+    did_if_err c.args.self.now.path (λ fault old new. Runs drop_text values old new (Err fault)) c.drop_name-answer.result c.args.self.now.database before after c.in_ok-database.ensures.open
     (λ clean. ran_if_err drop_text values c.drop_name-answer.result (shown_by before) (shown_by after) (c.drop_name-answer.ensures clean))

@@ -10,7 +10,7 @@ returns-clause-did c =
     let before = c.in_ok-database.database in
     let after = c.put-answer.new.self in
     let values = Text c.args.name.now ∷ Blob c.args.bytes.now ∷ [] in
-    did_if_ok (λ it old new. Runs put_text values old new (Ok (record {}))) c.put-answer.result c.args.self.now.database before after c.in_ok-database.ensures.open
+    did_if_ok c.args.self.now.path (λ it old new. Runs put_text values old new (Ok (record {}))) c.put-answer.result c.args.self.now.database before after c.in_ok-database.ensures.open
     (λ clean. ran_if_ok put_text values c.put-answer.result (shown_by before) (shown_by after) (c.put-answer.ensures clean))
 
 pub returns-clause-not_done : goal.returns-clause-not_done
@@ -18,5 +18,5 @@ returns-clause-not_done c =
     let before = c.in_ok-database.database in
     let after = c.put-answer.new.self in
     let values = Text c.args.name.now ∷ Blob c.args.bytes.now ∷ [] in
-    did_if_err (λ fault old new. Runs put_text values old new (Err fault)) c.put-answer.result c.args.self.now.database before after c.in_ok-database.ensures.open
+    did_if_err c.args.self.now.path (λ fault old new. Runs put_text values old new (Err fault)) c.put-answer.result c.args.self.now.database before after c.in_ok-database.ensures.open
     (λ clean. ran_if_err put_text values c.put-answer.result (shown_by before) (shown_by after) (c.put-answer.ensures clean))

@@ -3,12 +3,12 @@ use Rattle.fw_outside.specs.Counts.{Rose}
 use Rattle.auth_events.specs.Port.{session_at}
 use Rattle.auth_events.specs.declared.entry.Entry.{Entry}
 use Rattle.auth_events.specs.declared.reply.Reply.{Reply}
-use Rattle.auth_machine.proofs.BookLemmas.{asked_with, kept_with, same_session, stands_with, step_not_full, step_rose}
+use Rattle.auth_machine.proofs.BookLemmas.{asked_with, called_with, kept_with, same_session, stands_with, step_not_full, step_rose}
 use Rattle.auth_machine.specs.Answers.{full_of, is_unkept}
-use Rattle.auth_machine.specs.Book.{Asked, BookView, KeeperAfterReply, Stands, refused_after}
+use Rattle.auth_machine.specs.Book.{Asked, BookView, CalledByReply, KeeperAfterReply, Stands, edits_records, refused_after}
 use Rattle.auth_machine.specs.MachineState.{state_of}
 use Rattle.auth_machine.specs.Stepping.{Steps}
-use Rattle.auth_machine.proofs.book.Book.ask.Goals as goal
+use Rattle.auth_machine.proofs.book.Book.enter.Goals as goal
 
 pub invariant_of-self-2 : goal.invariant_of-self-2
 invariant_of-self-2 g c =
@@ -48,6 +48,16 @@ returns-clause-keeper_follows g c =
     (subst (λ (entries : List Entry). KeeperAfterReply (full_of c.in_ok-stepped.stepped.reply) c.self.inside.origin.value c.self.inside.history.items entries (g.K.Keeper.keeper_view c.self.inside.keeper) (g.K.Keeper.keeper_view c.step.new.keeper)) (sym items)
     (kept_with c.self.inside.origin.value c.self.inside.history.items c.self.inside.limit c.self.inside.refused (g.K.Keeper.keeper_view c.self.inside.at_opening.value).faults c.self.inside.policy (state_of c.self.inside.state) (state_of c.step.new.state) c.len-place.result c.session_of-sid.result c.args.at c.args.request
     c.in_ok-stepped.stepped.reply c.in_ok-stepped.stepped.kept (g.K.Keeper.keeper_view c.self.inside.keeper) (g.K.Keeper.keeper_view c.step.new.keeper) c.self.invariant place step)))
+
+pub returns-clause-keeper_called : goal.returns-clause-keeper_called
+returns-clause-keeper_called g c =
+    let step : Steps c.self.inside.policy c.len-place.result c.session_of-sid.result c.args.at c.args.request c.in_ok-stepped.stepped.reply c.in_ok-stepped.stepped.kept
+    (state_of c.self.inside.state) (state_of c.step.new.state) (g.K.Keeper.keeper_view c.self.inside.keeper) (g.K.Keeper.keeper_view c.step.new.keeper) = search rules in
+    let place : c.len-place.result ≡ length c.self.inside.history.items = search rules in
+    subst (λ (b : BookView). CalledByReply (full_of c.twin-reply.result) (edits_records c.args.sid c.args.at c.args.request b.origin b.history) b.keeper (g.K.Keeper.keeper_view c.step.new.keeper)) c.self.view_is
+    (subst (λ (r : Reply). CalledByReply (full_of r) (edits_records c.args.sid c.args.at c.args.request c.self.inside.origin.value c.self.inside.history.items) (g.K.Keeper.keeper_view c.self.inside.keeper) (g.K.Keeper.keeper_view c.step.new.keeper)) (sym c.twin-reply.ensures)
+    (called_with c.self.inside.origin.value c.self.inside.history.items c.self.inside.limit c.self.inside.refused (g.K.Keeper.keeper_view c.self.inside.at_opening.value).faults c.self.inside.policy (state_of c.self.inside.state) (state_of c.step.new.state) c.len-place.result c.args.sid c.session_of-sid.result c.args.at c.args.request
+    c.in_ok-stepped.stepped.reply c.in_ok-stepped.stepped.kept (g.K.Keeper.keeper_view c.self.inside.keeper) (g.K.Keeper.keeper_view c.step.new.keeper) c.self.invariant place c.session_of-sid.ensures step))
 
 pub returns-clause-keeper_failed : goal.returns-clause-keeper_failed
 returns-clause-keeper_failed g c unkept =

@@ -1,0 +1,116 @@
+//! Streams that are interrupted, come late, or are sockets.
+
+use fw_outside::{Failed, Got, Sink, Source};
+use fw_real::{Reading, StandardInput, Timed, Writing};
+use std::io::{self, ErrorKind, Read, Write};
+use std::net::{TcpListener, TcpStream};
+use std::test::Fail;
+
+fn error(kind: ErrorKind) -> io::Error {
+    io::Error::from(kind)
+}
+
+// A stream whose first read and flush are interrupted. Then it gives a byte, is late, fails, and ends; the second flush
+// fails. It can't be told to wait 7 seconds.
+#[derive(Drop)]
+struct Uneven {
+    calls: u32,
+}
+
+impl Uneven {
+    fn call(&mut self) -> u32 {
+        self.calls = self.calls.saturating_add(1);
+        self.calls
+    }
+}
+
+impl Read for Uneven {
+    fn read(&mut self, buf: &mut [u8]) -> io::Result<usize> {
+        match (self.call(), buf.first_mut()) {
+            (1, _) => Err(error(ErrorKind::Interrupted)),
+            (2, Some(first)) => {
+                *first = b'x';
+                Ok(1)
+            }
+            (3, _) => Err(error(ErrorKind::WouldBlock)),
+            (4, _) => Err(error(ErrorKind::Other)),
+            _ => Ok(0),
+        }
+    }
+}
+
+impl Write for Uneven {
+    fn write(&mut self, _: &[u8]) -> io::Result<usize> {
+        Ok(0)
+    }
+
+    fn flush(&mut self) -> io::Result<()> {
+        match self.call() {
+            1 => Err(error(ErrorKind::Interrupted)),
+            3 => Err(error(ErrorKind::Other)),
+            _ => Ok(()),
+        }
+    }
+}
+
+impl Timed for Uneven {
+    fn set_wait(&self, seconds: u32) -> io::Result<()> {
+        if seconds == 7 {
+            return Err(error(ErrorKind::InvalidInput));
+        }
+        Ok(())
+    }
+
+    fn is_late(&self, fault: &io::Error) -> bool {
+        fault.kind() == ErrorKind::WouldBlock
+    }
+}
+
+#[test]
+fn late_and_failed_reads_are_told_apart(rt: HostRuntime) -> Result<(), Fail> {
+    let mut source = Reading::new(Uneven { calls: 0 });
+    let mut buf = [0; 2];
+    assert_eq!(rt; source.take(&mut buf), Ok(Got::Bytes(1)));
+    assert_eq!(rt; source.take(&mut buf), Ok(Got::Idle));
+    assert_eq!(rt; source.take(&mut buf), Err(Failed));
+    source.patience(7);
+    assert_eq!(rt; source.take(&mut buf), Err(Failed));
+    source.patience(8);
+    assert_eq!(rt; source.take(&mut buf), Ok(Got::End));
+    Ok(())
+}
+
+#[test]
+fn a_flush_goes_on_or_fails(rt: HostRuntime) -> Result<(), Fail> {
+    let mut sink = Writing::new(Uneven { calls: 0 });
+    assert_eq!(rt; sink.end(), Ok(()));
+    assert_eq!(rt; sink.end(), Err(Failed));
+    assert_eq!(rt; sink.give(b"x"), Err(Failed));
+    Ok(())
+}
+
+#[test]
+fn a_silent_or_stalled_socket_is_left(rt: HostRuntime) -> Result<(), Fail> {
+    let door = TcpListener::bind(&rt, "127.0.0.1:0")?;
+    let mut peer = TcpStream::connect(&rt, door.local_addr()?)?;
+    let (socket, _) = door.accept()?;
+    let mut sink = Writing::new(socket.try_clone()?);
+    let mut source = Reading::new(StandardInput::Socket(socket));
+    let mut buf = [0; 8];
+    source.patience(1);
+    assert_eq!(rt; source.take(&mut buf), Ok(Got::Idle));
+    source.patience(0);
+    assert_eq!(rt; source.take(&mut buf), Ok(Got::Idle));
+    peer.write_all(b"text")?;
+    source.patience(60);
+    assert_eq!(rt; source.take(&mut buf), Ok(Got::Bytes(4)));
+    source.patience(1);
+    let mut stalled = false;
+    for _ in 0..100 {
+        stalled = stalled || sink.give(&[0; 1_000_000]).is_err();
+    }
+    assert!(rt; stalled);
+    drop(peer);
+    assert_eq!(rt; sink.give(b"x"), Err(Failed));
+    Ok(())
+}
