@@ -1,4 +1,4 @@
-ghost use Rattle.std.specs.Prelude.{◌≡◌, Ok, IfOk, IfErr};
+ghost use Rattle.std.specs.Prelude.{◌≡◌, is_ok, Ok, IfOk, IfErr, IsTrue};
 ghost use Rattle.auth_machine.specs.Operations.{operation_verdict};
 ghost use Rattle.auth_machine.specs.Policy.{HasEach, is_one, policy_of};
 ghost use Rattle.gate_rules.specs.Reading.{IsFaultIn, rules_of};
@@ -7,7 +7,7 @@ ghost use Rattle.gate_rules.specs.declared.service.Service.TheVariants.{Authsrv}
 use crate::operation::OperationLine;
 use crate::operations::{operation_lines, operation_verdict};
 use auth_events::OpService;
-use fw_types::{Host, Name};
+use fw_types::{Host, Name, NoMemory};
 use gate_rules::{Rules, RulesFault, Service, Setting, Verdict};
 use netperm_table::Table;
 use std::alloc::Global;
@@ -50,13 +50,28 @@ impl Policy {
     /// # Errors
     ///
     /// `Rule` with the first line of `authsrv` that can't be read, whatever it is about, and the cause of its leftmost
-    /// bad word. Or `NoMemory`.
+    /// bad word. Or `NoMemory`, only where each of those lines can be read.
     pub fn of(alloc: Global, table: &Table) -> Result<Policy, RulesFault>
         ensures ok { IfOk result (λ policy. policy_of table.now ≡ Ok policy) }
         ensures each { IfOk result (HasEach table.now) }
         ensures fault { IfErr result (IsFaultIn (rules_of Authsrv table.now)) }
+        ensures memory { IfErr result (λ e. e ≡ RulesFault.NoMemory →
+            IsTrue (is_ok (rules_of Authsrv table.now))) }
     {
         let rules = Rules::of(alloc, table, &Service::Authsrv)?;
+        Ok(Policy::beside(alloc, table, &rules)?)
+    }
+
+    /// The same for a table whose rules for the server were read, so that its lines aren't read again for faults.
+    ///
+    /// # Errors
+    ///
+    /// `NoMemory`.
+    pub fn beside(alloc: Global, table: &Table, rules: &Rules) -> Result<Policy, NoMemory>
+        requires { rules_of Authsrv table.now ≡ Ok rules.now }
+        ensures ok { IfOk result (λ policy. policy_of table.now ≡ Ok policy) }
+        ensures each { IfOk result (HasEach table.now) }
+    {
         let operations = operation_lines(alloc, table.lines())?;
         Ok(Policy {
             bad_sleep: rules.setting(Setting::BadSleep).map(|set| set.0),
