@@ -21,7 +21,7 @@ use std::process::ExitCode;
 use std::{env, fs, io, str};
 
 // So many entries fit into memory as the book's limits count on.
-const _: () = prove!(size_of::<Entry>() <= 512);
+const _: () = prove!(size_of::<Entry>() == 480);
 
 #[derive(Clone, Copy)]
 struct Count {

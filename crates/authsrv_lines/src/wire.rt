@@ -3,6 +3,7 @@ ghost use Rattle.authsrv_lines.specs.Fault.{wire_fault_text};
 
 use auth_events::Request;
 use fw_types::Name;
+use thiserror::Error;
 
 /// What a line asks for.
 #[derive(Drop)]
@@ -18,17 +19,22 @@ pub enum Wire {
 }
 
 /// Why a line asks for nothing.
-#[derive(Clone, Copy, Debug, PartialEq, Eq)]
+#[derive(Clone, Copy, Debug, PartialEq, Eq, Error)]
 pub enum WireFault {
     /// It has more than 512 bytes without its end.
+    #[error("long line")]
     LongLine,
     /// It has nothing but blanks.
+    #[error("empty line")]
     Empty,
     /// Its first word is no command.
+    #[error("unknown command")]
     Unknown,
     /// The command's words are too few or too many, or one is out of form.
+    #[error("wrong words")]
     Words,
     /// The name of a user or of a group is not a valid name.
+    #[error("bad name")]
     BadName,
 }
 

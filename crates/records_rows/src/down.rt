@@ -7,6 +7,7 @@ use row_lines::{Told, add, add_number};
 /// A port whose link is down.
 #[derive(Drop)]
 struct Down {
+    asks: u64,
     faults: u64,
 }
 
@@ -18,6 +19,7 @@ impl AuthPort for Down {
       mine = [];
       full = None;
       refused = false;
+      asks = down.asks;
       faults = down.faults;
       odd = 0;
       origin = 7;
@@ -25,6 +27,7 @@ impl AuthPort for Down {
     } };
 
     fn ask(&mut self, _sid: u64, _at: u64, _request: Request) -> Result<Reply, PortFault> {
+        self.asks = self.asks.saturating_add(1);
         self.faults = self.faults.saturating_add(1);
         Err(PortFault::Link)
     }
@@ -44,7 +47,7 @@ fn visit<P: AuthPort>(port: &mut P) -> Result<(), PortFault>
 
 /// `port down => Link N`: what a session at a port whose link is down comes to, and how often it failed.
 pub(crate) fn tell_port(out: &mut Told) {
-    let mut port = Down { faults: 0 };
+    let mut port = Down { asks: 0, faults: 0 };
     match visit(&mut port) {
         Ok(()) => add(out, b"ok"),
         Err(PortFault::NoMemory) => add(out, b"NoMemory"),

@@ -13,6 +13,7 @@ use std::alloc::Global;
 /// A port whose link is down.
 #[derive(Drop)]
 struct Down {
+    asks: u64,
     faults: u64,
 }
 
@@ -24,6 +25,7 @@ impl AuthPort for Down {
       mine = [];
       full = None;
       refused = false;
+      asks = down.asks;
       faults = down.faults;
       odd = 0;
       origin = 7;
@@ -31,6 +33,7 @@ impl AuthPort for Down {
     } };
 
     fn ask(&mut self, _sid: u64, _at: u64, _request: Request) -> Result<Reply, PortFault> {
+        self.asks = self.asks.saturating_add(1);
         self.faults = self.faults.saturating_add(1);
         Err(PortFault::Link)
     }
@@ -122,7 +125,7 @@ fn hold<S: Source, K: Sink, G: Sink, D: Dialer>(
             port: 7,
         },
     };
-    let mut port = Down { faults: 0 };
+    let mut port = Down { asks: 0, faults: 0 };
     let mut clock = MemClock::new(Vec::new(alloc));
     let mut dice = MemDice::new(0);
     session_over(
