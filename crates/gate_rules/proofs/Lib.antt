@@ -1,5 +1,9 @@
-pub mod OptionsBuilderLemmas
 pub mod LawLemmas
+pub mod LeftmostLemmas
+pub mod LineFaultLemmas
 pub mod ListsLemmas
+pub mod OptionCheckLemmas
+pub mod OptionsBuilderLemmas
 pub mod RulesLemmas
+pub mod StaysLemmas
 pub mod WordsLemmas

@@ -1,6 +1,8 @@
 -- Lists that are read word by word.
 use Rattle.std.proofs.Common.{◌≡◌, ℕ, ◌+◌, ◌≤◌, Bool, true, false, List, [], ◌∷◌, ◌++◌, length, refl, drop, take, sym, ◌∙◌, ap, arith}
-use Rattle.std.specs.Prelude.{cond, if◌then◌else◌, filter_map, nat_lt, ◌==◌, Option, Result, Ok, Err}
+use Rattle.std.specs.Prelude.{cond, if◌then◌else◌, filter_map, nat_lt, ◌==◌, Option, Some, None, Result, Ok, Err}
+use Rattle.std.specs.Option.{option_or}
+use Rattle.std.specs.Result.{result_err}
 use Rattle.std.specs.List.{list_all, enumerate_from}
 use Rattle.std.proofs.lemmas.Bool.Decides.{nat_tests}
 use Rattle.std.proofs.lemmas.List.{append-nil, drop_all, length-take, take_all}
@@ -9,8 +11,10 @@ use Rattle.host_pattern.specs.PatternList.{bad, good, list_parsed, unless_any_ba
 use Rattle.host_pattern.specs.declared.fault.ListFault.{ListFault}
 use Rattle.host_pattern.specs.declared.fault.PatternFault.{PatternFault}
 use Rattle.host_pattern.specs.declared.word.Word.{Word}
-use Rattle.gate_rules.specs.declared.fault.Why.TheVariants.{BadPattern, TooMany}
-use Rattle.gate_rules.specs.Lists.{is_pattern, is_verb_word, patterns_of, verb_in, verbs_of}
+use Rattle.gate_rules.specs.declared.fault.Why.{Why}
+use Rattle.gate_rules.specs.declared.fault.Why.TheVariants.{BadPattern, NoHosts, TooMany}
+use Rattle.gate_rules.specs.Faults.{nothing_fault}
+use Rattle.gate_rules.specs.Lists.{alone, is_pattern, is_verb_word, patterns_of, verb_in, verbs_of}
 
 -- all were tested
 pub all_at_end : {X : Type 0} (p : X → Bool) (few : List X) (i : ℕ) → length few ≤ i → list_all p (drop i few) ≡ list_all p few → list_all p few ≡ true
@@ -91,3 +95,22 @@ verbs_are words few verbs first some short all items =
     let every : list_all is_verb_word (take 32 words) ≡ true = ap (list_all is_verb_word) (sym first) ∙ all in
     let within : nat_lt 32 (length words) ≡ false = grind (arith, nat_tests) in
     rw (some, every, within) (ap Ok (items ∙ ap (filter_map verb_in) (first ∙ whole)))
+
+-- faults alone
+
+pub too_many_fault : (words : List Word) (few : List Word) (patterns : List Written) → few ≡ take 64 words → (length words == 0) ≡ false → list_parsed few ≡ Ok patterns
+    → (if nat_lt 64 (length words) then Some TooMany else None) ≡ result_err (patterns_of words)
+too_many_fault words few patterns first some read = by (nat_lt 64 (length words)) (members_read words few patterns first some read)
+  where
+    by : (v : Bool) → cond v (Err TooMany) (Ok patterns) ≡ patterns_of words → cond v (Some TooMany) None ≡ result_err (patterns_of words)
+    by true e = ap result_err e
+    by false e = ap result_err e
+
+pub no_hosts : (words : List Word) → (length words == 0) ≡ true → Some NoHosts ≡ result_err (patterns_of words)
+unfolding patterns_of
+no_hosts words none = rw none refl
+
+pub alone_fault : (hosts : Result (List Written) Why) (words : List Word) → result_err (alone hosts words) ≡ option_or (result_err hosts) (nothing_fault words)
+alone_fault (Err why) words = refl
+alone_fault (Ok hosts) [] = refl
+alone_fault (Ok hosts) (word ∷ words) = refl

@@ -89,7 +89,7 @@ pub begins : (service : Service) (word : Word) (words : List Word) → options_a
 unfolding options_after
 begins service word words = refl
 
-here : (words : List Word) (at : ℕ) (word : Word) → at < length words → word ≡ get_or words at word → drop at words ≡ word ∷ drop (at + 1) words
+pub here : (words : List Word) (at : ℕ) (word : Word) → at < length words → word ≡ get_or words at word → drop at words ≡ word ∷ drop (at + 1) words
 here words at word lt e = drop_more words at word lt ∙ ap (λ x. x ∷ drop (at + 1) words) (sym e)
 
 -- at the beginning

@@ -1,4 +1,5 @@
 pub mod Attribute
+pub mod Faults
 pub mod Label
 pub mod Lists
 pub mod Operation

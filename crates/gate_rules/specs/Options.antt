@@ -107,7 +107,7 @@ width_by kind.Log words = list_width words
 width_by kind.PlugTo words = 1
 width_by kind.Port words = 1
 
--- an option that the service doesn't have is at fault. Kept by `Rules::of` (`fault`); body: src/parsed_option.rt.
+-- an option that the service doesn't have is at fault. Kept by `Rules::of` (`fault`); body: src/option_check.rt.
 abbrev pub option_if_known : Option OptionKind → List Word → Result ParsedOption Why
 option_if_known None words = Err UnknownOption
 option_if_known (Some of) words = option_of_kind of words

@@ -1,11 +1,12 @@
 -- What the rules of a service decide of a peer, and what they say besides.
-use Rattle.std.specs.Prelude.{ℕ, Bool, true, ◌+◌, ◌==◌, ◌&&◌, List, [], ◌∷◌, find, length, Option, Some, None, if◌then◌else◌}
+use Rattle.std.specs.Prelude.{ℕ, Bool, true, ◌+◌, ◌==◌, ◌&&◌, List, [], ◌∷◌, find, length, take, Option, Some, None, if◌then◌else◌}
+use Rattle.std.specs.List.{position_or_len, sum_by}
 use Rattle.std.specs.Option.{option_map}
 use Rattle.fw_types.specs.Dest.{party_of}
 use Rattle.fw_types.specs.declared.dest.Dest.{Dest}
 use Rattle.fw_types.specs.declared.peer.Peer.{Peer}
 use Rattle.host_pattern.specs.Pattern.{Written}
-use Rattle.host_pattern.specs.PatternList.{list_matches}
+use Rattle.host_pattern.specs.PatternList.{list_matches, patterns_tested}
 use Rattle.gate_rules.specs.declared.options.Options.{Options}
 use Rattle.gate_rules.specs.declared.rule.Rule.{Rule}
 use Rattle.gate_rules.specs.declared.setting.Setting.{Setting}
@@ -33,6 +34,17 @@ abbrev pub pattern_count : List Rule → ℕ
 pattern_count [] = 0
 pattern_count (rule ∷ rules) = length rule.hosts + pattern_count rules
 
+-- the rules that are tried for a peer: those up to the first whose host list matches, which is the last of them, or all
+abbrev pub tried : Peer → List Rule → List Rule
+tried peer rules = take (position_or_len (rule_matches peer) rules + 1) rules
+
+-- how many patterns are tested: of each rule that is tried, as many as its list takes
+unfoldable pub rules_steps : Peer → List Rule → ℕ
+rules_steps peer rules = sum_by (λ rule. patterns_tested rule.hosts peer) (tried peer rules)
+
+abbrev pub verdict_steps : RuleBook → Peer → ℕ
+verdict_steps book peer = rules_steps peer book.rules
+
 -- the options of the permit line with this number
 abbrev pub options_at : RuleBook → ℕ → Option Options
 options_at book line = option_map (λ rule. rule.options) (find (λ rule. rule.permits && rule.line == line) book.rules)
@@ -46,10 +58,19 @@ abbrev pub list_allows : Option (List Written) → Peer → Bool
 list_allows None party = true
 list_allows (Some patterns) party = list_matches patterns party
 
+-- how many of its patterns are tested
+abbrev pub list_steps : Option (List Written) → Peer → ℕ
+list_steps None party = 0
+list_steps (Some patterns) party = patterns_tested patterns party
+
 -- how many patterns that list has
 abbrev pub list_length : Option (List Written) → ℕ
 list_length None = 0
 list_length (Some patterns) = length patterns
+
+-- how many patterns are tested to know whether the options let a client go to a destination
+abbrev pub destination_steps : Options → Dest → ℕ
+destination_steps options dest = list_steps options.dest (party_of dest)
 
 -- whether the options let a client go to a destination
 abbrev pub allows : Options → Dest → Bool

@@ -14,6 +14,7 @@ ghost use Rattle.gate_rules.specs.Lists.{is_pattern, mapped, patterns_of};
 ghost use Rattle.gate_rules.specs.Options.{options_after, option_at, width_at};
 ghost use Rattle.gate_rules.specs.Reading.{is_of, rules_of, effect_of};
 ghost use Rattle.gate_rules.specs.Service.{keyword};
+ghost use Rattle.gate_rules.specs.Why.{is_shown};
 ghost use Rattle.gate_rules.specs.Verdict.{decided_by, rule_matches, verdict_of};
 
 /// A line of other services might as well not stand in the table.
@@ -29,6 +30,13 @@ pub fn the_first_bad_line_is_the_fault()
         → IsTrue (is_ok (rules_of service before)) → IsTrue (is_of (keyword service) line) →
         effect_of service line ≡ Err cause
         → rules_of service (before ++ line ∷ after) ≡ Err (record { line = line.number; why = cause }) }
+{}
+
+/// A cause that a word of a line shows is the line's, whatever words follow: so it is that of the leftmost such word.
+pub fn a_cause_that_a_word_shows_stays()
+    ensures { (service : Service) (line : Line) (more : List Word) (cause : Cause) → IsTrue (is_shown cause)
+        → effect_of service line ≡ Err cause
+        → effect_of service (record line { words = line.words ++ more }) ≡ Err cause }
 {}
 
 /// After 64 patterns the next word is one too many, whatever it is and whatever follows.

@@ -1,5 +1,7 @@
 //! Lists of patterns and of verbs.
-ghost use Rattle.std.specs.Prelude.{◌≡◌, ◌≢◌, if◌then◌else◌, nat_lt, length, Ok, Err, IfOk, IfErr, OnOk, MatchResult};
+ghost use Rattle.std.specs.Prelude.{◌≡◌, ◌≢◌, if◌then◌else◌, nat_lt, length, Some, None, Ok, Err, IfOk, IfErr, OnOk};
+ghost use Rattle.std.specs.Result.{result_err};
+ghost use Rattle.gate_rules.specs.Faults.{nothing_fault};
 ghost use Rattle.gate_rules.specs.Lists.{alone, between, hosts_alone, members_of, patterns_in, patterns_of, verbs_in, verbs_of};
 
 use crate::Why;
@@ -34,6 +36,29 @@ fn unless_more(words: &[Word], patterns: PatternList) -> Result<PatternList, Why
         return Err(Why::TooMany);
     }
     Ok(patterns)
+}
+
+// What is wrong with more words than a list may have.
+fn too_many(words: &[Word]) -> Option<Why>
+    ensures { result ≡ (if nat_lt 64 (length words.now) then Some Why.TooMany else None) }
+{
+    if words.len() > MOST_PATTERNS {
+        return Some(Why::TooMany);
+    }
+    None
+}
+
+// Why the words are no patterns, if they aren't. It takes no memory, like all that tells a fault alone.
+pub(crate) fn patterns_fault(words: &[Word]) -> Option<Why>
+    ensures { result ≡ result_err (patterns_of words.now) }
+{
+    if words.is_empty() {
+        return Some(Why::NoHosts);
+    }
+    match PatternList::check(at_most(words, MOST_PATTERNS)) {
+        Err(_) => Some(Why::BadPattern),
+        Ok(()) => too_many(words),
+    }
 }
 
 // The patterns that the words are.
@@ -113,6 +138,16 @@ pub(crate) fn patterns_in(alloc: Global, words: &[Word]) -> Reading<PatternList>
     }
 }
 
+// Why the list with which the words begin isn't one of patterns.
+pub(crate) fn patterns_in_fault(words: &[Word]) -> Option<Why>
+    ensures { result ≡ result_err (patterns_in words.now) }
+{
+    match members_of(words) {
+        Ok(members) => patterns_fault(members),
+        Err(why) => Some(why),
+    }
+}
+
 // The verbs of the list with which the words begin.
 pub(crate) fn verbs_in(words: &[Word]) -> Result<VerbList, Why>
     ensures { result ≡ verbs_in words.now }
@@ -141,4 +176,22 @@ pub(crate) fn hosts_alone(alloc: Global, words: &[Word]) -> Reading<PatternList>
 {
     let hosts = patterns_of(alloc, hosts_in(words))?;
     Ok(alone(hosts, options_in(words)))
+}
+
+// Why the words are no host list with nothing after it.
+#[tactic(auto, using(crate::proofs::ListsLemmas::alone_fault))]
+pub(crate) fn hosts_alone_fault(words: &[Word]) -> Option<Why>
+    ensures { result ≡ result_err (hosts_alone words.now) }
+{
+    patterns_fault(hosts_in(words)).or(nothing_fault(options_in(words)))
+}
+
+// What is wrong with words where none may be.
+fn nothing_fault(words: &[Word]) -> Option<Why>
+    ensures { result ≡ nothing_fault words.now }
+{
+    match words {
+        [] => None,
+        [_, ..] => Some(Why::BadWord),
+    }
 }

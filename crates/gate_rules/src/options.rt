@@ -1,6 +1,6 @@
 ghost use Rattle.std.specs.Prelude.{◌≡◌, ◌+◌, ◌≤◌, [], length};
 ghost use Rattle.gate_rules.specs.Options.{no_options};
-ghost use Rattle.gate_rules.specs.Verdict.{allows, list_allows, list_length};
+ghost use Rattle.gate_rules.specs.Verdict.{allows, destination_steps, list_allows, list_length, list_steps};
 
 use fw_types::{Dest, OctetsList, Peer, VerbList};
 use host_pattern::{PatternList, Steps};
@@ -52,6 +52,7 @@ fn list_allows<L: Ledger>(
     steps: &mut Steps<L>,
 ) -> bool
     ensures answer { result ≡ list_allows patterns.now party.now }
+    ensures steps { steps.new ≡ steps.old + list_steps patterns.now party.now }
     ensures bound { steps.new ≤ steps.old + list_length patterns.now }
 {
     match patterns {
@@ -61,9 +62,10 @@ fn list_allows<L: Ledger>(
 }
 
 /// Whether a client with these options may go to a destination: always where there is no `-dest`, else where its list
-/// matches the destination's host. It takes no memory, and makes at most one step a pattern.
+/// matches the destination's host. It takes no memory, and makes one step a pattern, up to the first whose body matches.
 pub fn destination<L: Ledger>(options: &Options, dest: &Dest, steps: &mut Steps<L>) -> bool
     ensures answer { result ≡ allows options.now dest.now }
+    ensures steps { steps.new ≡ steps.old + destination_steps options.now dest.now }
     ensures bound { steps.new ≤ steps.old + list_length options.now.dest }
 {
     list_allows(&options.dest, &dest.party(), steps)

@@ -58,7 +58,7 @@ fn dest_of(alloc: Global, words: &[Word]) -> Reading<ParsedOption>
     }
 }
 
-fn auth_of(words: &[Word]) -> Result<ParsedOption, Why>
+pub(crate) fn auth_of(words: &[Word]) -> Result<ParsedOption, Why>
     ensures { result ≡ option_of_kind OptionKind.AuthVerbs words.now }
 {
     match verbs_in(words) {
@@ -67,7 +67,7 @@ fn auth_of(words: &[Word]) -> Result<ParsedOption, Why>
     }
 }
 
-fn deny_of(words: &[Word]) -> Result<ParsedOption, Why>
+pub(crate) fn deny_of(words: &[Word]) -> Result<ParsedOption, Why>
     ensures { result ≡ option_of_kind OptionKind.Deny words.now }
 {
     match verbs_in(words) {
@@ -76,7 +76,7 @@ fn deny_of(words: &[Word]) -> Result<ParsedOption, Why>
     }
 }
 
-fn log_of(words: &[Word]) -> Result<ParsedOption, Why>
+pub(crate) fn log_of(words: &[Word]) -> Result<ParsedOption, Why>
     ensures { result ≡ option_of_kind OptionKind.Log words.now }
 {
     match verbs_in(words) {
@@ -94,7 +94,7 @@ fn target_option(host: Option<Host>) -> Result<ParsedOption, Why>
     }
 }
 
-fn target_of(words: &[Word]) -> Result<ParsedOption, Why>
+pub(crate) fn target_of(words: &[Word]) -> Result<ParsedOption, Why>
     ensures { result ≡ target_of words.now }
 {
     match words {
@@ -112,7 +112,7 @@ fn port_by(port: Option<u16>) -> Result<ParsedOption, Why>
     }
 }
 
-fn port_in(words: &[Word]) -> Result<ParsedOption, Why>
+pub(crate) fn port_in(words: &[Word]) -> Result<ParsedOption, Why>
     ensures { result ≡ port_in words.now }
 {
     match words {

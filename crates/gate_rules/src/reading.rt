@@ -8,7 +8,7 @@ ghost use Rattle.gate_rules.specs.Reading.{deny_effect, is_of, operation_effect,
 use crate::attribute::{Attribute, attribute_of};
 use crate::line_effect::LineEffect;
 use crate::lists::{Reading, hosts_alone, patterns_of};
-use crate::operation::read_operation;
+use crate::operation::operation_fault;
 use crate::options_builder::options_of;
 use crate::setting::set_to;
 use crate::words::{hosts_in, options_in};
@@ -184,12 +184,14 @@ fn setting_effect(which: Setting, number: u32, words: &[Word]) -> Result<LineEff
     }
 }
 
-fn operation_effect(alloc: Global, words: &[Word]) -> Reading<LineEffect>
-    ensures { IfOk result (λ read. read ≡ operation_effect words.now) }
+// A line about operations is read here for its faults alone.
+#[tactic(auto, using(crate::proofs::LineFaultLemmas::operation_bad, crate::proofs::LineFaultLemmas::operation_good))]
+fn operation_effect(words: &[Word]) -> Result<LineEffect, Why>
+    ensures { result ≡ operation_effect words.now }
 {
-    match read_operation(alloc, words)? {
-        Ok(_) => Ok(Ok(LineEffect::Nothing)),
-        Err(why) => Ok(Err(why)),
+    match operation_fault(words) {
+        Some(why) => Err(why),
+        None => Ok(LineEffect::Nothing),
     }
 }
 
@@ -207,7 +209,7 @@ fn effect_as(
         Attribute::Deny => deny_effect(alloc, line.number, words),
         Attribute::Port => port_effect(alloc, service, line.number, words),
         Attribute::Sets(which) => Ok(setting_effect(which, line.number, words)),
-        Attribute::Operation => operation_effect(alloc, words),
+        Attribute::Operation => Ok(operation_effect(words)),
         Attribute::Other => Ok(Ok(LineEffect::Nothing)),
     }
 }

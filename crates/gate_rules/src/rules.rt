@@ -1,12 +1,13 @@
-ghost use Rattle.std.specs.Prelude.{◌≡◌, ◌+◌, ◌≤◌, ◌==◌, ◌&&◌, List, [], ◌∷◌, ◌++◌, Result, filter, find, length, IfOk, IfErr, OnOk};
+ghost use Rattle.std.specs.Prelude.{◌≡◌, ◌+◌, ◌≤◌, ◌==◌, ◌&&◌, List, [], ◌∷◌, ◌++◌, Result, filter, find, length, is_ok, IfOk, IfErr, OnOk, IsTrue};
 ghost use Rattle.std.specs.Option.{option_copied};
 ghost use Rattle.gate_rules.specs.declared.fault.RuleFault.{RuleFault};
 ghost use Rattle.gate_rules.specs.Reading.{IsFaultIn, RuleBook, and_effect, book_of, closed, is_of, everyone, last_rules, rules_of, effect_of, effect_then, with_book, with_effect};
 ghost use Rattle.gate_rules.specs.Settings.{is_same};
-ghost use Rattle.gate_rules.specs.Verdict.{decided_by, rule_matches, options_at, pattern_count, setting_of, verdict_of};
+ghost use Rattle.gate_rules.specs.Verdict.{decided_by, rule_matches, options_at, pattern_count, rules_steps, setting_of, verdict_of, verdict_steps};
 ghost use Rattle.netperm_table.specs.declared.line.Line.{Line};
 
 use crate::line_effect::LineEffect;
+use crate::line_fault::first_fault;
 use crate::reading::{effect_of, is_of};
 use crate::setting::is_same;
 use crate::{
@@ -43,6 +44,7 @@ impl Model for Rules {
 // What the first of the rules decides whose host list matches the peer.
 fn verdict_in<L: Ledger>(rules: &[Rule], peer: &Peer, steps: &mut Steps<L>) -> Verdict
     ensures answer { result ≡ decided_by (find (rule_matches peer.now) rules.now) }
+    ensures steps { steps.new ≡ steps.old + rules_steps peer.now rules.now }
     ensures bound { steps.new ≤ steps.old + pattern_count rules.now }
 {
     for rule in rules {
@@ -83,13 +85,19 @@ impl Rules {
     /// # Errors
     ///
     /// `Rule` with the first line of the service that can't be read, and the cause of its leftmost bad word. Or
-    /// `NoMemory`.
+    /// `NoMemory`, only where each of the service's lines can be read: no memory is taken before that is known.
+    #[tactic(auto, using(crate::proofs::RulesLemmas::closed_fault, crate::proofs::RulesLemmas::closed_ok))]
     pub fn of(alloc: Global, table: &Table, service: &Service) -> Result<Rules, RulesFault>
         ensures ok { IfOk result (λ rules. rules_of service.now table.now ≡ Ok rules) }
         ensures fault { IfErr result (IsFaultIn (rules_of service.now table.now)) }
+        ensures memory { IfErr result (λ e. e ≡ RulesFault.NoMemory →
+            IsTrue (is_ok (rules_of service.now table.now))) }
     {
         let mut key = ArrayVec::new();
         service.write_keyword(&mut key);
+        if let Some(fault) = first_fault(table.lines(), service, key.as_slice()) {
+            return Err(RulesFault::Rule(fault));
+        }
         let mut rules = Rules::effect_at(alloc, table.lines(), service, key.as_slice())?;
         rules.close(alloc, service.is_smap())?;
         Ok(rules)
@@ -178,10 +186,11 @@ impl Rules {
     }
 
     /// What they decide of a peer: the first whose host list matches decides, and none denies by line 0. It takes no
-    /// memory, and makes at most one step a pattern.
+    /// memory, and makes one step a pattern: of each rule up to that one, those up to the first whose body matches.
     #[tactic(auto, unfolding(crate::specs::Verdict::verdict_of))]
     pub fn verdict<L: Ledger>(&self, peer: &Peer, steps: &mut Steps<L>) -> Verdict
         ensures answer { result ≡ verdict_of self.now peer.now }
+        ensures steps { steps.new ≡ steps.old + verdict_steps self.now peer.now }
         ensures bound { steps.new ≤ steps.old + pattern_count self.now.rules }
     {
         verdict_in(&self.rules, peer, steps)
