@@ -14,6 +14,7 @@ use Rattle.fw_acts.proofs.RanLemmas.{stopped}
 use Rattle.fw_outside.specs.Counts.{Rose}
 use Rattle.fw_outside.specs.DialerView.{DialerView, RoseIf, has_broken}
 use Rattle.fw_outside.specs.SinkView.{SinkView}
+use Rattle.fw_outside.specs.SourceView.{SourceView}
 use Rattle.fw_outside.specs.ToldList.{AddsOne}
 use Rattle.fw_outside.specs.declared.heard.Heard.TheVariants.{Stopped}
 use Rattle.fw_outside.specs.declared.heard.Stop.TheVariants as stops
@@ -33,31 +34,36 @@ use Rattle.session_acts.specs.declared.form.Form.TheVariants.{Lines}
 use Rattle.session_acts.specs.declared.silence.Silence.{Silence}
 use Rattle.session_acts.specs.declared.silence.Silence.TheVariants.{Quiet, Broken, Limit}
 use Rattle.session_acts.proofs.DeedLemmas.{all_last, deeds_done, deeds_parted, held_deeds, ran_deeds}
-use Rattle.session_acts.proofs.DeviceLemmas.{halted_faults, halted_idles, rose_within}
+use Rattle.session_acts.proofs.DeviceLemmas.{halted_faults, halted_idles, halted_waited, rose_within}
 use Rattle.session_acts.proofs.OwedLemmas.{closing_server}
 use Rattle.session_acts.proofs.StaysLemmas.{IsSound, LinkSound, Stays, clears_keeps, stays_both, stays_last, stays_same}
 
 -- ---- what a stop counts, as the session stands then
 
 -- the link that is up has failed, or was idle, or all that may be was taken of it
-abbrev HasBroken : Option Speaker → Type 0
+abbrev pub HasBroken : Option Speaker → Type 0
 HasBroken None = ⊥
 HasBroken (Some link) = has_broken link.inlet link.outlet ≡ true
 
-abbrev HasIdled : Option Speaker → Type 0
+abbrev pub HasIdled : Option Speaker → Type 0
 HasIdled None = ⊥
-HasIdled (Some link) = nat_lt 0 link.inlet.idles ≡ true
+HasIdled (Some link) = (nat_lt 0 link.inlet.idles ≡ true) × (link.inlet.waited ≡ link.inlet.waits)
 
-abbrev IsUsedUp : Option Speaker → Type 0
+abbrev pub IsUsedUp : Option Speaker → Type 0
 IsUsedUp None = ⊥
 IsUsedUp (Some link) = link.reader.room ≡ 0
 
-abbrev Counted : {Origin : Type 0} → Cause → World Origin → World Origin → Type 0
+-- the client was idle since, and waited then as long as it does
+pub record WasIdle (old new : SourceView) : Type 0 where
+  pub rose : Rose old.idles new.idles
+  pub waited : new.waited ≡ new.waits
+
+abbrev pub Counted : {Origin : Type 0} → Cause → World Origin → World Origin → Type 0
 Counted ClientFault old new = Rose old.client.inlet.faults new.client.inlet.faults ⊎ Rose old.client.outlet.faults new.client.outlet.faults
 Counted ServerFault old new = HasBroken new.server.link
 Counted LogFault old new = Rose old.logs.faults new.logs.faults
 Counted AuthFault old new = Rose old.office.port.faults new.office.port.faults ⊎ Rose old.office.port.odd new.office.port.odd
-Counted Idle old new = Rose old.client.inlet.idles new.client.inlet.idles ⊎ HasIdled new.server.link
+Counted Idle old new = WasIdle old.client.inlet new.client.inlet ⊎ HasIdled new.server.link
 Counted NoRoute old new = Rose old.server.dialer.refusals new.server.dialer.refusals
 Counted Spent old new = (new.client.reader.room ≡ 0) ⊎ IsUsedUp new.server.link
 Counted NoMemory old new = Unit {0}
@@ -84,6 +90,10 @@ pub idled : (form : Form) (old new : Speaker) → Heeds form (Stopped stops.Idle
 idled form old new h =
     subst (λ (s : Speaker). Rose old.inlet.idles s.inlet.idles) (sym h.is) (halted_idles h.listens.reads.taken_now old.inlet h.listens.middle h.inlet h.listens.reads.takes h.listens.closes.1)
 
+waited_so : (form : Form) (old new : Speaker) → Heeds form (Stopped stops.Idle) old new → new.inlet.waited ≡ new.inlet.waits
+waited_so form old new h =
+    subst (λ (s : Speaker). s.inlet.waited ≡ s.inlet.waits) (sym h.is) (halted_waited h.listens.middle h.inlet h.listens.closes.1)
+
 pub used_up : (form : Form) (old new : Speaker) → Heeds form (Stopped stops.Spent) old new → new.reader.room ≡ 0
 used_up form old new h = ap (λ (s : Speaker). s.reader.room) h.is ∙ eqb-true h.reader.room 0 (sym h.listens.spent)
 
@@ -93,7 +103,7 @@ dropped text front old new h =
 
 module _ {Origin : Type 0} where
   hear_counted : (form : Form) (silence : Silence) (old new : World Origin) → Hears form (Err silence) old.client new.client → Counted (silence_cause ClientFault silence) old new
-  hear_counted form Quiet old new h = inl (idled form old.client new.client h)
+  hear_counted form Quiet old new h = inl (record { rose = idled form old.client new.client h; waited = waited_so form old.client new.client h })
   hear_counted form Broken old new h = inl (faulted form old.client new.client h)
   hear_counted form Limit old new h = inl (used_up form old.client new.client h)
 
@@ -110,7 +120,7 @@ module _ {Origin : Type 0} where
   take_counted : (silence : Silence) (link : Option Speaker) (old new : World Origin) → Takes (Err silence) link old.server new.server → Counted (silence_cause ServerFault silence) old new
   take_counted silence None old new h = let clash = h.0 in absurd (cc)
   take_counted Quiet (Some link) old new h =
-      inr (subst (λ (s : Server). HasIdled s.link) (sym h.is) (positive link.inlet.idles h.speaker.inlet.idles (idled Lines link h.speaker h.hears)))
+      inr (subst (λ (s : Server). HasIdled s.link) (sym h.is) (positive link.inlet.idles h.speaker.inlet.idles (idled Lines link h.speaker h.hears), waited_so Lines link h.speaker h.hears))
   take_counted Broken (Some link) old new h =
       subst (λ (s : Server). HasBroken s.link) (sym h.is) (or_left (nat_lt 0 h.speaker.inlet.faults) (nat_lt 0 h.speaker.outlet.faults) (positive link.inlet.faults h.speaker.inlet.faults (faulted Lines link h.speaker h.hears)))
   take_counted Limit (Some link) old new h = inr (subst (λ (s : Server). IsUsedUp s.link) (sym h.is) (used_up Lines link h.speaker h.hears))
@@ -127,7 +137,7 @@ module _ {Origin : Type 0} where
       let before = clears_keeps old.server.link old.server.dialer dialing.cleared dialing.clears in
       rose_within old.server.dialer.refusals dialing.cleared.refusals new.server.dialer.refusals new.server.dialer.refusals before.refusals since (omega (arith))
 
-  stop_counted : (act : Act) (halt : Halt act) (old new : World Origin) → Met act (Err halt) old new → Counted (cause_by act halt) old new
+  pub stop_counted : (act : Act) (halt : Halt act) (old new : World Origin) → Met act (Err halt) old new → Counted (cause_by act halt) old new
   stop_counted (Hear form) halt old new met = hear_counted form halt old new met.client
   stop_counted (Say text) halt old new met = inr (dropped text halt old.client new.client met.client)
   stop_counted (Try text) halt old new met = absurd halt
@@ -143,14 +153,14 @@ module _ {Origin : Type 0} where
   stop_counted HangUp halt old new met = absurd halt
 
   -- what was counted before is counted over a longer time
-  counted_since : (cause : Cause) (old mid new : World Origin) → Stays old mid → Counted cause mid new → Counted cause old new
+  pub counted_since : (cause : Cause) (old mid new : World Origin) → Stays old mid → Counted cause mid new → Counted cause old new
   counted_since ClientFault old mid new a (inl rose) = inl (rose_within old.client.inlet.faults mid.client.inlet.faults new.client.inlet.faults new.client.inlet.faults a.client.source.faults rose (omega (arith)))
   counted_since ClientFault old mid new a (inr rose) = inr (rose_within old.client.outlet.faults mid.client.outlet.faults new.client.outlet.faults new.client.outlet.faults a.client.sink.drops rose (omega (arith)))
   counted_since ServerFault old mid new a broken = broken
   counted_since LogFault old mid new a rose = rose_within old.logs.faults mid.logs.faults new.logs.faults new.logs.faults a.logs.drops rose (omega (arith))
   counted_since AuthFault old mid new a (inl rose) = inl (rose_within old.office.port.faults mid.office.port.faults new.office.port.faults new.office.port.faults a.port.breaks rose (omega (arith)))
   counted_since AuthFault old mid new a (inr rose) = inr (rose_within old.office.port.odd mid.office.port.odd new.office.port.odd new.office.port.odd a.port.strays rose (omega (arith)))
-  counted_since Idle old mid new a (inl rose) = inl (rose_within old.client.inlet.idles mid.client.inlet.idles new.client.inlet.idles new.client.inlet.idles a.client.source.idles rose (omega (arith)))
+  counted_since Idle old mid new a (inl was) = inl (record { rose = rose_within old.client.inlet.idles mid.client.inlet.idles new.client.inlet.idles new.client.inlet.idles a.client.source.idles was.rose (omega (arith)); waited = was.waited })
   counted_since Idle old mid new a (inr idle) = inr idle
   counted_since NoRoute old mid new a rose = rose_within old.server.dialer.refusals mid.server.dialer.refusals new.server.dialer.refusals new.server.dialer.refusals a.server.dialer.refusals rose (omega (arith))
   counted_since Spent old mid new a (inl none) = inl none
@@ -160,9 +170,9 @@ module _ {Origin : Type 0} where
   -- ---- a link that had failed, been idle or been used up is counted when it is hung up
 
   -- what hanging the link up left
-  record Freed (link : Option Speaker) (old new : World Origin) : Type 0 where
-    hanging : Clears link old.server.dialer new.server.dialer
-    others : Stays old new
+  pub record Freed (link : Option Speaker) (old new : World Origin) : Type 0 where
+    pub hanging : Clears link old.server.dialer new.server.dialer
+    pub others : Stays old new
 
   freed : (link : Option Speaker) (old new : World Origin) → old.server.link ≡ link → DeedsAll (freeing link) old new → Freed link old new
   freed None old new is all = subst (λ (w : World Origin). Freed None old w) all (record { hanging = refl; others = stays_same old })
@@ -176,12 +186,12 @@ module _ {Origin : Type 0} where
   broken_freed (Some link) old new broken free =
       subst (λ (d : DialerView). Rose old.server.dialer.link_faults d.link_faults) (sym free.hanging.is) (rose_true (has_broken link.inlet link.outlet) old.server.dialer.link_faults free.hanging.faults broken free.hanging.faults_rose)
 
-  idle_freed : (link : Option Speaker) (old new : World Origin) → HasIdled link → Freed link old new → Rose old.server.dialer.link_idles new.server.dialer.link_idles
+  pub idle_freed : (link : Option Speaker) (old new : World Origin) → HasIdled link → Freed link old new → Rose old.server.dialer.link_idles new.server.dialer.link_idles
   idle_freed None old new idle free = absurd idle
   idle_freed (Some link) old new idle free =
-      subst (λ (d : DialerView). Rose old.server.dialer.link_idles d.link_idles) (sym free.hanging.is) (rose_true (nat_lt 0 link.inlet.idles) old.server.dialer.link_idles free.hanging.idles idle free.hanging.idles_rose)
+      subst (λ (d : DialerView). Rose old.server.dialer.link_idles d.link_idles) (sym free.hanging.is) (rose_true (nat_lt 0 link.inlet.idles) old.server.dialer.link_idles free.hanging.idles idle.0 free.hanging.idles_rose)
 
-last_of : {A : Type 0} (one : A) (old new : Option (List A)) → AddsOne one old new → IsLast one new
+pub last_of : {A : Type 0} (one : A) (old new : Option (List A)) → AddsOne one old new → IsLast one new
 last_of one old None adds = tt
 last_of one None (Some all) adds = absurd (cc)
 last_of {A} one (Some before) (Some all) adds = (before, sym (some_same before all adds))
@@ -201,14 +211,14 @@ module _ {Origin : Type 0} where
   -- ---- a session, up to what was owed, while that was done, and after it
 
   -- what was owed, done
-  record Owed (old mid new : World Origin) : Type 0 where
-    before : Stays old mid
-    between : World Origin
-    freed : Freed mid.server.link mid between
-    after : Stays between new
-    server : new.server ≡ between.server
+  pub record Owed (old mid new : World Origin) : Type 0 where
+    pub before : Stays old mid
+    pub between : World Origin
+    pub freed : Freed mid.server.link mid between
+    pub after : Stays between new
+    pub server : new.server ≡ between.server
 
-  owed_done : (old mid new : World Origin) (answer : Result Reply PortFault) → Stays old mid → DeedsAll (owed mid answer) mid new → Owed old mid new
+  pub owed_done : (old mid new : World Origin) (answer : Result Reply PortFault) → Stays old mid → DeedsAll (owed mid answer) mid new → Owed old mid new
   owed_done old mid new answer before all =
       let parted = deeds_parted (freeing mid.server.link) (closing mid.office.opened answer) mid new all in
       record {
@@ -253,9 +263,9 @@ module _ {Origin : Type 0} where
   caused_by AuthFault devices names mid new owes (inr rose) =
       let later = stays_both mid owes.between new owes.freed.others owes.after in
       inr (rose_within devices.port.odd devices.port.odd mid.office.port.odd new.office.port.odd (omega (arith)) rose later.port.strays)
-  caused_by Idle devices names mid new owes (inl rose) =
+  caused_by Idle devices names mid new owes (inl was) =
       let later = stays_both mid owes.between new owes.freed.others owes.after in
-      inl (rose_within devices.inlet.idles devices.inlet.idles mid.client.inlet.idles new.client.inlet.idles (omega (arith)) rose later.client.source.idles)
+      inl (rose_within devices.inlet.idles devices.inlet.idles mid.client.inlet.idles new.client.inlet.idles (omega (arith)) was.rose later.client.source.idles)
   caused_by Idle devices names mid new owes (inr idle) =
       inr (rose_within devices.dialer.link_idles mid.server.dialer.link_idles owes.between.server.dialer.link_idles new.server.dialer.link_idles owes.before.server.dialer.link_idles (idle_freed mid.server.link mid owes.between idle owes.freed) owes.after.server.dialer.link_idles)
   caused_by NoRoute devices names mid new owes rose =

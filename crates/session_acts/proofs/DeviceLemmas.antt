@@ -1,5 +1,3 @@
-use Rattle.session_acts.specs.Forms.{ListensIn}
-use Rattle.session_acts.specs.declared.form.Form.{Form}
 -- What a session's devices keep: counts that never fall, and the bytes that were taken.
 use Rattle.std.proofs.Common.{arith, ◌≡◌, refl, sym, ap, subst, ◌∙◌, ℕ, ◌+◌, ◌≤◌, Bool, true, false, List, [], ◌++◌, length, Option, Some, None, Result, Ok, Err, append_assoc, append-nil}
 use Rattle.std.proofs.lemmas.List.{length-append}
@@ -21,6 +19,8 @@ use Rattle.fw_outside.specs.LineReaderView as reader
 use Rattle.fw_outside.specs.declared.heard.Heard.{Heard}
 use Rattle.fw_outside.specs.declared.heard.Heard.TheVariants.{Line, TooLong, Stopped}
 use Rattle.fw_outside.specs.declared.heard.Stop.TheVariants as stops
+use Rattle.session_acts.specs.Forms.{ListensIn}
+use Rattle.session_acts.specs.declared.form.Form.{Form}
 
 -- ---- counts
 
@@ -135,6 +135,10 @@ pub halted_idles : (bytes : List ℕ) (before middle after : SourceView) → Too
 halted_idles bytes before middle after taken_now idled =
     let since : Rose middle.idles after.idles = subst (λ (s : SourceView). Rose middle.idles s.idles) (sym idled.is) idled.rose in
     subst (λ (n : ℕ). Rose n after.idles) (ap (λ (s : SourceView). s.idles) taken_now.is) since
+
+-- and it waited as long as it does
+pub halted_waited : (middle after : SourceView) → Idled middle after → after.waited ≡ after.waits
+halted_waited middle after idled = ap (λ (s : SourceView). s.waited) idled.is ∙ sym (ap (λ (s : SourceView). s.waits) idled.is)
 
 module _ {Origin : Type 0} where
   pub same_port : (port : Port Origin) → PortKeeps port port

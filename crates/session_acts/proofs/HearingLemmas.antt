@@ -106,7 +106,7 @@ leaves_untaken (Line line) left before after h = untaken_by before before after 
 leaves_untaken TooLong left before after h = untaken_by before before after h (record { amount = refl; taken = refl })
 leaves_untaken (Stopped stops.End) left before after h = untaken_by before before after h.1.is (record { amount = refl; taken = refl })
 leaves_untaken (Stopped stops.Spent) left before after h = untaken_by before before after h (record { amount = refl; taken = refl })
-leaves_untaken (Stopped stops.Idle) left before after h = untaken_by (record before { idles = h.1.count }) before after h.1.is (record { amount = refl; taken = refl })
+leaves_untaken (Stopped stops.Idle) left before after h = untaken_by (record before { idles = h.1.count; waited = before.waits }) before after h.1.is (record { amount = refl; taken = refl })
 leaves_untaken (Stopped stops.Failed) left before after h = untaken_by (record before { faults = h.1.count }) before after h.1.is (record { amount = refl; taken = refl })
 
 heeds_hearing : (form : Form) (heard : Heard) (old new : Speaker) → Heeds form heard old new → HearsOn ((form, heard) ∷ []) old new

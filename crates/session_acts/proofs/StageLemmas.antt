@@ -1,5 +1,5 @@
 -- What the desk's devices did, as acts.
-use Rattle.std.proofs.Common.{refl, ap, ℕ, ◌≤◌, length, List, Option, Some, None, Result, Ok, Err}
+use Rattle.std.proofs.Common.{refl, sym, ap, subst, ℕ, ◌≤◌, Bool, length, List, Option, Some, None, Result, Ok, Err}
 use Rattle.fw_outside.specs.LineReaderView.{LineReaderView, Listens}
 use Rattle.fw_outside.specs.SourceView.{SourceView}
 use Rattle.fw_outside.specs.declared.heard.Heard.{Heard}
@@ -8,10 +8,15 @@ use Rattle.fw_outside.specs.declared.heard.Stop.TheVariants as stops
 use Rattle.fw_outside.specs.SinkView.{Cut, Gives, SinkView}
 use Rattle.fw_outside.specs.declared.failed.Failed.{Failed}
 use Rattle.session_acts.specs.Acts.{Front}
-use Rattle.fw_outside.specs.DialerView.{DialerView}
-use Rattle.session_acts.specs.Link.{PassesSo, outcome_of}
-use Rattle.session_acts.specs.Met.{CutAt, Gets, Hears, Heeds, Passes}
-use Rattle.session_acts.specs.World.{Server, Speaker}
+use Rattle.fw_outside.specs.DialerView.{ComesUp, DialerView, IfRefused, IfUp, Refuses}
+use Rattle.fw_outside.specs.declared.ask.Ask.TheVariants.{Main}
+use Rattle.fw_outside.specs.declared.dialed.Dialed.{Dialed}
+use Rattle.fw_outside.specs.declared.dialed.Dialed.TheVariants.{Up, Refused}
+use Rattle.fw_types.specs.declared.dest.Dest.{Dest}
+use Rattle.session_acts.specs.Acts.Act.{Dial, HangUp}
+use Rattle.session_acts.specs.Link.{IsPutUp, PassesSo, outcome_of}
+use Rattle.session_acts.specs.Met.{Clears, ConnectsIf, CutAt, Gets, Hanging, Hears, Heeds, Met, Passes}
+use Rattle.session_acts.specs.World.{Server, Speaker, World}
 use Rattle.session_acts.specs.declared.form.Form.{Form}
 use Rattle.session_acts.specs.declared.form.Form.TheVariants.{Lines}
 use Rattle.session_acts.specs.declared.silence.Silence.{Silence}
@@ -68,3 +73,31 @@ hears_lines (Stopped stops.Spent) old new before after outlet h near = heeds_lin
 -- there is no other form
 pub hears_in : (form : Form) (outcome : Result Heard Silence) (old new : Speaker) → Hears Lines outcome old new → Hears form outcome old new
 hears_in Lines outcome old new h = h
+
+-- ---- dialing
+
+-- what a dialer answered, where the link was kept so
+connects_so : {I O : Type 0} (source_view : I → SourceView) (sink_view : O → SinkView) (dest : Dest) (dialed : Dialed I O) (up : Bool) (cleared after : DialerView) (link : Option Speaker) → IsPutUp source_view sink_view dialed up link
+    → IfUp dialed (λ from to. ComesUp (Main dest) (source_view from) (sink_view to) cleared after) → IfRefused dialed (Refuses (Main dest) cleared after) → ConnectsIf up dest cleared (record { dialer = after; link = link })
+connects_so source_view sink_view dest (Up from to) up cleared after link put comes misses =
+    subst (λ (b : Bool). ConnectsIf b dest cleared (record { dialer = after; link = link })) (sym put.0) (record { inlet = source_view from; outlet = sink_view to; dialer = after; up = comes; is = ap (λ (l : Option Speaker). record { dialer = after; link = l }) put.1 })
+connects_so source_view sink_view dest Refused up cleared after link put comes misses =
+    subst (λ (b : Bool). ConnectsIf b dest cleared (record { dialer = after; link = link })) (sym put.0) (record { dialer = after; refused = misses; is = ap (λ (l : Option Speaker). record { dialer = after; link = l }) put.1 })
+
+-- a link that was up was hung up, and then a destination dialed
+pub dials_so : {Origin I O : Type 0} (source_view : I → SourceView) (sink_view : O → SinkView) (dest : Dest) (dialed : Dialed I O) (up : Bool) (after : DialerView) (link : Option Speaker) (old mid : World Origin) → Met HangUp (Ok tt) old mid
+    → IsPutUp source_view sink_view dialed up link → IfUp dialed (λ from to. ComesUp (Main dest) (source_view from) (sink_view to) mid.server.dialer after) → IfRefused dialed (Refuses (Main dest) mid.server.dialer after)
+    → Met (Dial dest) (Ok up) old (record mid { server = record { dialer = after; link = link } })
+dials_so source_view sink_view dest dialed up after link old mid met put comes misses =
+    let hanging : Hanging old.server mid.server = met.server in
+    record {
+      client = met.client;
+      logs = met.logs;
+      office = met.office;
+      server = record {
+        cleared = mid.server.dialer;
+        clears = subst (λ (s : Server). Clears old.server.link old.server.dialer s.dialer) (sym hanging.is) hanging.clears;
+        connects = connects_so source_view sink_view dest dialed up mid.server.dialer after link put comes misses;
+      };
+      names = met.names;
+    }

@@ -1,5 +1,5 @@
 -- What every deed keeps of the devices.
-use Rattle.std.proofs.Common.{arith, ◌≡◌, refl, sym, subst, ℕ, ◌+◌, Bool, true, false, List, length, Option, Some, None, Result, Ok, Err}
+use Rattle.std.proofs.Common.{arith, ◌≡◌, refl, sym, subst, ℕ, ◌+◌, Bool, true, false, List, length, Option, Some, None, Result, Ok, Err, ap, ◌∙◌}
 use Rattle.auth_events.specs.declared.port.PortFault.{PortFault}
 use Rattle.auth_events.specs.declared.reply.Reply.{Reply}
 use Rattle.auth_events.specs.declared.request.Request.{Request}
@@ -128,12 +128,18 @@ abbrev pub IsSound : Option Speaker → Type 0
 IsSound None = Unit {0}
 IsSound (Some link) = LinkSound link
 
+-- the source of a link that is up waits so long
+abbrev pub IsPatient : ℕ → Option Speaker → Type 0
+IsPatient seconds None = Unit {0}
+IsPatient seconds (Some link) = link.inlet.waits ≡ seconds
+
 pub record ServerKeeps (old new : Server) : Type 0 where
   pub dialer : DialerKeeps old.dialer new.dialer
   pub sound : IsSound old.link → IsSound new.link
+  pub patient : IsPatient old.dialer.waits old.link → IsPatient new.dialer.waits new.link
 
 same_server : (old new : Server) → new ≡ old → ServerKeeps old new
-same_server old new is = subst (λ (s : Server). ServerKeeps old s) (sym is) (record { dialer = same_dialer old.dialer; sound = λ sound. sound })
+same_server old new is = subst (λ (s : Server). ServerKeeps old s) (sym is) (record { dialer = same_dialer old.dialer; sound = λ sound. sound; patient = λ patient. patient })
 
 pub clears_keeps : (link : Option Speaker) (old new : DialerView) → Clears link old new → DialerKeeps old new
 clears_keeps None old new h = subst (λ (d : DialerView). DialerKeeps old d) (sym h) (same_dialer old)
@@ -144,6 +150,7 @@ clears_keeps (Some link) old new h =
 record Linking (old : DialerView) (new : Server) : Type 0 where
   dialer : DialerKeeps old new.dialer
   sound : IsSound new.link
+  patient : IsPatient new.dialer.waits new.link
 
 connects_keeps : (up : Bool) (dest : Dest) (old : DialerView) (new : Server) → ConnectsIf up dest old new → Linking old new
 connects_keeps true dest old new h =
@@ -154,21 +161,23 @@ connects_keeps true dest old new h =
         all = refl;
         amount = subst (λ (source : SourceView). Grew 0 0 source.amount) (sym h.up.new_source) (record { least = omega (arith); most = omega (arith); later = omega (arith) });
       };
+      patient = ap (λ (source : SourceView). source.waits) h.up.new_source ∙ sym (ap (λ (d : DialerView). d.waits) h.up.is);
     })
 connects_keeps false dest old new h =
     subst (λ (s : Server). Linking old s) (sym h.is) (record {
       dialer = subst (λ (d : DialerView). DialerKeeps old d) (sym h.refused.is) (record { refusals = h.refused.rose.0; link_faults = omega (arith); link_idles = omega (arith); waits = refl });
       sound = tt;
+      patient = tt;
     })
 
 dialing_keeps : (dest : Dest) (up : Bool) (old new : Server) → Dialing dest up old new → ServerKeeps old new
 dialing_keeps dest up old new h =
     let linking = connects_keeps up dest h.cleared new h.connects in
-    record { dialer = both_dialer old.dialer h.cleared new.dialer (clears_keeps old.link old.dialer h.cleared h.clears) linking.dialer; sound = λ sound. linking.sound }
+    record { dialer = both_dialer old.dialer h.cleared new.dialer (clears_keeps old.link old.dialer h.cleared h.clears) linking.dialer; sound = λ sound. linking.sound; patient = λ patient. linking.patient }
 
 hanging_keeps : (old new : Server) → Hanging old new → ServerKeeps old new
 hanging_keeps old new h =
-    subst (λ (s : Server). ServerKeeps old s) (sym h.is) (record { dialer = clears_keeps old.link old.dialer h.dialer h.clears; sound = λ sound. tt })
+    subst (λ (s : Server). ServerKeeps old s) (sym h.is) (record { dialer = clears_keeps old.link old.dialer h.dialer h.clears; sound = λ sound. tt; patient = λ patient. tt })
 
 -- a link stays sound when the server is heard or told
 link_sound : (old new : Speaker) → SpeakerKeeps old new → LinkSound old → LinkSound new
@@ -184,7 +193,7 @@ link_sound old new keeps sound =
 
 link_keeps : (link speaker : Speaker) (old new : Server) → old.link ≡ Some link → SpeakerKeeps link speaker → new ≡ record old { link = Some speaker } → ServerKeeps old new
 link_keeps link speaker old new up keeps is =
-    subst (λ (s : Server). ServerKeeps old s) (sym is) (record { dialer = same_dialer old.dialer; sound = λ sound. link_sound link speaker keeps (subst IsSound up sound) })
+    subst (λ (s : Server). ServerKeeps old s) (sym is) (record { dialer = same_dialer old.dialer; sound = λ sound. link_sound link speaker keeps (subst IsSound up sound); patient = λ patient. keeps.source.waits ∙ subst (IsPatient old.dialer.waits) up patient })
 
 takes_keeps : (outcome : Result Heard Silence) (link : Option Speaker) (old new : Server) → old.link ≡ link → Takes outcome link old new → ServerKeeps old new
 takes_keeps outcome None old new up h = same_server old new h.1
@@ -239,6 +248,7 @@ module _ {Origin : Type 0} where
     server = record {
       dialer = both_dialer old.server.dialer mid.server.dialer new.server.dialer a.server.dialer b.server.dialer;
       sound = λ sound. b.server.sound (a.server.sound sound);
+      patient = λ patient. b.server.patient (a.server.patient patient);
     };
   }
 

@@ -26,7 +26,7 @@ by_both (Some bytes) first more = ap (λ (b : List ℕ). Some b) (append_assoc b
 same_sink : (old new : SinkView) → new ≡ old → new.given ≡ grown old.given []
 same_sink old new same = ap (λ (s : SinkView). s.given) same ∙ by_nothing old.given
 
-gets_grew : (text : List ℕ) (outcome : Result (Unit {0}) (Front text)) (old new : SinkView) → Gets text outcome old new → new.given ≡ grown old.given (got outcome)
+pub gets_grew : (text : List ℕ) (outcome : Result (Unit {0}) (Front text)) (old new : SinkView) → Gets text outcome old new → new.given ≡ grown old.given (got outcome)
 gets_grew text (Ok done) old new gets = ap (λ (s : SinkView). s.given) gets
 gets_grew text (Err front) old new gets = ap (λ (s : SinkView). s.given) gets.is
 

@@ -50,6 +50,23 @@ pub record LinkTookMost {Origin : Type 0} (new : Devices Origin) : Type 0 where
   pub last : IsLast link new.dialer.ended
   pub all : link.from.amount ≡ most_taken
 
+-- the client's source waited in vain, for as long as it was to wait when the session began
+pub record WaitedInVain (old new : SourceView) : Type 0 where
+  pub rose : Rose old.idles new.idles
+  pub waited : new.waited ≡ old.waits
+
+-- a link waited in vain, and the last that was hung up waited for as long as links were to wait when the session began
+pub record LinkWaitedInVain {Origin : Type 0} (old new : Devices Origin) : Type 0 where
+  pub rose : Rose old.dialer.link_idles new.dialer.link_idles
+  pub link : LinkView
+  pub last : IsLast link new.dialer.ended
+  pub waited : link.from.waited ≡ old.dialer.waits
+
+-- where a session ends as idle, somebody was waited for as long as was set
+abbrev pub WaitsFor : {Origin : Type 0} → Ending → Devices Origin → Devices Origin → Type 0
+WaitsFor Idle old new = WaitedInVain old.inlet new.inlet ⊎ LinkWaitedInVain old new
+WaitsFor ending old new = Unit {0}
+
 abbrev pub is_spent_ending : Ending → Bool
 is_spent_ending Spent = true
 is_spent_ending _ = false

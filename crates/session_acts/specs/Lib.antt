@@ -7,10 +7,12 @@ pub mod Deeds
 pub mod Denying
 pub mod Distance
 pub mod Forms
+pub mod FullPort
 pub mod Hearing
 pub mod Laws
 pub mod Link
 pub mod Met
+pub mod Passing
 pub mod Session
 pub mod Talk
 pub mod World

@@ -1,13 +1,15 @@
 -- The link to a server as a session sees it.
 -- No public clause cites these: they say what private functions answer.
-use Rattle.std.specs.Prelude.{◌≡◌, List, ℕ, Option, Some, None, Result, Ok, Err}
+use Rattle.std.specs.Prelude.{◌≡◌, Bool, true, false, List, ℕ, Option, Some, None, Result, Ok, Err}
 use Rattle.fw_outside.specs.SinkView.{Gives, SinkView}
 use Rattle.fw_outside.specs.SourceView.{SourceView}
+use Rattle.fw_outside.specs.declared.dialed.Dialed.{Dialed}
+use Rattle.fw_outside.specs.declared.dialed.Dialed.TheVariants.{Up, Refused}
 use Rattle.fw_outside.specs.declared.failed.Failed.{Failed}
 use Rattle.fw_outside.specs.declared.heard.Heard.{Heard}
 use Rattle.fw_outside.specs.declared.heard.Heard.TheVariants.{Stopped}
 use Rattle.fw_outside.specs.declared.heard.Stop.TheVariants as stops
-use Rattle.session_acts.specs.World.{Speaker}
+use Rattle.session_acts.specs.World.{Speaker, unheard}
 use Rattle.session_acts.specs.declared.link.Link.{Link}
 use Rattle.session_acts.specs.declared.silence.Silence.{Silence}
 use Rattle.session_acts.specs.declared.silence.Silence.TheVariants.{Quiet, Broken, Limit}
@@ -22,6 +24,12 @@ pub record GivesServer (text : List ℕ) (result : Result (Unit {0}) Failed) (li
   pub outlet : SinkView
   pub gives : Gives result text link.outlet outlet
   pub is : new ≡ Some (record link { outlet = outlet })
+
+-- a link that came up is kept, of which nothing was heard yet, and where it was refused there is none
+abbrev pub IsPutUp : {I O : Type 0} → (I → SourceView) → (O → SinkView) → Dialed I O → Bool → Option Speaker → Type 0
+IsPutUp source_view sink_view (Up from to) up new =
+    (up ≡ true) × (new ≡ Some (record { inlet = source_view from; reader = unheard; outlet = sink_view to }))
+IsPutUp source_view sink_view Refused up new = (up ≡ false) × (new ≡ None)
 
 -- how a session takes what a reader of lines hears
 abbrev pub outcome_of : Heard → Result Heard Silence

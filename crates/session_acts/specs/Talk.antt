@@ -11,6 +11,7 @@ use Rattle.auth_events.specs.declared.reply.Reply.{Reply}
 use Rattle.auth_events.specs.declared.reply.Reply.TheVariants.{Denied}
 use Rattle.auth_events.specs.declared.request.Request.{Request}
 use Rattle.auth_events.specs.declared.request.Request.TheVariants.{Password}
+use Rattle.fw_outside.specs.Counts.{Grew}
 use Rattle.session_acts.specs.Acts.{Act, Outcome}
 use Rattle.session_acts.specs.Acts.Act.{Ask, Renew}
 use Rattle.session_acts.specs.Laws.{Adds}
@@ -27,6 +28,10 @@ abbrev pub asked : (act : Act) → Outcome act → List (Request × Option Reply
 asked (Ask request) outcome = (request, reply_of outcome) ∷ []
 asked (Renew name hash) outcome = renewed name hash outcome
 asked act outcome = []
+
+-- the port's count grew by one for each of these, answered or not
+abbrev pub CountsAsks : {Origin : Type 0} → List (Request × Option Reply) → World Origin → World Origin → Type 0
+CountsAsks asks old new = Grew (length asks) old.office.port.asks new.office.port.asks
 
 -- the salts with which new passwords were asked for
 abbrev pub salt_of : Request → List (List ℕ)

@@ -6,7 +6,7 @@ ghost use Rattle.session_acts.specs.Acts.{fault_cause, silence_cause};
 ghost use Rattle.session_acts.specs.Link.{link_view};
 ghost use Rattle.session_acts.specs.Met.{Asking, opened_then, reply_of};
 
-use crate::link::{Link, clear, connect, heed, pass_text, take_line};
+use crate::link::{Link, heed, pass_text, put_up, take_line};
 use crate::{Cause, Form, Silence, Stage};
 use auth_events::{AuthPort, PortFault, Reply, Request};
 use fw_outside::{Clock, Dialer, Dice, Failed, Heard, LineReader, Sink, Source};
@@ -178,11 +178,12 @@ where
     }
 
     fn dial(&mut self, dest: &Dest) -> bool {
-        connect(self.dialer, self.link, dest)
+        self.hang_up();
+        put_up(self.link, self.dialer.dial(dest))
     }
 
     fn reach(&mut self, dest: &Dest) -> Result<(), Cause> {
-        if !connect(self.dialer, self.link, dest) {
+        if !self.dial(dest) {
             return Err(Cause::NoRoute);
         }
         Ok(())
@@ -203,6 +204,8 @@ where
     }
 
     fn hang_up(&mut self) {
-        clear(self.dialer, self.link);
+        if let Some(up) = self.link.take() {
+            self.dialer.hang_up(up.from, up.to);
+        }
     }
 }

@@ -13,13 +13,15 @@ ghost use Rattle.session_acts.specs.Client.{Denies, LogsFirst};
 ghost use Rattle.session_acts.specs.Course.{AreOfOne, Course, CourseState, KeepsCourse};
 ghost use Rattle.session_acts.specs.Deeds.{gives};
 ghost use Rattle.session_acts.specs.Denying.{denying_row, no_rows};
+ghost use Rattle.session_acts.specs.FullPort.{RefusesOn};
 ghost use Rattle.session_acts.specs.Hearing.{TakesHeard, heard_in};
 ghost use Rattle.session_acts.specs.LastStop.{StopsLast, one_lacked_memory};
 ghost use Rattle.session_acts.specs.Laws.{CallsDialer, CountsRefusals, LinksDialer, TellsClient, TellsLog, called, linked, logged, refused, told};
 ghost use Rattle.session_acts.specs.Met.{acts};
+ghost use Rattle.session_acts.specs.Passing.{GivesServers, passed_over};
 ghost use Rattle.session_acts.specs.Serverless.{CausedAlone, KeepsServerless, TakesExactly};
 ghost use Rattle.session_acts.specs.Session.{Held, Session, deeds_of};
-ghost use Rattle.session_acts.specs.Talk.{Entered, ThrowsSalts, answered, asked, is_entered, is_refused_as_full, said_of, thrown};
+ghost use Rattle.session_acts.specs.Talk.{CountsAsks, Entered, ThrowsSalts, answered, asked, is_entered, is_refused_as_full, said_of, thrown};
 ghost use Rattle.session_acts.specs.World.{Devices, World};
 ghost use Rattle.session_acts.specs.declared.cause.Cause.{Cause};
 
@@ -78,6 +80,15 @@ pub fn no_server_ends_it<Origin, P>()
         (ending : Ending) → Session rows first old new ending → KeepsServerless rows first → TakesExactly ending old new }
 {}
 
+/// What servers were given, where no link was up before: of each link that was hung up in a session, where the dialer tells,
+/// the texts that were passed over it, one after another, from where it came up to where it was hung up; of a text at which
+/// the link failed, a front.
+pub fn the_servers_are_given<Origin, P>()
+    ensures { (rows : PlaceTable (acts Origin) P) (first : Row (acts Origin) P) (old new : World Origin) (ending : Ending)
+        (held : Held rows first old new ending) → old.server.link ≡ None →
+        GivesServers (passed_over None (deeds_of held)) old new }
+{}
+
 /// A session asked each request for the session that it opened last and didn't ask to close, or for number 2^64 - 1
 /// where there was none, at a moment of the clock. What was answered stands in the
 /// port's history as it was asked and answered, behind all that was seen before, but for what was refused because no more
@@ -94,6 +105,21 @@ pub fn the_talk_is_entered<Origin, P>()
         (ending : Ending) (held : Held rows first old new ending) →
         old.office.port.mine ≡ [] → new.office.port.mine ≡ places (length new.office.port.seen) →
         map said_of new.office.port.seen ≡ filter is_entered (answered (gives asked (deeds_of held))) }
+{}
+
+/// The port counted each request of a session, be it one of the script's or the close that was owed, answered or not: one for
+/// which there was no memory, say. So none of them can be left out.
+pub fn the_requests_are_counted<Origin, P>()
+    ensures { (rows : PlaceTable (acts Origin) P) (first : Row (acts Origin) P) (old new : World Origin) (ending : Ending)
+        (held : Held rows first old new ending) → CountsAsks (gives asked (deeds_of held)) old new }
+{}
+
+/// Once the port's limit is known to be reached, be it before the session or from a reply in it, each request that is
+/// answered is refused because of it.
+pub fn a_full_port_refuses<Origin, P>()
+    ensures { (rows : PlaceTable (acts Origin) P) (first : Row (acts Origin) P) (old new : World Origin) (ending : Ending)
+        (held : Held rows first old new ending) →
+        RefusesOn old.office.port.full (answered (gives asked (deeds_of held))) }
 {}
 
 /// The salts that the dice gave in a session are those of the new passwords that it asked for, in order.

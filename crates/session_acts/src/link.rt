@@ -1,14 +1,13 @@
 //! The link to a server, while it is up.
-ghost use Rattle.std.specs.Prelude.{◌≡◌, None};
+ghost use Rattle.std.specs.Prelude.{◌≡◌};
 ghost use Rattle.fw_outside.specs.DialerView.{DialerView};
 ghost use Rattle.fw_outside.specs.SinkView.{SinkView};
-ghost use Rattle.session_acts.specs.Link.{PassesSo, link_view, outcome_of};
-ghost use Rattle.session_acts.specs.Met.{Clears, Dialing, Hears, Takes};
+ghost use Rattle.session_acts.specs.Link.{IsPutUp, PassesSo, link_view, outcome_of};
+ghost use Rattle.session_acts.specs.Met.{Hears, Takes};
 ghost use Rattle.session_acts.specs.declared.form.Form.TheVariants.{Lines};
 
 use crate::{Form, Silence};
-use fw_outside::{Dialed, Dialer, Failed, Heard, LineReader, Sink, Source, Stop};
-use fw_types::Dest;
+use fw_outside::{Dialed, Failed, Heard, LineReader, Sink, Source, Stop};
 
 // No more bytes than these are taken from a client, or from a server over one link.
 pub(crate) const MOST_TAKEN: u64 = 1 << 40;
@@ -16,9 +15,9 @@ pub(crate) const MOST_TAKEN: u64 = 1 << 40;
 /// A link that is up, and the buffer behind which the server is heard.
 #[derive(Drop)]
 pub(crate) struct Link<I, O> {
-    from: I,
-    to: O,
-    reader: LineReader,
+    pub(crate) from: I,
+    pub(crate) to: O,
+    pub(crate) reader: LineReader,
 }
 
 // How a session takes what a reader of lines hears.
@@ -60,29 +59,14 @@ pub(crate) fn heed<S: Source>(
     }
 }
 
-// Hangs a link up, if one is up.
-pub(crate) fn clear<D: Dialer>(dialer: &mut D, link: &mut Option<Link<D::In, D::Out>>)
-    ensures clears { Clears (link_view D.In.source_view D.Out.sink_view link.old)
-        (D.dialer_view dialer.old) (D.dialer_view dialer.new) }
-    ensures none { link.new ≡ None }
-{
-    if let Some(up) = link.take() {
-        dialer.hang_up(up.from, up.to);
-    }
-}
-
-// Hangs a link up, if one is up, and dials.
-pub(crate) fn connect<D: Dialer>(
-    dialer: &mut D,
-    link: &mut Option<Link<D::In, D::Out>>,
-    dest: &Dest,
+// Keeps a link that came up, of which nothing was heard yet; whether one did.
+pub(crate) fn put_up<I: Source, O: Sink>(
+    link: &mut Option<Link<I, O>>,
+    dialed: Dialed<I, O>,
 ) -> bool
-    ensures { Dialing dest.now result
-        (record { dialer = D.dialer_view dialer.old; link = link_view D.In.source_view D.Out.sink_view link.old })
-        (record { dialer = D.dialer_view dialer.new; link = link_view D.In.source_view D.Out.sink_view link.new }) }
+    ensures { IsPutUp I.source_view O.sink_view dialed result (link_view I.source_view O.sink_view link.new) }
 {
-    clear(dialer, link);
-    match dialer.dial(dest) {
+    match dialed {
         Dialed::Up(from, to) => {
             *link = Some(Link {
                 from,
@@ -91,7 +75,10 @@ pub(crate) fn connect<D: Dialer>(
             });
             true
         }
-        Dialed::Refused => false,
+        Dialed::Refused => {
+            *link = None;
+            false
+        }
     }
 }
 

@@ -2,7 +2,7 @@
 ghost use Rattle.std.specs.Prelude.{◌≡◌, [], None};
 ghost use Rattle.fw_acts.specs.Acts.Row.{Over};
 ghost use Rattle.fw_acts.specs.Ran.{Ran};
-ghost use Rattle.session_acts.specs.Causes.{Caused, SessionKeeps, TakesFor};
+ghost use Rattle.session_acts.specs.Causes.{Caused, SessionKeeps, TakesFor, WaitsFor};
 ghost use Rattle.session_acts.specs.Closing.{Closing, ending_told};
 ghost use Rattle.session_acts.specs.Deeds.{DeedsAll};
 ghost use Rattle.session_acts.specs.Session.{Held, Session, ending_by, freeing};
@@ -160,6 +160,11 @@ where
         (devices_with (P.port port.new) (S.source_view from.new) (K.sink_view to.new) (G.sink_view logs.new)
         (D.dialer_view dialer.new) (C.clock_view clock.new) (R.dice_view dice.new)) }
     ensures caused { Caused result
+        (devices_with (P.port port.old) (S.source_view from.old) (K.sink_view to.old) (G.sink_view logs.old)
+        (D.dialer_view dialer.old) (C.clock_view clock.old) (R.dice_view dice.old))
+        (devices_with (P.port port.new) (S.source_view from.new) (K.sink_view to.new) (G.sink_view logs.new)
+        (D.dialer_view dialer.new) (C.clock_view clock.new) (R.dice_view dice.new)) }
+    ensures waited { WaitsFor result
         (devices_with (P.port port.old) (S.source_view from.old) (K.sink_view to.old) (G.sink_view logs.old)
         (D.dialer_view dialer.old) (C.clock_view clock.old) (R.dice_view dice.old))
         (devices_with (P.port port.new) (S.source_view from.new) (K.sink_view to.new) (G.sink_view logs.new)

@@ -1,6 +1,7 @@
 use Rattle.std.proofs.Common.{rules}
 use Rattle.session_acts.proofs.CauseLemmas.{session_caused, session_keeps}
 use Rattle.session_acts.proofs.SpentLemmas.{session_spent}
+use Rattle.session_acts.proofs.WaitedLemmas.{session_waited}
 use Rattle.session_acts.proofs.session.session_over.Goals as goal
 
 pub returns-clause-keeps : goal.returns-clause-keeps
@@ -14,3 +15,7 @@ returns-clause-caused g c =
 pub returns-clause-spent : goal.returns-clause-spent
 returns-clause-spent g c =
     session_spent {rows = g.T.Script.rows c.args.script.now g.row.P-Origin.Denot} {first = g.T.Script.first c.args.script.now g.row.P-Origin.Denot} {ending = c.session_at.result} (search rules)
+
+pub returns-clause-waited : goal.returns-clause-waited
+returns-clause-waited g c =
+    session_waited {rows = g.T.Script.rows c.args.script.now g.row.P-Origin.Denot} {first = g.T.Script.first c.args.script.now g.row.P-Origin.Denot} {ending = c.session_at.result} (search rules)
