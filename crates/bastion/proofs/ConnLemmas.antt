@@ -1,142 +1,228 @@
 -- What a client's ending says.
-use Rattle.std.proofs.Common.{arith, ◌≡◌, ◌∙◌, refl, sym, subst, ap, ℕ, List, [], inl, inr, true, false}
-use Rattle.std.specs.Prelude.{Result, Ok, Err}
-use Rattle.authsrv_gate.specs.Causes.{Caused, TakesFor, is_spent_ending}
-use Rattle.authsrv_gate.proofs.CauseLemmas.{session_caused, session_keeps}
-use Rattle.authsrv_gate.proofs.DeviceLemmas.{by_nothing}
-use Rattle.authsrv_gate.specs.Session.{Devices, Session}
-use Rattle.authsrv_gate.proofs.SpentLemmas.{session_spent}
-use Rattle.fw_outside.proofs.CountLemmas.{grew_none}
-use Rattle.fw_outside.specs.Counts.{Grew, Rose}
+use Rattle.std.proofs.Common.{arith, ◌≡◌, ◌≤◌, ◌∙◌, refl, sym, subst, ap, ℕ, List, [], inl, inr, ◌⊎◌, true, false}
+use Rattle.std.specs.Prelude.{Option, Some, None, Result, Ok, Err, length}
+use Rattle.authsrv_gate.specs.Dialogue.{rows, session_row}
+use Rattle.authsrv_gate.proofs.ServerlessLemmas.{keeps_serverless}
+use Rattle.fw_outside.specs.DialerView.{DialerView, dialer_waiting}
 use Rattle.fw_outside.specs.SinkView.{SinkView, Gives}
 use Rattle.fw_outside.specs.SourceView.{SourceView, waiting}
 use Rattle.fw_types.specs.declared.ending.Ending.{Ending}
 use Rattle.fw_types.specs.declared.ending.Ending.TheVariants.{Done, Denied, ClientFault, ServerFault, LogFault, AuthFault, Idle, NoRoute, Spent, NoMemory}
-use Rattle.fw_outside.specs.declared.failed.Failed.{Failed}
 use Rattle.fw_types.specs.declared.peer.Peer.{Peer}
 use Rattle.gate_rules.specs.Reading.{RuleBook}
 use Rattle.gate_rules.specs.Verdict.{verdict_of}
 use Rattle.gate_rules.specs.declared.service.Service.{Service}
 use Rattle.gate_rules.specs.declared.verdict.Verdict.{Verdict}
 use Rattle.gate_rules.specs.declared.verdict.Verdict.TheVariants.{Permit, Deny}
-use Rattle.bastion.specs.Conn.{AfterLine, Causes, Conn, Ended, IsRefused, ConnView, NotedIf, Refused, Served, Treated, patient, timeout_of}
-use Rattle.bastion.specs.Endings.{ending_line}
+use Rattle.session_acts.specs.Causes.{WaitsFor, is_spent_ending}
+use Rattle.session_acts.proofs.WaitedLemmas.{session_waited}
+use Rattle.session_acts.specs.Client.{Denies}
+use Rattle.session_acts.specs.Serverless.{CausedAlone, TakesExactly}
+use Rattle.session_acts.specs.World.{Devices}
+use Rattle.session_acts.proofs.AloneLemmas.{session_alone, session_exact}
+use Rattle.session_acts.proofs.CauseLemmas.{session_keeps}
+use Rattle.session_acts.proofs.ClientLemmas.{denies}
+use Rattle.session_acts.proofs.ServerlessLemmas.{logged_serverless, session_serverless}
+use Rattle.session_acts.proofs.DeviceLemmas.{by_nothing}
+use Rattle.fw_outside.proofs.CountLemmas.{grew_none}
+use Rattle.fw_outside.specs.Counts.{Grew, Rose}
+use Rattle.bastion.specs.Conn.{AtConsole, Causes, Conn, IsRefused, NotedIf, Permits, Treats, TurnsAway, WaitsAs, denied_by, dialer_then, logged_row, patient, timeout_of}
+use Rattle.bastion.specs.Endings.{denied_text, ending_line}
 use Rattle.bastion.specs.Texts.{decision_text}
-use Rattle.bastion.proofs.CommandLemmas.{cut_rose}
+use Rattle.bastion.proofs.SinkLemmas.{gives_most, rose_later, same_low}
+
+noted_most : (line : Option (List ℕ)) (old new : SinkView) → NotedIf line old new → old.faults ≤ new.faults
+noted_most None old new is = same_low old.faults new.faults (ap (λ (s : SinkView). s.faults) is)
+noted_most (Some line) old new noted = gives_most noted.told line old new noted.gives
 
 module _ {Origin : Type 0} where
-  abbrev meets : Devices Origin → SinkView → ConnView Origin
-  meets devices logs = record { devices = devices; logs = logs }
+  abbrev with_logs : Devices Origin → SinkView → Devices Origin
+  with_logs devices logs = record devices { logs = logs }
 
-  -- what the devices say of an ending, how long the source waits counting for nothing
-  held_caused : (verdict : Verdict) (seconds : ℕ) (ending : Ending) (devices : Devices Origin) (logs : SinkView) (new : ConnView Origin) → Caused ending (patient seconds devices) new.devices → Causes verdict ending (meets devices logs) new
-  held_caused verdict seconds Done devices logs new h = tt
-  held_caused verdict seconds (Denied line) devices logs new h = absurd h
-  held_caused verdict seconds ClientFault devices logs new h = h
-  held_caused verdict seconds ServerFault devices logs new h = absurd h
-  held_caused verdict seconds LogFault devices logs new h = absurd h
-  held_caused verdict seconds AuthFault devices logs new h = h
-  held_caused verdict seconds Idle devices logs new h = h
-  held_caused verdict seconds NoRoute devices logs new h = absurd h
-  held_caused verdict seconds Spent devices logs new h = record { took = record { bytes = h.took.bytes; most = h.took.most; grew = h.took.grew; is = h.took.is }; all = h.all }
-  held_caused verdict seconds NoMemory devices logs new h = tt
+  -- the ending's line is given to the log alone
+  caused_later : (ending : Ending) (old new : Devices Origin) (logs : SinkView) → logs.faults ≤ new.logs.faults → CausedAlone ending old (with_logs new logs) → CausedAlone ending old new
+  caused_later Done old new logs later h = tt
+  caused_later (Denied line) old new logs later h = h
+  caused_later ClientFault old new logs later h = h
+  caused_later ServerFault old new logs later h = h
+  caused_later LogFault old new logs later h = rose_later old.logs.faults logs.faults new.logs.faults h later
+  caused_later AuthFault old new logs later h = h
+  caused_later Idle old new logs later h = h
+  caused_later NoRoute old new logs later h = h
+  caused_later Spent old new logs later h = h
+  caused_later NoMemory old new logs later h = tt
 
-  treated_caused : (verdict : Verdict) (service : Service) (rules : RuleBook) (peer : Peer) (ending : Ending) (devices : Devices Origin) (before logs : SinkView) (new : ConnView Origin) → Treated verdict service rules peer ending (meets devices logs) new → Causes verdict ending (meets devices before) new
-  treated_caused (Deny line) service rules peer ending devices before logs new h = subst (λ (e : Ending). Causes (Deny line) e (meets devices before) new) (sym h.ends) refl
-  treated_caused (Permit line) service rules peer ending devices before logs new h =
-      held_caused (Permit line) (timeout_of rules) ending devices before new (session_caused false (patient (timeout_of rules) devices) new.devices ending h.session)
+  -- how long the devices wait counts for nothing
+  caused_patient : (seconds : ℕ) (ending : Ending) (old new : Devices Origin) → CausedAlone ending (patient seconds old) new → CausedAlone ending old new
+  caused_patient seconds Done old new h = tt
+  caused_patient seconds (Denied line) old new h = h
+  caused_patient seconds ClientFault old new h = h
+  caused_patient seconds ServerFault old new h = h
+  caused_patient seconds LogFault old new h = h
+  caused_patient seconds AuthFault old new h = h
+  caused_patient seconds Idle old new h = h
+  caused_patient seconds NoRoute old new h = h
+  caused_patient seconds Spent old new h = record { took = record { bytes = h.took.bytes; most = h.took.most; grew = h.took.grew; is = h.took.is }; all = h.all }
+  caused_patient seconds NoMemory old new h = tt
 
-  after_caused : (logging : Result (Unit {0}) Failed) (verdict : Verdict) (service : Service) (rules : RuleBook) (peer : Peer) (ending : Ending) (text : List ℕ) (devices : Devices Origin) (before logs : SinkView) (new : ConnView Origin)
-      → Gives logging text before logs → AfterLine logging verdict service rules peer ending (meets devices logs) new → Causes verdict ending (meets devices before) new
-  after_caused (Ok done) verdict service rules peer ending text devices before logs new gives h = treated_caused verdict service rules peer ending devices before logs new h
-  after_caused (Err failed) verdict service rules peer ending text devices before logs new gives h =
-      subst (λ (e : Ending). Causes verdict e (meets devices before) new) (sym h.ends)
-      (subst (λ (m : ConnView Origin). Rose before.faults m.logs.faults) (sym h.is) (cut_rose text before logs gives))
+  causes_of : (verdict : Verdict) (ending : Ending) (old new : Devices Origin) → CausedAlone ending old new → Causes verdict ending old new
+  causes_of verdict Done old new h = tt
+  causes_of verdict (Denied line) old new h = absurd h
+  causes_of verdict ClientFault old new h = h
+  causes_of verdict ServerFault old new h = h
+  causes_of verdict LogFault old new h = h
+  causes_of verdict AuthFault old new h = h
+  causes_of verdict Idle old new h = h
+  causes_of verdict NoRoute old new h = h
+  causes_of verdict Spent old new h = h
+  causes_of verdict NoMemory old new h = tt
 
-  pub treated_deny : (verdict : Verdict) (line : ℕ) (service : Service) (rules : RuleBook) (peer : Peer) (ending : Ending) (old new : ConnView Origin) → verdict ≡ Deny line → Refused line ending old new → Treated verdict service rules peer ending old new
-  treated_deny verdict line service rules peer ending old new is h = subst (λ (v : Verdict). Treated v service rules peer ending old new) (sym is) h
+  causes_denied : (line : ℕ) (text words : List ℕ) (told ending : Ending) (old new : Devices Origin) → ending ≡ denied_by line told → Denies text words old new told → Causes (Deny line) ending old new
+  causes_denied line text words told ending old new ends (inl fails) =
+      subst (λ (e : Ending). Causes (Deny line) e old new) (sym (ends ∙ ap (denied_by line) fails.ends)) (subst (λ (s : SinkView). Rose old.logs.faults s.faults) (sym fails.cut.is) fails.cut.rose)
+  causes_denied line text words told ending old new ends (inr away) =
+      subst (λ (e : Ending). Causes (Deny line) e old new) (sym (ends ∙ ap (denied_by line) away.ends)) refl
 
-  pub treated_permit : (verdict : Verdict) (line : ℕ) (service : Service) (rules : RuleBook) (peer : Peer) (ending : Ending) (old new : ConnView Origin) → verdict ≡ Permit line → Served service rules peer ending old new → Treated verdict service rules peer ending old new
-  treated_permit verdict line service rules peer ending old new is h = subst (λ (v : Verdict). Treated v service rules peer ending old new) (sym is) h
+  causes_later : (verdict : Verdict) (ending : Ending) (old new : Devices Origin) (logs : SinkView) → logs.faults ≤ new.logs.faults → Causes verdict ending old (with_logs new logs) → Causes verdict ending old new
+  causes_later verdict Done old new logs later h = tt
+  causes_later verdict (Denied line) old new logs later h = h
+  causes_later verdict ClientFault old new logs later h = h
+  causes_later verdict ServerFault old new logs later h = h
+  causes_later verdict LogFault old new logs later h = rose_later old.logs.faults logs.faults new.logs.faults h later
+  causes_later verdict AuthFault old new logs later h = h
+  causes_later verdict Idle old new logs later h = h
+  causes_later verdict NoRoute old new logs later h = h
+  causes_later verdict Spent old new logs later h = h
+  causes_later verdict NoMemory old new logs later h = tt
 
-  -- a client was served, over a source that waits as the table has it
-  pub served_from : (service : Service) (rules : RuleBook) (peer : Peer) (ending : Ending) (old new : ConnView Origin) (inlet : SourceView) (seconds : ℕ)
-      → seconds ≡ timeout_of rules → inlet ≡ waiting old.devices.inlet seconds → Session false (record (old.devices) { inlet = inlet }) new.devices ending
-      → NotedIf (ending_line service peer ending) old.logs new.logs → Served service rules peer ending old new
-  served_from service rules peer ending old new inlet seconds seconds_is waits session noted = record {
-    session = subst (λ (s : SourceView). Session false (record (old.devices) { inlet = s }) new.devices ending) (waits ∙ ap (waiting old.devices.inlet) seconds_is) session;
-    noted = noted;
-  }
-
-  -- from the log's line to what follows it
-  pub conn_from : (service : Service) (rules : RuleBook) (peer : Peer) (old new : ConnView Origin) (ending : Ending) (verdict : Verdict) (line piece : List ℕ) (logging : Result (Unit {0}) Failed) (logs : SinkView)
-      → verdict ≡ verdict_of rules peer → line ≡ decision_text verdict service peer → piece ≡ line → Gives logging piece old.logs logs
-      → AfterLine logging verdict service rules peer ending (record old { logs = logs }) new → Conn service rules peer old new ending
-  conn_from service rules peer old new ending verdict line piece logging logs verdict_is line_is piece_is gives rest = record {
-    logging = logging;
-    logs = logs;
-    logged = subst (λ (v : Verdict). Gives logging (decision_text v service peer) old.logs logs) verdict_is
-        (subst (λ (text : List ℕ). Gives logging text old.logs logs) (piece_is ∙ line_is) gives);
-    rest = subst (λ (v : Verdict). AfterLine logging v service rules peer ending (record old { logs = logs }) new) verdict_is rest;
-  }
+  treats_caused : (verdict : Verdict) (service : Service) (rules : RuleBook) (peer : Peer) (ending : Ending) (old new : Devices Origin) → Treats verdict service rules peer ending old new → Causes verdict ending old new
+  treats_caused (Deny line) service rules peer ending old new h =
+      let text = decision_text (Deny line) service peer in
+      causes_denied line text (denied_text line) h.told ending old new h.ends (denies text (denied_text line) old new h.told h.session)
+  treats_caused (Permit line) service rules peer ending old new h =
+      causes_of (Permit line) ending old new (caused_patient (timeout_of rules) ending old new
+      (session_alone rows (logged_row (decision_text (Permit line) service peer) (session_row false)) (patient (timeout_of rules) old) new ending h
+      (logged_serverless (decision_text (Permit line) service peer) (keeps_serverless Origin false))))
 
   -- each ending has its cause
-  pub conn_caused : (service : Service) (rules : RuleBook) (peer : Peer) (old new : ConnView Origin) (ending : Ending) → Conn service rules peer old new ending → Causes (verdict_of rules peer) ending old new
+  pub conn_caused : (service : Service) (rules : RuleBook) (peer : Peer) (old new : Devices Origin) (ending : Ending) → Conn service rules peer old new ending → Causes (verdict_of rules peer) ending old new
   conn_caused service rules peer old new ending conn =
-      after_caused conn.logging (verdict_of rules peer) service rules peer ending _ old.devices old.logs conn.logs new conn.logged conn.rest
+      causes_later (verdict_of rules peer) ending old new conn.logs (noted_most (ending_line service peer ending) conn.logs new.logs conn.noted)
+      (treats_caused (verdict_of rules peer) service rules peer ending old (with_logs new conn.logs) conn.treats)
 
-  after_refused : (logging : Result (Unit {0}) Failed) (verdict : Verdict) (service : Service) (rules : RuleBook) (peer : Peer) (ending : Ending) (old new : ConnView Origin) → AfterLine logging verdict service rules peer ending old new → IsRefused verdict ending
-  after_refused logging (Permit line) service rules peer ending old new h = tt
-  after_refused (Ok done) (Deny line) service rules peer ending old new h = inl h.ends
-  after_refused (Err failed) (Deny line) service rules peer ending old new h = inr h.ends
-
-  pub conn_refused : (service : Service) (rules : RuleBook) (peer : Peer) (old new : ConnView Origin) (ending : Ending) → Conn service rules peer old new ending → IsRefused (verdict_of rules peer) ending
-  conn_refused service rules peer old new ending conn =
-      after_refused conn.logging (verdict_of rules peer) service rules peer ending (record old { logs = conn.logs }) new conn.rest
-
-  -- so it is at the console
-  pub ended_caused : (service : Service) (peer : Peer) (ending : Ending) (old new : ConnView Origin) → Ended true service peer ending old new → Caused ending old.devices new.devices
-  ended_caused service peer ending old new h = session_caused true old.devices new.devices ending h.session
+  pub console_caused : (service : Service) (peer : Peer) (old new : Devices Origin) (ending : Ending) → AtConsole service peer old new ending → CausedAlone ending old new
+  console_caused service peer old new ending h =
+      caused_later ending old new h.logs (noted_most (ending_line service peer ending) h.logs new.logs h.noted)
+      (session_alone rows (session_row true) old (with_logs new h.logs) ending h.session (keeps_serverless Origin true))
 
   -- ---- bytes
 
-  -- who is denied, or not served since the log failed, is asked for none
-  takes_none : (ending : Ending) (old new : Devices Origin) → is_spent_ending ending ≡ false → new.inlet ≡ old.inlet → TakesFor ending old new
+  -- who is turned away is asked for none
+  takes_none : (ending : Ending) (old new : Devices Origin) → is_spent_ending ending ≡ false → new.inlet ≡ old.inlet → TakesExactly ending old new
   takes_none ending old new never is = record { took = record { bytes = []; most = omega (arith); grew = subst (λ (s : SourceView). Grew 0 old.inlet.amount s.amount) (sym is) (grew_none old.inlet.amount); is = ap (λ (s : SourceView). s.taken) is ∙ by_nothing old.inlet.taken }; all = never }
 
-  -- how long the source waits counts for nothing
-  takes_patient : (seconds : ℕ) (ending : Ending) (old new : Devices Origin) → TakesFor ending (patient seconds old) new → TakesFor ending old new
+  takes_denied : (line : ℕ) (text words : List ℕ) (told ending : Ending) (old new : Devices Origin) → ending ≡ denied_by line told → Denies text words old new told → TakesExactly ending old new
+  takes_denied line text words told ending old new ends (inl fails) =
+      takes_none ending old new (ap is_spent_ending (ends ∙ ap (denied_by line) fails.ends)) (ap (λ (d : Devices Origin). d.inlet) fails.same)
+  takes_denied line text words told ending old new ends (inr away) =
+      takes_none ending old new (ap is_spent_ending (ends ∙ ap (denied_by line) away.ends)) (ap (λ (d : Devices Origin). d.inlet) away.same)
+
+  takes_patient : (seconds : ℕ) (ending : Ending) (old new : Devices Origin) → TakesExactly ending (patient seconds old) new → TakesExactly ending old new
   takes_patient seconds ending old new h = record { took = record { bytes = h.took.bytes; most = h.took.most; grew = h.took.grew; is = h.took.is }; all = h.all }
 
-  after_spent : (logging : Result (Unit {0}) Failed) (verdict : Verdict) (service : Service) (rules : RuleBook) (peer : Peer) (ending : Ending) (old new : ConnView Origin)
-      → AfterLine logging verdict service rules peer ending old new → TakesFor ending old.devices new.devices
-  after_spent (Err failed) verdict service rules peer ending old new h =
-      takes_none ending old.devices new.devices (ap is_spent_ending h.ends) (ap (λ (m : ConnView Origin). m.devices.inlet) h.is)
-  after_spent (Ok done) (Deny line) service rules peer ending old new h =
-      takes_none ending old.devices new.devices (ap is_spent_ending h.ends) (ap (λ (m : ConnView Origin). m.devices.inlet) h.is)
-  after_spent (Ok done) (Permit line) service rules peer ending old new h =
-      takes_patient (timeout_of rules) ending old.devices new.devices (session_spent false (patient (timeout_of rules) old.devices) new.devices ending h.session)
+  takes_later : (ending : Ending) (old new : Devices Origin) (logs : SinkView) → TakesExactly ending old (with_logs new logs) → TakesExactly ending old new
+  takes_later ending old new logs h = record { took = h.took; all = h.all }
+
+  treats_spent : (verdict : Verdict) (service : Service) (rules : RuleBook) (peer : Peer) (ending : Ending) (old new : Devices Origin) → Treats verdict service rules peer ending old new → TakesExactly ending old new
+  treats_spent (Deny line) service rules peer ending old new h =
+      let text = decision_text (Deny line) service peer in
+      takes_denied line text (denied_text line) h.told ending old new h.ends (denies text (denied_text line) old new h.told h.session)
+  treats_spent (Permit line) service rules peer ending old new h =
+      takes_patient (timeout_of rules) ending old new
+      (session_exact rows (logged_row (decision_text (Permit line) service peer) (session_row false)) (patient (timeout_of rules) old) new ending h
+      (logged_serverless (decision_text (Permit line) service peer) (keeps_serverless Origin false)))
 
   -- as many bytes as may be are taken exactly where the ending is `Spent`
-  pub conn_spent : (service : Service) (rules : RuleBook) (peer : Peer) (old new : ConnView Origin) (ending : Ending) → Conn service rules peer old new ending → TakesFor ending old.devices new.devices
-  conn_spent service rules peer old new ending conn =
-      after_spent conn.logging (verdict_of rules peer) service rules peer ending (record old { logs = conn.logs }) new conn.rest
+  pub conn_spent : (service : Service) (rules : RuleBook) (peer : Peer) (old new : Devices Origin) (ending : Ending) → Conn service rules peer old new ending → TakesExactly ending old new
+  conn_spent service rules peer old new ending conn = takes_later ending old new conn.logs (treats_spent (verdict_of rules peer) service rules peer ending old (with_logs new conn.logs) conn.treats)
 
-  pub ended_spent : (service : Service) (peer : Peer) (ending : Ending) (old new : ConnView Origin) → Ended true service peer ending old new → TakesFor ending old.devices new.devices
-  ended_spent service peer ending old new h = session_spent true old.devices new.devices ending h.session
+  pub console_spent : (service : Service) (peer : Peer) (old new : Devices Origin) (ending : Ending) → AtConsole service peer old new ending → TakesExactly ending old new
+  console_spent service peer old new ending h =
+      takes_later ending old new h.logs (session_exact rows (session_row true) old (with_logs new h.logs) ending h.session (keeps_serverless Origin true))
+
+  -- ---- the wait
+
+  waits_later : (ending : Ending) (old new : Devices Origin) (logs : SinkView) → WaitsFor ending old (with_logs new logs) → WaitsFor ending old new
+  waits_later Done old new logs h = tt
+  waits_later (Denied line) old new logs h = tt
+  waits_later ClientFault old new logs h = tt
+  waits_later ServerFault old new logs h = tt
+  waits_later LogFault old new logs h = tt
+  waits_later AuthFault old new logs h = tt
+  waits_later Idle old new logs (inl client) = inl client
+  waits_later Idle old new logs (inr link) = inr (record { rose = link.rose; link = link.link; last = link.last; waited = link.waited })
+  waits_later NoRoute old new logs h = tt
+  waits_later Spent old new logs h = tt
+  waits_later NoMemory old new logs h = tt
+
+  treats_waited : (verdict : Verdict) (service : Service) (rules : RuleBook) (peer : Peer) (ending : Ending) (old new : Devices Origin) (logs : SinkView) → Treats verdict service rules peer ending old (with_logs new logs) → WaitsAs verdict rules ending old new
+  treats_waited (Deny line) service rules peer ending old new logs h = tt
+  treats_waited (Permit line) service rules peer ending old new logs h = waits_later ending (patient (timeout_of rules) old) new logs (session_waited h)
+
+  pub conn_waited : (service : Service) (rules : RuleBook) (peer : Peer) (old new : Devices Origin) (ending : Ending) → Conn service rules peer old new ending → WaitsAs (verdict_of rules peer) rules ending old new
+  conn_waited service rules peer old new ending conn = treats_waited (verdict_of rules peer) service rules peer ending old new conn.logs conn.treats
+
+  -- ---- whom the rules deny
+
+  refused_by : (line : ℕ) (words : List ℕ) (text : List ℕ) (told ending : Ending) (old new : Devices Origin) → ending ≡ denied_by line told → Denies text words old new told → IsRefused (Deny line) ending
+  refused_by line words text told ending old new ends (inl fails) = inr (ends ∙ ap (denied_by line) fails.ends)
+  refused_by line words text told ending old new ends (inr away) = inl (ends ∙ ap (denied_by line) away.ends)
+
+  treats_refused : (verdict : Verdict) (service : Service) (rules : RuleBook) (peer : Peer) (ending : Ending) (old new : Devices Origin) → Treats verdict service rules peer ending old new → IsRefused verdict ending
+  treats_refused (Deny line) service rules peer ending old new h =
+      let text = decision_text (Deny line) service peer in
+      refused_by line (denied_text line) text h.told ending old new h.ends (denies text (denied_text line) old new h.told h.session)
+  treats_refused (Permit line) service rules peer ending old new h = tt
+
+  pub conn_refused : (service : Service) (rules : RuleBook) (peer : Peer) (old new : Devices Origin) (ending : Ending) → Conn service rules peer old new ending → IsRefused (verdict_of rules peer) ending
+  conn_refused service rules peer old new ending conn = treats_refused (verdict_of rules peer) service rules peer ending old (with_logs new conn.logs) conn.treats
+
+  -- ---- the dialer is asked for nothing
+
+  undialed_by : (line words : List ℕ) (told : Ending) (old new : Devices Origin) → Denies line words old new told → new.dialer ≡ old.dialer
+  undialed_by line words told old new (inl fails) = ap (λ (d : Devices Origin). d.dialer) fails.same
+  undialed_by line words told old new (inr away) = ap (λ (d : Devices Origin). d.dialer) away.same
+
+  treats_undialed : (verdict : Verdict) (service : Service) (rules : RuleBook) (peer : Peer) (ending : Ending) (old new : Devices Origin) → Treats verdict service rules peer ending old new → new.dialer ≡ dialer_then verdict rules old.dialer
+  treats_undialed (Deny line) service rules peer ending old new h =
+      let text = decision_text (Deny line) service peer in
+      undialed_by text (denied_text line) h.told old new (denies text (denied_text line) old new h.told h.session)
+  treats_undialed (Permit line) service rules peer ending old new h =
+      session_serverless rows (logged_row (decision_text (Permit line) service peer) (session_row false)) (patient (timeout_of rules) old) new ending h
+      (logged_serverless (decision_text (Permit line) service peer) (keeps_serverless Origin false))
+
+  pub conn_undialed : (service : Service) (rules : RuleBook) (peer : Peer) (old new : Devices Origin) (ending : Ending) → Conn service rules peer old new ending → new.dialer ≡ dialer_then (verdict_of rules peer) rules old.dialer
+  conn_undialed service rules peer old new ending conn = treats_undialed (verdict_of rules peer) service rules peer ending old (with_logs new conn.logs) conn.treats
+
+  pub console_undialed : (service : Service) (peer : Peer) (old new : Devices Origin) (ending : Ending) → AtConsole service peer old new ending → new.dialer ≡ old.dialer
+  console_undialed service peer old new ending h = session_serverless rows (session_row true) old (with_logs new h.logs) ending h.session (keeps_serverless Origin true)
 
   -- ---- what the port's answers stand on stays
 
-  after_origin : (logging : Result (Unit {0}) Failed) (verdict : Verdict) (service : Service) (rules : RuleBook) (peer : Peer) (ending : Ending) (old new : ConnView Origin)
-      → AfterLine logging verdict service rules peer ending old new → new.devices.port.origin ≡ old.devices.port.origin
-  after_origin (Err failed) verdict service rules peer ending old new h = ap (λ (m : ConnView Origin). m.devices.port.origin) h.is
-  after_origin (Ok done) (Deny line) service rules peer ending old new h = ap (λ (m : ConnView Origin). m.devices.port.origin) h.is
-  after_origin (Ok done) (Permit line) service rules peer ending old new h =
-      (session_keeps false (patient (timeout_of rules) old.devices) new.devices ending h.session).origin
+  treats_origin : (verdict : Verdict) (service : Service) (rules : RuleBook) (peer : Peer) (ending : Ending) (old new : Devices Origin) → Treats verdict service rules peer ending old new → new.port.origin ≡ old.port.origin
+  treats_origin (Deny line) service rules peer ending old new h = (session_keeps h.session).origin
+  treats_origin (Permit line) service rules peer ending old new h = (session_keeps h).origin
 
-  pub conn_origin : (service : Service) (rules : RuleBook) (peer : Peer) (old new : ConnView Origin) (ending : Ending) → Conn service rules peer old new ending → new.devices.port.origin ≡ old.devices.port.origin
-  conn_origin service rules peer old new ending conn =
-      after_origin conn.logging (verdict_of rules peer) service rules peer ending (record old { logs = conn.logs }) new conn.rest
+  pub conn_origin : (service : Service) (rules : RuleBook) (peer : Peer) (old new : Devices Origin) (ending : Ending) → Conn service rules peer old new ending → new.port.origin ≡ old.port.origin
+  conn_origin service rules peer old new ending conn = treats_origin (verdict_of rules peer) service rules peer ending old (with_logs new conn.logs) conn.treats
 
-  pub ended_origin : (service : Service) (peer : Peer) (ending : Ending) (old new : ConnView Origin) → Ended true service peer ending old new → new.devices.port.origin ≡ old.devices.port.origin
-  ended_origin service peer ending old new h = (session_keeps true old.devices new.devices ending h.session).origin
+  pub console_origin : (service : Service) (peer : Peer) (old new : Devices Origin) (ending : Ending) → AtConsole service peer old new ending → new.port.origin ≡ old.port.origin
+  console_origin service peer old new ending h = (session_keeps h.session).origin
+
+  -- ---- from the code
+
+  pub treated_deny : (verdict : Verdict) (line : ℕ) (service : Service) (rules : RuleBook) (peer : Peer) (ending : Ending) (old new : Devices Origin) → verdict ≡ Deny line → TurnsAway line service peer ending old new → Treats verdict service rules peer ending old new
+  treated_deny verdict line service rules peer ending old new is h = subst (λ (v : Verdict). Treats v service rules peer ending old new) (sym is) h
+
+  pub treated_permit : (verdict : Verdict) (line : ℕ) (service : Service) (rules : RuleBook) (peer : Peer) (ending : Ending) (old new : Devices Origin) → verdict ≡ Permit line → Permits line service rules peer ending old new → Treats verdict service rules peer ending old new
+  treated_permit verdict line service rules peer ending old new is h = subst (λ (v : Verdict). Treats v service rules peer ending old new) (sym is) h

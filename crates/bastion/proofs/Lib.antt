@@ -1,9 +1,9 @@
-pub mod CommandLemmas
-pub mod ConnLemmas
-pub mod DecidingLemmas
-pub mod FindingLemmas
-pub mod RepliesLemmas
-pub mod RunLemmas
-pub mod ServingLemmas
-pub mod StatusLemmas
+pub mod AttendedLemmas
 pub mod ClientLemmas
+pub mod ConnLemmas
+pub mod DoesLemmas
+pub mod HeadlineLemmas
+pub mod InputLemmas
+pub mod ReadingLemmas
+pub mod RunLemmas
+pub mod SinkLemmas

@@ -1,44 +1,380 @@
--- From the rules that were found to what the run does.
-use Rattle.std.proofs.Common.{◌≡◌, ℕ, List, refl, ap, ◌∙◌}
-use Rattle.std.specs.Prelude.{Result, Ok, Err}
+-- From what a run did to its clauses.
+use Rattle.std.proofs.Common.{◌≡◌, ◌≤◌, ℕ, List, refl, sym, ◌∙◌, ap, subst, inl, inr, arith, ◌⊎◌, Bool, true, false}
+use Rattle.std.specs.Prelude.{Option, Some, None, Result, Ok, Err, IsSome, not}
+use Rattle.fw_outside.specs.Counts.{Rose}
 use Rattle.fw_outside.specs.FilesView.{FilesView}
-use Rattle.fw_outside.specs.SinkView.{SinkView}
-use Rattle.bastion.specs.declared.fault.Device.TheVariants as device
-use Rattle.bastion.specs.declared.fault.Fault.{Fault}
-use Rattle.bastion.specs.declared.fault.Fault.TheVariants.{Usage, Table, Rule, Outside, Memory, Record, Limit}
-use Rattle.bastion.specs.declared.words.Query.{Query}
-use Rattle.bastion.specs.WorldView.{WorldView, SessionInputs}
-use Rattle.bastion.specs.Finding.{Finds}
-use Rattle.bastion.specs.Ruling.{ruling_in}
-use Rattle.gate_rules.specs.Reading.{RuleBook, rules_of}
-use Rattle.bastion.specs.Deciding.{ByTable}
-use Rattle.bastion.proofs.CommandLemmas.{IsCommand}
+use Rattle.fw_outside.specs.KeeperView.{KeeperFailed, KeeperView}
+use Rattle.fw_outside.specs.SinkView.{Gives, SinkView}
+use Rattle.fw_outside.specs.SourceView.{SourceView}
+use Rattle.session_acts.specs.Causes.{TookMost}
+use Rattle.fw_outside.specs.declared.failed.Failed as sink
+use Rattle.fw_types.specs.declared.ending.Ending.{Ending}
+use Rattle.fw_types.specs.declared.ending.Ending.TheVariants as endings
+use Rattle.gate_rules.specs.Verdict.{verdict_of}
+use Rattle.gate_rules.specs.declared.verdict.Verdict.{Verdict}
+use Rattle.gate_rules.specs.declared.verdict.Verdict.TheVariants.{Permit, Deny}
+use Rattle.bastion.specs.Inputs.{HasInputs, Inputs, is_of_line, needs_records}
+use Rattle.bastion.specs.Outcome.{CountRose, DeviceRose, EndingRose, KeeperRose, fault_line_of, status_of, verdict_status}
+use Rattle.bastion.specs.Run.{CallsIf, DoesFor, DoesLine, FilesFailed, ReadsOnly, Run, Stops, Tells, TellsIf, Worked, verdict_for}
+use Rattle.bastion.specs.Status.{ByCount, ByInputs, IsComplete, IsHeld, IsServed, IsStatus, IsStatusFor, SomeRose, TakesIn}
+use Rattle.bastion.specs.Words.{LineView}
+use Rattle.bastion.specs.Works.{Announced, Prints, PrintsAfter, Shown, Works, announced, shown}
+use Rattle.bastion.specs.WorldView.{SessionInputs, WorldView}
+use Rattle.bastion.specs.declared.outcome.Device.{Device}
+use Rattle.bastion.specs.declared.outcome.Device.TheVariants as device
+use Rattle.bastion.specs.declared.outcome.Outcome.{Outcome}
+use Rattle.bastion.specs.declared.outcome.Outcome.TheVariants.{Usage, Unread, Failed, NoMemory, Decided, Ended}
+use Rattle.bastion.specs.declared.outcome.Refusal.{Refusal}
+use Rattle.bastion.specs.declared.outcome.Step.{Step}
+use Rattle.bastion.specs.declared.outcome.Step.TheVariants as steps
+use Rattle.bastion.specs.declared.words.Command.{Command}
+use Rattle.bastion.specs.declared.words.Command.TheVariants.{Netacl, Table, Authsrv}
+use Rattle.bastion.proofs.AttendedLemmas.{attended_rose, attended_status, attended_takes, takes_same}
+use Rattle.bastion.proofs.SinkLemmas.{cut_rose, gives_most, rose_later, same_low}
 
-abbrev world : FilesView → SinkView → SinkView → SessionInputs → WorldView
-world files output logs inputs = record { files = files; output = output; logs = logs; inputs = inputs }
+-- ---- what reading leaves
 
-same_desk : (old new : WorldView) → new.files ≡ old.files → new.output ≡ old.output → new.logs ≡ old.logs → new.inputs ≡ old.inputs → new ≡ old
-same_desk old new files output logs inputs =
-    ap (λ f. world f new.output new.logs new.inputs) files ∙ ap (λ o. world old.files o new.logs new.inputs) output ∙ ap (λ l. world old.files old.output l new.inputs) logs
-    ∙ ap (λ s. world old.files old.output old.logs s) inputs
+-- as many sources are out, and nothing was taken, told or logged; the keeper is there
+pub record Left (old new : WorldView) : Type 0 where
+  pub out : new.files.out ≡ old.files.out
+  pub input : new.inputs.input ≡ old.inputs.input
+  pub output : new.output ≡ old.output
+  pub logs : new.logs ≡ old.logs
+  pub keeper : IsSome old.inputs.keeper → IsSome new.inputs.keeper
 
-by_table_here : (does : Result ℕ Fault → WorldView → WorldView → RuleBook → Type 0) (name : List ℕ) (query : Query) (rules : RuleBook) (outcome : Result ℕ Fault) (old new : WorldView) → IsCommand query does → Finds (ruling_in (rules_of query.service)) name (Ok rules) old.files old.files → does outcome old new rules → ByTable does name query outcome old new
-by_table_here does name query rules (Ok status) old new command found told = record { rules = rules; of_table = found.of_text; told = told }
-by_table_here does name query rules (Err (Outside device.Output)) old new command found told = record { rules = rules; of_table = found.of_text; told = told }
-by_table_here does name query rules (Err (Outside device.Log)) old new command found told = record { rules = rules; of_table = found.of_text; told = told }
-by_table_here does name query rules (Err (Outside device.Table)) old new command found told = absurd (command.files old new rules told)
-by_table_here does name query rules (Err (Outside device.Records)) old new command found told = absurd (command.records old new rules told)
-by_table_here does name query rules (Err Memory) old new command found told = command.memory old new rules told
-by_table_here does name query rules (Err (Record user at)) old new command found told = absurd (command.record_bad user at old new rules told)
-by_table_here does name query rules (Err Limit) old new command found told = absurd (command.limit old new rules told)
-by_table_here does name query rules (Err Usage) old new command found told = command.usage old new rules told
-by_table_here does name query rules (Err (Table fault)) old new command found told = absurd (command.table fault old new rules told)
-by_table_here does name query rules (Err (Rule fault)) old new command found told = absurd (command.rule fault old new rules told)
+some_there : (new : Option KeeperView) (view : KeeperView) → new ≡ Some view → IsSome new
+some_there new view is = subst (λ (k : Option KeeperView). IsSome k) (sym is) refl
 
--- what a command does by the rules of the service it does by the table
-pub by_table : (does : Result ℕ Fault → WorldView → WorldView → RuleBook → Type 0) (name : List ℕ) (query : Query) (rules : RuleBook) (outcome : Result ℕ Fault) (old mid new : WorldView) → IsCommand query does → Finds (ruling_in (rules_of query.service)) name (Ok rules) old.files mid.files → mid.output ≡ old.output → mid.logs ≡ old.logs → mid.inputs ≡ old.inputs → does outcome mid new rules → ByTable does name query outcome old new
-by_table does name query rules outcome old mid new command found output logs inputs told =
-    let same : mid ≡ old = same_desk old mid found.is output logs inputs in
-    let here : does outcome old new rules = rw (← same) told in
-    let read : Finds (ruling_in (rules_of query.service)) name (Ok rules) old.files old.files = record { of_text = found.of_text; is = refl } in
-    by_table_here does name query rules outcome old new command read here
+calls_input : (records : Bool) (old new : SessionInputs) → CallsIf records old new → new.input ≡ old.input
+calls_input true old new h = ap (λ (i : SessionInputs). i.input) h.is
+calls_input false old new h = ap (λ (i : SessionInputs). i.input) h
+
+calls_there : (records : Bool) (old new : SessionInputs) → CallsIf records old new → IsSome old.keeper → IsSome new.keeper
+calls_there true old new h there = some_there new.keeper h.after (ap (λ (i : SessionInputs). i.keeper) h.is)
+calls_there false old new h there = subst (λ (i : SessionInputs). IsSome i.keeper) (sym h) there
+
+pub only_left : (name : List ℕ) (records : Bool) (old new : WorldView) → ReadsOnly name records old new → Left old new
+only_left name records old new h = record {
+  out = ap (λ (f : FilesView). f.out) h.files.is;
+  input = calls_input records old.inputs new.inputs h.inputs;
+  output = h.output;
+  logs = h.logs;
+  keeper = calls_there records old.inputs new.inputs h.inputs;
+}
+
+files_out : (name : List ℕ) (old new : FilesView) → FilesFailed name old new → new.out ≡ old.out
+files_out name old new (inl missed) = ap (λ (c : FilesView). c.out) missed.is
+files_out name old new (inr failed) = ap (λ (c : FilesView). c.out) failed.is
+
+lacks_left : (name : List ℕ) (command : Command) (step : Step) (old new : WorldView) → Stops name command (NoMemory step) old new → Left old new
+lacks_left name command steps.Print old new h = only_left name (needs_records command) old new h.only
+lacks_left name command steps.Start old new h = only_left name false old new h
+lacks_left name command steps.Table old new h = only_left name false old new h
+lacks_left name command steps.Rules old new h = only_left name false old new h
+lacks_left name command steps.Policy old new h = only_left name false old new h
+lacks_left name command steps.Records old new h = only_left name (needs_records command) old new h
+
+pub stops_left : (name : List ℕ) (command : Command) (outcome : Outcome) (old new : WorldView) → Stops name command outcome old new → Left old new
+stops_left name command (Unread refusal) old new h = only_left name (not (is_of_line refusal)) old new h.only
+stops_left name command (Failed device.Table) old new h = record {
+  out = files_out name old.files new.files h.failed;
+  input = ap (λ (i : SessionInputs). i.input) h.inputs;
+  output = h.output;
+  logs = h.logs;
+  keeper = λ there. subst (λ (i : SessionInputs). IsSome i.keeper) (sym h.inputs) there;
+}
+stops_left name command (Failed device.Records) old new h = record {
+  out = ap (λ (f : FilesView). f.out) h.files.is;
+  input = ap (λ (i : SessionInputs). i.input) h.inputs;
+  output = h.output;
+  logs = h.logs;
+  keeper = λ there. some_there new.inputs.keeper h.after (ap (λ (i : SessionInputs). i.keeper) h.inputs);
+}
+stops_left name command (NoMemory step) old new h = lacks_left name command step old new h
+stops_left name command outcome old new h = absurd h
+
+-- ---- whose count has risen
+
+files_rose : (name : List ℕ) (old new : FilesView) → FilesFailed name old new → Rose old.missing new.missing ⊎ Rose old.read_faults new.read_faults
+files_rose name old new (inl missed) = inl (subst (λ (c : FilesView). Rose old.missing c.missing) (sym missed.is) missed.rose)
+files_rose name old new (inr failed) = inr (subst (λ (c : FilesView). Rose old.read_faults c.read_faults) (sym failed.is) failed.rose)
+
+missed_rose : (before after : KeeperView) → KeeperFailed before after → Rose before.faults after.faults
+missed_rose before after h = subst (λ (v : KeeperView). Rose before.faults v.faults) (sym h.is) h.rose
+
+both_keepers : (old new : Option KeeperView) (before after : KeeperView) → old ≡ Some before → new ≡ Some after → Rose before.faults after.faults → KeeperRose old new
+both_keepers old new before after a b rose =
+    subst (λ (k : Option KeeperView). KeeperRose k new) (sym a) (subst (λ (k : Option KeeperView). KeeperRose (Some before) k) (sym b) rose)
+
+stops_rose : (name : List ℕ) (command : Command) (outcome : Outcome) (old new : WorldView) → Stops name command outcome old new → CountRose outcome old new
+stops_rose name command (Failed device.Table) old new h = files_rose name old.files new.files h.failed
+stops_rose name command (Failed device.Records) old new h =
+    both_keepers old.inputs.keeper new.inputs.keeper h.before h.after h.keeper (ap (λ (i : SessionInputs). i.keeper) h.inputs) (missed_rose h.before h.after h.failed)
+stops_rose name command (Failed device.Output) old new h = absurd h
+stops_rose name command (Failed device.Log) old new h = absurd h
+stops_rose name command (Ended ending refused) old new h = absurd h
+stops_rose name command outcome old new h = tt
+
+announced_rose : (verdict : Verdict) (printing : Result (Unit {0}) sink.Failed) (text : List ℕ) (old new : WorldView) → Gives printing text old.output new.output → CountRose (announced verdict printing) old new
+announced_rose verdict (Ok done) text old new gives = tt
+announced_rose (Permit line) (Err failed) text old new gives = cut_rose text old.output new.output gives
+announced_rose (Deny line) (Err failed) text old new gives = tt
+
+shown_rose : (verdict : Verdict) (printing : Result (Unit {0}) sink.Failed) (text : List ℕ) (old new : WorldView) → Gives printing text old.output new.output → CountRose (shown verdict printing) old new
+shown_rose verdict (Ok done) text old new gives = tt
+shown_rose verdict (Err failed) text old new gives = cut_rose text old.output new.output gives
+
+after_rose : (logging : Result (Unit {0}) sink.Failed) (verdict : Verdict) (line text : List ℕ) (outcome : Outcome) (old new : WorldView) → Gives logging line old.logs new.logs → PrintsAfter logging verdict text outcome old.output new.output → CountRose outcome old new
+after_rose (Err failed) verdict line text outcome old new logged h = subst (λ (o : Outcome). CountRose o old new) (sym h.is) (cut_rose line old.logs new.logs logged)
+after_rose (Ok done) verdict line text outcome old new logged h = subst (λ (o : Outcome). CountRose o old new) (sym h.is) (announced_rose verdict h.printing text old new h.gives)
+
+works_rose : (command : Command) (inputs : Inputs) (outcome : Outcome) (old new : WorldView) → Works command inputs outcome old new → CountRose outcome old new
+works_rose (Netacl query) inputs outcome old new h = after_rose h.logging (verdict_of inputs.rules query.peer) _ _ outcome old new h.logged h.printed
+works_rose (Table query) inputs outcome old new h =
+    subst (λ (o : Outcome). CountRose o old new) (sym h.printed.is) (shown_rose (verdict_of inputs.rules query.peer) h.printed.printing _ old new h.printed.gives)
+works_rose (Authsrv client) inputs outcome old new h = attended_rose client inputs outcome old new h
+
+-- ---- from where the work began to where the run did
+
+same_faults : (one other : KeeperView) (new : Option KeeperView) → one.faults ≡ other.faults → KeeperRose (Some one) new → KeeperRose (Some other) new
+same_faults one other None is h = h
+same_faults one other (Some view) is h = subst (λ (n : ℕ). Rose n view.faults) is h
+
+keeper_from : (records : Bool) (old mid : SessionInputs) (new : Option KeeperView) → CallsIf records old mid → KeeperRose mid.keeper new → KeeperRose old.keeper new
+keeper_from false old mid new is h = subst (λ (i : SessionInputs). KeeperRose i.keeper new) is h
+keeper_from true old mid new calls h =
+    let after : KeeperRose (Some calls.after) new = subst (λ (i : SessionInputs). KeeperRose i.keeper new) calls.is h in
+    subst (λ (k : Option KeeperView). KeeperRose k new) (sym calls.keeper) (same_faults calls.after calls.before new (ap (λ (v : KeeperView). v.faults) calls.called.is) after)
+
+device_from : (name : List ℕ) (records : Bool) (which : Device) (old mid new : WorldView) → ReadsOnly name records old mid → DeviceRose which mid new → DeviceRose which old new
+device_from name records device.Table old mid new only h =
+    subst (λ (f : FilesView). Rose f.missing new.files.missing ⊎ Rose f.read_faults new.files.read_faults) only.files.is h
+device_from name records device.Output old mid new only h = subst (λ (s : SinkView). Rose s.faults new.output.faults) only.output h
+device_from name records device.Log old mid new only h = subst (λ (s : SinkView). Rose s.faults new.logs.faults) only.logs h
+device_from name records device.Records old mid new only h = keeper_from records old.inputs mid.inputs new.inputs.keeper only.inputs h
+
+client_from : (old mid : WorldView) (new : WorldView) → mid.inputs.input ≡ old.inputs.input → mid.output ≡ old.output
+    → Rose mid.inputs.input.faults new.inputs.input.faults ⊎ Rose mid.output.faults new.output.faults → Rose old.inputs.input.faults new.inputs.input.faults ⊎ Rose old.output.faults new.output.faults
+client_from old mid new input output (inl h) = inl (subst (λ (s : SourceView). Rose s.faults new.inputs.input.faults) input h)
+client_from old mid new input output (inr h) = inr (subst (λ (s : SinkView). Rose s.faults new.output.faults) output h)
+
+ending_from : (ending : Ending) (old mid new : WorldView) → mid.inputs.input ≡ old.inputs.input → mid.output ≡ old.output → mid.logs ≡ old.logs → EndingRose ending mid new → EndingRose ending old new
+ending_from endings.Done old mid new input output logs h = tt
+ending_from (endings.Denied line) old mid new input output logs h = tt
+ending_from endings.ClientFault old mid new input output logs h = client_from old mid new input output h
+ending_from endings.ServerFault old mid new input output logs h = h
+ending_from endings.LogFault old mid new input output logs h = subst (λ (s : SinkView). Rose s.faults new.logs.faults) logs h
+ending_from endings.AuthFault old mid new input output logs h = h
+ending_from endings.Idle old mid new input output logs h = subst (λ (s : SourceView). Rose s.idles new.inputs.input.idles) input h
+ending_from endings.NoRoute old mid new input output logs h = h
+ending_from endings.Spent old mid new input output logs h = tt
+ending_from endings.NoMemory old mid new input output logs h = tt
+
+count_from : (name : List ℕ) (records : Bool) (outcome : Outcome) (old mid new : WorldView) → ReadsOnly name records old mid → CountRose outcome mid new → CountRose outcome old new
+count_from name records (Failed which) old mid new only h = device_from name records which old mid new only h
+count_from name records (Ended ending refused) old mid new only h = ending_from ending old mid new (only_left name records old mid only).input only.output only.logs h
+count_from name records outcome old mid new only h = tt
+
+worked_rose : (name : List ℕ) (command : Command) (outcome : Outcome) (old new : WorldView) → Worked name command outcome old new → CountRose outcome old new
+worked_rose name command outcome old new h = count_from name (needs_records command) outcome old h.middle new h.only (works_rose command h.inputs outcome h.middle new h.works)
+
+pub does_rose : (line : Option LineView) (outcome : Outcome) (old new : WorldView) → DoesLine line outcome old new → CountRose outcome old new
+does_rose None outcome old new h = subst (λ (o : Outcome). CountRose o old new) (sym h.usage) tt
+does_rose (Some line) outcome old new (inl h) = stops_rose line.table line.command outcome old new h
+does_rose (Some line) outcome old new (inr h) = worked_rose line.table line.command outcome old new h
+
+-- ---- the line of an outcome
+
+-- the log was given a line, or not, and nothing else happened
+pub record Later (old new : WorldView) : Type 0 where
+  pub files : new.files ≡ old.files
+  pub output : new.output ≡ old.output
+  pub inputs : new.inputs ≡ old.inputs
+  pub logs : old.logs.faults ≤ new.logs.faults
+
+pub tells_later : (text : Option (List ℕ)) (old new : WorldView) → TellsIf text old new → Later old new
+tells_later None old new is = record {
+  files = ap (λ (w : WorldView). w.files) is;
+  output = ap (λ (w : WorldView). w.output) is;
+  inputs = ap (λ (w : WorldView). w.inputs) is;
+  logs = same_low old.logs.faults new.logs.faults (ap (λ (w : WorldView). w.logs.faults) is);
+}
+tells_later (Some text) old new h = record { files = h.files; output = h.output; inputs = h.inputs; logs = gives_most h.told text old.logs new.logs h.logged }
+
+some_later : (old mid new : WorldView) → Later mid new → SomeRose old mid → SomeRose old new
+some_later old mid new h (inl files) = inl (subst (λ (f : FilesView). Rose old.files.missing f.missing ⊎ Rose old.files.read_faults f.read_faults) (sym h.files) files)
+some_later old mid new h (inr (inl (inl output))) = inr (inl (inl (subst (λ (s : SinkView). Rose old.output.faults s.faults) (sym h.output) output)))
+some_later old mid new h (inr (inl (inr logs))) = inr (inl (inr (rose_later old.logs.faults mid.logs.faults new.logs.faults logs h.logs)))
+some_later old mid new h (inr (inr inputs)) =
+    inr (inr (subst (λ (i : SessionInputs). (Rose old.inputs.input.faults i.input.faults ⊎ Rose old.inputs.input.idles i.input.idles) ⊎ KeeperRose old.inputs.keeper i.keeper) (sym h.inputs) inputs))
+
+-- ---- 4 is for a count that rose
+
+client_rose : (old new : WorldView) → Rose old.inputs.input.faults new.inputs.input.faults ⊎ Rose old.output.faults new.output.faults → SomeRose old new
+client_rose old new (inl source) = inr (inr (inl (inl source)))
+client_rose old new (inr output) = inr (inl (inl output))
+
+limit_four : {A : Type 0} (refused : Bool) → status_of (Ended endings.Done refused) ≡ 4 → A
+limit_four true is = absurd (omega (arith, is))
+limit_four false is = absurd (omega (arith, is))
+
+ending_some : (ending : Ending) (refused : Bool) (old new : WorldView) → EndingRose ending old new → status_of (Ended ending refused) ≡ 4 → SomeRose old new
+ending_some endings.Done refused old new h is = limit_four refused is
+ending_some (endings.Denied line) refused old new h is = absurd (omega (arith, is))
+ending_some endings.ClientFault refused old new h is = client_rose old new h
+ending_some endings.ServerFault refused old new h is = absurd h
+ending_some endings.LogFault refused old new h is = inr (inl (inr h))
+ending_some endings.AuthFault refused old new h is = absurd h
+ending_some endings.Idle refused old new h is = inr (inr (inl (inr h)))
+ending_some endings.NoRoute refused old new h is = absurd h
+ending_some endings.Spent refused old new h is = absurd (omega (arith, is))
+ending_some endings.NoMemory refused old new h is = absurd (omega (arith, is))
+
+device_some : (which : Device) (old new : WorldView) → DeviceRose which old new → SomeRose old new
+device_some device.Table old new h = inl h
+device_some device.Output old new h = inr (inl (inl h))
+device_some device.Log old new h = inr (inl (inr h))
+device_some device.Records old new h = inr (inr (inr h))
+
+verdict_four : {A : Type 0} (verdict : Verdict) → verdict_status verdict ≡ 4 → A
+verdict_four (Permit line) is = absurd (omega (arith, is))
+verdict_four (Deny line) is = absurd (omega (arith, is))
+
+count_some : (outcome : Outcome) (old new : WorldView) → CountRose outcome old new → status_of outcome ≡ 4 → SomeRose old new
+count_some Usage old new h is = absurd (omega (arith, is))
+count_some (Unread refusal) old new h is = absurd (omega (arith, is))
+count_some (Failed which) old new h is = device_some which old new h
+count_some (NoMemory step) old new h is = absurd (omega (arith, is))
+count_some (Decided verdict) old new h is = verdict_four verdict is
+count_some (Ended ending refused) old new h is = ending_some ending refused old new h is
+
+-- ---- the status
+
+by_count : (name : List ℕ) (command : Command) (outcome : Outcome) (old mid new : WorldView) → CountRose outcome old mid → Later mid new → status_of outcome ≡ 4 → IsStatusFor name command (status_of outcome) old new
+by_count name command outcome old mid new rose later is = inl (inl (record { is = is; rose = some_later old mid new later (count_some outcome old mid rose is) }))
+
+stops_status : (name : List ℕ) (command : Command) (outcome : Outcome) (old mid new : WorldView) → Stops name command outcome old mid → Later mid new → IsStatusFor name command (status_of outcome) old new
+stops_status name command (Unread refusal) old mid new h later = inr (record { read = Err refusal; inputs = h.read; is = refl })
+stops_status name command (Failed which) old mid new h later = by_count name command (Failed which) old mid new (stops_rose name command (Failed which) old mid h) later refl
+stops_status name command (NoMemory step) old mid new h later = inl (inr refl)
+stops_status name command Usage old mid new h later = absurd h
+stops_status name command (Decided verdict) old mid new h later = absurd h
+stops_status name command (Ended ending refused) old mid new h later = absurd h
+
+announced_status : (verdict : Verdict) (printing : Result (Unit {0}) sink.Failed) → (status_of (announced verdict printing) ≡ 4) ⊎ (status_of (announced verdict printing) ≡ verdict_status verdict)
+announced_status verdict (Ok done) = inr refl
+announced_status (Permit line) (Err failed) = inl refl
+announced_status (Deny line) (Err failed) = inr refl
+
+shown_status : (verdict : Verdict) (printing : Result (Unit {0}) sink.Failed) → (status_of (shown verdict printing) ≡ 4) ⊎ (status_of (shown verdict printing) ≡ verdict_status verdict)
+shown_status verdict (Ok done) = inr refl
+shown_status verdict (Err failed) = inl refl
+
+abbrev ByVerdict : Verdict → Outcome → Type 0
+ByVerdict verdict outcome = (status_of outcome ≡ 4) ⊎ (status_of outcome ≡ verdict_status verdict)
+
+after_status : (logging : Result (Unit {0}) sink.Failed) (verdict : Verdict) (text : List ℕ) (outcome : Outcome) (old new : SinkView) → PrintsAfter logging verdict text outcome old new → ByVerdict verdict outcome
+after_status (Err failed) verdict text outcome old new h = inl (ap status_of h.is)
+after_status (Ok done) verdict text outcome old new h = subst (ByVerdict verdict) (sym h.is) (announced_status verdict h.printing)
+
+by_verdict : (name : List ℕ) (command : Command) (verdict : Verdict) (outcome : Outcome) (old mid new : WorldView) → CountRose outcome old mid → Later mid new → (status_of outcome ≡ verdict_status verdict → IsStatusFor name command (status_of outcome) old new)
+    → ByVerdict verdict outcome → IsStatusFor name command (status_of outcome) old new
+by_verdict name command verdict outcome old mid new rose later is (inl four) = by_count name command outcome old mid new rose later four
+by_verdict name command verdict outcome old mid new rose later is (inr same) = is same
+
+served_so : (name : List ℕ) (command : Command) (outcome : Outcome) (old mid new : WorldView) (Served : Type 0) → CountRose outcome old mid → Later mid new → (Served → IsStatusFor name command (status_of outcome) old new)
+    → ((status_of outcome ≡ 4) ⊎ (status_of outcome ≡ 5)) ⊎ Served → IsStatusFor name command (status_of outcome) old new
+served_so name command outcome old mid new Served rose later is (inl (inl four)) = by_count name command outcome old mid new rose later four
+served_so name command outcome old mid new Served rose later is (inl (inr five)) = inl (inr five)
+served_so name command outcome old mid new Served rose later is (inr served) = is served
+
+-- the inputs of a session as it began and as it was left
+held_then : (status : ℕ) (a b c d : SessionInputs) → a.input ≡ c.input → d ≡ b → IsHeld status a b → IsHeld status c d
+held_then status a b c d before after (inl zero) = inl zero
+held_then status a b c d before after (inr (six, inl took)) =
+    inr (six, inl (subst (λ (s : SourceView). TookMost s d.input) before (subst (λ (i : SessionInputs). TookMost a.input i.input) (sym after) took)))
+held_then status a b c d before after (inr (six, inr full)) = inr (six, inr (record { book = full.book; kept = ap (λ (i : SessionInputs). i.keeper) after ∙ full.kept; full = full.full }))
+
+served_then : (console : Bool) (verdict : Verdict) (status : ℕ) (a b c d : SessionInputs) → a.input ≡ c.input → d ≡ b → IsServed console verdict status a b → IsServed console verdict status c d
+served_then true verdict status a b c d before after h = held_then status a b c d before after h
+served_then false (Permit line) status a b c d before after h = held_then status a b c d before after h
+served_then false (Deny line) status a b c d before after h = h
+
+worked_status : (name : List ℕ) (command : Command) (outcome : Outcome) (old mid new : WorldView) → Worked name command outcome old mid → Later mid new → IsStatusFor name command (status_of outcome) old new
+worked_status name (Netacl query) outcome old mid new h later =
+    by_verdict name (Netacl query) (verdict_of h.inputs.rules query.peer) outcome old mid new (worked_rose name (Netacl query) outcome old mid h) later
+    (λ is. inr (record { read = Ok h.inputs; inputs = h.read; is = is }))
+    (after_status h.works.logging (verdict_of h.inputs.rules query.peer) _ outcome h.middle.output mid.output h.works.printed)
+worked_status name (Table query) outcome old mid new h later =
+    by_verdict name (Table query) (verdict_of h.inputs.rules query.peer) outcome old mid new (worked_rose name (Table query) outcome old mid h) later
+    (λ is. inr (record { read = Ok h.inputs; inputs = h.read; is = is }))
+    (subst (ByVerdict (verdict_of h.inputs.rules query.peer)) (sym h.works.printed.is) (shown_status (verdict_of h.inputs.rules query.peer) h.works.printed.printing))
+worked_status name (Authsrv client) outcome old mid new h later =
+    let Served : Type 0 = IsServed client.console (verdict_of h.inputs.rules client.peer) (status_of outcome) h.middle.inputs mid.inputs in
+    served_so name (Authsrv client) outcome old mid new Served (worked_rose name (Authsrv client) outcome old mid h) later
+    (λ served. inr (record { read = Ok h.inputs; inputs = h.read; is = served_then client.console (verdict_of h.inputs.rules client.peer) (status_of outcome) h.middle.inputs mid.inputs old.inputs new.inputs (only_left name true old h.middle h.only).input later.inputs served }))
+    (attended_status client h.inputs outcome h.middle mid h.works)
+
+does_status : (line : Option LineView) (outcome : Outcome) (old mid new : WorldView) → DoesLine line outcome old mid → Later mid new → IsStatus line (status_of outcome) old new
+does_status None outcome old mid new h later = ap status_of h.usage
+does_status (Some line) outcome old mid new (inl h) later = stops_status line.table line.command outcome old mid new h later
+does_status (Some line) outcome old mid new (inr h) later = worked_status line.table line.command outcome old mid new h later
+
+pub run_status : (line : Option LineView) (status : ℕ) (old new : WorldView) → Run line status old new → IsStatus line status old new
+run_status line status old new ran =
+    subst (λ (s : ℕ). IsStatus line s old new) (sym ran.status_is) (does_status line ran.outcome old ran.middle new ran.does (tells_later (fault_line_of ran.outcome) ran.middle new ran.tells))
+
+unless_rose : (line : Option LineView) (status : ℕ) (old new : WorldView) → (SomeRose old new → ⊥) → IsStatus line status old new → IsComplete line status old new
+unless_rose None status old new none h = h
+unless_rose (Some line) status old new none (inl (inl count)) = absurd (none count.rose)
+unless_rose (Some line) status old new none (inl (inr five)) = inl five
+unless_rose (Some line) status old new none (inr inputs) = inr inputs
+
+pub run_complete : (line : Option LineView) (status : ℕ) (old new : WorldView) → Run line status old new → (SomeRose old new → ⊥) → IsComplete line status old new
+run_complete line status old new ran none = unless_rose line status old new none (run_status line status old new ran)
+
+-- ---- what is left
+
+works_left : (command : Command) (inputs : Inputs) (outcome : Outcome) (old new : WorldView) → Works command inputs outcome old new → (new.files ≡ old.files) × (IsSome old.inputs.keeper → IsSome new.inputs.keeper)
+works_left (Netacl query) inputs outcome old new h = (h.files, λ there. subst (λ (i : SessionInputs). IsSome i.keeper) (sym h.inputs) there)
+works_left (Table query) inputs outcome old new h = (h.files, λ there. subst (λ (i : SessionInputs). IsSome i.keeper) (sym h.inputs) there)
+works_left (Authsrv client) inputs outcome old new h = (h.files, λ there. some_there new.inputs.keeper h.book.keeper h.kept)
+
+-- as many sources are out, and the keeper is there
+pub record GivesBackAll (old new : WorldView) : Type 0 where
+  pub out : new.files.out ≡ old.files.out
+  pub keeper : IsSome old.inputs.keeper → IsSome new.inputs.keeper
+
+does_back : (line : Option LineView) (outcome : Outcome) (old new : WorldView) → DoesLine line outcome old new → GivesBackAll old new
+does_back None outcome old new h = record { out = ap (λ (w : WorldView). w.files.out) h.is; keeper = λ there. subst (λ (w : WorldView). IsSome w.inputs.keeper) (sym h.is) there }
+does_back (Some line) outcome old new (inl h) = let left = stops_left line.table line.command outcome old new h in record { out = left.out; keeper = left.keeper }
+does_back (Some line) outcome old new (inr h) =
+    let left = only_left line.table (needs_records line.command) old h.middle h.only in
+    let works = works_left line.command h.inputs outcome h.middle new h.works in
+    record { out = ap (λ (f : FilesView). f.out) works.0 ∙ left.out; keeper = λ there. works.1 (left.keeper there) }
+
+pub run_back : (line : Option LineView) (status : ℕ) (old new : WorldView) → Run line status old new → GivesBackAll old new
+run_back line status old new ran =
+    let back = does_back line ran.outcome old ran.middle ran.does in
+    let later = tells_later (fault_line_of ran.outcome) ran.middle new ran.tells in
+    record { out = ap (λ (f : FilesView). f.out) later.files ∙ back.out; keeper = λ there. subst (λ (i : SessionInputs). IsSome i.keeper) (sym later.inputs) (back.keeper there) }
+
+-- ---- bytes
+
+works_takes : (command : Command) (inputs : Inputs) (outcome : Outcome) (old new : WorldView) → Works command inputs outcome old new → TakesIn (status_of outcome) old.inputs.input new.inputs.input
+works_takes (Netacl query) inputs outcome old new h = takes_same (status_of outcome) old.inputs.input new.inputs.input (ap (λ (i : SessionInputs). i.input) h.inputs)
+works_takes (Table query) inputs outcome old new h = takes_same (status_of outcome) old.inputs.input new.inputs.input (ap (λ (i : SessionInputs). i.input) h.inputs)
+works_takes (Authsrv client) inputs outcome old new h = attended_takes client inputs outcome old new h
+
+does_takes : (line : Option LineView) (outcome : Outcome) (old new : WorldView) → DoesLine line outcome old new → TakesIn (status_of outcome) old.inputs.input new.inputs.input
+does_takes None outcome old new h = takes_same (status_of outcome) old.inputs.input new.inputs.input (ap (λ (w : WorldView). w.inputs.input) h.is)
+does_takes (Some line) outcome old new (inl h) = takes_same (status_of outcome) old.inputs.input new.inputs.input (stops_left line.table line.command outcome old new h).input
+does_takes (Some line) outcome old new (inr h) =
+    let left = only_left line.table (needs_records line.command) old h.middle h.only in
+    subst (λ (s : _). TakesIn (status_of outcome) s new.inputs.input) left.input (works_takes line.command h.inputs outcome h.middle new h.works)
+
+pub run_takes : (line : Option LineView) (status : ℕ) (old new : WorldView) → Run line status old new → TakesIn status old.inputs.input new.inputs.input
+run_takes line status old new ran =
+    let later = tells_later (fault_line_of ran.outcome) ran.middle new ran.tells in
+    subst (λ (s : ℕ). TakesIn s old.inputs.input new.inputs.input) (sym ran.status_is)
+    (subst (λ (i : SessionInputs). TakesIn (status_of ran.outcome) old.inputs.input i.input) (sym later.inputs) (does_takes line ran.outcome old ran.middle ran.does))

@@ -30,19 +30,6 @@ end_text service peer word = codes "end " ++ service_text service ++ codes " " +
 abbrev pub ending_line : Service → Peer → Ending → Option (List ℕ)
 ending_line service peer ending = option_map (end_text service peer) (ending_word ending)
 
--- the status of an ending
-abbrev pub ending_status : Ending → ℕ
-ending_status Done = 0
-ending_status (Denied line) = 1
-ending_status ClientFault = 4
-ending_status ServerFault = 4
-ending_status LogFault = 4
-ending_status AuthFault = 4
-ending_status Idle = 4
-ending_status NoRoute = 4
-ending_status Spent = 6
-ending_status NoMemory = 5
-
 -- the words to a client that a line denies: `denied line N`
 abbrev pub denied_text : ℕ → List ℕ
 denied_text line = codes "denied line " ++ decimal line ++ codes "\n"

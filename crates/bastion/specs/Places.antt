@@ -1,6 +1,6 @@
 -- What the options of a command name, but for the table.
-use Rattle.std.specs.Prelude.{ℕ, List, codes}
-use Rattle.bastion.specs.Words.{option_word}
+use Rattle.std.specs.Prelude.{ℕ, List}
+use Rattle.bastion.specs.Words.{db_by, line_of}
 
 -- the files that a command names
 pub record PlaceNames : Type 0 where
@@ -9,4 +9,4 @@ pub record PlaceNames : Type 0 where
 
 -- what the words name
 abbrev pub places_of : List (List ℕ) → PlaceNames
-places_of words = record { db = option_word (codes "-r") (codes "authdb") words }
+places_of words = record { db = db_by (line_of words) }

@@ -1,45 +1,164 @@
--- What a run answers and leaves.
-use Rattle.std.specs.Prelude.{◌≡◌, ℕ, List, Option, Some, None, Result, Ok, Err}
-use Rattle.fw_outside.specs.SinkView.{Gives}
-use Rattle.fw_outside.specs.declared.failed.Failed.{Failed}
-use Rattle.bastion.specs.declared.fault.Fault.{Fault}
-use Rattle.bastion.specs.declared.fault.Fault.TheVariants.{Usage}
+-- What a run of a command line comes to, and what it leaves.
+use Rattle.std.specs.Prelude.{◌≡◌, ℕ, ◌⊎◌, Bool, true, false, not, List, Option, Some, None, Result, Ok, Err}
+use Rattle.fw_outside.specs.Counts.{Rose}
+use Rattle.fw_outside.specs.FilesView.{FilesView, MissesFile}
+use Rattle.fw_outside.specs.KeeperView.{IsCalled, KeeperFailed, KeeperView}
+use Rattle.fw_outside.specs.SinkView.{Gives, SinkView}
+use Rattle.fw_outside.specs.ToldList.{AddsOne}
+use Rattle.fw_outside.specs.declared.failed.Failed as sink
+use Rattle.fw_types.specs.declared.peer.Peer.{Peer}
+use Rattle.gate_rules.specs.Verdict.{verdict_of}
+use Rattle.gate_rules.specs.declared.verdict.Verdict.{Verdict}
+use Rattle.bastion.specs.Inputs.{HasInputs, Inputs, is_of_line, needs_records}
+use Rattle.bastion.specs.Outcome.{CountRose, fault_line_of, status_of, verdict_status}
+use Rattle.bastion.specs.Words.{LineView}
+use Rattle.bastion.specs.Works.{Works}
+use Rattle.bastion.specs.WorldView.{SessionInputs, WorldView}
+use Rattle.bastion.specs.declared.outcome.Device.TheVariants as device
+use Rattle.bastion.specs.declared.outcome.Outcome.{Outcome}
+use Rattle.bastion.specs.declared.outcome.Outcome.TheVariants.{Usage, Unread, Failed, NoMemory}
+use Rattle.bastion.specs.declared.outcome.Refusal.{Refusal}
+use Rattle.bastion.specs.declared.outcome.Step.{Step}
+use Rattle.bastion.specs.declared.outcome.Step.TheVariants as steps
 use Rattle.bastion.specs.declared.words.Command.{Command}
-use Rattle.bastion.specs.declared.words.Command.TheVariants as command
-use Rattle.bastion.specs.Deciding.{ByTable, DecidesBy, ShowsBy}
-use Rattle.bastion.specs.WorldView.{WorldView}
-use Rattle.bastion.specs.Fault.{fault_text, status_of}
-use Rattle.bastion.specs.Serving.{Attends}
-use Rattle.bastion.specs.Words.{command_of, table_named}
+use Rattle.bastion.specs.declared.words.Command.TheVariants.{Netacl, Table, Authsrv}
 
--- words that are no command
-pub record RefusesWords (outcome : Result ℕ Fault) (old new : WorldView) : Type 0 where
-  pub usage : outcome ≡ Err Usage
+-- ---- nothing was done: what the command needs couldn't be had
+
+-- the files were asked for the table, by its name, and for nothing else
+pub record AsksTable (name : List ℕ) (old new : FilesView) : Type 0 where
+  pub asked : Option (List (List ℕ))
+  pub adds : AddsOne name old.asked asked
+  pub is : new ≡ record old { asked = asked }
+
+-- the keeper was called once
+pub record CallsKeeper (old new : SessionInputs) : Type 0 where
+  pub before : KeeperView
+  pub keeper : old.keeper ≡ Some before
+  pub after : KeeperView
+  pub called : IsCalled before after
+  pub is : new ≡ record old { keeper = Some after }
+
+-- where it is asked for the records
+abbrev pub CallsIf : Bool → SessionInputs → SessionInputs → Type 0
+CallsIf false old new = new ≡ old
+CallsIf true old new = CallsKeeper old new
+
+-- the table was read, and the records where that is said, and nothing else happened
+pub record ReadsOnly (name : List ℕ) (records : Bool) (old new : WorldView) : Type 0 where
+  pub files : AsksTable name old.files new.files
+  pub inputs : CallsIf records old.inputs new.inputs
+  pub output : new.output ≡ old.output
+  pub logs : new.logs ≡ old.logs
+
+-- the first thing that can't be read refuses
+pub record Refuses (name : List ℕ) (command : Command) (refusal : Refusal) (old new : WorldView) : Type 0 where
+  pub read : HasInputs name command (Err refusal) old
+  pub only : ReadsOnly name (not (is_of_line refusal)) old new
+
+-- the files took a source of the table back that had failed, which is counted
+pub record TookBackFailed (name : List ℕ) (old new : FilesView) : Type 0 where
+  pub asked : Option (List (List ℕ))
+  pub adds : AddsOne name old.asked asked
+  pub count : ℕ
+  pub rose : Rose old.read_faults count
+  pub is : new ≡ record old { asked = asked; read_faults = count }
+
+-- or they gave none
+abbrev pub FilesFailed : List ℕ → FilesView → FilesView → Type 0
+FilesFailed name old new = MissesFile name old new ⊎ TookBackFailed name old new
+
+-- the files failed, and nothing else happened
+pub record FilesUnread (name : List ℕ) (old new : WorldView) : Type 0 where
+  pub failed : FilesFailed name old.files new.files
+  pub output : new.output ≡ old.output
+  pub logs : new.logs ≡ old.logs
+  pub inputs : new.inputs ≡ old.inputs
+
+-- the table was read, and the keeper failed, of a command that needs the records; nothing else happened
+pub record RecordsUnread (name : List ℕ) (command : Command) (old new : WorldView) : Type 0 where
+  pub needed : needs_records command ≡ true
+  pub files : AsksTable name old.files new.files
+  pub before : KeeperView
+  pub keeper : old.inputs.keeper ≡ Some before
+  pub after : KeeperView
+  pub failed : KeeperFailed before after
+  pub inputs : new.inputs ≡ record (old.inputs) { keeper = Some after }
+  pub output : new.output ≡ old.output
+  pub logs : new.logs ≡ old.logs
+
+-- whom a command is about
+abbrev pub peer_of : Command → Peer
+peer_of (Netacl query) = query.peer
+peer_of (Table query) = query.peer
+peer_of (Authsrv client) = client.peer
+
+abbrev pub verdict_for : Command → Inputs → Verdict
+verdict_for command inputs = verdict_of inputs.rules (peer_of command)
+
+-- the rules permit the peer
+pub record LacksPrint (name : List ℕ) (command : Command) (old new : WorldView) : Type 0 where
+  pub inputs : Inputs
+  pub read : HasInputs name command (Ok inputs) old
+  pub permitted : verdict_status (verdict_for command inputs) ≡ 0
+  pub only : ReadsOnly name (needs_records command) old new
+
+-- memory was wanting before the verdict; or for the text of one, and then only where it is a permission
+abbrev pub Lacks : List ℕ → Command → Step → WorldView → WorldView → Type 0
+Lacks name command steps.Print old new = LacksPrint name command old new
+Lacks name command steps.Records old new = ReadsOnly name (needs_records command) old new
+Lacks name command step old new = ReadsOnly name false old new
+
+abbrev pub Stops : List ℕ → Command → Outcome → WorldView → WorldView → Type 0
+Stops name command (Unread refusal) old new = Refuses name command refusal old new
+Stops name command (Failed device.Table) old new = FilesUnread name old new
+Stops name command (Failed device.Records) old new = RecordsUnread name command old new
+Stops name command (NoMemory step) old new = Lacks name command step old new
+Stops name command _ old new = ⊥
+
+-- ---- or the work was done
+
+pub record Worked (name : List ℕ) (command : Command) (outcome : Outcome) (old new : WorldView) : Type 0 where
+  pub inputs : Inputs
+  pub read : HasInputs name command (Ok inputs) old
+  pub middle : WorldView
+  pub only : ReadsOnly name (needs_records command) old middle
+  pub works : Works command inputs outcome middle new
+
+-- words that are no command do nothing
+pub record Unused (outcome : Outcome) (old new : WorldView) : Type 0 where
+  pub usage : outcome ≡ Usage
   pub is : new ≡ old
 
--- what a command answers and leaves; where there is none, the usage is at fault
-abbrev pub DoesCommand : List ℕ → Option Command → Result ℕ Fault → WorldView → WorldView → Type 0
-DoesCommand name None outcome old new = RefusesWords outcome old new
-DoesCommand name (Some (command.Netacl query)) outcome old new = ByTable (DecidesBy query) name query outcome old new
-DoesCommand name (Some (command.Table query)) outcome old new = ByTable (ShowsBy query) name query outcome old new
-DoesCommand name (Some (command.Authsrv client)) outcome old new = Attends name client outcome old new
+-- what a command comes to and leaves, by the table with this name
+abbrev pub DoesFor : List ℕ → Command → Outcome → WorldView → WorldView → Type 0
+DoesFor name command outcome old new = Stops name command outcome old new ⊎ Worked name command outcome old new
 
--- the log was told of a fault, or failed within its line
+abbrev pub DoesLine : Option LineView → Outcome → WorldView → WorldView → Type 0
+DoesLine None outcome old new = Unused outcome old new
+DoesLine (Some line) outcome old new = DoesFor line.table line.command outcome old new
+
+-- ---- the whole run
+
+-- the log was given a line, or failed within it, and nothing else happened
 pub record Tells (text : List ℕ) (old new : WorldView) : Type 0 where
-  pub told : Result (Unit {0}) Failed
+  pub told : Result (Unit {0}) sink.Failed
   pub logged : Gives told text old.logs new.logs
   pub output : new.output ≡ old.output
   pub files : new.files ≡ old.files
   pub inputs : new.inputs ≡ old.inputs
 
--- a status ends the run as it stands; a fault is told first, and gives the status
-abbrev pub Ends : Result ℕ Fault → ℕ → WorldView → WorldView → Type 0
-Ends (Ok status) n old new = (n ≡ status) × (new ≡ old)
-Ends (Err fault) n old new = (n ≡ status_of fault) × Tells (fault_text fault) old new
+-- where there is a line
+abbrev pub TellsIf : Option (List ℕ) → WorldView → WorldView → Type 0
+TellsIf None old new = new ≡ old
+TellsIf (Some text) old new = Tells text old new
 
--- the run of these words: what their command does, and then its end
-pub record RanCommand (words : List (List ℕ)) (status : ℕ) (old new : WorldView) : Type 0 where
-  pub outcome : Result ℕ Fault
+-- The run came to an outcome: what it did for that; a failure that it names was counted; then the outcome's line was given to
+-- the log, where it has one; and its status is the outcome's, whatever became of that line.
+pub record Run (line : Option LineView) (status : ℕ) (old new : WorldView) : Type 0 where
+  pub outcome : Outcome
   pub middle : WorldView
-  pub does : DoesCommand (table_named words) (command_of words) outcome old middle
-  pub ends : Ends outcome status middle new
+  pub does : DoesLine line outcome old middle
+  pub rose : CountRose outcome old middle
+  pub tells : TellsIf (fault_line_of outcome) middle new
+  pub status_is : status ≡ status_of outcome

@@ -42,11 +42,6 @@ abbrev pub options_shown : Option Options → List ℕ
 options_shown None = []
 options_shown (Some options) = options_text options
 
--- the options of the line that permits
-abbrev pub permit_text : RuleBook → Verdict → List ℕ
-permit_text rules (Permit line) = options_shown (options_at rules line)
-permit_text rules (Deny line) = []
-
 abbrev pub setting_name : Setting → List ℕ
 setting_name Timeout = codes "timeout"
 setting_name MaxBytes = codes "maxbytes"
@@ -67,5 +62,6 @@ abbrev pub settings_text : RuleBook → List ℕ
 settings_text rules = setting_text rules Timeout ++ setting_text rules MaxBytes ++ setting_text rules MaxRecip ++ setting_text rules BadSleep ++ setting_text rules NoBogus
 
 -- the verdict, the options of a line that permits, and the settings
-unfoldable pub report_text : RuleBook → Verdict → List ℕ
-report_text rules verdict = verdict_text verdict ++ permit_text rules verdict ++ settings_text rules
+abbrev pub report_text : RuleBook → Verdict → List ℕ
+report_text rules (Permit line) = verdict_text (Permit line) ++ options_shown (options_at rules line) ++ settings_text rules
+report_text rules (Deny line) = verdict_text (Deny line) ++ settings_text rules

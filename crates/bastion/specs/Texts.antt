@@ -1,9 +1,12 @@
 -- The lines that a run writes to the log and prints.
-use Rattle.std.specs.Prelude.{ℕ, List, [], ◌∷◌, ◌++◌, flat_map, codes}
+use Rattle.std.specs.Prelude.{ℕ, List, [], ◌∷◌, ◌++◌, flat_map, Option, Some, None, codes}
 use Rattle.std.specs.Fmt.{decimal}
 use Rattle.fw_types.specs.Peer.{peer_text}
 use Rattle.fw_types.specs.declared.peer.Peer.{Peer}
+use Rattle.gate_rules.specs.Reading.{RuleBook}
 use Rattle.gate_rules.specs.Service.{service_text}
+use Rattle.gate_rules.specs.Verdict.{options_at}
+use Rattle.gate_rules.specs.declared.options.Options.{Options}
 use Rattle.gate_rules.specs.declared.service.Service.{Service}
 use Rattle.gate_rules.specs.declared.verdict.Verdict.{Verdict}
 use Rattle.gate_rules.specs.declared.verdict.Verdict.TheVariants.{Permit, Deny}
@@ -34,6 +37,11 @@ some_line name (word ∷ words) = words_line name (word ∷ words)
 abbrev pub verdict_text : Verdict → List ℕ
 verdict_text verdict = verdict_word verdict ++ codes " line " ++ decimal (verdict_line verdict) ++ codes "\n"
 
--- what `netacl` prints: the verdict, and the program with its words, where the line has one
-abbrev pub print_text : Verdict → List (List ℕ) → List ℕ
-print_text verdict exec = verdict_text verdict ++ some_line (codes "exec") exec
+abbrev pub exec_in : Option Options → List (List ℕ)
+exec_in None = []
+exec_in (Some options) = options.exec
+
+-- what `netacl` prints: the verdict, and the program with its words, where the permit line that decided has one
+abbrev pub print_text : RuleBook → Verdict → List ℕ
+print_text rules (Permit line) = verdict_text (Permit line) ++ some_line (codes "exec") (exec_in (options_at rules line))
+print_text rules (Deny line) = verdict_text (Deny line)

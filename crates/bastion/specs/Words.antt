@@ -96,14 +96,43 @@ command_in [] = None
 unfoldable pub command_of : List (List ℕ) → Option Command
 command_of words = if any_twice words then None else command_in (after_options words)
 
--- the word after an option of a command; another text where it isn't there, and for words that are no command
-unfoldable pub option_word : List ℕ → List ℕ → List (List ℕ) → List ℕ
-option_word option other words = if is_some (command_of words) then unwrap_or (word_after option words) other else other
+-- the word after an option, or another text where it isn't there
+abbrev pub word_or : List ℕ → List ℕ → List (List ℕ) → List ℕ
+word_or option other words = unwrap_or (word_after option words) other
 
--- where the table stands when no word says so
+-- where the table stands, and where the records are, when no word says so
 abbrev pub default_table : List ℕ
 default_table = codes "/usr/local/etc/netperm-table"
 
--- the table's name: the word after `-t`
+abbrev pub default_db : List ℕ
+default_db = codes "authdb"
+
+-- a command line: the command, the table's name, which is the word after `-t`, and that of the records' file, after `-r`
+pub record LineView : Type 0 where
+  pub command : Command
+  pub table : List ℕ
+  pub db : List ℕ
+
+abbrev pub line_with : List (List ℕ) → Option Command → Option LineView
+line_with words None = None
+line_with words (Some command) = Some (record {
+  command = command;
+  table = word_or (codes "-t") default_table words;
+  db = word_or (codes "-r") default_db words;
+})
+
+-- the command line that the words are, if they are one
+abbrev pub line_of : List (List ℕ) → Option LineView
+line_of words = line_with words (command_of words)
+
+abbrev pub table_by : Option LineView → List ℕ
+table_by None = default_table
+table_by (Some line) = line.table
+
+abbrev pub db_by : Option LineView → List ℕ
+db_by None = default_db
+db_by (Some line) = line.db
+
+-- the table's name; for words that are no command, where it stands when no word says so
 abbrev pub table_named : List (List ℕ) → List ℕ
-table_named words = option_word (codes "-t") default_table words
+table_named words = table_by (line_of words)

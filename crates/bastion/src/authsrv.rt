@@ -1,81 +1,48 @@
 //! The command `authsrv`: the table and the records are read, a client is served, and the records are given back.
-ghost use Rattle.std.specs.Prelude.{◌≡◌, IsSome, IfOk, IfErr, Ok, true};
-ghost use Rattle.bastion.specs.Conn.{Ended};
-ghost use Rattle.bastion.specs.Finding.{Finds, ReadsLines};
-ghost use Rattle.bastion.specs.Ruling.{ruling_in};
-ghost use Rattle.bastion.specs.SessionSteps.{GivesBack, HoldsOver, Opened, opening_fault};
-ghost use Rattle.bastion.specs.Serving.{Attends, IsRulesFault, Proceeds, Unopened, Serves, conn_view, server_rules_of, outcome_of};
-ghost use Rattle.gate_rules.specs.declared.service.Service.TheVariants.{Authsrv};
+ghost use Rattle.std.specs.Prelude.{◌≡◌, IsSome, IfOk, IfErr, true};
+ghost use Rattle.bastion.specs.Conn.{AtConsole, Conn};
+ghost use Rattle.bastion.specs.Reading.{Finds, ruling_in, server_rules_of};
+ghost use Rattle.bastion.specs.Run.{DoesFor};
+ghost use Rattle.bastion.specs.Serving.{Serves, devices_at};
+ghost use Rattle.bastion.specs.SessionSteps.{IsUndialed, GivesBack, HoldsOver, Opened, Proceeds, Unopened, opening_fault};
+ghost use Rattle.bastion.specs.declared.words.Command.TheVariants.{Authsrv};
+ghost use Rattle.gate_rules.specs.declared.service.Service.TheVariants as services;
 
-use crate::endings::ending_status;
-use crate::finding::read_table;
+use crate::reading::find_server_rules;
 use crate::server_rules::ServerRules;
 use crate::serving::{conn, console};
-use crate::{Client, Device, Fault, Kit, World};
+use crate::{Client, Device, Kit, Outcome, Refusal, Step, World};
 use auth_machine::{Book, OpenFault, Policy};
 use fw_outside::{Files, Keeper};
 use fw_types::{Ending, Peer};
-use gate_rules::{Rules, RulesFault, Service};
-use netperm_table::Table;
+use gate_rules::{Rules, Service};
+use session_acts::Nowhere;
 use std::alloc::Global;
 
 /// So many requests fit in a history.
 const MOST_ENTRIES: u64 = 4_194_304;
 
-fn server_rules_in(alloc: Global, table: &Table) -> Result<ServerRules, RulesFault>
-    ensures ok { IfOk result (λ server_rules. server_rules_of table.now ≡ Ok server_rules) }
-    ensures fault { IfErr result (IsRulesFault (server_rules_of table.now)) }
-{
-    let rules = Rules::of(alloc, table, &Service::Authsrv)?;
-    let policy = Policy::of(alloc, table)?;
-    Ok(ServerRules { rules, policy })
-}
-
-fn server_rules_of(alloc: Global, table: &Table) -> Result<ServerRules, Fault>
-    ensures { ReadsLines (server_rules_of table.now) result }
-{
-    match server_rules_in(alloc, table) {
-        Ok(server_rules) => Ok(server_rules),
-        Err(RulesFault::Rule(fault)) => Err(Fault::Rule(fault)),
-        Err(RulesFault::NoMemory) => Err(Fault::Memory),
-    }
-}
-
-// What the table with this name says to the authentication server.
-fn read_server_rules<F: Files>(
-    alloc: Global,
-    files: &mut F,
-    name: &[u8],
-) -> Result<ServerRules, Fault>
-    ensures { Finds (ruling_in server_rules_of) name.now result (F.files_view files.old) (F.files_view files.new) }
-{
-    match read_table(alloc, files, name) {
-        Ok(table) => server_rules_of(alloc, &table),
-        Err(fault) => Err(fault),
-    }
-}
-
-// The same, which only the files are asked for.
+// What the table says to the server, which only the files are asked for.
 fn server_rules_for<T: Kit>(
     alloc: Global,
     name: &[u8],
     world: &mut World<T>,
-) -> Result<ServerRules, Fault>
+) -> Result<ServerRules, Outcome>
     ensures found { Finds (ruling_in server_rules_of) name.now result world.old.files world.new.files }
     ensures output { world.new.output ≡ world.old.output }
     ensures logs { world.new.logs ≡ world.old.logs }
     ensures inputs { world.new.inputs ≡ world.old.inputs }
 {
-    read_server_rules(alloc, &mut world.files, name)
+    find_server_rules(alloc, &mut world.files, name)
 }
 
-fn opening_fault(fault: OpenFault) -> Fault
+fn opening_fault(fault: OpenFault) -> Outcome
     ensures { result ≡ opening_fault fault }
 {
     match fault {
-        OpenFault::LoadFault => Fault::Outside(Device::Records),
-        OpenFault::BadRecord { name, at } => Fault::Record { name, at },
-        OpenFault::NoMemory => Fault::Memory,
+        OpenFault::LoadFault => Outcome::Failed(Device::Records),
+        OpenFault::BadRecord { name, at } => Outcome::Unread(Refusal::Record { name, at }),
+        OpenFault::NoMemory => Outcome::NoMemory(Step::Records),
     }
 }
 
@@ -84,7 +51,7 @@ fn open_book<T: Kit>(
     alloc: Global,
     world: &mut World<T>,
     policy: Policy,
-) -> Result<Book<T::Keeper>, Fault>
+) -> Result<Book<T::Keeper>, Outcome>
     requires keeper { IsSome world.old.inputs.keeper }
     ensures opened { IfOk result (λ book. Opened policy book world.old world.new) }
     ensures unopened { IfErr result (λ fault. Unopened fault world.old world.new) }
@@ -102,8 +69,14 @@ fn open_book<T: Kit>(
 }
 
 // A session at the console.
-fn hold_at_console<T: Kit>(peer: &Peer, book: &mut Book<T::Keeper>, world: &mut World<T>) -> Ending
-    ensures ended { Ended true Authsrv peer.now result (conn_view world.old book.old) (conn_view world.new book.new) }
+fn hold_at_console<T: Kit>(
+    peer: &Peer,
+    book: &mut Book<T::Keeper>,
+    world: &mut World<T>,
+    dialer: &mut Nowhere,
+) -> Ending
+    ensures at_console { AtConsole services.Authsrv peer.now (devices_at world.old book.old dialer.old)
+        (devices_at world.new book.new dialer.new) result }
     ensures files { world.new.files ≡ world.old.files }
     ensures keeper { world.new.inputs.keeper ≡ world.old.inputs.keeper }
 {
@@ -114,6 +87,34 @@ fn hold_at_console<T: Kit>(peer: &Peer, book: &mut Book<T::Keeper>, world: &mut 
         &mut world.input,
         &mut world.output,
         &mut world.logs,
+        dialer,
+        &mut world.clock,
+        &mut world.dice,
+    )
+}
+
+// A client whom the rules permit or deny.
+fn hold_by_rules<T: Kit>(
+    rules: &Rules,
+    peer: &Peer,
+    book: &mut Book<T::Keeper>,
+    world: &mut World<T>,
+    dialer: &mut Nowhere,
+) -> Ending
+    ensures conn { Conn services.Authsrv rules.now peer.now (devices_at world.old book.old dialer.old)
+        (devices_at world.new book.new dialer.new) result }
+    ensures files { world.new.files ≡ world.old.files }
+    ensures keeper { world.new.inputs.keeper ≡ world.old.inputs.keeper }
+{
+    conn(
+        &Service::Authsrv,
+        rules,
+        peer,
+        book,
+        &mut world.input,
+        &mut world.output,
+        &mut world.logs,
+        dialer,
         &mut world.clock,
         &mut world.dice,
     )
@@ -124,36 +125,18 @@ fn hold<T: Kit>(
     client: &Client,
     book: &mut Book<T::Keeper>,
     world: &mut World<T>,
+    dialer: &mut Nowhere,
 ) -> Ending
-    ensures serves { Serves client.now.console rules.now client.now.peer (conn_view world.old book.old) (conn_view
-        world.new book.new) result }
+    ensures serves { Serves client.now.console rules.now client.now.peer (devices_at world.old book.old dialer.old)
+        (devices_at world.new book.new dialer.new) result }
+    ensures undialed { IsUndialed dialer.old dialer.new }
     ensures files { world.new.files ≡ world.old.files }
     ensures keeper { world.new.inputs.keeper ≡ world.old.inputs.keeper }
 {
     if client.console {
-        return hold_at_console(&client.peer, book, world);
+        return hold_at_console(&client.peer, book, world, dialer);
     }
-    conn(
-        &Service::Authsrv,
-        rules,
-        &client.peer,
-        book,
-        &mut world.input,
-        &mut world.output,
-        &mut world.logs,
-        &mut world.clock,
-        &mut world.dice,
-    )
-}
-
-// What a session comes to.
-pub(crate) fn outcome_of(refused: bool, ending: Ending) -> Result<u8, Fault>
-    ensures { result ≡ outcome_of refused ending }
-{
-    if refused && ending == Ending::Done {
-        return Err(Fault::Limit);
-    }
-    Ok(ending_status(ending))
+    hold_by_rules(rules, &client.peer, book, world, dialer)
 }
 
 // Ends the book, whose keeper is there again.
@@ -170,14 +153,15 @@ fn hold_over<T: Kit>(
     client: &Client,
     book: Book<T::Keeper>,
     world: &mut World<T>,
-) -> Result<u8, Fault>
+) -> Outcome
     ensures { HoldsOver client.now rules.now book result world.old world.new }
 {
     let mut book = book;
-    let ending = hold(rules, client, &mut book, world);
+    let mut dialer = Nowhere::new();
+    let ending = hold(rules, client, &mut book, world, &mut dialer);
     let refused = book.refused();
     give_back(book, world);
-    outcome_of(refused, ending)
+    Outcome::Ended { ending, refused }
 }
 
 // Holds the session over the records that the keeper has.
@@ -186,14 +170,14 @@ fn serve_client<T: Kit>(
     server_rules: ServerRules,
     client: &Client,
     world: &mut World<T>,
-) -> Result<u8, Fault>
+) -> Outcome
     requires keeper { IsSome world.old.inputs.keeper }
     ensures { Proceeds client.now server_rules result world.old world.new }
 {
     let ServerRules { rules, policy } = server_rules;
     match open_book(alloc, world, policy) {
         Ok(book) => hold_over(&rules, client, book, world),
-        Err(fault) => Err(fault),
+        Err(outcome) => outcome,
     }
 }
 
@@ -203,12 +187,12 @@ pub(crate) fn attend<T: Kit>(
     name: &[u8],
     client: &Client,
     world: &mut World<T>,
-) -> Result<u8, Fault>
+) -> Outcome
     requires keeper { IsSome world.old.inputs.keeper }
-    ensures { Attends name.now client.now result world.old world.new }
+    ensures { DoesFor name.now (Authsrv client.now) result world.old world.new }
 {
     match server_rules_for(alloc, name, world) {
         Ok(server_rules) => serve_client(alloc, server_rules, client, world),
-        Err(fault) => Err(fault),
+        Err(outcome) => outcome,
     }
 }

@@ -1,14 +1,15 @@
 //! What the rules of a service decide, logged and printed.
 ghost use Rattle.std.specs.Prelude.{◌≡◌, ◌<◌};
 ghost use Rattle.gate_rules.specs.Verdict.{verdict_of};
-ghost use Rattle.bastion.specs.Ruling.{exec_of};
-ghost use Rattle.bastion.specs.Deciding.{Concludes, DecidesBy, Shows, ShowsBy, unprinted, verdict_status};
+ghost use Rattle.gate_rules.specs.declared.verdict.Verdict.TheVariants.{Permit};
+ghost use Rattle.bastion.specs.Deciding.{Decides, Permits, Reports, Reveals};
+ghost use Rattle.bastion.specs.Works.{Announced, Shown, announced, shown};
 
-use crate::table_report::report_of;
-use crate::texts::{decision_line, print_of};
-use crate::{Device, Fault, Kit, Query, World};
+use crate::table_report::{denial_report, permit_report};
+use crate::texts::{decision_line, permit_print, verdict_text};
+use crate::{Device, Kit, Outcome, Query, Step, World};
 use fw_outside::Failed;
-use fw_types::{Octets, Peer};
+use fw_types::Peer;
 use gate_rules::{Rules, Verdict};
 use host_pattern::Steps;
 use std::alloc::Global;
@@ -31,94 +32,102 @@ pub(crate) fn verdict_of(rules: &Rules, peer: &Peer) -> Verdict
     verdict_in::<Brand>(Blank::new(1), rules, peer)
 }
 
-fn exec_of(rules: &Rules, verdict: Verdict) -> &[Octets]
-    ensures { result.now ≡ exec_of rules.entry.now verdict }
+// What comes of a verdict that was logged: a denial stands, since the log has it.
+fn announced(verdict: Verdict, printing: Result<(), Failed>) -> Outcome
+    ensures { result ≡ announced verdict printing }
 {
-    match verdict {
-        Verdict::Permit { line } => match rules.options(line) {
-            Some(options) => options.exec.as_slice(),
-            None => &[],
+    match printing {
+        Ok(()) => Outcome::Decided(verdict),
+        Err(Failed) => match verdict {
+            Verdict::Permit { .. } => Outcome::Failed(Device::Output),
+            Verdict::Deny { .. } => Outcome::Decided(verdict),
         },
-        Verdict::Deny { .. } => &[],
     }
 }
 
-fn status_of(verdict: Verdict) -> u8
-    ensures { result ≡ verdict_status verdict }
+fn shown(verdict: Verdict, printing: Result<(), Failed>) -> Outcome
+    ensures { result ≡ shown verdict printing }
 {
-    match verdict {
-        Verdict::Permit { .. } => 0,
-        Verdict::Deny { .. } => 1,
+    match printing {
+        Ok(()) => Outcome::Decided(verdict),
+        Err(Failed) => Outcome::Failed(Device::Output),
     }
 }
 
-// What comes of a verdict that was logged and couldn't be printed: a denial stands, since the log has it.
-fn unprinted(verdict: Verdict) -> Result<u8, Fault>
-    ensures { result ≡ unprinted verdict }
-{
-    match verdict {
-        Verdict::Permit { .. } => Err(Fault::Outside(Device::Output)),
-        Verdict::Deny { .. } => Ok(1),
-    }
-}
-
-// Logs a verdict and then prints it.
-fn conclude<T: Kit>(
-    world: &mut World<T>,
-    verdict: Verdict,
-    query: &Query,
-    text: &[u8],
-) -> Result<u8, Fault>
-    ensures { Concludes query.now verdict text.now result world.old world.new }
+// Logs a verdict and then prints this text of it.
+fn announce<T: Kit>(world: &mut World<T>, verdict: Verdict, query: &Query, text: &[u8]) -> Outcome
+    ensures { Announced query.now verdict text.now result world.old world.new }
 {
     let line = decision_line(verdict, &query.service, &query.peer);
-    let Ok(()) = world.log(line.as_slice()) else {
-        return Err(Fault::Outside(Device::Log));
-    };
-    match world.print(text) {
-        Ok(()) => Ok(status_of(verdict)),
-        Err(Failed) => unprinted(verdict),
+    match world.log(line.as_slice()) {
+        Ok(()) => announced(verdict, world.print(text)),
+        Err(Failed) => Outcome::Failed(Device::Log),
     }
 }
 
-/// Takes the verdict of the rules, logs it and then prints it.
+// Logs a permission and then prints it, with the program's words.
+fn permit<T: Kit>(
+    alloc: Global,
+    rules: &Rules,
+    line: u32,
+    query: &Query,
+    world: &mut World<T>,
+) -> Outcome
+    ensures { Permits query.now (Permit line) rules.now result world.old world.new }
+{
+    let Ok(text) = permit_print(alloc, rules, line) else {
+        return Outcome::NoMemory(Step::Print);
+    };
+    announce(world, Verdict::Permit { line }, query, text.bytes())
+}
+
+/// Takes the verdict of the rules, logs it and then prints it. A denial takes no memory.
 pub(crate) fn decide<T: Kit>(
     alloc: Global,
     rules: &Rules,
     query: &Query,
     world: &mut World<T>,
-) -> Result<u8, Fault>
-    ensures { DecidesBy query.now result world.old world.new rules.now }
+) -> Outcome
+    ensures { Decides query.now (verdict_of rules.now query.now.peer) rules.now result world.old world.new }
 {
     let verdict = verdict_of(rules, &query.peer);
-    let Ok(text) = print_of(alloc, verdict, exec_of(rules, verdict)) else {
-        return Err(Fault::Memory);
-    };
-    conclude(world, verdict, query, text.bytes())
-}
-
-// Prints a text of a verdict.
-fn show_text<T: Kit>(world: &mut World<T>, verdict: Verdict, text: &[u8]) -> Result<u8, Fault>
-    ensures { Shows verdict text.now result world.old world.new }
-{
-    match world.print(text) {
-        Ok(()) => Ok(status_of(verdict)),
-        Err(Failed) => Err(Fault::Outside(Device::Output)),
+    match verdict {
+        Verdict::Permit { line } => permit(alloc, rules, line, query, world),
+        Verdict::Deny { .. } => announce(world, verdict, query, verdict_text(verdict).as_slice()),
     }
 }
 
-/// Prints the verdict of the rules, the options of a line that permits, and the settings.
+// Prints this text of a verdict.
+fn show_text<T: Kit>(world: &mut World<T>, verdict: Verdict, text: &[u8]) -> Outcome
+    ensures { Shown verdict text.now result world.old world.new }
+{
+    shown(verdict, world.print(text))
+}
+
+// Prints a permission, the options of its line, and the settings.
+fn show_permit<T: Kit>(alloc: Global, rules: &Rules, line: u32, world: &mut World<T>) -> Outcome
+    ensures { Reveals (Permit line) rules.now result world.old world.new }
+{
+    let Ok(text) = permit_report(alloc, rules, line) else {
+        return Outcome::NoMemory(Step::Print);
+    };
+    show_text(world, Verdict::Permit { line }, text.bytes())
+}
+
+/// Prints the verdict of the rules, the options of a line that permits, and the settings. A denial takes no memory.
 pub(crate) fn show<T: Kit>(
     alloc: Global,
     rules: &Rules,
     query: &Query,
     world: &mut World<T>,
-) -> Result<u8, Fault>
-    ensures { ShowsBy query.now result world.old world.new rules.now }
+) -> Outcome
+    ensures { Reports (verdict_of rules.now query.now.peer) rules.now result world.old world.new }
 {
     let verdict = verdict_of(rules, &query.peer);
-    let Ok(text) = report_of(alloc, rules, verdict) else {
-        return Err(Fault::Memory);
-    };
-    show_text(world, verdict, text.bytes())
+    match verdict {
+        Verdict::Permit { line } => show_permit(alloc, rules, line, world),
+        Verdict::Deny { line } => {
+            show_text(world, verdict, denial_report(rules, line).as_slice())
+        }
+    }
 }

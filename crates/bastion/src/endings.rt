@@ -1,7 +1,7 @@
 //! How the end of a session is told.
 ghost use Rattle.std.specs.Prelude.{◌≡◌, ◌≤◌, length, IfSome, MatchOption, None, Some};
 ghost use Rattle.std.specs.Option.{option_copied};
-ghost use Rattle.bastion.specs.Endings.{denied_text, end_text, ending_line, ending_status, ending_word};
+ghost use Rattle.bastion.specs.Endings.{denied_text, end_text, ending_line, ending_word};
 
 use crate::texts::{LogLine, append_peer, append_service};
 use arrayvec::ArrayVec;
@@ -49,24 +49,6 @@ pub fn ending_line(service: &Service, peer: &Peer, ending: Ending) -> Option<Log
     match ending_word(ending) {
         Some(word) => Some(end_text(service, peer, word)),
         None => None,
-    }
-}
-
-/// The status of an ending.
-pub fn ending_status(ending: Ending) -> u8
-    ensures { result ≡ ending_status ending }
-{
-    match ending {
-        Ending::Done => 0,
-        Ending::Denied { .. } => 1,
-        Ending::ClientFault => 4,
-        Ending::ServerFault => 4,
-        Ending::LogFault => 4,
-        Ending::AuthFault => 4,
-        Ending::Idle => 4,
-        Ending::NoRoute => 4,
-        Ending::Spent => 6,
-        Ending::NoMemory => 5,
     }
 }
 

@@ -13,10 +13,10 @@
 mod authsrv;
 mod deciding;
 mod endings;
-mod fault;
-mod finding;
 mod kit;
+mod outcome;
 mod place_names;
+mod reading;
 mod running;
 mod server_rules;
 mod serving;
@@ -24,12 +24,12 @@ mod table_report;
 mod texts;
 mod words;
 
-pub use endings::{denied_line, ending_line, ending_status};
-pub use fault::{Device, Fault};
+pub use endings::{denied_line, ending_line};
 pub use kit::{Kit, World};
+pub use outcome::{Device, Outcome, Refusal, Step, ending_status};
 pub use place_names::Places;
 pub use running::run;
 pub use server_rules::ServerRules;
 pub use serving::conn;
 pub use texts::LogLine;
-pub use words::{Client, Command, Query, places, read_command, table_named};
+pub use words::{Client, Command, CommandLine, Query, places, read_command, table_named};

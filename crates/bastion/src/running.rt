@@ -1,19 +1,18 @@
-ghost use Rattle.std.specs.Prelude.{◌≡◌, ◌↔◌, IsSome};
-ghost use Rattle.bastion.specs.Fault.{fault_text};
-ghost use Rattle.bastion.specs.Finding.{Finds};
-ghost use Rattle.bastion.specs.Replies.{TellsReplies};
-ghost use Rattle.bastion.specs.Run.{DoesCommand, Ends, RanCommand, Tells};
-ghost use Rattle.bastion.specs.Deciding.{ByTable, DecidesBy, ShowsBy};
-ghost use Rattle.bastion.specs.Status.{Fails, IsAtLimit, IsRuledBy, SomeRose, TakesIn, WantsMemory};
-ghost use Rattle.bastion.specs.Ruling.{ruling_in};
+//! The call that the program makes.
+ghost use Rattle.std.specs.Prelude.{◌≡◌, ◌↔◌, IsSome, None, Some};
+ghost use Rattle.bastion.specs.Headline.{Headline};
+ghost use Rattle.bastion.specs.Outcome.{fault_line_of};
+ghost use Rattle.bastion.specs.Reading.{Finds, ruling_in};
+ghost use Rattle.bastion.specs.Run.{DoesFor, DoesLine, Run, TellsIf};
+ghost use Rattle.bastion.specs.Status.{IsComplete, IsStatus, SomeRose, TakesIn};
+ghost use Rattle.bastion.specs.Words.{line_of};
+ghost use Rattle.bastion.specs.declared.words.Command.TheVariants.{Netacl, Table, Authsrv};
 ghost use Rattle.gate_rules.specs.Reading.{rules_of};
-ghost use Rattle.bastion.specs.Words.{command_of, table_named};
 
 use crate::authsrv::attend;
 use crate::deciding::{decide, show};
-use crate::finding::find_rules;
-use crate::words::{read_command, table_named};
-use crate::{Command, Fault, Kit, Query, World};
+use crate::reading::find_rules;
+use crate::{Command, CommandLine, Kit, Outcome, Query, World};
 use fw_types::Octets;
 use gate_rules::Rules;
 use std::alloc::Global;
@@ -24,7 +23,7 @@ fn rules_for<T: Kit>(
     name: &[u8],
     query: &Query,
     world: &mut World<T>,
-) -> Result<Rules, Fault>
+) -> Result<Rules, Outcome>
     ensures found { Finds (ruling_in (rules_of query.now.service)) name.now result world.old.files world.new.files }
     ensures output { world.new.output ≡ world.old.output }
     ensures logs { world.new.logs ≡ world.old.logs }
@@ -34,66 +33,54 @@ fn rules_for<T: Kit>(
 }
 
 // Decides for one service and peer.
-fn netacl<T: Kit>(
-    alloc: Global,
-    name: &[u8],
-    query: &Query,
-    world: &mut World<T>,
-) -> Result<u8, Fault>
-    ensures { ByTable (DecidesBy query.now) name.now query.now result world.old world.new }
+fn netacl<T: Kit>(alloc: Global, name: &[u8], query: &Query, world: &mut World<T>) -> Outcome
+    ensures { DoesFor name.now (Netacl query.now) result world.old world.new }
 {
     match rules_for(alloc, name, query, world) {
         Ok(rules) => decide(alloc, &rules, query, world),
-        Err(fault) => Err(fault),
+        Err(outcome) => outcome,
     }
 }
 
 // Shows what the table says to one service of a peer.
-fn table<T: Kit>(
-    alloc: Global,
-    name: &[u8],
-    query: &Query,
-    world: &mut World<T>,
-) -> Result<u8, Fault>
-    ensures { ByTable (ShowsBy query.now) name.now query.now result world.old world.new }
+fn table<T: Kit>(alloc: Global, name: &[u8], query: &Query, world: &mut World<T>) -> Outcome
+    ensures { DoesFor name.now (Table query.now) result world.old world.new }
 {
     match rules_for(alloc, name, query, world) {
         Ok(rules) => show(alloc, &rules, query, world),
-        Err(fault) => Err(fault),
+        Err(outcome) => outcome,
+    }
+}
+
+// Does the work of a command, by the table with this name.
+fn work<T: Kit>(alloc: Global, name: &[u8], command: &Command, world: &mut World<T>) -> Outcome
+    requires keeper { IsSome world.old.inputs.keeper }
+    ensures { DoesFor name.now command.now result world.old world.new }
+{
+    match command {
+        Command::Netacl(query) => netacl(alloc, name, query, world),
+        Command::Table(query) => table(alloc, name, query, world),
+        Command::Authsrv(client) => attend(alloc, name, client, world),
     }
 }
 
 // Does what the words ask for.
-fn obey<T: Kit>(alloc: Global, words: &[Octets], world: &mut World<T>) -> Result<u8, Fault>
+fn obey<T: Kit>(alloc: Global, words: &[Octets], world: &mut World<T>) -> Outcome
     requires keeper { IsSome world.old.inputs.keeper }
-    ensures { DoesCommand (table_named words.now) (command_of words.now) result world.old world.new }
+    ensures { DoesLine (line_of words.now) result world.old world.new }
 {
-    match read_command(words) {
-        None => Err(Fault::Usage),
-        Some(Command::Netacl(query)) => netacl(alloc, table_named(words), &query, world),
-        Some(Command::Table(query)) => table(alloc, table_named(words), &query, world),
-        Some(Command::Authsrv(client)) => attend(alloc, table_named(words), &client, world),
+    match CommandLine::read(words) {
+        Some(line) => work(alloc, line.table, &line.command, world),
+        None => Outcome::Usage,
     }
 }
 
-// Tells the log of a fault. A line that can't be written changes nothing.
-fn tell<T: Kit>(world: &mut World<T>, fault: &Fault)
-    ensures { Tells (fault_text fault.now) world.old world.new }
+// Gives the log the outcome's line, if it has one. A line that can't be written changes nothing.
+fn tell<T: Kit>(world: &mut World<T>, outcome: &Outcome)
+    ensures { TellsIf (fault_line_of outcome.now) world.old world.new }
 {
-    let line = fault.text();
-    let _ = world.log(line.as_slice());
-}
-
-// The status of an outcome; a fault is told first.
-fn end<T: Kit>(world: &mut World<T>, outcome: Result<u8, Fault>) -> u8
-    ensures { Ends outcome result world.old world.new }
-{
-    match outcome {
-        Ok(status) => status,
-        Err(fault) => {
-            tell(world, &fault);
-            fault.status()
-        }
+    if let Some(line) = outcome.fault_line() {
+        let _ = world.log(line.as_slice());
     }
 }
 
@@ -104,42 +91,32 @@ fn end<T: Kit>(world: &mut World<T>, outcome: Result<u8, Fault>) -> u8
 /// - 2 where the words are no command;
 /// - 3 where a line of the table, or of the service, or a user's record can't be read;
 /// - 4 where a device failed, which its count shows;
-/// - 5 for want of memory;
+/// - 5 for want of memory, which never takes the place of a denial once the records and rules are read;
 /// - 6 where a session took as many bytes as it may, or was done but was refused a request since the history is full.
 ///
 /// What ends a run before a session is told to the log in one line that names its cause, and so is a history that was
 /// full. A session's ending has its own line, but for a denial, which the verdict's line tells, and a log that failed.
-/// If the log fails within the verdict's line, `netacl` prints nothing and `authsrv` tells the client nothing, and
-/// where a denial is printed or told the log has the whole line; no clause has the order itself. A denial that was
-/// logged stands even if it couldn't be printed. `table` prints alone.
+/// If the log fails within the verdict's line, `netacl` prints nothing and `authsrv` tells the client nothing. A denial
+/// that was logged stands even if it couldn't be printed. `table` prints alone.
 pub fn run<T: Kit>(alloc: Global, words: &[Octets], world: &mut World<T>) -> u8
     requires keeper { IsSome world.old.inputs.keeper }
-    // What each status means, and what the devices were given.
-    ensures ran { RanCommand words.now result world.old world.new }
-    // 2 is exactly for words that are no command.
-    ensures usage { (result ≡ 2) ↔ (command_of words.now ≡ None) }
-    // 0, 1 and 3 are by the table's text, where the files tell it, and by the records that the keeper has; 6 is for a
-    // session that came to a limit; else, and where there is no such table, a device failed, or there was no memory.
-    ensures ruled { IsRuledBy Fails (table_named words.now) (command_of words.now) world.old world.new result }
-    // 6 is only for a session that came to a limit: as many bytes as may be were taken of the input, or it was done but
-    // a request of it was refused, since the history is full.
-    ensures limited { result ≡ 6 → IsAtLimit (table_named words.now) (command_of words.now) world.old world.new }
-    // Where as many bytes as may be were taken of the input, the status is 6.
+    // What the run came to and did; a failure that it names was counted; its line in the log, and its status.
+    ensures ran { Run (line_of words.now) result world.old world.new }
+    // The replies that a client is told are those of a legal history, and a denial's line stands in the log.
+    ensures headline { Headline (line_of words.now) result world.old world.new }
+    // 2 is for words that are no command; for a command the status is what its inputs say, unless a device failed or
+    // there was no memory; 4 is only for a device whose own count rose.
+    ensures status { IsStatus (line_of words.now) result world.old world.new }
+    // At most 2^40 bytes are taken of the input; after so many the status is 6.
     ensures taken { TakesIn result world.old.inputs.input world.new.inputs.input }
-    // 4 is only for a device whose own count rose.
-    ensures outside { result ≡ 4 → SomeRose world.old world.new }
+    // So where no count rose, the status is what the inputs say, or there was no memory.
+    ensures complete { ¬ (SomeRose world.old world.new) → IsComplete (line_of words.now) result world.old world.new }
     // Each source that the run got was given back: as many are out as before.
     ensures returned { world.new.files.out ≡ world.old.files.out }
     // The keeper is there again.
     ensures kept { IsSome world.new.inputs.keeper }
-    // A client of `authsrv` is told the replies of a legal history, after which the keeper has the records and has
-    // counted a failure for each entry that wasn't kept, and the status is its session's; or it is told, where the
-    // rules deny it, that it is denied; or, where the status is 3, 4 or 5, nothing.
-    ensures replies { TellsReplies (table_named words.now) (command_of words.now) result world.old world.new }
-    // So where no count rose, the status is by the table's text and the records, or there was no memory.
-    ensures complete { ¬ (SomeRose world.old world.new) →
-        IsRuledBy WantsMemory (table_named words.now) (command_of words.now) world.old world.new result }
 {
     let outcome = obey(alloc, words, world);
-    end(world, outcome)
+    tell(world, &outcome);
+    outcome.status()
 }

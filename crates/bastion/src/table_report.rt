@@ -1,13 +1,15 @@
 //! What `table` prints of a service.
-ghost use Rattle.std.specs.Prelude.{◌≡◌, ◌++◌, ◌∷◌, flat_map, codes, IfOk, OnOk};
+ghost use Rattle.std.specs.Prelude.{◌≡◌, ◌+◌, ◌≤◌, ◌++◌, ◌∷◌, flat_map, length, codes, IfOk, OnOk};
 ghost use Rattle.std.specs.Fmt.{decimal};
+ghost use Rattle.arrayvec.specs.ArrayVec.{array_vec_len};
 ghost use Rattle.gate_rules.specs.Verdict.{options_at};
-ghost use Rattle.bastion.specs.TableReport.{auth_text, dest_text, flag_text, options_shown, options_text, permit_text, plug_text, set_text, setting_name, setting_text, settings_text, report_text};
+ghost use Rattle.gate_rules.specs.declared.verdict.Verdict.TheVariants.{Permit, Deny};
+ghost use Rattle.bastion.specs.TableReport.{auth_text, dest_text, flag_text, options_shown, options_text, plug_text, set_text, setting_name, setting_text, settings_text, report_text};
 ghost use Rattle.bastion.specs.Texts.{some_line, words_line};
 
-use crate::texts::{push_exec, push_words, verdict_text};
+use crate::texts::{LogLine, push_exec, push_words, verdict_text};
 use arrayvec::ArrayVec;
-use fw_types::{Dest, NoMemory, Octets, Verb, VerbList};
+use fw_types::{Dest, NoMemory, Octets, Verb, VerbList, append, append_decimal, append_u32};
 use gate_rules::{Options, Rules, Setting, Verdict};
 use host_pattern::PatternList;
 use std::alloc::Global;
@@ -108,20 +110,18 @@ fn push_options(out: &mut Vec<u8>, options: &Options) -> Result<(), NoMemory>
     push_plug(out, &options.plug_to)
 }
 
-fn push_permit(out: &mut Vec<u8>, rules: &Rules, verdict: Verdict) -> Result<(), NoMemory>
-    ensures { OnOk result (out.new.items ≡ out.old.items ++ permit_text rules.now verdict) }
+fn push_options_at(out: &mut Vec<u8>, rules: &Rules, line: u32) -> Result<(), NoMemory>
+    ensures { OnOk result (out.new.items ≡ out.old.items ++ options_shown (options_at rules.now line)) }
 {
-    match verdict {
-        Verdict::Permit { line } => match rules.options(line) {
-            Some(options) => push_options(out, options),
-            None => Ok(()),
-        },
-        Verdict::Deny { .. } => Ok(()),
+    match rules.options(line) {
+        Some(options) => push_options(out, options),
+        None => Ok(()),
     }
 }
 
 fn setting_name(which: Setting) -> &'static [u8]
-    ensures { result.now ≡ setting_name which }
+    ensures name { result.now ≡ setting_name which }
+    ensures short { length result.now ≤ 8 }
 {
     match which {
         Setting::Timeout => b"timeout",
@@ -132,46 +132,75 @@ fn setting_name(which: Setting) -> &'static [u8]
     }
 }
 
-fn push_set(out: &mut Vec<u8>, which: Setting, set: Option<(u64, u32)>) -> Result<(), NoMemory>
-    ensures { OnOk result (out.new.items ≡ out.old.items ++ set_text which set) }
+fn append_number(out: &mut LogLine, number: u64)
+    requires { array_vec_len out.old ≤ 480 }
+    ensures items { out.new.items ≡ out.old.items ++ decimal number }
+    ensures room { array_vec_len out.new ≤ array_vec_len out.old + 20 }
+{
+    append_decimal(out, number);
+}
+
+// The longest line of a setting has 51 bytes.
+fn append_set(out: &mut LogLine, which: Setting, set: Option<(u64, u32)>)
+    requires { array_vec_len out.old ≤ 420 }
+    ensures items { out.new.items ≡ out.old.items ++ set_text which set }
+    ensures room { array_vec_len out.new ≤ array_vec_len out.old + 60 }
 {
     let Some((value, line)) = set else {
-        return Ok(());
+        return;
     };
-    out.extend_from_slice(b"set ")?;
-    out.extend_from_slice(setting_name(which))?;
-    out.push(b' ')?;
-    push_number(out, value)?;
-    out.extend_from_slice(b" line ")?;
-    push_number(out, u64::from(line))?;
-    out.extend_from_slice(b"\n")?;
-    Ok(())
+    append(out, b"set ");
+    append(out, setting_name(which));
+    append(out, b" ");
+    append_number(out, value);
+    append(out, b" line ");
+    append_u32(out, line);
+    append(out, b"\n");
 }
 
-fn push_setting(out: &mut Vec<u8>, rules: &Rules, which: Setting) -> Result<(), NoMemory>
-    ensures { OnOk result (out.new.items ≡ out.old.items ++ setting_text rules.now which) }
+fn append_setting(out: &mut LogLine, rules: &Rules, which: Setting)
+    requires { array_vec_len out.old ≤ 420 }
+    ensures items { out.new.items ≡ out.old.items ++ setting_text rules.now which }
+    ensures room { array_vec_len out.new ≤ array_vec_len out.old + 60 }
 {
-    push_set(out, which, rules.setting(which))
+    append_set(out, which, rules.setting(which));
 }
 
-fn push_settings(out: &mut Vec<u8>, rules: &Rules) -> Result<(), NoMemory>
-    ensures { OnOk result (out.new.items ≡ out.old.items ++ settings_text rules.now) }
+fn append_settings(out: &mut LogLine, rules: &Rules)
+    requires { array_vec_len out.old ≤ 180 }
+    ensures { out.new.items ≡ out.old.items ++ settings_text rules.now }
 {
-    push_setting(out, rules, Setting::Timeout)?;
-    push_setting(out, rules, Setting::MaxBytes)?;
-    push_setting(out, rules, Setting::MaxRecip)?;
-    push_setting(out, rules, Setting::BadSleep)?;
-    push_setting(out, rules, Setting::NoBogus)
+    append_setting(out, rules, Setting::Timeout);
+    append_setting(out, rules, Setting::MaxBytes);
+    append_setting(out, rules, Setting::MaxRecip);
+    append_setting(out, rules, Setting::BadSleep);
+    append_setting(out, rules, Setting::NoBogus);
 }
 
-/// What `table` prints: the verdict, the options of a line that permits, and the settings.
-#[tactic(auto, unfolding(crate::specs::TableReport::report_text))]
-pub fn report_of(alloc: Global, rules: &Rules, verdict: Verdict) -> Result<Octets, NoMemory>
-    ensures { IfOk result (λ text. text ≡ report_text rules.now verdict) }
+fn settings_line(rules: &Rules) -> LogLine
+    ensures { result.items ≡ settings_text rules.now }
+{
+    let mut out = ArrayVec::new();
+    append_settings(&mut out, rules);
+    out
+}
+
+/// What `table` prints of a permission: the options of its line, and the settings.
+pub(crate) fn permit_report(alloc: Global, rules: &Rules, line: u32) -> Result<Octets, NoMemory>
+    ensures { IfOk result (λ text. text ≡ report_text rules.now (Permit line)) }
 {
     let mut out = Vec::new(alloc);
-    out.extend_from_slice(verdict_text(verdict).as_slice())?;
-    push_permit(&mut out, rules, verdict)?;
-    push_settings(&mut out, rules)?;
+    out.extend_from_slice(verdict_text(Verdict::Permit { line }).as_slice())?;
+    push_options_at(&mut out, rules, line)?;
+    out.extend_from_slice(settings_line(rules).as_slice())?;
     Ok(Octets::of(out))
+}
+
+/// What `table` prints of a denial: the settings, too.
+pub(crate) fn denial_report(rules: &Rules, line: u32) -> LogLine
+    ensures { result.items ≡ report_text rules.now (Deny line) }
+{
+    let mut out = verdict_text(Verdict::Deny { line });
+    append_settings(&mut out, rules);
+    out
 }

@@ -3,11 +3,13 @@ ghost use Rattle.std.specs.Fmt.{decimal};
 ghost use Rattle.arrayvec.specs.ArrayVec.{array_vec_len};
 ghost use Rattle.fw_types.specs.Peer.{peer_text};
 ghost use Rattle.gate_rules.specs.Service.{service_text};
-ghost use Rattle.bastion.specs.Texts.{decision_text, print_text, some_line, verdict_line, verdict_text, verdict_word};
+ghost use Rattle.gate_rules.specs.Verdict.{options_at};
+ghost use Rattle.gate_rules.specs.declared.verdict.Verdict.TheVariants.{Permit};
+ghost use Rattle.bastion.specs.Texts.{decision_text, exec_in, print_text, some_line, verdict_line, verdict_text, verdict_word};
 
 use arrayvec::ArrayVec;
 use fw_types::{NoMemory, Octets, Peer, append, append_u32};
-use gate_rules::{Service, Verdict};
+use gate_rules::{Rules, Service, Verdict};
 use std::alloc::Global;
 
 /// A line of the log.
@@ -93,7 +95,8 @@ pub(crate) fn push_exec(out: &mut Vec<u8>, exec: &[Octets]) -> Result<(), NoMemo
 
 /// The line of a verdict.
 pub(crate) fn verdict_text(verdict: Verdict) -> LogLine
-    ensures { result.items ≡ verdict_text verdict }
+    ensures text { result.items ≡ verdict_text verdict }
+    ensures short { array_vec_len result ≤ 30 }
 {
     let mut out = ArrayVec::new();
     append(&mut out, verdict_word(verdict));
@@ -103,12 +106,22 @@ pub(crate) fn verdict_text(verdict: Verdict) -> LogLine
     out
 }
 
-/// What `netacl` prints of a verdict, with the program's words on a permit line that has some.
-pub fn print_of(alloc: Global, verdict: Verdict, exec: &[Octets]) -> Result<Octets, NoMemory>
-    ensures { IfOk result (λ text. text ≡ print_text verdict exec.now) }
+// The program's words on the permit line with this number.
+fn exec_at(rules: &Rules, line: u32) -> &[Octets]
+    ensures { result.now ≡ exec_in (options_at rules.entry.now line) }
+{
+    match rules.options(line) {
+        Some(options) => options.exec.as_slice(),
+        None => &[],
+    }
+}
+
+/// What `netacl` prints of a permission, with the program's words where its line has some.
+pub(crate) fn permit_print(alloc: Global, rules: &Rules, line: u32) -> Result<Octets, NoMemory>
+    ensures { IfOk result (λ text. text ≡ print_text rules.now (Permit line)) }
 {
     let mut out = Vec::new(alloc);
-    out.extend_from_slice(verdict_text(verdict).as_slice())?;
-    push_exec(&mut out, exec)?;
+    out.extend_from_slice(verdict_text(Verdict::Permit { line }).as_slice())?;
+    push_exec(&mut out, exec_at(rules, line))?;
     Ok(Octets::of(out))
 }

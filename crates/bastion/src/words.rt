@@ -1,13 +1,14 @@
-ghost use Rattle.std.specs.Prelude.{◌≡◌, is_some};
+ghost use Rattle.std.specs.Prelude.{◌≡◌};
 ghost use Rattle.std.specs.Option.{option_copied, option_map};
 ghost use Rattle.std.specs.Str.{bytes_eq};
 ghost use Rattle.gate_rules.specs.Label.{label_of};
 ghost use Rattle.bastion.specs.Places.{places_of};
-ghost use Rattle.bastion.specs.Words.{after_options, any_twice, command_in, command_of, is_option_pair, is_option_name, name_in, option_word, netacl_in, peer_by, peer_in, query_of, stands, table_in, table_named, client_in, client_of, word_after};
+ghost use Rattle.bastion.specs.Words.{after_options, any_twice, command_in, command_of, is_option_pair, is_option_name, line_of, name_in, netacl_in, peer_by, peer_in, query_of, stands, table_in, table_named, client_in, client_of, word_after, word_or};
 
 use crate::Places;
 use fw_types::{HostName, Octets, Peer, read_quad};
 use gate_rules::{Label, Service};
+use std::marker::Model;
 
 /// Who asks for which service.
 #[derive(Drop)]
@@ -36,6 +37,8 @@ pub enum Command {
 }
 
 const DEFAULT_TABLE: &[u8] = b"/usr/local/etc/netperm-table";
+
+const DEFAULT_DB: &[u8] = b"authdb";
 
 fn is_word(word: &Octets, text: &[u8]) -> bool
     ensures { result ≡ bytes_eq word.now text.now }
@@ -224,26 +227,48 @@ pub fn read_command(words: &[Octets]) -> Option<Command>
     command_in(after_options(words))
 }
 
-fn is_command(words: &[Octets]) -> bool
-    ensures { result ≡ is_some (command_of words.now) }
+/// The word after an option. Another text where it isn't there.
+#[tactic(auto, unfolding(crate::specs::Words::word_or))]
+fn word_or<'a>(option: &[u8], other: &'a [u8], words: &'a [Octets]) -> &'a [u8]
+    ensures { result.now ≡ word_or option.now other.entry.now words.entry.now }
 {
-    match read_command(words) {
-        Some(_) => true,
-        None => false,
-    }
-}
-
-/// The word after an option of a command. Another text where it isn't there, and for words that are no command.
-#[tactic(auto, unfolding(crate::specs::Words::option_word))]
-fn option_word<'a>(option: &[u8], other: &'a [u8], words: &'a [Octets]) -> &'a [u8]
-    ensures { result.now ≡ option_word option.now other.entry.now words.entry.now }
-{
-    if !is_command(words) {
-        return other;
-    }
     match word_after(option, words) {
         Some(word) => word,
         None => other,
+    }
+}
+
+/// A command line, read.
+#[derive(Drop)]
+pub struct CommandLine<'a> {
+    pub command: Command,
+    /// The table's name: the word after `-t`, or the place where it stands when no word says so.
+    pub table: &'a [u8],
+    /// The name of the file with the records: the word after `-r`, or `authdb`.
+    pub db: &'a [u8],
+}
+
+impl<'a> Model for CommandLine<'a> {
+    ghost use Rattle.bastion.specs.Words.{LineView};
+
+    ghost Value = { LineView };
+
+    ghost view = { λ line. record { command = line.command; table = line.table.now; db = line.db.now } };
+}
+
+impl<'a> CommandLine<'a> {
+    /// The command line that the words are, or nothing where they are none.
+    pub fn read(words: &'a [Octets]) -> Option<CommandLine<'a>>
+        ensures { result ≡ line_of words.entry.now }
+    {
+        match read_command(words) {
+            Some(command) => Some(CommandLine {
+                command,
+                table: word_or(b"-t", DEFAULT_TABLE, words),
+                db: word_or(b"-r", DEFAULT_DB, words),
+            }),
+            None => None,
+        }
     }
 }
 
@@ -251,14 +276,18 @@ fn option_word<'a>(option: &[u8], other: &'a [u8], words: &'a [Octets]) -> &'a [
 pub fn table_named(words: &[Octets]) -> &[u8]
     ensures { result.now ≡ table_named words.entry.now }
 {
-    option_word(b"-t", DEFAULT_TABLE, words)
+    match CommandLine::read(words) {
+        Some(line) => line.table,
+        None => DEFAULT_TABLE,
+    }
 }
 
 /// What the words name: the word after the option, or a name of its own where no word says so.
 pub fn places(words: &[Octets]) -> Places<'_>
     ensures { result ≡ places_of words.entry.now }
 {
-    Places {
-        db: option_word(b"-r", b"authdb", words),
+    match CommandLine::read(words) {
+        Some(line) => Places { db: line.db },
+        None => Places { db: DEFAULT_DB },
     }
 }

@@ -1,4 +1,4 @@
-use bastion::{Device, Fault, LogLine, denied_line, ending_line, ending_status};
+use bastion::{Device, LogLine, Outcome, Refusal, Step, denied_line, ending_line, ending_status};
 use fw_types::{Ending, HostName, Name, Peer};
 use gate_rules::{RuleFault, Service, Why};
 use netperm_table::TableFault;
@@ -7,12 +7,15 @@ use std::test::Fail;
 
 fn check_fault(
     rt: &(impl Abort + AllocGlobal),
-    fault: Fault,
+    outcome: Outcome,
     text: &str,
     status: u8,
 ) -> Result<(), Fail> {
-    assert!(rt; fault.text().as_slice() == text.as_bytes(), "{text}");
-    assert!(rt; fault.status() == status, "{text}");
+    assert!(rt;
+        line_or_none(&outcome.fault_line()) == text.as_bytes(),
+        "{text}"
+    );
+    assert!(rt; outcome.status() == status, "{text}");
     Ok(())
 }
 
@@ -21,7 +24,7 @@ fn faults_have_their_texts(rt: HostRuntime) -> Result<(), Fail> {
     let table = TableFault::LongLine { line: 4294967295 };
     check_fault(
         &rt,
-        Fault::Table(table),
+        Outcome::Unread(Refusal::Table(table)),
         "fault table line 4294967295 long line\n",
         3,
     )?;
@@ -29,19 +32,24 @@ fn faults_have_their_texts(rt: HostRuntime) -> Result<(), Fail> {
         line: 7,
         why: Why::OpenBrace,
     };
-    check_fault(&rt, Fault::Rule(rule), "fault rule line 7 open brace\n", 3)?;
+    check_fault(
+        &rt,
+        Outcome::Unread(Refusal::Rule(rule)),
+        "fault rule line 7 open brace\n",
+        3,
+    )?;
     for (at, told) in [
         (0, "fault record guest at 0\n"),
         (4096, "fault record guest at 4096\n"),
         (usize::MAX, "fault record guest at 18446744073709551615\n"),
     ] {
         let name = Name::read(b"guest").ok_or("no name")?;
-        check_fault(&rt, Fault::Record { name, at }, told, 3)?;
+        check_fault(&rt, Outcome::Unread(Refusal::Record { name, at }), told, 3)?;
     }
     let name = Name::read(b"abcdefghijklmnopqrstuvwxyz.-_012").ok_or("no name")?;
     check_fault(
         &rt,
-        Fault::Record { name, at: 10 },
+        Outcome::Unread(Refusal::Record { name, at: 10 }),
         "fault record abcdefghijklmnopqrstuvwxyz.-_012 at 10\n",
         3,
     )?;
@@ -51,11 +59,38 @@ fn faults_have_their_texts(rt: HostRuntime) -> Result<(), Fail> {
         (Device::Log, "fault outside log\n"),
         (Device::Records, "fault outside records\n"),
     ] {
-        check_fault(&rt, Fault::Outside(device), told, 4)?;
+        check_fault(&rt, Outcome::Failed(device), told, 4)?;
     }
-    check_fault(&rt, Fault::Usage, "fault usage\n", 2)?;
-    check_fault(&rt, Fault::Memory, "fault memory\n", 5)?;
-    check_fault(&rt, Fault::Limit, "fault limit\n", 6)
+    check_fault(&rt, Outcome::Usage, "fault usage\n", 2)?;
+    for step in [
+        Step::Start,
+        Step::Table,
+        Step::Rules,
+        Step::Policy,
+        Step::Records,
+        Step::Print,
+    ] {
+        check_fault(&rt, Outcome::NoMemory(step), "fault memory\n", 5)?;
+    }
+    let ending = Ending::Done;
+    check_fault(
+        &rt,
+        Outcome::Ended {
+            ending,
+            refused: true,
+        },
+        "fault limit\n",
+        6,
+    )?;
+    check_fault(
+        &rt,
+        Outcome::Ended {
+            ending,
+            refused: false,
+        },
+        "",
+        0,
+    )
 }
 
 /// Each ending with its status and its line, which is empty where it has none.

@@ -3,7 +3,7 @@
 //! `main` has no contract of its own. It answers `--help` and `--version`.
 #![tactic(auto)]
 
-use bastion::{Command, Device, Fault, World, places, read_command, run};
+use bastion::{Command, Device, Outcome, Step, World, places, read_command, run};
 use fw_memory::MemDice;
 use fw_outside::{Dice, Sink};
 use fw_real::{Paths, Reading, Records, Salts, StandardInput, SystemClock, Writing};
@@ -30,25 +30,25 @@ const VERSION: &[u8] = b"fwtk 2.1\n";
 /// Why the program stops.
 #[derive(Drop)]
 enum Stop {
-    /// For a fault of a run.
-    Fault(Fault),
+    /// For a fault before the run.
+    Fault(Outcome),
     /// The system gave no random bytes, so nothing was done.
     NoRandomBytes,
 }
 
-impl From<Fault> for Stop {
-    fn from(fault: Fault) -> Stop {
-        Stop::Fault(fault)
+impl From<Outcome> for Stop {
+    fn from(outcome: Outcome) -> Stop {
+        Stop::Fault(outcome)
     }
 }
 
 // The words of the command line, or why there are none.
-fn read_words(rt: &HostRuntime) -> Result<Vec<Octets>, Fault> {
+fn read_words(rt: &HostRuntime) -> Result<Vec<Octets>, Outcome> {
     let alloc = rt.alloc();
     let args = match env::args(rt) {
         Ok(args) => args,
-        Err(e) if e.kind() == ErrorKind::OutOfMemory => return Err(Fault::Memory),
-        Err(_) => return Err(Fault::Usage),
+        Err(e) if e.kind() == ErrorKind::OutOfMemory => return Err(Outcome::NoMemory(Step::Start)),
+        Err(_) => return Err(Outcome::Usage),
     };
     let mut words = Vec::new(alloc);
     for arg in args.skip(1) {
@@ -70,10 +70,11 @@ fn answer(words: &[Octets]) -> Option<&'static [u8]> {
 fn tell(rt: &HostRuntime, stop: &Stop) -> u8 {
     let mut logs = Writing::new(rt.stderr());
     match stop {
-        Stop::Fault(fault) => {
-            let line = fault.text();
-            let _ = logs.give(line.as_slice());
-            fault.status()
+        Stop::Fault(outcome) => {
+            if let Some(line) = outcome.fault_line() {
+                let _ = logs.give(line.as_slice());
+            }
+            outcome.status()
         }
         Stop::NoRandomBytes => {
             let _ = logs.give(b"fault outside random\n");
@@ -92,7 +93,7 @@ fn run_with<D: Dice>(
     words: &[Octets],
     output: Writing<Stdout>,
     dice: D,
-) -> Result<u8, Fault> {
+) -> Result<u8, Outcome> {
     let mut world: World<Process<D>> = World {
         files: Paths::new(rt),
         input: Reading::new(StandardInput::of(rt.stdin())),
@@ -111,7 +112,7 @@ fn serve(rt: HostRuntime) -> Result<u8, Stop> {
     if let Some(text) = answer(&words) {
         return match output.give(text) {
             Ok(()) => Ok(0),
-            Err(_) => Err(Stop::Fault(Fault::Outside(Device::Output))),
+            Err(_) => Err(Stop::Fault(Outcome::Failed(Device::Output))),
         };
     }
     if !is_session(&words) {

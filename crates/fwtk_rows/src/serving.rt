@@ -1,13 +1,14 @@
 //! A client of a server in whose history there is room for few requests.
 
 use auth_machine::{Book, Policy};
-use bastion::{Command, Fault, conn, ending_status, read_command, table_named};
+use bastion::{Command, Outcome, conn, read_command, table_named};
 use fw_memory::{MemDice, MemFiles, MemKeeper, MemSource};
 use fw_outside::Files;
 use fw_types::{Ending, Octets, Peer};
 use gate_rules::{Rules, Service};
 use netperm_table::Table;
 use row_runs::{Devices, Ended};
+use session_acts::Nowhere;
 use std::alloc::Global;
 
 /// The status of a row that can't be served: its words are of no client, or its table or records can't be read, or the
@@ -45,14 +46,6 @@ fn server_in(alloc: Global, words: &[Octets], mut files: MemFiles) -> Option<Ser
     })
 }
 
-// The status that an ending comes to, where a request was refused or not.
-fn status_of(refused: bool, ending: Ending) -> u8 {
-    if refused && ending == Ending::Done {
-        return Fault::Limit.status();
-    }
-    ending_status(ending)
-}
-
 // Ends the book, and says what it came to.
 fn close(book: Book<MemKeeper>, limit: u64, ending: Ending) -> (u8, MemKeeper) {
     let refused = book.refused();
@@ -60,7 +53,7 @@ fn close(book: Book<MemKeeper>, limit: u64, ending: Ending) -> (u8, MemKeeper) {
     if history.len() as u64 > limit {
         return (UNSERVED, keeper);
     }
-    (status_of(refused, ending), keeper)
+    (Outcome::Ended { ending, refused }.status(), keeper)
 }
 
 // The one call of `conn`.
@@ -80,6 +73,7 @@ fn conn_over(
         &mut ended.input,
         &mut ended.output,
         &mut ended.logs,
+        &mut Nowhere::new(),
         &mut ended.clock,
         dice,
     );

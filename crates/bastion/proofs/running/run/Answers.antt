@@ -1,20 +1,28 @@
-use Rattle.bastion.specs.Run.{RanCommand}
-use Rattle.bastion.proofs.RepliesLemmas.{replies}
-use Rattle.bastion.proofs.StatusLemmas.{complete, for_usage, given_back, keeper_back, limited, only_for_usage, outside, ruled, taken}
+use Rattle.bastion.specs.Run.{Run}
+use Rattle.bastion.specs.Words.{line_of}
+use Rattle.bastion.proofs.RunLemmas.{does_rose, run_back, run_complete, run_status, run_takes}
+use Rattle.bastion.proofs.HeadlineLemmas.{run_headline}
 use Rattle.bastion.proofs.running.run.Goals as goal
 
 pub returns : goal.returns
 returns g c =
-    let ran : RanCommand c.args.words.now c.end.result c.args.world.now c.end.new.world = record { outcome = c.obey-outcome.result; middle = c.obey-outcome.new.world; does = c.obey-outcome.ensures; ends = c.end.ensures } in
+    let old = c.args.world.now in
+    let new = c.tell.new.world in
+    let ran : Run (line_of c.args.words.now) c.status.result old new = record {
+      outcome = c.obey-outcome.result;
+      middle = c.obey-outcome.new.world;
+      does = c.obey-outcome.ensures;
+      rose = does_rose (line_of c.args.words.now) c.obey-outcome.result old c.obey-outcome.new.world c.obey-outcome.ensures;
+      tells = c.tell.ensures;
+      status_is = c.status.ensures;
+    } in
+    let back = run_back (line_of c.args.words.now) c.status.result old new ran in
     record {
       ran = ran;
-      usage = (only_for_usage c.args.words.now c.end.result c.args.world.now c.end.new.world ran, for_usage c.args.words.now c.end.result c.args.world.now c.end.new.world ran);
-      ruled = ruled c.args.words.now c.end.result c.args.world.now c.end.new.world ran;
-      limited = limited c.args.words.now c.end.result c.args.world.now c.end.new.world ran;
-      taken = taken c.args.words.now c.end.result c.args.world.now c.end.new.world ran;
-      complete = complete c.args.words.now c.end.result c.args.world.now c.end.new.world ran;
-      returned = given_back c.args.words.now c.end.result c.args.world.now c.end.new.world ran;
-      replies = replies c.args.words.now c.end.result c.args.world.now c.end.new.world ran;
-      kept = keeper_back c.args.words.now c.end.result c.args.world.now c.end.new.world ran c.requires.keeper;
-      outside = outside c.args.words.now c.end.result c.args.world.now c.end.new.world ran;
+      headline = run_headline (line_of c.args.words.now) c.status.result old new ran;
+      status = run_status (line_of c.args.words.now) c.status.result old new ran;
+      taken = run_takes (line_of c.args.words.now) c.status.result old new ran;
+      complete = run_complete (line_of c.args.words.now) c.status.result old new ran;
+      returned = back.out;
+      kept = back.keeper c.requires.keeper;
     }

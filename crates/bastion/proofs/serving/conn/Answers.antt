@@ -1,31 +1,25 @@
-use Rattle.std.proofs.Common.{refl}
-use Rattle.fw_types.specs.declared.ending.Ending.TheVariants.{LogFault}
-use Rattle.bastion.specs.Conn.{Conn, ConnView}
-use Rattle.bastion.proofs.ConnLemmas.{conn_caused, conn_from, conn_refused, conn_spent}
+use Rattle.std.proofs.Common.{subst}
+use Rattle.gate_rules.specs.declared.verdict.Verdict.{Verdict}
+use Rattle.session_acts.specs.World.{Devices, devices_with}
+use Rattle.bastion.specs.Conn.{Conn, Treats}
+use Rattle.bastion.proofs.ConnLemmas.{conn_caused, conn_origin, conn_refused, conn_spent, conn_undialed, conn_waited}
 use Rattle.bastion.proofs.serving.conn.Goals as goal
 
-pub returns-in-Ok : goal.returns-in-Ok
-returns-in-Ok g c =
-    let old : ConnView g.row.P-Origin.Denot = record { devices = record { inlet = g.S.Source.source_view c.args.from.now; outlet = g.K.Sink.sink_view c.args.to.now; port = g.P.AuthPort.port c.args.port.now; clock = g.C.Clock.clock_view c.args.clock.now; dice = g.R.Dice.dice_view c.args.dice.now }; logs = g.G.Sink.sink_view c.args.logs.now } in
-    let new : ConnView g.row.P-Origin.Denot = record { devices = record { inlet = g.S.Source.source_view c.treat.new.from; outlet = g.K.Sink.sink_view c.treat.new.to; port = g.P.AuthPort.port c.treat.new.port; clock = g.C.Clock.clock_view c.treat.new.clock; dice = g.R.Dice.dice_view c.treat.new.dice }; logs = g.G.Sink.sink_view c.treat.new.logs } in
-    let conn : Conn c.args.service.now c.args.rules.now c.args.peer.now old new c.treat.result = conn_from c.args.service.now c.args.rules.now c.args.peer.now old new c.treat.result c.verdict_of-verdict.result
-    c.decision_line-line.result.items c.as_slice.result.now c.give.result (g.G.Sink.sink_view c.give.new.self) c.verdict_of-verdict.ensures c.decision_line-line.ensures c.as_slice.ensures.value c.give.ensures (rw c.in-Ok.is c.treat.ensures) in
+pub returns : goal.returns
+returns g c =
+    let old : Devices g.row.P-Origin.Denot = devices_with (g.P.AuthPort.port c.args.port.now) (g.S.Source.source_view c.args.from.now) (g.K.Sink.sink_view c.args.to.now) (g.G.Sink.sink_view c.args.logs.now)
+    (g.D.Dialer.dialer_view c.args.dialer.now) (g.C.Clock.clock_view c.args.clock.now) (g.R.Dice.dice_view c.args.dice.now) in
+    let mid : Devices g.row.P-Origin.Denot = devices_with (g.P.AuthPort.port c.treat-ending.new.port) (g.S.Source.source_view c.treat-ending.new.from) (g.K.Sink.sink_view c.treat-ending.new.to) (g.G.Sink.sink_view c.treat-ending.new.logs)
+    (g.D.Dialer.dialer_view c.treat-ending.new.dialer) (g.C.Clock.clock_view c.treat-ending.new.clock) (g.R.Dice.dice_view c.treat-ending.new.dice) in
+    let new : Devices g.row.P-Origin.Denot = record mid { logs = g.G.Sink.sink_view c.note_ending.new.logs } in
+    let treats = subst (λ (v : Verdict). Treats v c.args.service.now c.args.rules.now c.args.peer.now c.treat-ending.result old mid) c.verdict_of-verdict.ensures c.treat-ending.ensures in
+    let conn : Conn c.args.service.now c.args.rules.now c.args.peer.now old new c.treat-ending.result = record { logs = g.G.Sink.sink_view c.treat-ending.new.logs; treats = treats; noted = c.note_ending.ensures } in
     record {
       conn = conn;
-      caused = conn_caused c.args.service.now c.args.rules.now c.args.peer.now old new c.treat.result conn;
-      refused = conn_refused c.args.service.now c.args.rules.now c.args.peer.now old new c.treat.result conn;
-      spent = conn_spent c.args.service.now c.args.rules.now c.args.peer.now old new c.treat.result conn;
-    }
-
-pub returns-in-Err : goal.returns-in-Err
-returns-in-Err g c =
-    let old : ConnView g.row.P-Origin.Denot = record { devices = record { inlet = g.S.Source.source_view c.args.from.now; outlet = g.K.Sink.sink_view c.args.to.now; port = g.P.AuthPort.port c.args.port.now; clock = g.C.Clock.clock_view c.args.clock.now; dice = g.R.Dice.dice_view c.args.dice.now }; logs = g.G.Sink.sink_view c.args.logs.now } in
-    let new : ConnView g.row.P-Origin.Denot = record { devices = record { inlet = g.S.Source.source_view c.args.from.now; outlet = g.K.Sink.sink_view c.args.to.now; port = g.P.AuthPort.port c.args.port.now; clock = g.C.Clock.clock_view c.args.clock.now; dice = g.R.Dice.dice_view c.args.dice.now }; logs = g.G.Sink.sink_view c.give.new.self } in
-    let conn : Conn c.args.service.now c.args.rules.now c.args.peer.now old new LogFault = conn_from c.args.service.now c.args.rules.now c.args.peer.now old new LogFault c.verdict_of-verdict.result
-    c.decision_line-line.result.items c.as_slice.result.now c.give.result (g.G.Sink.sink_view c.give.new.self) c.verdict_of-verdict.ensures c.decision_line-line.ensures c.as_slice.ensures.value c.give.ensures (rw c.in-Err.is (record { ends = refl; is = refl })) in
-    record {
-      conn = conn;
-      caused = conn_caused c.args.service.now c.args.rules.now c.args.peer.now old new LogFault conn;
-      refused = conn_refused c.args.service.now c.args.rules.now c.args.peer.now old new LogFault conn;
-      spent = conn_spent c.args.service.now c.args.rules.now c.args.peer.now old new LogFault conn;
+      caused = conn_caused c.args.service.now c.args.rules.now c.args.peer.now old new c.treat-ending.result conn;
+      spent = conn_spent c.args.service.now c.args.rules.now c.args.peer.now old new c.treat-ending.result conn;
+      waited = conn_waited c.args.service.now c.args.rules.now c.args.peer.now old new c.treat-ending.result conn;
+      refused = conn_refused c.args.service.now c.args.rules.now c.args.peer.now old new c.treat-ending.result conn;
+      undialed = conn_undialed c.args.service.now c.args.rules.now c.args.peer.now old new c.treat-ending.result conn;
+      origin = conn_origin c.args.service.now c.args.rules.now c.args.peer.now old new c.treat-ending.result conn;
     }

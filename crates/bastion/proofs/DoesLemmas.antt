@@ -1,0 +1,171 @@
+-- From the rules that were found to what a command comes to.
+use Rattle.std.proofs.Common.{◌≡◌, ◌∙◌, ℕ, List, ap, refl, sym, subst, inl, inr, ◌⊎◌, Bool, true, false}
+use Rattle.std.specs.Prelude.{Some, Result, Ok, Err, not}
+use Rattle.fw_outside.specs.FilesView.{FilesView}
+use Rattle.fw_outside.specs.KeeperView.{IsCalled, KeeperView}
+use Rattle.gate_rules.specs.Reading.{RuleBook, rules_of}
+use Rattle.gate_rules.specs.Verdict.{verdict_of}
+use Rattle.gate_rules.specs.declared.service.Service.{Service}
+use Rattle.gate_rules.specs.declared.verdict.Verdict.{Verdict}
+use Rattle.gate_rules.specs.declared.verdict.Verdict.TheVariants.{Permit, Deny}
+use Rattle.bastion.specs.Deciding.{Decides, Reports}
+use Rattle.bastion.specs.Inputs.{HasInputs, Inputs, needs_records}
+use Rattle.bastion.specs.Outcome.{verdict_status}
+use Rattle.bastion.specs.Reading.{LacksEarly, Unfound, Finds, is_early, ruling_in, server_rules_of}
+use Rattle.bastion.specs.Run.{AsksTable, DoesFor, Lacks, ReadsOnly, Stops, verdict_for}
+use Rattle.bastion.specs.SessionSteps.{Proceeds, Unopened}
+use Rattle.bastion.specs.TableReport.{report_text}
+use Rattle.bastion.specs.Texts.{print_text}
+use Rattle.bastion.specs.Works.{Announced, Shown, Works}
+use Rattle.bastion.specs.WorldView.{SessionInputs, WorldView}
+use Rattle.bastion.specs.declared.outcome.Device.TheVariants as device
+use Rattle.bastion.specs.declared.outcome.Outcome.{Outcome}
+use Rattle.bastion.specs.declared.outcome.Outcome.TheVariants.{Usage, Unread, Failed, NoMemory, Decided, Ended}
+use Rattle.bastion.specs.declared.outcome.Refusal.{Refusal}
+use Rattle.bastion.specs.declared.outcome.Refusal.TheVariants.{Table, Rule, Record}
+use Rattle.bastion.specs.declared.outcome.Step.{Step}
+use Rattle.bastion.specs.declared.outcome.Step.TheVariants as steps
+use Rattle.bastion.specs.declared.server_rules.ServerRules.{ServerRules}
+use Rattle.bastion.specs.declared.words.Client.{Client}
+use Rattle.bastion.specs.declared.words.Command.{Command}
+use Rattle.bastion.specs.declared.words.Command.TheVariants as commands
+use Rattle.bastion.specs.declared.words.Query.{Query}
+use Rattle.bastion.proofs.InputLemmas.{NeedsRules, inputs_rules, inputs_server, refuses_record, refuses_rules, refuses_server}
+
+-- only the files were asked
+pub record AskedFiles (old new : WorldView) : Type 0 where
+  pub output : new.output ≡ old.output
+  pub logs : new.logs ≡ old.logs
+  pub inputs : new.inputs ≡ old.inputs
+
+only_files : (name : List ℕ) (old new : WorldView) → AsksTable name old.files new.files → AskedFiles old new → ReadsOnly name false old new
+only_files name old new asks h = record { files = asks; inputs = h.inputs; output = h.output; logs = h.logs }
+
+lacks_early : (name : List ℕ) (command : Command) (step : Step) (old new : WorldView) → is_early step ≡ true → ReadsOnly name false old new → Lacks name command step old new
+lacks_early name command steps.Print old new early is = absurd (cc)
+lacks_early name command steps.Records old new early is = absurd (cc)
+lacks_early name command steps.Start old new early is = is
+lacks_early name command steps.Table old new early is = is
+lacks_early name command steps.Rules old new early is = is
+lacks_early name command steps.Policy old new early is = is
+
+-- what can't be found stops the command
+stops_by : {A : Type 0} (said : List ℕ → Result A Refusal) (name : List ℕ) (command : Command) (outcome : Outcome) (old new : WorldView) → Unfound said name outcome old.files new.files → AskedFiles old new
+    → ((refusal : Refusal) → Unfound said name (Unread refusal) old.files new.files → HasInputs name command (Err refusal) old) → Stops name command outcome old new
+stops_by said name command (Unread refusal) old new h asked inputs = record {
+  read = inputs refusal h;
+  only = subst (λ (b : Bool). ReadsOnly name (not b) old new) (sym h.of_line) (only_files name old new h.asks asked);
+}
+stops_by said name command (Failed device.Table) old new h asked inputs = record { failed = h; output = asked.output; logs = asked.logs; inputs = asked.inputs }
+stops_by said name command (NoMemory step) old new h asked inputs = lacks_early name command step old new h.early (only_files name old new h.asks asked)
+stops_by said name command outcome old new h asked inputs = absurd h
+
+pub stops_rules : (name : List ℕ) (command : Command) (service : Service) → NeedsRules command service → (outcome : Outcome) (old new : WorldView) → Unfound (ruling_in (rules_of service)) name outcome old.files new.files → AskedFiles old new → DoesFor name command outcome old new
+stops_rules name command service needed outcome old new h asked =
+    inl (stops_by (ruling_in (rules_of service)) name command outcome old new h asked (λ refusal found. refuses_rules command service needed name refusal old found.of_text))
+
+-- ---- by the rules of a service
+
+only_then : (name : List ℕ) (records : Bool) (old mid new : WorldView) → ReadsOnly name records old mid → new ≡ mid → ReadsOnly name records old new
+only_then name records old mid new only is = subst (λ (w : WorldView). ReadsOnly name records old w) (sym is) only
+
+-- a permission that wants memory, or the work
+permitted_does : (name : List ℕ) (command : Command) (inputs : Inputs) (outcome : Outcome) (old mid new : WorldView) → HasInputs name command (Ok inputs) old → ReadsOnly name (needs_records command) old mid → verdict_status (verdict_for command inputs) ≡ 0
+    → ((outcome ≡ NoMemory steps.Print) × (new ≡ mid)) ⊎ Works command inputs outcome mid new → DoesFor name command outcome old new
+permitted_does name command inputs outcome old mid new read only permitted (inl lacks) =
+    subst (λ (o : Outcome). DoesFor name command o old new) (sym lacks.0) (inl (record { inputs = inputs; read = read; permitted = permitted; only = only_then name (needs_records command) old mid new only lacks.1 }))
+permitted_does name command inputs outcome old mid new read only permitted (inr works) = inr (record { inputs = inputs; read = read; middle = mid; only = only; works = works })
+
+decided_does : (name : List ℕ) (query : Query) (inputs : Inputs) (verdict : Verdict) (outcome : Outcome) (old mid new : WorldView) → HasInputs name (commands.Netacl query) (Ok inputs) old → ReadsOnly name false old mid → verdict ≡ verdict_of inputs.rules query.peer
+    → Decides query verdict inputs.rules outcome mid new → DoesFor name (commands.Netacl query) outcome old new
+decided_does name query inputs (Permit line) outcome old mid new read only is h =
+    let Done : Verdict → Type 0 = λ v. ((outcome ≡ NoMemory steps.Print) × (new ≡ mid)) ⊎ Announced query v (print_text inputs.rules v) outcome mid new in
+    permitted_does name (commands.Netacl query) inputs outcome old mid new read only (ap verdict_status (sym is))
+    (subst Done is h)
+decided_does name query inputs (Deny line) outcome old mid new read only is h =
+    let Done : Verdict → Type 0 = λ v. Announced query v (print_text inputs.rules v) outcome mid new in
+    inr (record { inputs = inputs; read = read; middle = mid; only = only; works = subst Done is h })
+
+reported_does : (name : List ℕ) (query : Query) (inputs : Inputs) (verdict : Verdict) (outcome : Outcome) (old mid new : WorldView) → HasInputs name (commands.Table query) (Ok inputs) old → ReadsOnly name false old mid → verdict ≡ verdict_of inputs.rules query.peer
+    → Reports verdict inputs.rules outcome mid new → DoesFor name (commands.Table query) outcome old new
+reported_does name query inputs (Permit line) outcome old mid new read only is h =
+    let Done : Verdict → Type 0 = λ v. ((outcome ≡ NoMemory steps.Print) × (new ≡ mid)) ⊎ Shown v (report_text inputs.rules v) outcome mid new in
+    permitted_does name (commands.Table query) inputs outcome old mid new read only (ap verdict_status (sym is))
+    (subst Done is h)
+reported_does name query inputs (Deny line) outcome old mid new read only is h =
+    let Done : Verdict → Type 0 = λ v. Shown v (report_text inputs.rules v) outcome mid new in
+    inr (record { inputs = inputs; read = read; middle = mid; only = only; works = subst Done is h })
+
+pub needs_netacl : (query : Query) → NeedsRules (commands.Netacl query) query.service
+needs_netacl query = record { only = refl; no_records = refl }
+
+pub needs_table : (query : Query) → NeedsRules (commands.Table query) query.service
+needs_table query = record { only = refl; no_records = refl }
+
+pub netacl_does : (name : List ℕ) (query : Query) (rules : RuleBook) (outcome : Outcome) (old mid new : WorldView) → Finds (ruling_in (rules_of query.service)) name (Ok rules) old.files mid.files → AskedFiles old mid
+    → Decides query (verdict_of rules query.peer) rules outcome mid new → DoesFor name (commands.Netacl query) outcome old new
+netacl_does name query rules outcome old mid new found asked decides =
+    decided_does name query _ (verdict_of rules query.peer) outcome old mid new (inputs_rules (commands.Netacl query) query.service (needs_netacl query) name rules old found.of_text) (only_files name old mid found.asks asked) refl decides
+
+pub table_does : (name : List ℕ) (query : Query) (rules : RuleBook) (outcome : Outcome) (old mid new : WorldView) → Finds (ruling_in (rules_of query.service)) name (Ok rules) old.files mid.files → AskedFiles old mid
+    → Reports (verdict_of rules query.peer) rules outcome mid new → DoesFor name (commands.Table query) outcome old new
+table_does name query rules outcome old mid new found asked reports =
+    reported_does name query _ (verdict_of rules query.peer) outcome old mid new (inputs_rules (commands.Table query) query.service (needs_table query) name rules old found.of_text) (only_files name old mid found.asks asked) refl reports
+
+-- ---- a client of the authentication server
+
+pub stops_server : (name : List ℕ) (client : Client) (outcome : Outcome) (old new : WorldView) → Unfound (ruling_in server_rules_of) name outcome old.files new.files → AskedFiles old new → DoesFor name (commands.Authsrv client) outcome old new
+stops_server name client outcome old new h asked =
+    inl (stops_by (ruling_in server_rules_of) name (commands.Authsrv client) outcome old new h asked (λ refusal found. refuses_server client name refusal old found.of_line found.of_text))
+
+-- the keeper was called then, and nothing else happened
+calls_then : (name : List ℕ) (old mid new : WorldView) (before after : KeeperView) → AsksTable name old.files mid.files → AskedFiles old mid → mid.inputs.keeper ≡ Some before → IsCalled before after
+    → new ≡ record mid { inputs = record (mid.inputs) { keeper = Some after } } → ReadsOnly name true old new
+calls_then name old mid new before after asks asked keeper called is = record {
+  files = subst (λ (f : FilesView). AsksTable name old.files f) (sym (ap (λ (w : WorldView). w.files) is)) asks;
+  inputs = record {
+    before = before;
+    keeper = ap (λ (i : SessionInputs). i.keeper) (sym asked.inputs) ∙ keeper;
+    after = after;
+    called = called;
+    is = ap (λ (w : WorldView). w.inputs) is ∙ ap (λ (i : SessionInputs). record i { keeper = Some after }) asked.inputs;
+  };
+  output = ap (λ (w : WorldView). w.output) is ∙ asked.output;
+  logs = ap (λ (w : WorldView). w.logs) is ∙ asked.logs;
+}
+
+old_keeper : (old mid : WorldView) (before : KeeperView) → AskedFiles old mid → mid.inputs.keeper ≡ Some before → old.inputs.keeper ≡ Some before
+old_keeper old mid before asked keeper = ap (λ (i : SessionInputs). i.keeper) (sym asked.inputs) ∙ keeper
+
+unopened_does : (name : List ℕ) (client : Client) (server_rules : ServerRules) (outcome : Outcome) (old mid new : WorldView) → Finds (ruling_in server_rules_of) name (Ok server_rules) old.files mid.files → AskedFiles old mid
+    → Unopened outcome mid new → DoesFor name (commands.Authsrv client) outcome old new
+unopened_does name client server_rules (Failed device.Records) old mid new found asked h = inl (record {
+  needed = refl;
+  files = subst (λ (f : FilesView). AsksTable name old.files f) (sym (ap (λ (w : WorldView). w.files) h.is)) found.asks;
+  before = h.before;
+  keeper = old_keeper old mid h.before asked h.keeper;
+  after = h.after;
+  failed = h.missed;
+  inputs = ap (λ (w : WorldView). w.inputs) h.is ∙ ap (λ (i : SessionInputs). record i { keeper = Some h.after }) asked.inputs;
+  output = ap (λ (w : WorldView). w.output) h.is ∙ asked.output;
+  logs = ap (λ (w : WorldView). w.logs) h.is ∙ asked.logs;
+})
+unopened_does name client server_rules (Unread (Record user at)) old mid new found asked h = inl (record {
+  read = refuses_record client name server_rules user at h.before h.after old (old_keeper old mid h.before asked h.keeper) found.of_text h.bad;
+  only = calls_then name old mid new h.before h.after found.asks asked h.keeper h.called h.is;
+})
+unopened_does name client server_rules (NoMemory steps.Records) old mid new found asked h = inl (calls_then name old mid new h.before h.after found.asks asked h.keeper h.called h.is)
+unopened_does name client server_rules outcome old mid new found asked h = absurd h
+
+pub proceeds_does : (name : List ℕ) (client : Client) (server_rules : ServerRules) (outcome : Outcome) (old mid new : WorldView) → Finds (ruling_in server_rules_of) name (Ok server_rules) old.files mid.files → AskedFiles old mid
+    → Proceeds client server_rules outcome mid new → DoesFor name (commands.Authsrv client) outcome old new
+proceeds_does name client server_rules (Ended ending refused) old mid new found asked h =
+    let middle : WorldView = record mid { inputs = record (mid.inputs) { keeper = Some h.after } } in
+    inr (record {
+      inputs = _;
+      read = inputs_server client name server_rules h.records h.before h.after old (old_keeper old mid h.before asked h.keeper) found.of_text h.read;
+      middle = middle;
+      only = calls_then name old mid middle h.before h.after found.asks asked h.keeper h.called refl;
+      works = h.attended;
+    })
+proceeds_does name client server_rules outcome old mid new found asked h = unopened_does name client server_rules outcome old mid new found asked h

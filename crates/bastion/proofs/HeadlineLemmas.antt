@@ -1,0 +1,391 @@
+-- From what a run did to the headline.
+use Rattle.std.proofs.Common.{◌≡◌, ◌≢◌, ℕ, List, [], ◌∷◌, ◌++◌, length, map, filter, refl, sym, ◌∙◌, ap, subst, inl, inr, arith, ◌⊎◌, ◌||◌, Bool, true, false}
+use Rattle.std.specs.List.{list_any}
+use Rattle.std.specs.Prelude.{Option, Some, None, Result, Ok, Err}
+use Rattle.auth_events.specs.Port.{Port, places}
+use Rattle.auth_machine.specs.Book.{BookView}
+use Rattle.auth_machine.specs.Port.{BookOrigin, book_port}
+use Rattle.authsrv_gate.specs.Dialogue.{rows, session_row}
+use Rattle.auth_events.specs.declared.port.PortFault.{PortFault}
+use Rattle.auth_events.specs.declared.reply.Reply.{Reply}
+use Rattle.fw_acts.specs.Acts.{PlaceTable, Row, Step}
+use Rattle.fw_acts.specs.Acts.Row.{Over}
+use Rattle.fw_acts.specs.Ran.{Comes, Ran}
+use Rattle.fw_acts.specs.Runs as runs
+use Rattle.session_acts.specs.declared.cause.Cause.{Cause}
+use Rattle.session_acts.specs.declared.cause.Cause.TheVariants as causes
+use Rattle.session_acts.specs.declared.denying.NoPlace.{NoPlace}
+use Rattle.fw_outside.specs.SinkView.{Gives, SinkView}
+use Rattle.fw_outside.specs.ToldList.{grown}
+use Rattle.fw_outside.specs.declared.failed.Failed as sink
+use Rattle.fw_types.specs.declared.ending.Ending.{Ending}
+use Rattle.fw_types.specs.declared.ending.Ending.TheVariants as endings
+use Rattle.fw_types.specs.declared.peer.Peer.{Peer}
+use Rattle.gate_rules.specs.Reading.{RuleBook}
+use Rattle.gate_rules.specs.Verdict.{verdict_of}
+use Rattle.gate_rules.specs.declared.service.Service.TheVariants as services
+use Rattle.gate_rules.specs.declared.verdict.Verdict.{Verdict}
+use Rattle.gate_rules.specs.declared.verdict.Verdict.TheVariants.{Permit, Deny}
+use Rattle.session_acts.specs.Acts.{Front}
+use Rattle.session_acts.specs.Acts.Act.{Try}
+use Rattle.session_acts.specs.Client.{Denies, line_logged}
+use Rattle.session_acts.specs.Deeds.{Deed, deed_last, deeds_ran, done, gives}
+use Rattle.session_acts.specs.Denying.{denying_row, no_rows}
+use Rattle.session_acts.specs.Laws.{told}
+use Rattle.session_acts.specs.Dummies.{nowhere}
+use Rattle.session_acts.specs.Met.{acts}
+use Rattle.session_acts.specs.Session.{Session, deeds_of, ending_of}
+use Rattle.session_acts.specs.Talk.{answered, asked, is_entered, is_refused_as_full, numbers_told, said_of}
+use Rattle.session_acts.specs.World.{Devices, World, at_first, devices_of}
+use Rattle.session_acts.proofs.ClientLemmas.{denies}
+use Rattle.session_acts.proofs.DeedLemmas.{all_gain, held_deeds}
+use Rattle.session_acts.proofs.EntryLemmas.{whole_talk}
+use Rattle.session_acts.proofs.TalkLemmas.{entered_gains}
+use Rattle.session_acts.proofs.ToldLemmas.{told_gains}
+use Rattle.bastion.specs.Conn.{NotedIf, Treats, denied_by}
+use Rattle.bastion.specs.Endings.{denied_text, ending_line}
+use Rattle.bastion.specs.Headline.{DenialLogged, Headline, HeadlineFor, IsDecided, IsDenied, IsPermitted, IsReplied, IsReplying, IsSilent, IsToldOff, LogsDenial, OfHistory, begins, is_at_console, lent_to, talk_of}
+use Rattle.bastion.specs.Inputs.{Inputs}
+use Rattle.bastion.specs.Outcome.{fault_line_of, status_of, verdict_status}
+use Rattle.bastion.specs.Run.{DoesLine, Run, Stops, TellsIf, Worked, verdict_for}
+use Rattle.bastion.specs.Serving.{Attended, Serves, book_at_first, devices_at, most_entries, origin_of}
+use Rattle.bastion.specs.Status.{IsHeld, IsServed}
+use Rattle.bastion.specs.Texts.{decision_text}
+use Rattle.bastion.specs.Words.{LineView}
+use Rattle.bastion.specs.Works.{Announced, PrintsAfter, announced, with_given}
+use Rattle.bastion.specs.WorldView.{SessionInputs, WorldView}
+use Rattle.bastion.specs.declared.outcome.Device.TheVariants as device
+use Rattle.bastion.specs.declared.outcome.Outcome.{Outcome}
+use Rattle.bastion.specs.declared.outcome.Outcome.TheVariants.{Usage, Unread, Failed, NoMemory, Decided, Ended}
+use Rattle.bastion.specs.declared.words.Client.{Client}
+use Rattle.bastion.specs.declared.words.Command.{Command}
+use Rattle.bastion.specs.declared.words.Command.TheVariants.{Netacl, Table, Authsrv}
+use Rattle.bastion.specs.declared.words.Query.{Query}
+use Rattle.bastion.proofs.AttendedLemmas.{attended_status}
+use Rattle.bastion.proofs.RunLemmas.{Later, stops_left, tells_later}
+
+-- ---- nothing was done
+
+stops_undenied : (name : List ℕ) (command : Command) (outcome : Outcome) (old new : WorldView) → Stops name command outcome old new → status_of outcome ≢ 1
+stops_undenied name command (Unread refusal) old new h is = omega (arith, is)
+stops_undenied name command (Failed which) old new h is = omega (arith, is)
+stops_undenied name command (NoMemory step) old new h is = omega (arith, is)
+stops_undenied name command Usage old new h is = omega (arith, is)
+stops_undenied name command (Decided verdict) old new h is = h
+stops_undenied name command (Ended ending refused) old new h is = h
+
+stops_silent : (name : List ℕ) (command : Command) (outcome : Outcome) (old mid new : WorldView) → Stops name command outcome old mid → Later mid new → IsSilent (status_of outcome) old new
+stops_silent name command outcome old mid new h later = record { output = later.output ∙ (stops_left name command outcome old mid h).output; undenied = stops_undenied name command outcome old mid h }
+
+silent_headline : (name : List ℕ) (command : Command) (status : ℕ) (old new : WorldView) → IsSilent status old new → HeadlineFor name command status old new
+silent_headline name (Netacl query) status old new h = record { replies_legal = tt; denials_logged = inl h }
+silent_headline name (Table query) status old new h = record { replies_legal = tt; denials_logged = tt }
+silent_headline name (Authsrv client) status old new h = record { replies_legal = inl h; denials_logged = inl h }
+
+-- ---- netacl
+
+announced_undenied : (line : ℕ) (printing : Result (Unit {0}) sink.Failed) → status_of (announced (Permit line) printing) ≢ 1
+announced_undenied line (Ok done) is = omega (arith, is)
+announced_undenied line (Err failed) is = omega (arith, is)
+
+announced_deny : (line : ℕ) (printing : Result (Unit {0}) sink.Failed) → announced (Deny line) printing ≡ Decided (Deny line)
+announced_deny line (Ok done) = refl
+announced_deny line (Err failed) = refl
+
+failed_four : (which : _) (outcome : Outcome) → outcome ≡ Failed which → status_of outcome ≢ 1
+failed_four which outcome ends is = let four = ap status_of ends in omega (arith, four, is)
+
+no_line : (outcome : Outcome) (verdict : Verdict) (mid new : WorldView) → outcome ≡ Decided verdict → TellsIf (fault_line_of outcome) mid new → new ≡ mid
+no_line outcome verdict mid new is h = let P : Outcome → Type 0 = λ o. TellsIf (fault_line_of o) mid new in subst P is h
+
+netacl_by : (query : Query) (inputs : Inputs) (verdict : Verdict) (text : List ℕ) (outcome : Outcome) (old mid new : WorldView) → verdict_of inputs.rules query.peer ≡ verdict → (logging : Result (Unit {0}) sink.Failed)
+    → Gives logging (decision_text verdict query.service query.peer) old.logs mid.logs → PrintsAfter logging verdict text outcome old.output mid.output → TellsIf (fault_line_of outcome) mid new
+    → IsSilent (status_of outcome) old new ⊎ (IsPermitted (Netacl query) inputs (status_of outcome) ⊎ IsDenied (Netacl query) query.service query.peer inputs (status_of outcome) old new)
+netacl_by query inputs verdict text outcome old mid new is (Err failed) logged h tells =
+    inl (record { output = (tells_later (fault_line_of outcome) mid new tells).output ∙ h.output; undenied = failed_four device.Log outcome h.is })
+netacl_by query inputs (Permit line) text outcome old mid new is (Ok done) logged h tells =
+    inr (inl (record {
+      permitted = λ outside. ap verdict_status is;
+      undenied = subst (λ (o : Outcome). status_of o ≢ 1) (sym h.is) (announced_undenied line h.printing);
+    }))
+netacl_by query inputs (Deny line) text outcome old mid new is (Ok done) logged h tells =
+    let decided : outcome ≡ Decided (Deny line) = h.is ∙ announced_deny line h.printing in
+    inr (inr (record {
+      line = line;
+      denied = is;
+      logged = ap (λ (w : WorldView). w.logs) (no_line outcome (Deny line) mid new decided tells) ∙ logged;
+      status_is = ap status_of decided;
+    }))
+
+-- ---- a session
+
+-- a session was held
+record OfSession (console : Bool) (verdict : Verdict) (rules : RuleBook) (peer : Peer) (old new : Devices BookOrigin) (ending : Ending) : Type 0 where
+  line : ℕ
+  admitted : console ≡ false → verdict ≡ Permit line
+  logs : SinkView
+  session : Session rows (begins console peer line) (lent_to console rules old) (record new { logs = logs }) ending
+
+-- a client was denied
+record OfDenial (console : Bool) (verdict : Verdict) (peer : Peer) (old new : Devices BookOrigin) (ending : Ending) : Type 0 where
+  outside : console ≡ false
+  line : ℕ
+  denied : verdict ≡ Deny line
+  logs : SinkView
+  told : Ending
+  session : Session no_rows (denying_row (decision_text (Deny line) services.Authsrv peer) (denied_text line)) old (record new { logs = logs }) told
+  ends : ending ≡ denied_by line told
+  noted : NotedIf (ending_line services.Authsrv peer ending) logs new.logs
+
+treats_so : (verdict : Verdict) (rules : RuleBook) (peer : Peer) (old new : Devices BookOrigin) (logs : SinkView) (ending : Ending) → Treats verdict services.Authsrv rules peer ending old (record new { logs = logs })
+    → NotedIf (ending_line services.Authsrv peer ending) logs new.logs → OfSession false verdict rules peer old new ending ⊎ OfDenial false verdict peer old new ending
+treats_so (Permit line) rules peer old new logs ending h noted = inl (record { line = line; admitted = λ outside. refl; logs = logs; session = h })
+treats_so (Deny line) rules peer old new logs ending h noted = inr (record { outside = refl; line = line; denied = refl; logs = logs; told = h.told; session = h.session; ends = h.ends; noted = noted })
+
+serves_so : (console : Bool) (rules : RuleBook) (peer : Peer) (old new : Devices BookOrigin) (ending : Ending) → Serves console rules peer old new ending
+    → OfSession console (verdict_of rules peer) rules peer old new ending ⊎ OfDenial console (verdict_of rules peer) peer old new ending
+serves_so true rules peer old new ending h = inl (record { line = 0; admitted = λ outside. absurd (cc); logs = h.logs; session = h.session })
+serves_so false rules peer old new ending h = treats_so (verdict_of rules peer) rules peer old new h.logs ending h.treats h.noted
+
+session_gave : {P : Type 0} (rows : PlaceTable (acts BookOrigin) P) (first : Row (acts BookOrigin) P) (old new : Devices BookOrigin) (ending : Ending) (session : Session rows first old new ending)
+    → new.outlet.given ≡ grown old.outlet.given (gives told (deeds_of session.held))
+session_gave rows first old new ending session =
+    ap (λ (d : Devices BookOrigin). d.outlet.given) (sym session.leaves) ∙ all_gain told_gains (deeds_of session.held) (at_first old session.names) session.last (held_deeds session.held)
+
+-- ---- the two deeds of a denial
+
+abbrev over : Unit {0} → Row (acts BookOrigin) NoPlace
+over done = Over
+
+record TwoDeeds (line words : List ℕ) (deeds : List Deed) : Type 0 where
+  tried : Result (Unit {0}) (Front words)
+  are : deeds ≡ line_logged line ∷ record { act = Try words; outcome = Ok tried } ∷ []
+
+two_deeds : (line words : List ℕ) (steps : List (Step (acts BookOrigin))) (left : Row (acts BookOrigin) NoPlace) (mid new : World BookOrigin) → runs.Run no_rows (denying_row line words) steps left → (comes : Comes no_rows over (Ok tt) new left mid)
+    → TwoDeeds line words (map done steps ++ deed_last no_rows over (Ok tt) new left mid comes)
+two_deeds line words [] left mid new run comes = absurd (cc (run ∙ comes.0))
+two_deeds line words (a ∷ []) left mid new run comes = absurd (cc (run.2 ∙ comes.0))
+two_deeds line words (a ∷ b ∷ []) left mid new run comes = record {
+  tried = run.2.0;
+  are = ap (λ (s : Step (acts BookOrigin)). done s ∷ done b ∷ []) run.1 ∙ ap (λ (s : Step (acts BookOrigin)). line_logged line ∷ done s ∷ []) run.2.1;
+}
+two_deeds line words (a ∷ b ∷ d ∷ steps) left mid new run comes = absurd run.2.2
+
+-- a dialogue that stopped doesn't end as done
+done_only : (dialogue : Result (Unit {0}) Cause) (opened : Option ℕ) (answer : Result Reply PortFault) → endings.Done ≡ ending_of dialogue opened answer → dialogue ≡ Ok tt
+done_only (Ok done) opened answer is = refl
+done_only (Err causes.ClientFault) opened answer is = absurd (cc)
+done_only (Err causes.ServerFault) opened answer is = absurd (cc)
+done_only (Err causes.LogFault) opened answer is = absurd (cc)
+done_only (Err causes.AuthFault) opened answer is = absurd (cc)
+done_only (Err causes.Idle) opened answer is = absurd (cc)
+done_only (Err causes.NoRoute) opened answer is = absurd (cc)
+done_only (Err causes.Spent) opened answer is = absurd (cc)
+done_only (Err causes.NoMemory) opened answer is = absurd (cc)
+
+ran_deeds_by : (line words : List ℕ) (old mid : World BookOrigin) (dialogue : Result (Unit {0}) Cause) → dialogue ≡ Ok tt → (ran : Ran no_rows (denying_row line words) over old mid dialogue) → TwoDeeds line words (deeds_ran ran)
+ran_deeds_by line words old mid (Ok done) is ran = two_deeds line words ran.steps ran.left ran.mid mid ran.run ran.comes
+ran_deeds_by line words old mid (Err cause) is ran = absurd (cc)
+
+denying_deeds : (line words : List ℕ) (old new : Devices BookOrigin) (session : Session no_rows (denying_row line words) old new endings.Done) → TwoDeeds line words (deeds_ran session.held.ran)
+denying_deeds line words old new session =
+    let held = session.held in
+    ran_deeds_by line words (at_first old session.names) held.mid held.dialogue (done_only held.dialogue held.mid.office.opened held.answer held.ends) held.ran
+
+-- the log failed within the line of the denial, or has it whole
+record DeniesCut (old new : Devices BookOrigin) (ending : Ending) : Type 0 where
+  outlet : new.outlet ≡ old.outlet
+  ends : ending ≡ endings.LogFault
+
+record DeniesWhole (line : ℕ) (peer : Peer) (old new : Devices BookOrigin) (ending : Ending) : Type 0 where
+  logs : new.logs ≡ with_given old.logs (decision_text (Deny line) services.Authsrv peer)
+  between : SinkView
+  session : Session no_rows (denying_row (decision_text (Deny line) services.Authsrv peer) (denied_text line)) old (record new { logs = between }) endings.Done
+  gave : new.outlet.given ≡ grown old.outlet.given (gives told (deeds_of session.held))
+  ends : ending ≡ endings.Denied line
+
+unnoted : (line : ℕ) (peer : Peer) (ending : Ending) (logs new : SinkView) → ending ≡ endings.Denied line → NotedIf (ending_line services.Authsrv peer ending) logs new → new ≡ logs
+unnoted line peer ending logs new is h = let P : Ending → Type 0 = λ e. NotedIf (ending_line services.Authsrv peer e) logs new in subst P is h
+
+denial_by : (line : ℕ) (peer : Peer) (old new : Devices BookOrigin) (logs : SinkView) (told ending : Ending) → ending ≡ denied_by line told → NotedIf (ending_line services.Authsrv peer ending) logs new.logs
+    → Session no_rows (denying_row (decision_text (Deny line) services.Authsrv peer) (denied_text line)) old (record new { logs = logs }) told
+    → Denies (decision_text (Deny line) services.Authsrv peer) (denied_text line) old (record new { logs = logs }) told → DeniesCut old new ending ⊎ DeniesWhole line peer old new ending
+denial_by line peer old new logs told ending ends noted session (inl fails) = inl (record { outlet = ap (λ (d : Devices BookOrigin). d.outlet) fails.same; ends = ends ∙ ap (denied_by line) fails.ends })
+denial_by line peer old new logs told ending ends noted session (inr away) =
+    let denied : ending ≡ endings.Denied line = ends ∙ ap (denied_by line) away.ends in
+    let whole : Session no_rows (denying_row (decision_text (Deny line) services.Authsrv peer) (denied_text line)) old (record new { logs = logs }) endings.Done =
+    subst (λ (e : Ending). Session no_rows (denying_row (decision_text (Deny line) services.Authsrv peer) (denied_text line)) old (record new { logs = logs }) e) away.ends session in
+    inr (record {
+      logs = unnoted line peer ending logs new.logs denied noted ∙ ap (λ (d : Devices BookOrigin). d.logs) away.same;
+      between = logs;
+      session = whole;
+      gave = session_gave no_rows (denying_row (decision_text (Deny line) services.Authsrv peer) (denied_text line)) old (record new { logs = logs }) endings.Done whole;
+      ends = denied;
+    })
+
+denial_so : (console : Bool) (verdict : Verdict) (peer : Peer) (old new : Devices BookOrigin) (ending : Ending) → (h : OfDenial console verdict peer old new ending) → DeniesCut old new ending ⊎ DeniesWhole h.line peer old new ending
+denial_so console verdict peer old new ending h =
+    denial_by h.line peer old new h.logs h.told ending h.ends h.noted h.session (denies (decision_text (Deny h.line) services.Authsrv peer) (denied_text h.line) old (record new { logs = h.logs }) h.told h.session)
+
+lent_port : (console : Bool) (rules : RuleBook) (devices : Devices BookOrigin) → (lent_to console rules devices).port ≡ devices.port
+lent_port true rules devices = refl
+lent_port false rules devices = refl
+
+lent_outlet : (console : Bool) (rules : RuleBook) (devices : Devices BookOrigin) → (lent_to console rules devices).outlet ≡ devices.outlet
+lent_outlet true rules devices = refl
+lent_outlet false rules devices = refl
+
+-- what a session over a book asked and told
+of_history : (client : Client) (inputs : Inputs) (out : Outcome) (old mid new : WorldView) → (h : Attended client inputs out old mid) → Later mid new
+    → OfSession client.console (verdict_for (Authsrv client) inputs) inputs.rules client.peer (devices_at old (book_at_first (origin_of inputs) most_entries h.before) nowhere) (devices_at mid h.book h.dialer) h.ending
+    → OfHistory client inputs (status_of out) old new
+of_history client inputs out old mid new h later s =
+    let first : Devices BookOrigin = lent_to client.console inputs.rules (devices_at old (book_at_first (origin_of inputs) most_entries h.before) nowhere) in
+    let held = s.session.held in
+    let last : World BookOrigin = s.session.last in
+    let begun : World BookOrigin = at_first first s.session.names in
+    let port : last.office.port ≡ book_port h.book = ap (λ (d : Devices BookOrigin). d.port) s.session.leaves in
+    let fresh : first.port ≡ book_port (book_at_first (origin_of inputs) most_entries h.before) = lent_port client.console inputs.rules (devices_at old (book_at_first (origin_of inputs) most_entries h.before) nowhere) in
+    let none : begun.office.port.mine ≡ [] = ap (λ (p : Port BookOrigin). p.mine) fresh in
+    let mine : last.office.port.mine ≡ places (length last.office.port.seen) = subst (λ (p : Port BookOrigin). p.mine ≡ places (length p.seen)) (sym port) refl in
+    let deeds = deeds_of held in
+    let entered = all_gain entered_gains deeds begun last (held_deeds held) in
+    let whole = (whole_talk (numbers_told begun.office.opened (gives asked deeds)) entered.moments (gives asked deeds) begun.office.port last.office.port none mine entered.port).0 in
+    let was : h.book.refused ≡ list_any is_refused_as_full (talk_of deeds) =
+    ap (λ (p : Port BookOrigin). p.refused) (sym port) ∙ entered.port.refused ∙ ap (λ (p : Port BookOrigin). (p.refused || list_any is_refused_as_full (talk_of deeds))) fresh in
+    let outlet : mid.output ≡ last.client.outlet = ap (λ (d : Devices BookOrigin). d.outlet) (sym s.session.leaves) in
+    let gave = all_gain told_gains deeds begun last (held_deeds held) in
+    let same : first.outlet ≡ old.output = lent_outlet client.console inputs.rules (devices_at old (book_at_first (origin_of inputs) most_entries h.before) nowhere) in
+    record {
+      before = h.before;
+      keeper = h.keeper;
+      line = s.line;
+      admitted = s.admitted;
+      last = record (devices_at mid h.book h.dialer) { logs = s.logs };
+      ending = h.ending;
+      session = s.session;
+      book = h.book;
+      legal = h.legal;
+      talk = subst (λ (p : Port BookOrigin). map said_of p.seen ≡ filter is_entered (talk_of deeds)) port whole;
+      has = h.has;
+      faults = h.faults;
+      kept = ap (λ (i : SessionInputs). i.keeper) later.inputs ∙ h.kept;
+      told = ap (λ (o : SinkView). o.given) (later.output ∙ outlet) ∙ gave ∙ ap (λ (o : SinkView). grown o.given (gives told deeds)) same;
+      full = λ yes. h.full (was ∙ yes);
+      status_is = ap status_of (h.comes ∙ ap (λ (r : Bool). Ended h.ending r) was);
+    }
+
+-- ---- a client of the authentication server
+
+held_undenied : (status : ℕ) (old new : SessionInputs) → IsHeld status old new → status ≢ 1
+held_undenied status old new (inl zero) is = omega (arith, zero, is)
+held_undenied status old new (inr six) is = let now = six.0 in omega (arith, now, is)
+
+served_undenied : (console : Bool) (verdict : Verdict) (line : ℕ) (status : ℕ) (old new : SessionInputs) → (console ≡ false → verdict ≡ Permit line) → IsServed console verdict status old new → status ≢ 1
+served_undenied true verdict line status old new admitted h is = held_undenied status old new h is
+served_undenied false (Permit other) line status old new admitted h is = held_undenied status old new h is
+served_undenied false (Deny other) line status old new admitted h is = absurd (cc (admitted refl))
+
+session_undenied : (console : Bool) (verdict : Verdict) (line : ℕ) (status : ℕ) (old new : SessionInputs) → (console ≡ false → verdict ≡ Permit line) → ((status ≡ 4) ⊎ (status ≡ 5)) ⊎ IsServed console verdict status old new → status ≢ 1
+session_undenied console verdict line status old new admitted (inl (inl four)) is = omega (arith, four, is)
+session_undenied console verdict line status old new admitted (inl (inr five)) is = omega (arith, five, is)
+session_undenied console verdict line status old new admitted (inr served) is = served_undenied console verdict line status old new admitted served is
+
+ended_log : (out : Outcome) (ending : Ending) (refused : Bool) → out ≡ Ended ending refused → ending ≡ endings.LogFault → status_of out ≢ 1
+ended_log out ending refused comes ends is = let four = ap status_of (comes ∙ ap (λ (e : Ending). Ended e refused) ends) in omega (arith, four, is)
+
+ended_line : (out : Outcome) (line : ℕ) (refused : Bool) (mid new : WorldView) → out ≡ Ended (endings.Denied line) refused → TellsIf (fault_line_of out) mid new → new ≡ mid
+ended_line out line refused mid new is h = let P : Outcome → Type 0 = λ o. TellsIf (fault_line_of o) mid new in subst P is h
+
+-- what the headline says of a client, by its inputs
+abbrev ClientHeadline : Client → Inputs → ℕ → WorldView → WorldView → Type 0
+ClientHeadline client inputs status old new =
+    IsSilent status old new
+    ⊎ ((IsToldOff client inputs old new ⊎ OfHistory client inputs status old new) × (IsPermitted (Authsrv client) inputs status ⊎ IsDenied (Authsrv client) services.Authsrv client.peer inputs status old new))
+
+session_headline : (client : Client) (inputs : Inputs) (out : Outcome) (old mid new : WorldView) → (h : Attended client inputs out old mid) → TellsIf (fault_line_of out) mid new
+    → OfSession client.console (verdict_for (Authsrv client) inputs) inputs.rules client.peer (devices_at old (book_at_first (origin_of inputs) most_entries h.before) nowhere) (devices_at mid h.book h.dialer) h.ending
+    → ClientHeadline client inputs (status_of out) old new
+session_headline client inputs out old mid new h tells s =
+    inr (
+      inr (of_history client inputs out old mid new h (tells_later (fault_line_of out) mid new tells) s),
+      inl (record {
+        permitted = λ outside. ap verdict_status (s.admitted outside);
+        undenied = session_undenied client.console (verdict_for (Authsrv client) inputs) s.line (status_of out) old.inputs mid.inputs s.admitted (attended_status client inputs out old mid h);
+      }),
+    )
+
+denial_headline : (client : Client) (inputs : Inputs) (out : Outcome) (old mid new : WorldView) → (h : Attended client inputs out old mid) → TellsIf (fault_line_of out) mid new → (line : ℕ) → client.console ≡ false → verdict_for (Authsrv client) inputs ≡ Deny line
+    → DeniesCut (devices_at old (book_at_first (origin_of inputs) most_entries h.before) nowhere) (devices_at mid h.book h.dialer) h.ending
+    ⊎ DeniesWhole line client.peer (devices_at old (book_at_first (origin_of inputs) most_entries h.before) nowhere) (devices_at mid h.book h.dialer) h.ending
+    → ClientHeadline client inputs (status_of out) old new
+denial_headline client inputs out old mid new h tells line outside denied (inl cut) =
+    inl (record { output = (tells_later (fault_line_of out) mid new tells).output ∙ cut.outlet; undenied = ended_log out h.ending h.book.refused h.comes cut.ends })
+denial_headline client inputs out old mid new h tells line outside denied (inr whole) =
+    let comes : out ≡ Ended (endings.Denied line) h.book.refused = h.comes ∙ ap (λ (e : Ending). Ended e h.book.refused) whole.ends in
+    let same : new ≡ mid = ended_line out line h.book.refused mid new comes tells in
+    let two = denying_deeds (decision_text (Deny line) services.Authsrv client.peer) (denied_text line) (devices_at old (book_at_first (origin_of inputs) most_entries h.before) nowhere) (record (devices_at mid h.book h.dialer) { logs = whole.between }) whole.session in
+    inr (
+      inl (record {
+        outside = outside;
+        line = line;
+        denied = denied;
+        first = devices_at old (book_at_first (origin_of inputs) most_entries h.before) nowhere;
+        last = record (devices_at mid h.book h.dialer) { logs = whole.between };
+        session = whole.session;
+        tried = two.tried;
+        deeds = two.are;
+        told = ap (λ (w : WorldView). w.output.given) same ∙ whole.gave;
+      }),
+      inr (record { line = line; denied = denied; logged = ap (λ (w : WorldView). w.logs) same ∙ whole.logs; status_is = ap status_of comes }),
+    )
+
+attended_by : (client : Client) (inputs : Inputs) (out : Outcome) (old mid new : WorldView) → (h : Attended client inputs out old mid) → TellsIf (fault_line_of out) mid new
+    → OfSession client.console (verdict_of inputs.rules client.peer) inputs.rules client.peer (devices_at old (book_at_first (origin_of inputs) most_entries h.before) nowhere) (devices_at mid h.book h.dialer) h.ending
+    ⊎ OfDenial client.console (verdict_of inputs.rules client.peer) client.peer (devices_at old (book_at_first (origin_of inputs) most_entries h.before) nowhere) (devices_at mid h.book h.dialer) h.ending
+    → ClientHeadline client inputs (status_of out) old new
+attended_by client inputs out old mid new h tells (inl s) = session_headline client inputs out old mid new h tells s
+attended_by client inputs out old mid new h tells (inr d) =
+    denial_headline client inputs out old mid new h tells d.line d.outside d.denied
+    (denial_so client.console (verdict_of inputs.rules client.peer) client.peer (devices_at old (book_at_first (origin_of inputs) most_entries h.before) nowhere) (devices_at mid h.book h.dialer) h.ending d)
+
+attended_headline : (client : Client) (inputs : Inputs) (out : Outcome) (old mid new : WorldView) → Attended client inputs out old mid → TellsIf (fault_line_of out) mid new → ClientHeadline client inputs (status_of out) old new
+attended_headline client inputs out old mid new h tells =
+    attended_by client inputs out old mid new h tells
+    (serves_so client.console inputs.rules client.peer (devices_at old (book_at_first (origin_of inputs) most_entries h.before) nowhere) (devices_at mid h.book h.dialer) h.ending h.serves)
+
+-- ---- all commands
+
+silent_from : (status : ℕ) (old mid new : WorldView) → mid.output ≡ old.output → IsSilent status mid new → IsSilent status old new
+silent_from status old mid new is h = record { output = h.output ∙ is; undenied = h.undenied }
+
+netacl_headline : (name : List ℕ) (query : Query) (outcome : Outcome) (status : ℕ) (old mid new : WorldView) (h : Worked name (Netacl query) outcome old mid)
+    → IsSilent status h.middle new ⊎ (IsPermitted (Netacl query) h.inputs status ⊎ IsDenied (Netacl query) query.service query.peer h.inputs status h.middle new) → HeadlineFor name (Netacl query) status old new
+netacl_headline name query outcome status old mid new h (inl silent) = record { replies_legal = tt; denials_logged = inl (silent_from status old h.middle new h.only.output silent) }
+netacl_headline name query outcome status old mid new h (inr so) = record { replies_legal = tt; denials_logged = inr (record { inputs = h.inputs; read = h.read; middle = h.middle; only = h.only; so = so }) }
+
+client_headline : (name : List ℕ) (client : Client) (outcome : Outcome) (status : ℕ) (old mid new : WorldView) (h : Worked name (Authsrv client) outcome old mid) → ClientHeadline client h.inputs status h.middle new → HeadlineFor name (Authsrv client) status old new
+client_headline name client outcome status old mid new h (inl silent) =
+    let so = silent_from status old h.middle new h.only.output silent in record { replies_legal = inl so; denials_logged = inl so }
+client_headline name client outcome status old mid new h (inr so) = record {
+  replies_legal = inr (record { inputs = h.inputs; read = h.read; middle = h.middle; only = h.only; so = so.0 });
+  denials_logged = inr (record { inputs = h.inputs; read = h.read; middle = h.middle; only = h.only; so = so.1 });
+}
+
+worked_headline : (name : List ℕ) (command : Command) (outcome : Outcome) (old mid new : WorldView) → Worked name command outcome old mid → TellsIf (fault_line_of outcome) mid new → HeadlineFor name command (status_of outcome) old new
+worked_headline name (Netacl query) outcome old mid new h tells =
+    netacl_headline name query outcome (status_of outcome) old mid new h
+    (netacl_by query h.inputs (verdict_of h.inputs.rules query.peer) _ outcome h.middle mid new refl h.works.logging h.works.logged h.works.printed tells)
+worked_headline name (Table query) outcome old mid new h tells = record { replies_legal = tt; denials_logged = tt }
+worked_headline name (Authsrv client) outcome old mid new h tells =
+    client_headline name client outcome (status_of outcome) old mid new h (attended_headline client h.inputs outcome h.middle mid new h.works tells)
+
+does_headline : (line : Option LineView) (outcome : Outcome) (old mid new : WorldView) → DoesLine line outcome old mid → TellsIf (fault_line_of outcome) mid new → Headline line (status_of outcome) old new
+does_headline None outcome old mid new h tells = tt
+does_headline (Some line) outcome old mid new (inl h) tells =
+    silent_headline line.table line.command (status_of outcome) old new (stops_silent line.table line.command outcome old mid new h (tells_later (fault_line_of outcome) mid new tells))
+does_headline (Some line) outcome old mid new (inr h) tells = worked_headline line.table line.command outcome old mid new h tells
+
+pub run_headline : (line : Option LineView) (status : ℕ) (old new : WorldView) → Run line status old new → Headline line status old new
+run_headline line status old new ran =
+    subst (λ (s : ℕ). Headline line s old new) (sym ran.status_is) (does_headline line ran.outcome old ran.middle new ran.does ran.tells)

@@ -1,9 +1,0 @@
-use Rattle.gate_rules.specs.Reading.{rules_of}
-use Rattle.bastion.proofs.FindingLemmas.{finds_by_fault, finds_by_lines}
-use Rattle.bastion.proofs.finding.find_rules.Goals as goal
-
-pub returns-in-Ok : goal.returns-in-Ok
-returns-in-Ok g c = finds_by_lines (rules_of c.args.service.now) c.args.name.now c.in-Ok.table c.read_rules.result _ _ c.in-Ok.ensures c.read_rules.ensures
-
-pub returns-in-Err : goal.returns-in-Err
-returns-in-Err g c = finds_by_fault (rules_of c.args.service.now) c.args.name.now c.in-Err.fault _ _ c.in-Err.ensures

@@ -1,0 +1,113 @@
+-- What a run comes to: its status, its line in the log, and whose count has risen. Three tables, by cases.
+use Rattle.std.specs.Prelude.{ℕ, ◌⊎◌, Bool, true, false, List, ◌++◌, Option, Some, None, unwrap_or, codes, if◌then◌else◌}
+use Rattle.std.specs.Fmt.{decimal}
+use Rattle.fw_outside.specs.Counts.{Rose}
+use Rattle.fw_outside.specs.KeeperView.{KeeperView}
+use Rattle.fw_types.specs.declared.ending.Ending.{Ending}
+use Rattle.fw_types.specs.declared.ending.Ending.TheVariants as endings
+use Rattle.gate_rules.specs.declared.fault.RuleFault.{RuleFault}
+use Rattle.gate_rules.specs.declared.verdict.Verdict.{Verdict}
+use Rattle.gate_rules.specs.declared.verdict.Verdict.TheVariants.{Permit, Deny}
+use Rattle.gate_rules.specs.Why as rule
+use Rattle.netperm_table.specs.declared.table_fault.TableFault.{TableFault}
+use Rattle.netperm_table.specs.Fault as table
+use Rattle.bastion.specs.WorldView.{WorldView}
+use Rattle.bastion.specs.declared.outcome.Device.{Device}
+use Rattle.bastion.specs.declared.outcome.Device.TheVariants as device
+use Rattle.bastion.specs.declared.outcome.Outcome.{Outcome}
+use Rattle.bastion.specs.declared.outcome.Outcome.TheVariants.{Usage, Unread, Failed, NoMemory, Decided, Ended}
+use Rattle.bastion.specs.declared.outcome.Refusal.{Refusal}
+use Rattle.bastion.specs.declared.outcome.Refusal.TheVariants.{Table, Rule, Record}
+
+-- ---- the status
+
+-- a permission is 0, a denial 1
+abbrev pub verdict_status : Verdict → ℕ
+verdict_status (Permit line) = 0
+verdict_status (Deny line) = 1
+
+abbrev pub ending_status : Ending → ℕ
+ending_status endings.Done = 0
+ending_status (endings.Denied line) = 1
+ending_status endings.ClientFault = 4
+ending_status endings.ServerFault = 4
+ending_status endings.LogFault = 4
+ending_status endings.AuthFault = 4
+ending_status endings.Idle = 4
+ending_status endings.NoRoute = 4
+ending_status endings.Spent = 6
+ending_status endings.NoMemory = 5
+
+-- a session was done, but a request of it was refused since the history was full
+abbrev pub is_at_limit : Ending → Bool → Bool
+is_at_limit endings.Done refused = refused
+is_at_limit _ refused = false
+
+abbrev pub status_of : Outcome → ℕ
+status_of Usage = 2
+status_of (Unread refusal) = 3
+status_of (Failed which) = 4
+status_of (NoMemory step) = 5
+status_of (Decided verdict) = verdict_status verdict
+status_of (Ended ending refused) = if is_at_limit ending refused then 6 else ending_status ending
+
+-- ---- the line in the log
+
+abbrev pub device_text : Device → List ℕ
+device_text device.Table = codes "table"
+device_text device.Output = codes "output"
+device_text device.Log = codes "log"
+device_text device.Records = codes "records"
+
+-- a line, by its number, and what is wrong with it
+abbrev pub line_text : ℕ → List ℕ → List ℕ
+line_text line why = codes " line " ++ decimal line ++ codes " " ++ why
+
+-- whose record can't be read, and the place of its first bad byte
+abbrev pub record_text : List ℕ → ℕ → List ℕ
+record_text name at = name ++ codes " at " ++ decimal at
+
+abbrev pub refusal_text : Refusal → List ℕ
+refusal_text (Table fault) = codes "table" ++ line_text (unwrap_or (table.line_of fault) 0) (table.table_why_text fault)
+refusal_text (Rule fault) = codes "rule" ++ line_text fault.line (rule.why_text fault.why)
+refusal_text (Record name at) = codes "record " ++ record_text name at
+
+-- what went wrong, where something did; what a session ended with has a line of its own, but for its limit
+abbrev pub fault_line_of : Outcome → Option (List ℕ)
+fault_line_of Usage = Some (codes "fault usage\n")
+fault_line_of (Unread refusal) = Some (codes "fault " ++ refusal_text refusal ++ codes "\n")
+fault_line_of (Failed which) = Some (codes "fault outside " ++ device_text which ++ codes "\n")
+fault_line_of (NoMemory step) = Some (codes "fault memory\n")
+fault_line_of (Decided verdict) = None
+fault_line_of (Ended ending refused) = if is_at_limit ending refused then Some (codes "fault limit\n") else None
+
+-- ---- whose count has risen
+
+-- the keeper's count of failures rose
+abbrev pub KeeperRose : Option KeeperView → Option KeeperView → Type 0
+KeeperRose (Some old) (Some new) = Rose old.faults new.faults
+KeeperRose _ _ = ⊥
+
+-- the device's own count rose; the files count names without a source, and sources that failed
+abbrev pub DeviceRose : Device → WorldView → WorldView → Type 0
+DeviceRose device.Table old new = Rose old.files.missing new.files.missing ⊎ Rose old.files.read_faults new.files.read_faults
+DeviceRose device.Output old new = Rose old.output.faults new.output.faults
+DeviceRose device.Log old new = Rose old.logs.faults new.logs.faults
+DeviceRose device.Records old new = KeeperRose old.inputs.keeper new.inputs.keeper
+
+-- what a session that ended with status 4 has counted: of the client, its source failed, or nothing came of it in time, or
+-- its sink failed
+abbrev pub EndingRose : Ending → WorldView → WorldView → Type 0
+EndingRose endings.ClientFault old new = Rose old.inputs.input.faults new.inputs.input.faults ⊎ Rose old.output.faults new.output.faults
+EndingRose endings.LogFault old new = Rose old.logs.faults new.logs.faults
+EndingRose endings.Idle old new = Rose old.inputs.input.idles new.inputs.input.idles
+EndingRose endings.ServerFault old new = ⊥
+EndingRose endings.AuthFault old new = ⊥
+EndingRose endings.NoRoute old new = ⊥
+EndingRose _ old new = Unit {0}
+
+-- a failure names a device whose count rose, and so does an ending
+abbrev pub CountRose : Outcome → WorldView → WorldView → Type 0
+CountRose (Failed which) old new = DeviceRose which old new
+CountRose (Ended ending refused) old new = EndingRose ending old new
+CountRose _ old new = Unit {0}

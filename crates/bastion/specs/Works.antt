@@ -1,0 +1,77 @@
+-- The work of each command, once its inputs are read: what it gives to the log and to the output, and what it comes to.
+use Rattle.std.specs.Prelude.{◌≡◌, ℕ, List, Result, Ok, Err}
+use Rattle.fw_outside.specs.SinkView.{Gives, SinkView}
+use Rattle.fw_outside.specs.ToldList.{grown}
+use Rattle.fw_outside.specs.declared.failed.Failed as sink
+use Rattle.gate_rules.specs.Verdict.{verdict_of}
+use Rattle.gate_rules.specs.declared.verdict.Verdict.{Verdict}
+use Rattle.gate_rules.specs.declared.verdict.Verdict.TheVariants.{Permit, Deny}
+use Rattle.bastion.specs.Inputs.{Inputs}
+use Rattle.bastion.specs.Serving.{Attended}
+use Rattle.bastion.specs.TableReport.{report_text}
+use Rattle.bastion.specs.Texts.{decision_text, print_text}
+use Rattle.bastion.specs.WorldView.{WorldView}
+use Rattle.bastion.specs.declared.outcome.Device.TheVariants as device
+use Rattle.bastion.specs.declared.outcome.Outcome.{Outcome}
+use Rattle.bastion.specs.declared.outcome.Outcome.TheVariants.{Failed, Decided}
+use Rattle.bastion.specs.declared.words.Command.{Command}
+use Rattle.bastion.specs.declared.words.Command.TheVariants.{Netacl, Table, Authsrv}
+use Rattle.bastion.specs.declared.words.Query.{Query}
+
+-- the sink has taken these bytes whole
+abbrev pub with_given : SinkView → List ℕ → SinkView
+with_given old bytes = record old { given = grown old.given bytes }
+
+-- what a verdict comes to whose text the output took, or not: a denial that the log has stands all the same
+abbrev pub announced : Verdict → Result (Unit {0}) sink.Failed → Outcome
+announced verdict (Ok done) = Decided verdict
+announced (Permit line) (Err failed) = Failed device.Output
+announced (Deny line) (Err failed) = Decided (Deny line)
+
+-- and what comes of one that only the output is told
+abbrev pub shown : Verdict → Result (Unit {0}) sink.Failed → Outcome
+shown verdict (Ok done) = Decided verdict
+shown verdict (Err failed) = Failed device.Output
+
+-- the output was given a text, and what that answered gives the outcome
+pub record Prints (said : Result (Unit {0}) sink.Failed → Outcome) (text : List ℕ) (outcome : Outcome) (old new : SinkView) : Type 0 where
+  pub printing : Result (Unit {0}) sink.Failed
+  pub gives : Gives printing text old new
+  pub is : outcome ≡ said printing
+
+-- the log failed, and nothing was printed
+pub record PrintsNone (outcome : Outcome) (old new : SinkView) : Type 0 where
+  pub is : outcome ≡ Failed device.Log
+  pub output : new ≡ old
+
+-- a text is printed where the log has taken the line before it whole
+abbrev pub PrintsAfter : Result (Unit {0}) sink.Failed → Verdict → List ℕ → Outcome → SinkView → SinkView → Type 0
+PrintsAfter (Err failed) verdict text outcome old new = PrintsNone outcome old new
+PrintsAfter (Ok done) verdict text outcome old new = Prints (announced verdict) text outcome old new
+
+-- `netacl`: the line of the verdict is given to the log, and then the verdict printed
+pub record Announced (query : Query) (verdict : Verdict) (text : List ℕ) (outcome : Outcome) (old new : WorldView) : Type 0 where
+  pub logging : Result (Unit {0}) sink.Failed
+  pub logged : Gives logging (decision_text verdict query.service query.peer) old.logs new.logs
+  pub printed : PrintsAfter logging verdict text outcome old.output new.output
+  pub files : new.files ≡ old.files
+  pub inputs : new.inputs ≡ old.inputs
+
+-- `table`: what the rules say of the peer is printed
+pub record Shown (verdict : Verdict) (text : List ℕ) (outcome : Outcome) (old new : WorldView) : Type 0 where
+  pub printed : Prints (shown verdict) text outcome old.output new.output
+  pub logs : new.logs ≡ old.logs
+  pub files : new.files ≡ old.files
+  pub inputs : new.inputs ≡ old.inputs
+
+abbrev pub AnnouncedBy : Query → Verdict → Inputs → Outcome → WorldView → WorldView → Type 0
+AnnouncedBy query verdict inputs outcome old new = Announced query verdict (print_text inputs.rules verdict) outcome old new
+
+abbrev pub ShownBy : Verdict → Inputs → Outcome → WorldView → WorldView → Type 0
+ShownBy verdict inputs outcome old new = Shown verdict (report_text inputs.rules verdict) outcome old new
+
+-- one row a command
+abbrev pub Works : Command → Inputs → Outcome → WorldView → WorldView → Type 0
+Works (Netacl query) inputs outcome old new = AnnouncedBy query (verdict_of inputs.rules query.peer) inputs outcome old new
+Works (Table query) inputs outcome old new = ShownBy (verdict_of inputs.rules query.peer) inputs outcome old new
+Works (Authsrv client) inputs outcome old new = Attended client inputs outcome old new

@@ -1,0 +1,108 @@
+//! From the files to the rules of a service.
+ghost use Rattle.std.specs.Prelude.{◌≡◌, Ok};
+ghost use Rattle.auth_machine.specs.Policy.{policy_of};
+ghost use Rattle.bastion.specs.Reading.{Finds, ReadsLines, ReadsTable, reading_fault, ruling_in, server_rules_of};
+ghost use Rattle.gate_rules.specs.Reading.{rules_of};
+ghost use Rattle.gate_rules.specs.declared.service.Service.TheVariants.{Authsrv};
+
+use crate::server_rules::ServerRules;
+use crate::{Device, Outcome, Refusal, Step};
+use auth_machine::Policy;
+use fw_outside::Files;
+use gate_rules::{Rules, RulesFault, Service};
+use netperm_table::{Table, TableFault};
+use std::alloc::Global;
+
+fn reading_fault(fault: TableFault) -> Outcome
+    ensures { result ≡ reading_fault fault }
+{
+    match fault {
+        TableFault::ReadFault => Outcome::Failed(Device::Table),
+        TableFault::NoMemory => Outcome::NoMemory(Step::Table),
+        _ => Outcome::Unread(Refusal::Table(fault)),
+    }
+}
+
+fn read_table<F: Files>(alloc: Global, files: &mut F, name: &[u8]) -> Result<Table, Outcome>
+    ensures { ReadsTable name.now result (F.files_view files.old) (F.files_view files.new) }
+{
+    let Some(mut source) = files.source(name) else {
+        return Err(Outcome::Failed(Device::Table));
+    };
+    let read = Table::read(alloc, &mut source);
+    files.back(source);
+    match read {
+        Ok(table) => Ok(table),
+        Err(fault) => Err(reading_fault(fault)),
+    }
+}
+
+fn read_rules(alloc: Global, table: &Table, service: &Service) -> Result<Rules, Outcome>
+    ensures { ReadsLines (rules_of service.now table.now) result }
+{
+    match Rules::of(alloc, table, service) {
+        Ok(rules) => Ok(rules),
+        Err(RulesFault::Rule(fault)) => Err(Outcome::Unread(Refusal::Rule(fault))),
+        Err(RulesFault::NoMemory) => Err(Outcome::NoMemory(Step::Rules)),
+    }
+}
+
+fn read_policy(alloc: Global, table: &Table) -> Result<Policy, Outcome>
+    ensures { ReadsLines (policy_of table.now) result }
+{
+    match Policy::of(alloc, table) {
+        Ok(policy) => Ok(policy),
+        Err(RulesFault::Rule(fault)) => Err(Outcome::Unread(Refusal::Rule(fault))),
+        Err(RulesFault::NoMemory) => Err(Outcome::NoMemory(Step::Policy)),
+    }
+}
+
+// With these rules, what the table says to the authentication server.
+fn with_policy(alloc: Global, table: &Table, rules: Rules) -> Result<ServerRules, Outcome>
+    requires { rules_of Authsrv table.now ≡ Ok rules }
+    ensures { ReadsLines (server_rules_of table.now) result }
+{
+    match read_policy(alloc, table) {
+        Ok(policy) => Ok(ServerRules { rules, policy }),
+        Err(outcome) => Err(outcome),
+    }
+}
+
+fn read_both(alloc: Global, table: &Table) -> Result<ServerRules, Outcome>
+    ensures { ReadsLines (server_rules_of table.now) result }
+{
+    match read_rules(alloc, table, &Service::Authsrv) {
+        Ok(rules) => with_policy(alloc, table, rules),
+        Err(outcome) => Err(outcome),
+    }
+}
+
+/// The rules that the table with this name has for a service.
+pub(crate) fn find_rules<F: Files>(
+    alloc: Global,
+    files: &mut F,
+    name: &[u8],
+    service: &Service,
+) -> Result<Rules, Outcome>
+    ensures { Finds (ruling_in (rules_of service.now)) name.now result (F.files_view files.old) (F.files_view
+        files.new) }
+{
+    match read_table(alloc, files, name) {
+        Ok(table) => read_rules(alloc, &table, service),
+        Err(outcome) => Err(outcome),
+    }
+}
+
+/// What the table with this name says to the authentication server.
+pub(crate) fn find_server_rules<F: Files>(
+    alloc: Global,
+    files: &mut F,
+    name: &[u8],
+) -> Result<ServerRules, Outcome>
+    ensures { Finds (ruling_in server_rules_of) name.now result (F.files_view files.old) (F.files_view files.new) }
+{
+    match read_table(alloc, files, name) {
+        Ok(table) => read_both(alloc, &table),
+        Err(outcome) => Err(outcome),
+    }
+}
