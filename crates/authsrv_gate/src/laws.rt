@@ -10,7 +10,7 @@ ghost use Rattle.session_acts.specs.Deeds.{gives};
 ghost use Rattle.session_acts.specs.Laws.{TellsClient, told};
 ghost use Rattle.session_acts.specs.Serverless.{KeepsServerless};
 ghost use Rattle.session_acts.specs.Session.{Held, deeds_of};
-ghost use Rattle.session_acts.specs.Talk.{Entered, ThrowsSalts, answered, asked, is_entered, is_refused_as_full, said_of, thrown};
+ghost use Rattle.session_acts.specs.Talk.{CountsAsks, Entered, ThrowsSalts, answered, asked, is_entered, is_refused_as_full, said_of, thrown};
 ghost use Rattle.session_acts.specs.World.{World};
 
 use crate::Place;
@@ -42,6 +42,14 @@ pub fn the_talk_is_entered<Origin>()
         map said_of new.office.port.seen ≡ filter is_entered (answered (gives asked (deeds_of held))) }
 {
     laws::the_talk_is_entered::<Origin, Place>()
+}
+
+/// The port counted each request of a session, answered or not, and the Close that is owed too.
+pub fn the_requests_are_counted<Origin>()
+    ensures { (console : Bool) (old new : World Origin) (ending : Ending)
+        (held : Held rows (session_row console) old new ending) → CountsAsks (gives asked (deeds_of held)) old new }
+{
+    laws::the_requests_are_counted::<Origin, Place>()
 }
 
 /// The salts that the dice gave in a session are those of the new passwords that it asked for, in order.

@@ -1,7 +1,7 @@
 ghost use Rattle.std.specs.Prelude.{◌≡◌, true};
 ghost use Rattle.authsrv_gate.specs.Dialogue.{rows, session_row};
 ghost use Rattle.authsrv_gate.specs.Session.{is_own, lent};
-ghost use Rattle.session_acts.specs.Causes.{SessionKeeps};
+ghost use Rattle.session_acts.specs.Causes.{SessionKeeps, WaitsFor};
 ghost use Rattle.session_acts.specs.Serverless.{CausedAlone, TakesExactly};
 ghost use Rattle.session_acts.specs.Session.{Session};
 
@@ -38,6 +38,11 @@ pub fn authsrv_session<P: AuthPort, S: Source, K: Sink, C: Clock, R: Dice>(
         (lent (P.port port.new) (S.source_view from.new) (K.sink_view to.new) (C.clock_view clock.new)
         (R.dice_view dice.new)) }
     ensures caused { CausedAlone result
+        (lent (P.port port.old) (S.source_view from.old) (K.sink_view to.old) (C.clock_view clock.old)
+        (R.dice_view dice.old))
+        (lent (P.port port.new) (S.source_view from.new) (K.sink_view to.new) (C.clock_view clock.new)
+        (R.dice_view dice.new)) }
+    ensures waited { WaitsFor result
         (lent (P.port port.old) (S.source_view from.old) (K.sink_view to.old) (C.clock_view clock.old)
         (R.dice_view dice.old))
         (lent (P.port port.new) (S.source_view from.new) (K.sink_view to.new) (C.clock_view clock.new)

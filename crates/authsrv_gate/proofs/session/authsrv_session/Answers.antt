@@ -1,6 +1,6 @@
 use Rattle.authsrv_gate.proofs.SessionLemmas.{at_nowhere, exact, never, over_lent, own_by}
 use Rattle.authsrv_gate.specs.Dialogue.{rows, session_row}
-use Rattle.session_acts.specs.Causes.{SessionKeeps}
+use Rattle.session_acts.specs.Causes.{SessionKeeps, WaitsFor}
 use Rattle.session_acts.specs.Serverless.{TakesExactly}
 use Rattle.session_acts.specs.Session.{Session}
 use Rattle.authsrv_gate.proofs.session.authsrv_session.Goals as goal
@@ -15,6 +15,10 @@ returns-clause-keeps g c =
 
 pub returns-clause-caused : goal.returns-clause-caused
 returns-clause-caused g c = over_lent c.args.console _ _ c.session_over.result c.session_over.ensures.session c.new-dialer.ensures
+
+pub returns-clause-waited : goal.returns-clause-waited
+returns-clause-waited g c =
+    at_nowhere (λ old new. WaitsFor c.session_over.result old new) c.args.console _ _ c.session_over.result c.session_over.ensures.session c.new-dialer.ensures c.session_over.ensures.waited
 
 pub returns-clause-spent : goal.returns-clause-spent
 returns-clause-spent g c =
