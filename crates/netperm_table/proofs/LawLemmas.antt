@@ -109,6 +109,12 @@ then_fault number (first ∷ ls) before line more fault good bad =
         let rest = ok_of (option_to_list one) (table_from (number + 1) ls) (rw h at good) in
         rw (h, later rest.0 rest.1) refl
 
+pub long_first : (line : List ℕ) → IsOneLine line → 2049 < length line → Settles line (LongLine 1)
+long_first line one over = λ rest.
+    let first : FirstLine (line ++ rest) (length (strip_carriage_return line)) = first_line line rest one (omega arith) in
+    let some : 2048 < length first.first = omega (arith, first.least, over_long line [] (omega arith), ap (λ bytes. length (strip_carriage_return bytes)) (append-nil line)) in
+    ap (table_from 1) first.is ∙ then_fault 1 [] [] first.first first.more (LongLine 1) refl (long 1 first.first (omega arith) some)
+
 pub long_settles : (text line : List ℕ) (before : List Line) → table_of (text ++ 10 ∷ []) ≡ Ok before → IsOneLine line → 2049 < length line → (fault : TableFault) × Settles ((text ++ 10 ∷ []) ++ line) fault
 long_settles text line before good one over = by (cases_lt 65535 number)
   where

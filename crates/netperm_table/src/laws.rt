@@ -3,6 +3,7 @@ ghost use Rattle.std.specs.Prelude.{◌≡◌, ℕ, ◌<◌, ◌==◌, List, [],
 ghost use Rattle.std.specs.List.{filter_map};
 ghost use Rattle.netperm_table.specs.declared.line.Line.{Line};
 ghost use Rattle.netperm_table.specs.declared.table_fault.TableFault.{TableFault};
+ghost use Rattle.netperm_table.specs.declared.table_fault.TableFault.TheVariants.{LongLine};
 ghost use Rattle.netperm_table.specs.Reading.{reading};
 ghost use Rattle.netperm_table.specs.Table.{fault_in, line_in, pieces, table_of, unless_any_fault};
 ghost use Rattle.netperm_table.specs.Taking.{Settles};
@@ -28,7 +29,9 @@ pub fn a_line_that_ended_settles_its_fault()
 
 /// A line settles a fault at the latest with its 2,050th byte, whether it ends or not.
 pub fn a_long_line_settles_a_fault()
-    ensures { (text line : List ℕ) (before : List Line) → table_of (text ++ 10 ∷ []) ≡ Ok before →
+    ensures first { (line : List ℕ) → All (λ b. (b == 10) ≡ false) line → 2049 < length line →
+        Settles line (LongLine 1) }
+    ensures later { (text line : List ℕ) (before : List Line) → table_of (text ++ 10 ∷ []) ≡ Ok before →
         All (λ b. (b == 10) ≡ false) line → 2049 < length line
         → (fault : TableFault) × Settles ((text ++ 10 ∷ []) ++ line) fault }
 {}
