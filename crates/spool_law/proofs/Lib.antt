@@ -4,3 +4,4 @@ mod SlotLemmas
 mod WorldLemmas
 pub mod RunLemmas
 mod EventLemmas
+mod ExampleLemmas

@@ -1,8 +1,8 @@
 //! What holds of all spools.
-ghost use Rattle.std.specs.Prelude.{◌≡◌, ℕ, List};
+ghost use Rattle.std.specs.Prelude.{◌≡◌, ℕ, List, [], ◌∷◌};
 ghost use Rattle.fw_disk.specs.DiskView.{Tape};
 ghost use Rattle.fw_disk.specs.Moments.{Since};
-ghost use Rattle.spool_law.specs.World.{World, formatted};
+ghost use Rattle.spool_law.specs.World.{Letter, World, formatted};
 ghost use Rattle.spool_law.specs.Events.{Step, Event, ArePossible, after_all};
 ghost use Rattle.spool_law.specs.Safe.{IsSafe};
 ghost use Rattle.spool_law.specs.Runs.{Known, Does, IsReached, AreEvents, known_in};
@@ -20,4 +20,10 @@ pub fn calls_are_events()
         (w.slots n).medium ≡ old.now → Does steps (known_in w n) old l new → AreEvents steps w n l new }
     ensures moments { (steps : List Step) (k l : Known) (old new : Tape) →
         Does steps k old l new → Since (IsReached k old) old new }
+{}
+
+/// The law `stands` is not empty: a message can be begun, written, finished and answered for.
+pub fn a_message_can_stand()
+    ensures { (events : List Event) × (l : Letter) × ArePossible events formatted ×
+        ((after_all events formatted).answered ≡ l ∷ []) }
 {}
