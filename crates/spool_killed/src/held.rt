@@ -8,12 +8,12 @@ use std::{fs, io};
 
 // The number of the message, if it is one of ours and whole.
 fn number_of(message: &Message) -> Option<u64> {
-    let [a, b, c, d, e, f, g, h] = message.from.bytes() else {
+    let [a, b, c, d, e, f, g, h, rest @ ..] = message.body.bytes() else {
         return None;
     };
     let number = u64::from_be_bytes([*a, *b, *c, *d, *e, *f, *g, *h]);
-    let (body, byte) = (message.body.bytes(), body_byte(number));
-    if body.len() != body_len(number) as usize || body.iter().any(|other| *other != byte) {
+    let byte = body_byte(number);
+    if rest.len() != body_len(number) as usize || rest.iter().any(|other| *other != byte) {
         return None;
     }
     Some(number)
