@@ -48,7 +48,7 @@ pub fn tell_slot(rt: HostRuntime, folder: &str, slot: u32) -> io::Result<String>
     let told = match read_slot(alloc, &bytes) {
         Ok(Slot::Free) => line(alloc, slot, "free"),
         Ok(Slot::Whole(message)) => tell_message(alloc, slot, &message),
-        Ok(Slot::Aside(_)) => line(alloc, slot, "aside"),
+        Ok(Slot::Aside(_message)) => line(alloc, slot, "aside"),
         Err(SlotFault::Bad { at }) => numbered(alloc, slot, "bad", at as u64),
         Err(SlotFault::NoMemory) => line(alloc, slot, "unread"),
     };

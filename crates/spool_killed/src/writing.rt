@@ -1,5 +1,5 @@
 //! How a message is kept in a slot.
-ghost use Rattle.std.specs.Prelude.{◌≡◌, ◌<◌, ◌≤◌, ◌∷◌, [], length, codes, IfOk, IfSome};
+ghost use Rattle.std.specs.Prelude.{◌≡◌, ◌<◌, ◌∷◌, [], codes, IfSome};
 
 use crate::SlotDisk;
 use fw_types::{Octets, OctetsList};
@@ -26,9 +26,7 @@ pub fn body_byte(number: u64) -> u8 {
 }
 
 // The body of this message: its number, and one byte as often as it is long.
-fn body_of(alloc: Global, number: u64) -> Result<Vec<u8>, AllocError>
-    ensures { IfOk result (λ body. length body.items ≤ 30008) }
-{
+fn body_of(alloc: Global, number: u64) -> Result<Vec<u8>, AllocError> {
     let mut body = Vec::new(alloc);
     body.extend_from_slice(&number.to_be_bytes())?;
     for _ in 0..body_len(number) {
@@ -66,6 +64,10 @@ pub fn keep(alloc: Global, slot: Slot, number: u64) -> Option<Slot> {
         Slot::Full(full) => full.release().ok()?,
     };
     let body = body_of(alloc, number).ok()?;
-    let filling = begin(alloc, free)?.add(&body).ok()?;
+    let text = body.as_slice();
+    if text.len() > 30_008 {
+        return None;
+    }
+    let filling = begin(alloc, free)?.add(text).ok()?;
     Some(Slot::Full(filling.finish().ok()?))
 }
