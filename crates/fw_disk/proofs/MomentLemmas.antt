@@ -3,8 +3,8 @@ use Rattle.std.proofs.Common.{◌≡◌, List, [], ◌∷◌, ◌++◌, Option, 
 use Rattle.std.specs.Prelude.{IfSome, option_map}
 use Rattle.std.specs.List.{AllByRecursion}
 use Rattle.fw_outside.specs.declared.failed.Failed.{Failed}
-use Rattle.fw_disk.specs.Medium.{Medium, IsImage, synced_now}
-use Rattle.fw_disk.specs.DiskView.{Tape, DiskView, onward, changed, IsTorn, IsToldTorn, Changes, Syncs}
+use Rattle.fw_disk.specs.Medium.{Medium, IsImage, synced_now, written_at}
+use Rattle.fw_disk.specs.DiskView.{Tape, DiskView, onward, changed, IsTorn, IsToldTorn, Changes, Syncs, HasSetByte, FailsToSet}
 use Rattle.fw_disk.specs.Moments.{Since, IsToldSince, Through, Now, EachImage}
 use Rattle.fw_disk.proofs.MediumLemmas.{image_unseen, settled_only}
 
@@ -118,3 +118,29 @@ told_synced Q (Some tape) sound h = synced_images Q tape.now sound h
 pub through_syncs : (Q : List ℕ → Type 0) (result : Result (Unit {0}) Failed) (old new : DiskView) → Syncs result old new → Now (EachImage Q) old → Through (EachImage Q) old new
 through_syncs Q (Ok u) old new s h = subst (λ (v : DiskView). Through (EachImage Q) old v) (sym s.is) (told_changed (EachImage Q) synced_now old.told h (told_synced Q old.told s.sound h))
 through_syncs Q (Err e) old new f h = subst (λ (v : DiskView). Through (EachImage Q) old v) (sym f.is) (told_here (EachImage Q) old.told h)
+
+-- ---- through the setting of a byte
+
+told_after : (Q : List ℕ → Type 0) (change : Medium → Medium) (told : Option Tape) → IfSome told (λ tape. EachImage Q (change tape.now)) → IfSome (option_map (changed change) told) (λ tape. EachImage Q tape.now)
+told_after Q change None h = tt
+told_after Q change (Some tape) h = h
+
+wrote_now : (Q : List ℕ → Type 0) (at byte : ℕ) (old middle : DiskView) → middle ≡ record old { told = option_map (changed (written_at at (byte ∷ []))) old.told }
+    → IfSome old.told (λ tape. EachImage Q (written_at at (byte ∷ []) tape.now)) → Now (EachImage Q) middle
+wrote_now Q at byte old middle e k = subst (λ (v : DiskView). Now (EachImage Q) v) (sym e) (told_after Q (written_at at (byte ∷ [])) old.told k)
+
+-- what every image is before the byte is written and after it, it is throughout
+pub through_set : (Q : List ℕ → Type 0) (at byte : ℕ) (old new : DiskView) → HasSetByte at byte old new
+    → Now (EachImage Q) old → IfSome old.told (λ tape. EachImage Q (written_at at (byte ∷ []) tape.now)) → Through (EachImage Q) old new
+through_set Q at byte old new s h k =
+    let wrote : Through (EachImage Q) old s.middle = through_changes Q (Ok tt) (written_at at (byte ∷ [])) old s.middle s.wrote h k in
+    let synced : Through (EachImage Q) s.middle new = through_syncs Q (Ok tt) s.middle new s.syncs (wrote_now Q at byte old s.middle s.wrote k) in
+    through_then (EachImage Q) old s.middle new wrote synced
+
+pub through_fails_to_set : (Q : List ℕ → Type 0) (at byte : ℕ) (old new : DiskView) → FailsToSet at byte old new
+    → Now (EachImage Q) old → IfSome old.told (λ tape. EachImage Q (written_at at (byte ∷ []) tape.now)) → Through (EachImage Q) old new
+through_fails_to_set Q at byte old new (inl t) h k = through_changes Q (Err (record {})) (written_at at (byte ∷ [])) old new t h k
+through_fails_to_set Q at byte old new (inr s) h k =
+    let wrote : Through (EachImage Q) old s.middle = through_changes Q (Ok tt) (written_at at (byte ∷ [])) old s.middle s.wrote h k in
+    let failed : Through (EachImage Q) s.middle new = through_syncs Q (Err (record {})) s.middle new s.fails (wrote_now Q at byte old s.middle s.wrote k) in
+    through_then (EachImage Q) old s.middle new wrote failed

@@ -104,3 +104,13 @@ pub record HasSetByte (at byte : ℕ) (old new : DiskView) : Type 0 where
   pub middle : DiskView
   pub wrote : middle ≡ record old { told = option_map (changed (written_at at (byte ∷ []))) old.told }
   pub syncs : HasSynced middle new
+
+-- a byte was written at a place, and then the disk failed to sync
+pub record HasUnsyncedByte (at byte : ℕ) (old new : DiskView) : Type 0 where
+  pub middle : DiskView
+  pub wrote : middle ≡ record old { told = option_map (changed (written_at at (byte ∷ []))) old.told }
+  pub fails : HasFailed middle new
+
+-- the write of a byte failed, or the sync after it
+abbrev pub FailsToSet : ℕ → ℕ → DiskView → DiskView → Type 0
+FailsToSet at byte old new = Tears (written_at at (byte ∷ [])) old new ⊎ HasUnsyncedByte at byte old new

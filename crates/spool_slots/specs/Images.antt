@@ -1,16 +1,15 @@
--- What images of a slot's disk are read as. Of the calls, of which there is `format` so far, it is to be said which of
--- these every image is at each moment:
+-- What images of a slot's disk are read as. Of the calls it is said which of these every image is at each moment:
 --   format               any bytes; after Ok free
 --   start, add, abandon  free
 --   finish               free before the gate is written, and from then on free or whole; after Ok whole
---   message              whole
+--   message, into_broken whole
 --   set_aside            whole or aside; after Ok aside
 --   release              whole or free, or aside or free; after Ok free
 --   open                 an image that was possible at its start; after it what it reads as
-use Rattle.std.specs.Prelude.{◌≡◌, ℕ, List, ◌⊎◌}
-use Rattle.slot_bytes.specs.Layout.{Mail}
+use Rattle.std.specs.Prelude.{◌≡◌, ℕ, List, ◌++◌, drop, length, ◌⊎◌}
+use Rattle.slot_bytes.specs.Layout.{Mail, behind_marks}
 use Rattle.slot_bytes.specs.Reading.{reads}
-use Rattle.slot_bytes.specs.Reading.Reading.{Free, Whole, Aside}
+use Rattle.slot_bytes.specs.Reading.Reading.{Free, Whole, Aside, Bad}
 
 abbrev pub IsFreeImage : List ℕ → Type 0
 IsFreeImage image = reads image ≡ Free
@@ -29,3 +28,12 @@ IsWholeOrAside m image = IsWholeImage m image ⊎ IsAsideImage m image
 
 abbrev pub IsFreeOrAside : Mail → List ℕ → Type 0
 IsFreeOrAside m image = IsFreeImage image ⊎ IsAsideImage m image
+
+-- the message stands behind the first two bytes, whatever these are
+pub record HasMessageBehind (m : Mail) (image : List ℕ) : Type 0 where
+  pub rest : List ℕ
+  pub parts : drop 2 image ≡ behind_marks 49 (length m.body) m.from m.rcpts ++ m.body ++ rest
+
+-- some reading, so no bad bytes
+abbrev pub IsGoodImage : List ℕ → Type 0
+IsGoodImage image = (at : ℕ) → reads image ≡ Bad at → ⊥

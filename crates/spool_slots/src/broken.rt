@@ -1,4 +1,4 @@
-ghost use Rattle.std.specs.Prelude.{◌≡◌};
+ghost use Rattle.std.specs.Prelude.{◌≡◌, true, false};
 
 use fw_disk::Disk;
 use std::marker::Model;
@@ -9,6 +9,7 @@ pub struct Broken<D: Disk> {
     number: u32,
     disk: D,
     from_full: bool,
+    from_fault: bool,
 }
 
 impl<D: Disk> Model for Broken<D> {
@@ -20,17 +21,42 @@ impl<D: Disk> Model for Broken<D> {
       number = s.number;
       disk = D.disk_view s.disk;
       from_full = s.from_full;
+      from_fault = s.from_fault;
     } };
 }
 
 impl<D: Disk> Broken<D> {
-    pub(crate) fn of(number: u32, disk: D, from_full: bool) -> Broken<D>
-        ensures { result ≡ record { number = number; disk = D.disk_view disk; from_full = from_full } }
+    // A slot whose disk failed, and which held a message or not.
+    pub(crate) fn by_fault(number: u32, disk: D, from_full: bool) -> Broken<D>
+        ensures { result ≡ record {
+          number = number;
+          disk = D.disk_view disk;
+          from_full = from_full;
+          from_fault = true;
+        } }
     {
         Broken {
             number,
             disk,
             from_full,
+            from_fault: true,
+        }
+    }
+
+    // A slot that wasn't read, though its disk didn't fail.
+    pub(crate) fn unread(number: u32, disk: D) -> Broken<D>
+        ensures { result ≡ record {
+          number = number;
+          disk = D.disk_view disk;
+          from_full = false;
+          from_fault = false;
+        } }
+    {
+        Broken {
+            number,
+            disk,
+            from_full: false,
+            from_fault: false,
         }
     }
 
@@ -41,11 +67,18 @@ impl<D: Disk> Broken<D> {
         self.number
     }
 
-    /// Whether the slot held a message when it broke.
+    /// Whether the slot held a message when it broke: it is what the bytes behind the first two are read as.
     pub fn is_from_full(&self) -> bool
         ensures { result ≡ self.now.from_full }
     {
         self.from_full
+    }
+
+    /// Whether its disk failed. Else it couldn't be read: its bytes are bad, or there was no memory.
+    pub fn is_from_fault(&self) -> bool
+        ensures { result ≡ self.now.from_fault }
+    {
+        self.from_fault
     }
 
     /// The slot's disk.
@@ -56,6 +89,7 @@ impl<D: Disk> Broken<D> {
             number: _,
             disk,
             from_full: _,
+            from_fault: _,
         } = self;
         disk
     }

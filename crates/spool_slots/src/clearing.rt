@@ -19,7 +19,7 @@ fn clear<D: Disk>(disk: &mut D) -> Result<(), Failed>
 }
 
 /// Makes a free slot of any disk: what stood on it is lost.
-#[tactic(auto, using(crate::proofs::ShutLemmas::told_shut, crate::proofs::ShutLemmas::told_free))]
+#[tactic(auto, using(crate::proofs::ShutLemmas::told_vacant, crate::proofs::ShutLemmas::vacant_free))]
 pub fn format<D: Disk>(number: u32, disk: D) -> Result<Free<D>, Broken<D>>
     ensures ok { IfOk result (λ free. IsFormatted number (D.disk_view disk) free) }
     ensures images { IfOk result (λ free. Now (EachImage IsFreeImage) free.disk) }
@@ -28,6 +28,6 @@ pub fn format<D: Disk>(number: u32, disk: D) -> Result<Free<D>, Broken<D>>
     let mut disk = disk;
     match clear(&mut disk) {
         Ok(()) => Ok(Free::of(number, disk)),
-        Err(Failed) => Err(Broken::of(number, disk, false)),
+        Err(Failed) => Err(Broken::by_fault(number, disk, false)),
     }
 }

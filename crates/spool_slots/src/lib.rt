@@ -1,14 +1,27 @@
 //! Slots: files on disks, each of which holds one message or none.
 //!
-//! Each state of a slot is a type that owns the slot's disk. What every image of the disk is read as, which is what a
-//! crash may leave, is said by the definitions of `specs/Images.antt`. So far there are [`format()`], which makes a free
-//! slot of any disk, and the states [`Free`] and [`Broken`].
+//! Each state of a slot is a type that owns the slot's disk. [`format()`] makes a [`Free`] slot of any disk. A message
+//! is begun by [`Free::start`], added to by [`Filling::add`], and stands once [`Filling::finish`] answers Ok; a [`Full`]
+//! slot is released or set [`Aside`], and a slot whose disk failed is [`Broken`]. What every image of the disk is read
+//! as, which is what a crash may leave, is said by the definitions of `specs/Images.antt`.
 #![tactic(auto)]
 
+mod adding;
+mod aside;
 mod broken;
 mod clearing;
+mod filling;
+mod finishing;
 mod free;
+mod full;
+mod pen;
+mod start_fault;
+mod starting;
 
+pub use aside::Aside;
 pub use broken::Broken;
 pub use clearing::format;
+pub use filling::Filling;
 pub use free::Free;
+pub use full::Full;
+pub use start_fault::StartFault;

@@ -1,0 +1,12 @@
+use Rattle.std.proofs.Common.{◌≤◌, length}
+use Rattle.spool_slots.proofs.FillingLemmas.{HasAddedFront}
+use Rattle.spool_slots.proofs.adding.add_all.Given as goal
+
+abbrev pub invariant-loop-rest : goal.invariant-loop-rest
+invariant-loop-rest g l = record {
+  few : length l.pen.held ≤ 8191;
+  added : HasAddedFront l.piece l.rest l.initial.pen (g.D.Disk.disk_view l.initial.disk) l.pen (g.D.Disk.disk_view l.disk);
+}
+
+abbrev pub decreases-loop-rest : goal.decreases-loop-rest
+decreases-loop-rest g l = length l.rest

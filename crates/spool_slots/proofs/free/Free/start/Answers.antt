@@ -1,0 +1,7 @@
+use Rattle.std.proofs.Common.{sym}
+use Rattle.spool_slots.proofs.FillingLemmas.{stays_free}
+use Rattle.spool_slots.proofs.free.Free.start.Goals as goal
+
+pub returns-in-Err-clause-images : goal.returns-in-Err-clause-images
+returns-in-Err-clause-images g c =
+    stays_free c.args.self c.of.result (record { number = c.self.inside.number; disk = g.D.Disk.disk_view c.self.inside.disk }) (sym c.self.view_is) c.of.ensures c.self.invariant

@@ -1,0 +1,128 @@
+ghost use Rattle.std.specs.Prelude.{◌≡◌, MatchResult, IfOk, IfErr, true, false};
+ghost use Rattle.fw_disk.specs.Moments.{EachImage, Now, Through};
+ghost use Rattle.slot_bytes.specs.Layout.{Mail};
+ghost use Rattle.spool_slots.specs.Images.{HasMessageBehind, IsFreeImage, IsFreeOrWhole, IsWholeImage, IsWholeOrAside};
+ghost use Rattle.spool_slots.specs.Media.{IsFull};
+ghost use Rattle.spool_slots.specs.States.{IsBrokenFull, IsOnward, Keeps, KeepsAside};
+
+use crate::{Aside, Broken, Free};
+use fw_disk::{Disk, Failed, set_byte};
+use std::marker::Model;
+
+/// A slot with a message.
+#[derive(Drop)]
+pub struct Full<D: Disk> {
+    number: u32,
+    disk: D,
+    unread: bool,
+}
+
+impl<D: Disk> Model for Full<D> {
+    ghost use Rattle.fw_disk.specs.Moments.{Now};
+    ghost use Rattle.spool_slots.specs.Media.{IsFull};
+    ghost use Rattle.spool_slots.specs.States.{FullView};
+
+    ghost Value = { FullView };
+
+    ghost view = { λ s. record { number = s.number; disk = D.disk_view s.disk; unread = s.unread } };
+
+    ghost invariant = { λ s. Now IsFull (D.disk_view s.disk) };
+}
+
+impl<D: Disk> Full<D> {
+    pub(crate) fn of(number: u32, disk: D) -> Full<D>
+        requires { Now IsFull (D.disk_view disk) }
+        ensures { result ≡ record { number = number; disk = D.disk_view disk; unread = false } }
+    {
+        Full {
+            number,
+            disk,
+            unread: false,
+        }
+    }
+
+    /// The slot's number.
+    pub fn number(&self) -> u32
+        ensures { result ≡ self.now.number }
+    {
+        self.number
+    }
+
+    /// Gives up a slot that couldn't be read; the disk isn't called.
+    pub fn into_broken(self) -> Broken<D>
+        requires { self.unread ≡ true }
+        ensures { result ≡ record {
+          number = self.number;
+          disk = self.disk;
+          from_full = true;
+          from_fault = true;
+        } }
+    {
+        let Full {
+            number,
+            disk,
+            unread: _,
+        } = self;
+        Broken::by_fault(number, disk, true)
+    }
+
+    /// Sets the message aside.
+    #[tactic(auto, using(crate::proofs::MarkLemmas::full_mark, crate::proofs::MarkLemmas::set_aside_ok, crate::proofs::MarkLemmas::set_aside_some, crate::proofs::MarkLemmas::set_aside_moments, crate::proofs::MarkLemmas::failed_aside_moments, crate::proofs::MarkLemmas::failed_aside_behind))]
+    pub fn set_aside(self) -> Result<Aside<D>, Broken<D>>
+        ensures ok { IfOk result (λ aside. IsOnward self.number self.disk aside.number aside.disk) }
+        ensures aside { IfOk result (λ aside. (m : Mail) → Keeps m self → KeepsAside m aside) }
+        ensures images { (m : Mail) → Keeps m self → MatchResult result
+            (λ aside. Through (EachImage (IsWholeOrAside m)) self.disk aside.disk)
+            (λ broken. Through (EachImage (IsWholeOrAside m)) self.disk broken.disk) }
+        ensures message { (m : Mail) → Keeps m self → IfErr result
+            (λ broken. Now (EachImage (HasMessageBehind m)) broken.disk) }
+        ensures err { IfErr result (λ broken. IsBrokenFull self.number self.disk broken) }
+    {
+        let Full {
+            number,
+            mut disk,
+            unread: _,
+        } = self;
+        match set_byte(&mut disk, 1, 1) {
+            Ok(()) => Ok(Aside::of(number, disk)),
+            Err(Failed) => Err(Broken::by_fault(number, disk, true)),
+        }
+    }
+
+    /// Closes the gate: the slot is free for a message again.
+    #[tactic(auto, using(crate::proofs::MarkLemmas::full_gate, crate::proofs::MarkLemmas::release_vacant, crate::proofs::MarkLemmas::release_moments, crate::proofs::MarkLemmas::failed_release_moments, crate::proofs::MarkLemmas::failed_release_behind))]
+    pub fn release(self) -> Result<Free<D>, Broken<D>>
+        ensures ok { IfOk result (λ free. IsOnward self.number self.disk free.number free.disk) }
+        ensures images { (m : Mail) → Keeps m self → MatchResult result
+            (λ free. Through (EachImage (IsFreeOrWhole m)) self.disk free.disk)
+            (λ broken. Through (EachImage (IsFreeOrWhole m)) self.disk broken.disk) }
+        ensures message { (m : Mail) → Keeps m self → IfErr result
+            (λ broken. Now (EachImage (HasMessageBehind m)) broken.disk) }
+        ensures err { IfErr result (λ broken. IsBrokenFull self.number self.disk broken) }
+    {
+        let Full {
+            number,
+            mut disk,
+            unread: _,
+        } = self;
+        match set_byte(&mut disk, 0, 0) {
+            Ok(()) => Ok(Free::of(number, disk)),
+            Err(Failed) => Err(Broken::by_fault(number, disk, true)),
+        }
+    }
+
+    /// The slot's disk.
+    #[tactic(auto, using(crate::proofs::MarkLemmas::keeps_images))]
+    pub fn into_disk(self) -> D
+        ensures disk { D.disk_view result ≡ self.disk }
+        ensures full { Now IsFull self.disk }
+        ensures whole { (m : Mail) → Keeps m self → Now (EachImage (IsWholeImage m)) self.disk }
+    {
+        let Full {
+            number: _,
+            disk,
+            unread: _,
+        } = self;
+        disk
+    }
+}
