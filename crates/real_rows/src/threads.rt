@@ -1,8 +1,6 @@
 //! Devices that may go to another thread.
 
-use fw_real::{
-    FileDisk, Paths, Reading, Records, Salts, SlotFile, StandardInput, SystemClock, Writing,
-};
+use fw_real::{FileDisk, Paths, Reading, Salts, SlotFile, StandardInput, SystemClock, Writing};
 use std::fs::File;
 use std::io::Stdout;
 use std::net::TcpStream;
@@ -12,7 +10,6 @@ fn crosses<T: Send>(_: &Option<T>) {}
 
 #[test]
 fn devices_cross_to_another_thread() -> Result<(), Fail> {
-    crosses::<Records>(&None);
     crosses::<FileDisk<SlotFile, File>>(&None);
     crosses::<Reading<StandardInput>>(&None);
     crosses::<Reading<File>>(&None);

@@ -8,12 +8,12 @@ use std::{fs, io};
 
 // The number of the message, if it is one of ours and whole.
 fn number_of(message: &Message) -> Option<u64> {
-    let [a, b, c, d, e, f, g, h] = message.from.bytes() else {
+    let [a, b, c, d, e, f, g, h, rest @ ..] = message.body.bytes() else {
         return None;
     };
     let number = u64::from_be_bytes([*a, *b, *c, *d, *e, *f, *g, *h]);
-    let (body, byte) = (message.body.bytes(), body_byte(number));
-    if body.len() != body_len(number) as usize || body.iter().any(|other| *other != byte) {
+    let byte = body_byte(number);
+    if rest.len() != body_len(number) as usize || rest.iter().any(|other| *other != byte) {
         return None;
     }
     Some(number)
@@ -48,7 +48,7 @@ pub fn tell_slot(rt: HostRuntime, folder: &str, slot: u32) -> io::Result<String>
     let told = match read_slot(alloc, &bytes) {
         Ok(Slot::Free) => line(alloc, slot, "free"),
         Ok(Slot::Whole(message)) => tell_message(alloc, slot, &message),
-        Ok(Slot::Aside(_)) => line(alloc, slot, "aside"),
+        Ok(Slot::Aside(_message)) => line(alloc, slot, "aside"),
         Err(SlotFault::Bad { at }) => numbered(alloc, slot, "bad", at as u64),
         Err(SlotFault::NoMemory) => line(alloc, slot, "unread"),
     };
