@@ -1,5 +1,5 @@
 -- A session whose rows speak with no server ends by the client, the log or the port.
-use Rattle.std.proofs.Common.{arith, ◌≡◌, ◌≢◌, refl, sym, ap, subst, ◌∙◌, ℕ, ◌≤◌, Bool, true, false, ◌⊎◌, inl, inr, length, Option, Some, None, Result, Ok, Err, map}
+use Rattle.std.proofs.Common.{arith, ◌≡◌, ◌≢◌, refl, sym, ap, subst, ℕ, ◌≤◌, Bool, true, false, ◌⊎◌, inl, inr, length, Option, Some, None, Result, Ok, Err, map}
 use Rattle.std.specs.Prelude.{◌==◌}
 use Rattle.std.proofs.lemmas.Bool.{eqb-true}
 use Rattle.std.proofs.lemmas.Bool.Decides.{eqb_tells}

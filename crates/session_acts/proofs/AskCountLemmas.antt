@@ -1,5 +1,5 @@
 -- The port counts each request of a session.
-use Rattle.std.proofs.Common.{◌≡◌, sym, ap, subst, ℕ, List, [], length, Option, Result, Ok, Err}
+use Rattle.std.proofs.Common.{◌≡◌, sym, subst, length, Result, Ok, Err}
 use Rattle.std.proofs.lemmas.List.{length-append}
 use Rattle.auth_events.proofs.PortLemmas.{counted}
 use Rattle.auth_events.specs.declared.port.PortFault.{PortFault}
@@ -13,7 +13,7 @@ use Rattle.session_acts.specs.Acts.Act.{Hear, Say, Try, Log, Note, Ask, Renew, D
 use Rattle.session_acts.specs.Deeds.{Gains}
 use Rattle.session_acts.specs.Met.{Asking, AtOffice, number_told}
 use Rattle.session_acts.specs.Talk.{CountsAsks, asked}
-use Rattle.session_acts.specs.World.{Office, World}
+use Rattle.session_acts.specs.World.{Office}
 
 module _ {Origin : Type 0} where
   asking_counts : (request : Request) (reply : Result Reply PortFault) (old new : Office Origin) → Asking request reply old new → Grew 1 old.port.asks new.port.asks

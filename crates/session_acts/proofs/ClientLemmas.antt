@@ -1,18 +1,17 @@
 -- A session before which a line is logged: the log fails, and nothing else is done, or the session goes on.
-use Rattle.std.proofs.Common.{◌≡◌, refl, sym, ap, subst, ◌∙◌, ℕ, List, [], ◌∷◌, ◌++◌, map, ◌⊎◌, inl, inr, Option, Some, None, Result, Ok, Err}
+use Rattle.std.proofs.Common.{◌≡◌, refl, sym, ap, subst, ◌∙◌, ℕ, List, [], ◌∷◌, ◌++◌, map, ◌⊎◌, inl, inr, Option, None, Result, Ok, Err}
 use Rattle.auth_events.specs.declared.port.PortFault.{PortFault}
 use Rattle.auth_events.specs.declared.reply.Reply.{Reply}
 use Rattle.fw_acts.specs.Acts.{Row, Step, PlaceTable}
-use Rattle.fw_acts.specs.Acts.Row.{Do, At, Over}
+use Rattle.fw_acts.specs.Acts.Row.{Do, Over}
 use Rattle.fw_acts.specs.Ran.{Comes, Ran, StopsAt}
 use Rattle.fw_acts.specs.Runs.{DoesAll, Run}
 use Rattle.fw_outside.specs.SinkView.{SinkView}
-use Rattle.fw_outside.specs.ToldList.{grown}
 use Rattle.fw_types.specs.declared.ending.Ending.{Ending}
 use Rattle.fw_types.specs.declared.ending.Ending.TheVariants as endings
 use Rattle.session_acts.specs.Acts.{Act, Front}
 use Rattle.session_acts.specs.Acts.Act.{Log, Try}
-use Rattle.session_acts.specs.Client.{Denies, GoesOn, IsTurnedAway, LogFails, LogsFirst, line_logged, with_line}
+use Rattle.session_acts.specs.Client.{Denies, GoesOn, LogFails, LogsFirst, line_logged, with_line}
 use Rattle.session_acts.specs.Deeds.{Deed, DeedsAll, deed_last, deeds_ran, done, gives}
 use Rattle.session_acts.specs.Denying.{denying_row, no_rows}
 use Rattle.session_acts.specs.Laws.{logged}
@@ -20,7 +19,6 @@ use Rattle.session_acts.specs.Met.{Does, Gets, IsTold, Met, Stops, acts}
 use Rattle.session_acts.specs.Session.{Held, Session, closing, deeds_of, ending_by, ending_of, freeing, owed}
 use Rattle.session_acts.specs.World.{Devices, Office, Server, Speaker, World, at_first, devices_of}
 use Rattle.session_acts.specs.declared.cause.Cause.{Cause}
-use Rattle.session_acts.specs.declared.cause.Cause.TheVariants as causes
 use Rattle.session_acts.proofs.DeedLemmas.{all_gain, held_deeds}
 use Rattle.session_acts.proofs.ToldLemmas.{by_both, logged_gains}
 

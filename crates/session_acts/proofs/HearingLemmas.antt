@@ -21,7 +21,6 @@ use Rattle.session_acts.specs.Met.{AtClient, Heeds, HeedsLine, IsTold, acts, sto
 use Rattle.session_acts.specs.Session.{Held, deeds_of}
 use Rattle.session_acts.specs.World.{Speaker, World}
 use Rattle.session_acts.specs.declared.form.Form.{Form}
-use Rattle.session_acts.specs.declared.silence.Silence.{Silence}
 use Rattle.session_acts.proofs.DeedLemmas.{all_gain, held_deeds}
 use Rattle.session_acts.proofs.DeviceLemmas.{by_nothing}
 use Rattle.session_acts.proofs.ToldLemmas.{by_both}

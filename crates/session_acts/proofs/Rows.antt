@@ -10,14 +10,14 @@ use Rattle.fw_outside.specs.declared.heard.Stop.TheVariants as stops
 use Rattle.fw_types.specs.declared.dest.Dest.{Dest}
 use Rattle.fw_types.specs.declared.ending.Ending.TheVariants as endings
 use Rattle.session_acts.specs.Acts.{Front, cause_by}
-use Rattle.session_acts.specs.Acts.Act.{Hear, Say, Try, Log, Note, Ask, Renew, Dial, Reach, Take, Pass, HangUp}
-use Rattle.session_acts.specs.Deeds.{Deed, gives}
+use Rattle.session_acts.specs.Acts.Act.{Hear, Say, Try, Log, Note, Renew, Dial, Reach, Take, Pass, HangUp}
+use Rattle.session_acts.specs.Deeds.{gives}
 use Rattle.session_acts.specs.FullPort.{limit_told}
 use Rattle.session_acts.specs.Hearing.{heard_in}
-use Rattle.session_acts.specs.Laws.{linked, logged, told}
+use Rattle.session_acts.specs.Laws.{logged, told}
 use Rattle.session_acts.specs.Passing.{passed_over}
 use Rattle.session_acts.specs.Met.{opened_then}
-use Rattle.session_acts.specs.Session.{closing, ending_of, freeing}
+use Rattle.session_acts.specs.Session.{closing, ending_of}
 use Rattle.session_acts.specs.Talk.{asked, numbers_told, thrown}
 use Rattle.session_acts.specs.declared.cause.Cause.TheVariants as causes
 use Rattle.session_acts.specs.declared.form.Form.TheVariants.{Lines}

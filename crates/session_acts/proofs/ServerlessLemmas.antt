@@ -1,5 +1,5 @@
 -- A session whose rows speak with no server leaves the dialer as it was.
-use Rattle.std.proofs.Common.{◌≡◌, refl, sym, ap, subst, ◌∙◌, ℕ, true, false, List, [], ◌∷◌, map, Option, None, Result, Ok, Err}
+use Rattle.std.proofs.Common.{◌≡◌, refl, sym, ap, subst, ◌∙◌, ℕ, true, List, [], ◌∷◌, Option, None, Result, Ok, Err}
 use Rattle.fw_acts.specs.Acts.{Row, Step, PlaceTable}
 use Rattle.fw_acts.specs.Acts.Row.{Do, At, Over}
 use Rattle.fw_acts.specs.Histories.{AllMay, Leaves}

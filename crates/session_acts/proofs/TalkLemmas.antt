@@ -1,5 +1,5 @@
 -- What a session asked came to this at the port, the clock and the dice.
-use Rattle.std.proofs.Common.{◌≡◌, refl, sym, ap, subst, ◌∙◌, ℕ, suc, ◌+◌, false, List, [], ◌∷◌, ◌++◌, length, Option, Some, None, Result, Ok, Err}
+use Rattle.std.proofs.Common.{◌≡◌, refl, sym, ap, subst, ◌∙◌, ℕ, suc, ◌+◌, false, List, [], ◌∷◌, ◌++◌, length, Option, Result, Ok, Err}
 use Rattle.std.proofs.lemmas.List.{length-append}
 use Rattle.auth_events.specs.Port.{Asks, Port}
 use Rattle.auth_events.specs.declared.port.PortFault.{PortFault}
@@ -11,9 +11,9 @@ use Rattle.session_acts.specs.Acts.{Act, Outcome}
 use Rattle.session_acts.specs.Acts.Act.{Hear, Say, Try, Log, Note, Ask, Renew, Dial, Reach, Take, Pass, HangUp}
 use Rattle.session_acts.specs.Deeds.{Gains}
 use Rattle.session_acts.specs.Laws.{Adds}
-use Rattle.session_acts.specs.Met.{Asking, AtOffice, Met, Renewing, is_password, number_told, opened_then, reply_of}
-use Rattle.session_acts.specs.Talk.{AtPort, Entered, ThrowsSalts, asked, numbers_told, opened_after, renewed, salt_of, salted, thrown}
-use Rattle.session_acts.specs.World.{Office, World}
+use Rattle.session_acts.specs.Met.{Asking, AtOffice, Renewing, is_password, number_told, opened_then, reply_of}
+use Rattle.session_acts.specs.Talk.{AtPort, Entered, ThrowsSalts, asked, numbers_told, opened_after, salt_of, thrown}
+use Rattle.session_acts.specs.World.{Office}
 use Rattle.session_acts.proofs.EntryLemmas.{at_both, at_no_reply, at_none, at_reply}
 use Rattle.session_acts.proofs.LinkedLemmas.{adds_both, adds_none, adds_one}
 

@@ -1,5 +1,5 @@
 -- Where a session ends as idle, somebody was waited for as long as was set.
-use Rattle.std.proofs.Common.{arith, ◌≡◌, sym, ap, subst, ◌∙◌, ℕ, inl, inr, List, map, Option, Some, None, Result, Ok, Err}
+use Rattle.std.proofs.Common.{◌≡◌, sym, ap, subst, ◌∙◌, ℕ, inl, inr, List, map, Option, Some, None, Result, Ok, Err}
 use Rattle.auth_events.specs.declared.port.PortFault.{PortFault}
 use Rattle.auth_events.specs.declared.port.PortFault.TheVariants as faults
 use Rattle.auth_events.specs.declared.reply.Reply.{Reply}
@@ -22,7 +22,7 @@ use Rattle.session_acts.proofs.CauseLemmas.{Counted, Freed, HasIdled, Owed, coun
 use Rattle.session_acts.proofs.DeedLemmas.{all_last, deeds_done, ran_deeds}
 use Rattle.session_acts.proofs.DeviceLemmas.{rose_within}
 use Rattle.session_acts.proofs.SpentLemmas.{owed_client}
-use Rattle.session_acts.proofs.StaysLemmas.{IsPatient, Stays, stays_both, stays_last}
+use Rattle.session_acts.proofs.StaysLemmas.{IsPatient, Stays, stays_last}
 
 module _ {Origin : Type 0} where
   -- the link that was idle is the last that was hung up

@@ -2,7 +2,6 @@
 use Rattle.std.specs.Prelude.{ℕ, List}
 use Rattle.fw_acts.specs.Acts.{Row, PlaceTable}
 use Rattle.fw_acts.specs.Acts.Row.{Do, Over}
-use Rattle.session_acts.specs.Acts.{Act, Answer}
 use Rattle.session_acts.specs.Acts.Act.{Hear, Log, Try}
 use Rattle.session_acts.specs.Met.{acts}
 use Rattle.session_acts.specs.declared.form.Form.TheVariants.{Lines}

@@ -1,5 +1,5 @@
 -- What devices mean that stand in for those which a session doesn't have.
-use Rattle.std.specs.Prelude.{ℕ, List, [], Option, Some, None}
+use Rattle.std.specs.Prelude.{ℕ, [], Some, None}
 use Rattle.fw_outside.specs.DialerView.{DialerView}
 use Rattle.fw_outside.specs.SinkView.{SinkView}
 

@@ -1,5 +1,5 @@
 -- In which forms a speaker is heard: only what a text is heard as depends on the form.
-use Rattle.std.specs.Prelude.{◌≡◌, ℕ, ◌==◌, ◌<◌, ◌≤◌, Bool, true, List, length}
+use Rattle.std.specs.Prelude.{◌≡◌, ℕ, ◌==◌, ◌<◌, ◌≤◌, true, List, length}
 use Rattle.fw_outside.specs.LineReaderView.{LeavesSource, LineReaderView, Reads, rest_of, stops_at_limit}
 use Rattle.fw_outside.specs.Lines.{IsHeard}
 use Rattle.fw_outside.specs.SourceView.{SourceView}
