@@ -10,5 +10,3 @@ mod disk;
 mod records;
 #[cfg(test)]
 mod streams;
-#[cfg(test)]
-mod threads;

@@ -1,9 +1,8 @@
-//! Streams that are interrupted, come late, or are sockets.
+//! Streams that are interrupted or come late.
 
 use fw_outside::{Failed, Got, Sink, Source};
-use fw_real::{Reading, StandardInput, Timed, Writing};
+use fw_real::{Reading, Timed, Writing};
 use std::io::{self, ErrorKind, Read, Write};
-use std::net::{TcpListener, TcpStream};
 use std::test::Fail;
 
 fn error(kind: ErrorKind) -> io::Error {
@@ -85,32 +84,6 @@ fn a_flush_goes_on_or_fails(rt: HostRuntime) -> Result<(), Fail> {
     let mut sink = Writing::new(Uneven { calls: 0 });
     assert_eq!(rt; sink.end(), Ok(()));
     assert_eq!(rt; sink.end(), Err(Failed));
-    assert_eq!(rt; sink.give(b"x"), Err(Failed));
-    Ok(())
-}
-
-#[test]
-fn a_silent_or_stalled_socket_is_left(rt: HostRuntime) -> Result<(), Fail> {
-    let door = TcpListener::bind(&rt, "127.0.0.1:0")?;
-    let mut peer = TcpStream::connect(&rt, door.local_addr()?)?;
-    let (socket, _) = door.accept()?;
-    let mut sink = Writing::new(socket.try_clone()?);
-    let mut source = Reading::new(StandardInput::Socket(socket));
-    let mut buf = [0; 8];
-    source.patience(1);
-    assert_eq!(rt; source.take(&mut buf), Ok(Got::Idle));
-    source.patience(0);
-    assert_eq!(rt; source.take(&mut buf), Ok(Got::Idle));
-    peer.write_all(b"text")?;
-    source.patience(60);
-    assert_eq!(rt; source.take(&mut buf), Ok(Got::Bytes(4)));
-    source.patience(1);
-    let mut stalled = false;
-    for _ in 0..40_000 {
-        stalled = stalled || sink.give(&[0; 1000]).is_err();
-    }
-    assert!(rt; stalled);
-    drop(peer);
     assert_eq!(rt; sink.give(b"x"), Err(Failed));
     Ok(())
 }
