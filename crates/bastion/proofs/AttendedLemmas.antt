@@ -1,11 +1,11 @@
 -- What a session of the authentication server comes to, by its ending.
-use Rattle.std.proofs.Common.{◌≡◌, ◌≤◌, ℕ, List, [], ◌∷◌, ◌++◌, length, refl, sym, ◌∙◌, ap, subst, inl, inr, arith, ◌⊎◌, ◌==◌, Bool, true, false}
-use Rattle.std.specs.Prelude.{Option, Some, None, Result, Ok, Err, IfSome, IsSome, if◌then◌else◌}
+use Rattle.std.proofs.Common.{◌≡◌, ℕ, [], length, refl, sym, ◌∙◌, ap, subst, inl, inr, arith, ◌⊎◌, ◌==◌, Bool, true, false}
+use Rattle.std.specs.Prelude.{Some, if◌then◌else◌}
 use Rattle.auth_machine.specs.Book.{BookView}
 use Rattle.auth_machine.specs.Port.{BookOrigin}
 use Rattle.fw_outside.proofs.CountLemmas.{grew_none}
 use Rattle.fw_outside.specs.Counts.{Grew, Rose}
-use Rattle.fw_outside.specs.DialerView.{DialerView, LinkView}
+use Rattle.fw_outside.specs.DialerView.{DialerView}
 use Rattle.fw_outside.specs.SourceView.{SourceView}
 use Rattle.fw_types.specs.declared.ending.Ending.{Ending}
 use Rattle.fw_types.specs.declared.ending.Ending.TheVariants.{Done, Denied, ClientFault, ServerFault, LogFault, AuthFault, Idle, NoRoute, Spent, NoMemory}
@@ -22,9 +22,9 @@ use Rattle.session_acts.specs.World.{Devices, most_taken}
 use Rattle.session_acts.proofs.DeviceLemmas.{by_nothing}
 use Rattle.bastion.specs.Conn.{Causes, IsRefused}
 use Rattle.bastion.specs.Inputs.{Inputs}
-use Rattle.bastion.specs.Outcome.{CountRose, EndingRose, ending_status, is_at_limit, status_of}
+use Rattle.bastion.specs.Outcome.{CountRose, EndingRose, status_of}
 use Rattle.bastion.specs.Serving.{Attended, Serves, book_at_first, devices_at, most_entries, origin_of}
-use Rattle.bastion.specs.Status.{IsAtLimit, IsFull, IsHeld, IsServed, TakesIn}
+use Rattle.bastion.specs.Status.{IsHeld, IsServed, TakesIn}
 use Rattle.bastion.specs.WorldView.{WorldView}
 use Rattle.bastion.specs.declared.outcome.Outcome.{Outcome}
 use Rattle.bastion.specs.declared.outcome.Outcome.TheVariants.{Ended}

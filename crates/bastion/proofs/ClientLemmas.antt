@@ -1,7 +1,7 @@
 -- From the book that was opened to what a session comes to and leaves.
-use Rattle.std.proofs.Common.{◌≡◌, sym, ◌∙◌, ap, subst, refl, ℕ, List, Bool, true, false, length}
+use Rattle.std.proofs.Common.{◌≡◌, sym, ◌∙◌, ap, subst, refl, ℕ, Bool, true, false, length}
 use Rattle.std.specs.Bool.{OnTrue}
-use Rattle.std.specs.Prelude.{Option, Some, None, Result}
+use Rattle.std.specs.Prelude.{Option, Some, None}
 use Rattle.auth_machine.specs.Book.{BookView}
 use Rattle.auth_machine.specs.History.{CountsUnkept, HasRecords, IsLegal, Origin}
 use Rattle.auth_machine.specs.Port.{BookOrigin, book_origin}
@@ -15,10 +15,9 @@ use Rattle.gate_rules.specs.declared.service.Service.TheVariants.{Authsrv}
 use Rattle.gate_rules.specs.declared.verdict.Verdict.{Verdict}
 use Rattle.gate_rules.specs.declared.verdict.Verdict.TheVariants.{Permit, Deny}
 use Rattle.session_acts.specs.Dummies.{nowhere}
-use Rattle.session_acts.specs.World.{Devices}
 use Rattle.bastion.specs.Conn.{dialer_then}
 use Rattle.bastion.specs.Inputs.{Inputs}
-use Rattle.bastion.specs.Serving.{Attended, Serves, book_at_first, devices_at, most_entries, origin_of}
+use Rattle.bastion.specs.Serving.{Serves, book_at_first, devices_at, most_entries, origin_of}
 use Rattle.bastion.specs.SessionSteps.{GivesBack, HoldsOver, IsUndialed, OfRecords, Opened, Proceeds}
 use Rattle.bastion.specs.WorldView.{WorldView}
 use Rattle.bastion.specs.declared.outcome.Outcome.{Outcome}

@@ -1,11 +1,10 @@
 -- What a client's ending says.
-use Rattle.std.proofs.Common.{arith, ◌≡◌, ◌≤◌, ◌∙◌, refl, sym, subst, ap, ℕ, List, [], inl, inr, ◌⊎◌, true, false}
-use Rattle.std.specs.Prelude.{Option, Some, None, Result, Ok, Err, length}
+use Rattle.std.proofs.Common.{arith, ◌≡◌, ◌≤◌, ◌∙◌, refl, sym, subst, ap, ℕ, List, [], inl, inr, true, false}
+use Rattle.std.specs.Prelude.{Option, Some, None}
 use Rattle.authsrv_gate.specs.Dialogue.{rows, session_row}
 use Rattle.authsrv_gate.proofs.ServerlessLemmas.{keeps_serverless}
-use Rattle.fw_outside.specs.DialerView.{DialerView, dialer_waiting}
-use Rattle.fw_outside.specs.SinkView.{SinkView, Gives}
-use Rattle.fw_outside.specs.SourceView.{SourceView, waiting}
+use Rattle.fw_outside.specs.SinkView.{SinkView}
+use Rattle.fw_outside.specs.SourceView.{SourceView}
 use Rattle.fw_types.specs.declared.ending.Ending.{Ending}
 use Rattle.fw_types.specs.declared.ending.Ending.TheVariants.{Done, Denied, ClientFault, ServerFault, LogFault, AuthFault, Idle, NoRoute, Spent, NoMemory}
 use Rattle.fw_types.specs.declared.peer.Peer.{Peer}

@@ -11,7 +11,7 @@ use Rattle.gate_rules.specs.declared.verdict.Verdict.TheVariants.{Permit, Deny}
 use Rattle.bastion.specs.Deciding.{Decides, Reports}
 use Rattle.bastion.specs.Inputs.{HasInputs, Inputs, needs_records}
 use Rattle.bastion.specs.Outcome.{verdict_status}
-use Rattle.bastion.specs.Reading.{LacksEarly, Unfound, Finds, is_early, ruling_in, server_rules_of}
+use Rattle.bastion.specs.Reading.{Unfound, Finds, is_early, ruling_in, server_rules_of}
 use Rattle.bastion.specs.Run.{AsksTable, DoesFor, Lacks, ReadsOnly, Stops, verdict_for}
 use Rattle.bastion.specs.SessionSteps.{Proceeds, Unopened}
 use Rattle.bastion.specs.TableReport.{report_text}
@@ -20,9 +20,9 @@ use Rattle.bastion.specs.Works.{Announced, Shown, Works}
 use Rattle.bastion.specs.WorldView.{SessionInputs, WorldView}
 use Rattle.bastion.specs.declared.outcome.Device.TheVariants as device
 use Rattle.bastion.specs.declared.outcome.Outcome.{Outcome}
-use Rattle.bastion.specs.declared.outcome.Outcome.TheVariants.{Usage, Unread, Failed, NoMemory, Decided, Ended}
+use Rattle.bastion.specs.declared.outcome.Outcome.TheVariants.{Unread, Failed, NoMemory, Ended}
 use Rattle.bastion.specs.declared.outcome.Refusal.{Refusal}
-use Rattle.bastion.specs.declared.outcome.Refusal.TheVariants.{Table, Rule, Record}
+use Rattle.bastion.specs.declared.outcome.Refusal.TheVariants.{Record}
 use Rattle.bastion.specs.declared.outcome.Step.{Step}
 use Rattle.bastion.specs.declared.outcome.Step.TheVariants as steps
 use Rattle.bastion.specs.declared.server_rules.ServerRules.{ServerRules}

@@ -5,7 +5,7 @@ use Rattle.std.specs.Prelude.{Option, Some, None, Result, Ok, Err}
 use Rattle.auth_events.specs.Port.{Port, places}
 use Rattle.auth_machine.specs.Book.{BookView}
 use Rattle.auth_machine.specs.Port.{BookOrigin, book_port}
-use Rattle.authsrv_gate.specs.Dialogue.{rows, session_row}
+use Rattle.authsrv_gate.specs.Dialogue.{rows}
 use Rattle.auth_events.specs.declared.port.PortFault.{PortFault}
 use Rattle.auth_events.specs.declared.reply.Reply.{Reply}
 use Rattle.fw_acts.specs.Acts.{PlaceTable, Row, Step}
@@ -16,6 +16,7 @@ use Rattle.session_acts.specs.declared.cause.Cause.{Cause}
 use Rattle.session_acts.specs.declared.cause.Cause.TheVariants as causes
 use Rattle.session_acts.specs.declared.denying.NoPlace.{NoPlace}
 use Rattle.fw_outside.specs.SinkView.{Gives, SinkView}
+use Rattle.fw_outside.specs.DialerView.{DialerView}
 use Rattle.fw_outside.specs.ToldList.{grown}
 use Rattle.fw_outside.specs.declared.failed.Failed as sink
 use Rattle.fw_types.specs.declared.ending.Ending.{Ending}
@@ -35,8 +36,8 @@ use Rattle.session_acts.specs.Laws.{told}
 use Rattle.session_acts.specs.Dummies.{nowhere}
 use Rattle.session_acts.specs.Met.{acts}
 use Rattle.session_acts.specs.Session.{Session, deeds_of, ending_of}
-use Rattle.session_acts.specs.Talk.{answered, asked, is_entered, is_refused_as_full, numbers_told, said_of}
-use Rattle.session_acts.specs.World.{Devices, World, at_first, devices_of}
+use Rattle.session_acts.specs.Talk.{asked, is_entered, is_refused_as_full, numbers_told, said_of}
+use Rattle.session_acts.specs.World.{Devices, World, at_first, devices_with}
 use Rattle.session_acts.proofs.ClientLemmas.{denies}
 use Rattle.session_acts.proofs.DeedLemmas.{all_gain, held_deeds}
 use Rattle.session_acts.proofs.EntryLemmas.{whole_talk}
@@ -44,7 +45,7 @@ use Rattle.session_acts.proofs.TalkLemmas.{entered_gains}
 use Rattle.session_acts.proofs.ToldLemmas.{told_gains}
 use Rattle.bastion.specs.Conn.{NotedIf, Treats, denied_by}
 use Rattle.bastion.specs.Endings.{denied_text, ending_line}
-use Rattle.bastion.specs.Headline.{DenialLogged, Headline, HeadlineFor, IsDecided, IsDenied, IsPermitted, IsReplied, IsReplying, IsSilent, IsToldOff, LogsDenial, OfHistory, begins, is_at_console, lent_to, talk_of}
+use Rattle.bastion.specs.Headline.{Headline, HeadlineFor, IsDenied, IsPermitted, IsSilent, IsToldOff, OfHistory, begins, lent_to, talk_of}
 use Rattle.bastion.specs.Inputs.{Inputs}
 use Rattle.bastion.specs.Outcome.{fault_line_of, status_of, verdict_status}
 use Rattle.bastion.specs.Run.{DoesLine, Run, Stops, TellsIf, Worked, verdict_for}
@@ -52,7 +53,7 @@ use Rattle.bastion.specs.Serving.{Attended, Serves, book_at_first, devices_at, m
 use Rattle.bastion.specs.Status.{IsHeld, IsServed}
 use Rattle.bastion.specs.Texts.{decision_text}
 use Rattle.bastion.specs.Words.{LineView}
-use Rattle.bastion.specs.Works.{Announced, PrintsAfter, announced, with_given}
+use Rattle.bastion.specs.Works.{PrintsAfter, announced, with_given}
 use Rattle.bastion.specs.WorldView.{SessionInputs, WorldView}
 use Rattle.bastion.specs.declared.outcome.Device.TheVariants as device
 use Rattle.bastion.specs.declared.outcome.Outcome.{Outcome}
@@ -125,6 +126,7 @@ record OfSession (console : Bool) (verdict : Verdict) (rules : RuleBook) (peer :
   admitted : console ≡ false → verdict ≡ Permit line
   logs : SinkView
   session : Session rows (begins console peer line) (lent_to console rules old) (record new { logs = logs }) ending
+  noted : NotedIf (ending_line services.Authsrv peer ending) logs new.logs
 
 -- a client was denied
 record OfDenial (console : Bool) (verdict : Verdict) (peer : Peer) (old new : Devices BookOrigin) (ending : Ending) : Type 0 where
@@ -139,17 +141,17 @@ record OfDenial (console : Bool) (verdict : Verdict) (peer : Peer) (old new : De
 
 treats_so : (verdict : Verdict) (rules : RuleBook) (peer : Peer) (old new : Devices BookOrigin) (logs : SinkView) (ending : Ending) → Treats verdict services.Authsrv rules peer ending old (record new { logs = logs })
     → NotedIf (ending_line services.Authsrv peer ending) logs new.logs → OfSession false verdict rules peer old new ending ⊎ OfDenial false verdict peer old new ending
-treats_so (Permit line) rules peer old new logs ending h noted = inl (record { line = line; admitted = λ outside. refl; logs = logs; session = h })
+treats_so (Permit line) rules peer old new logs ending h noted = inl (record { line = line; admitted = λ outside. refl; logs = logs; session = h; noted = noted })
 treats_so (Deny line) rules peer old new logs ending h noted = inr (record { outside = refl; line = line; denied = refl; logs = logs; told = h.told; session = h.session; ends = h.ends; noted = noted })
 
 serves_so : (console : Bool) (rules : RuleBook) (peer : Peer) (old new : Devices BookOrigin) (ending : Ending) → Serves console rules peer old new ending
     → OfSession console (verdict_of rules peer) rules peer old new ending ⊎ OfDenial console (verdict_of rules peer) peer old new ending
-serves_so true rules peer old new ending h = inl (record { line = 0; admitted = λ outside. absurd (cc); logs = h.logs; session = h.session })
+serves_so true rules peer old new ending h = inl (record { line = 0; admitted = λ outside. absurd (cc); logs = h.logs; session = h.session; noted = h.noted })
 serves_so false rules peer old new ending h = treats_so (verdict_of rules peer) rules peer old new h.logs ending h.treats h.noted
 
-session_gave : {P : Type 0} (rows : PlaceTable (acts BookOrigin) P) (first : Row (acts BookOrigin) P) (old new : Devices BookOrigin) (ending : Ending) (session : Session rows first old new ending)
+session_gave : {P : Type 0} (table : PlaceTable (acts BookOrigin) P) (first : Row (acts BookOrigin) P) (old new : Devices BookOrigin) (ending : Ending) (session : Session table first old new ending)
     → new.outlet.given ≡ grown old.outlet.given (gives told (deeds_of session.held))
-session_gave rows first old new ending session =
+session_gave table first old new ending session =
     ap (λ (d : Devices BookOrigin). d.outlet.given) (sym session.leaves) ∙ all_gain told_gains (deeds_of session.held) (at_first old session.names) session.last (held_deeds session.held)
 
 -- ---- the two deeds of a denial
@@ -199,9 +201,7 @@ record DeniesCut (old new : Devices BookOrigin) (ending : Ending) : Type 0 where
 
 record DeniesWhole (line : ℕ) (peer : Peer) (old new : Devices BookOrigin) (ending : Ending) : Type 0 where
   logs : new.logs ≡ with_given old.logs (decision_text (Deny line) services.Authsrv peer)
-  between : SinkView
-  session : Session no_rows (denying_row (decision_text (Deny line) services.Authsrv peer) (denied_text line)) old (record new { logs = between }) endings.Done
-  gave : new.outlet.given ≡ grown old.outlet.given (gives told (deeds_of session.held))
+  session : Session no_rows (denying_row (decision_text (Deny line) services.Authsrv peer) (denied_text line)) old new endings.Done
   ends : ending ≡ endings.Denied line
 
 unnoted : (line : ℕ) (peer : Peer) (ending : Ending) (logs new : SinkView) → ending ≡ endings.Denied line → NotedIf (ending_line services.Authsrv peer ending) logs new → new ≡ logs
@@ -213,13 +213,12 @@ denial_by : (line : ℕ) (peer : Peer) (old new : Devices BookOrigin) (logs : Si
 denial_by line peer old new logs told ending ends noted session (inl fails) = inl (record { outlet = ap (λ (d : Devices BookOrigin). d.outlet) fails.same; ends = ends ∙ ap (denied_by line) fails.ends })
 denial_by line peer old new logs told ending ends noted session (inr away) =
     let denied : ending ≡ endings.Denied line = ends ∙ ap (denied_by line) away.ends in
-    let whole : Session no_rows (denying_row (decision_text (Deny line) services.Authsrv peer) (denied_text line)) old (record new { logs = logs }) endings.Done =
-    subst (λ (e : Ending). Session no_rows (denying_row (decision_text (Deny line) services.Authsrv peer) (denied_text line)) old (record new { logs = logs }) e) away.ends session in
+    let same : new.logs ≡ logs = unnoted line peer ending logs new.logs denied noted in
+    let Ends : Ending → Type 0 = λ e. Session no_rows (denying_row (decision_text (Deny line) services.Authsrv peer) (denied_text line)) old (record new { logs = logs }) e in
+    let Logs : SinkView → Type 0 = λ s. Session no_rows (denying_row (decision_text (Deny line) services.Authsrv peer) (denied_text line)) old (record new { logs = s }) endings.Done in
     inr (record {
-      logs = unnoted line peer ending logs new.logs denied noted ∙ ap (λ (d : Devices BookOrigin). d.logs) away.same;
-      between = logs;
-      session = whole;
-      gave = session_gave no_rows (denying_row (decision_text (Deny line) services.Authsrv peer) (denied_text line)) old (record new { logs = logs }) endings.Done whole;
+      logs = same ∙ ap (λ (d : Devices BookOrigin). d.logs) away.same;
+      session = subst Logs (sym same) (subst Ends away.ends session);
       ends = denied;
     })
 
@@ -235,16 +234,29 @@ lent_outlet : (console : Bool) (rules : RuleBook) (devices : Devices BookOrigin)
 lent_outlet true rules devices = refl
 lent_outlet false rules devices = refl
 
+-- the log's line of an outcome, as of an ending
+tells_noted : (line : Option (List ℕ)) (mid new : WorldView) → TellsIf line mid new → NotedIf line mid.logs new.logs
+tells_noted None mid new is = ap (λ (w : WorldView). w.logs) is
+tells_noted (Some text) mid new h = record { told = h.told; gives = h.logged }
+
+abbrev left_so : SessionInputs → SinkView → BookView → DialerView → SinkView → Devices BookOrigin
+left_so inputs output book dialer logs = devices_with (book_port book) inputs.input output logs dialer inputs.clock inputs.dice
+
 -- what a session over a book asked and told
-of_history : (client : Client) (inputs : Inputs) (out : Outcome) (old mid new : WorldView) → (h : Attended client inputs out old mid) → Later mid new
+of_history : (client : Client) (inputs : Inputs) (out : Outcome) (old mid new : WorldView) → (h : Attended client inputs out old mid) → TellsIf (fault_line_of out) mid new
     → OfSession client.console (verdict_for (Authsrv client) inputs) inputs.rules client.peer (devices_at old (book_at_first (origin_of inputs) most_entries h.before) nowhere) (devices_at mid h.book h.dialer) h.ending
     → OfHistory client inputs (status_of out) old new
-of_history client inputs out old mid new h later s =
+of_history client inputs out old mid new h tells s =
+    let later = tells_later (fault_line_of out) mid new tells in
     let first : Devices BookOrigin = lent_to client.console inputs.rules (devices_at old (book_at_first (origin_of inputs) most_entries h.before) nowhere) in
-    let held = s.session.held in
-    let last : World BookOrigin = s.session.last in
-    let begun : World BookOrigin = at_first first s.session.names in
-    let port : last.office.port ≡ book_port h.book = ap (λ (d : Devices BookOrigin). d.port) s.session.leaves in
+    let row = begins client.console client.peer s.line in
+    let Left : SessionInputs → SinkView → Type 0 = λ i o. Session rows row first (left_so i o h.book h.dialer s.logs) h.ending in
+    let session : Session rows row first (left_so new.inputs new.output h.book h.dialer s.logs) h.ending =
+    subst (λ (o : SinkView). Left new.inputs o) (sym later.output) (subst (λ (i : SessionInputs). Left i mid.output) (sym later.inputs) s.session) in
+    let held = session.held in
+    let last : World BookOrigin = session.last in
+    let begun : World BookOrigin = at_first first session.names in
+    let port : last.office.port ≡ book_port h.book = ap (λ (d : Devices BookOrigin). d.port) session.leaves in
     let fresh : first.port ≡ book_port (book_at_first (origin_of inputs) most_entries h.before) = lent_port client.console inputs.rules (devices_at old (book_at_first (origin_of inputs) most_entries h.before) nowhere) in
     let none : begun.office.port.mine ≡ [] = ap (λ (p : Port BookOrigin). p.mine) fresh in
     let mine : last.office.port.mine ≡ places (length last.office.port.seen) = subst (λ (p : Port BookOrigin). p.mine ≡ places (length p.seen)) (sym port) refl in
@@ -253,26 +265,29 @@ of_history client inputs out old mid new h later s =
     let whole = (whole_talk (numbers_told begun.office.opened (gives asked deeds)) entered.moments (gives asked deeds) begun.office.port last.office.port none mine entered.port).0 in
     let was : h.book.refused ≡ list_any is_refused_as_full (talk_of deeds) =
     ap (λ (p : Port BookOrigin). p.refused) (sym port) ∙ entered.port.refused ∙ ap (λ (p : Port BookOrigin). (p.refused || list_any is_refused_as_full (talk_of deeds))) fresh in
-    let outlet : mid.output ≡ last.client.outlet = ap (λ (d : Devices BookOrigin). d.outlet) (sym s.session.leaves) in
-    let gave = all_gain told_gains deeds begun last (held_deeds held) in
     let same : first.outlet ≡ old.output = lent_outlet client.console inputs.rules (devices_at old (book_at_first (origin_of inputs) most_entries h.before) nowhere) in
+    let comes : out ≡ Ended h.ending (list_any is_refused_as_full (talk_of deeds)) = h.comes ∙ ap (λ (r : Bool). Ended h.ending r) was in
     record {
       before = h.before;
       keeper = h.keeper;
       line = s.line;
       admitted = s.admitted;
-      last = record (devices_at mid h.book h.dialer) { logs = s.logs };
-      ending = h.ending;
-      session = s.session;
       book = h.book;
+      dialer = h.dialer;
+      logs = s.logs;
+      ending = h.ending;
+      session = session;
       legal = h.legal;
       talk = subst (λ (p : Port BookOrigin). map said_of p.seen ≡ filter is_entered (talk_of deeds)) port whole;
       has = h.has;
       faults = h.faults;
       kept = ap (λ (i : SessionInputs). i.keeper) later.inputs ∙ h.kept;
-      told = ap (λ (o : SinkView). o.given) (later.output ∙ outlet) ∙ gave ∙ ap (λ (o : SinkView). grown o.given (gives told deeds)) same;
+      told = session_gave rows row first (left_so new.inputs new.output h.book h.dialer s.logs) h.ending session ∙ ap (λ (o : SinkView). grown o.given (gives told deeds)) same;
+      ended = mid.logs;
+      noted = s.noted;
+      limited = subst (λ (o : Outcome). NotedIf (fault_line_of o) mid.logs new.logs) comes (tells_noted (fault_line_of out) mid new tells);
       full = λ yes. h.full (was ∙ yes);
-      status_is = ap status_of (h.comes ∙ ap (λ (r : Bool). Ended h.ending r) was);
+      status_is = ap status_of comes;
     }
 
 -- ---- a client of the authentication server
@@ -308,7 +323,7 @@ session_headline : (client : Client) (inputs : Inputs) (out : Outcome) (old mid 
     → ClientHeadline client inputs (status_of out) old new
 session_headline client inputs out old mid new h tells s =
     inr (
-      inr (of_history client inputs out old mid new h (tells_later (fault_line_of out) mid new tells) s),
+      inr (of_history client inputs out old mid new h tells s),
       inl (record {
         permitted = λ outside. ap verdict_status (s.admitted outside);
         undenied = session_undenied client.console (verdict_for (Authsrv client) inputs) s.line (status_of out) old.inputs mid.inputs s.admitted (attended_status client inputs out old mid h);
@@ -324,18 +339,24 @@ denial_headline client inputs out old mid new h tells line outside denied (inl c
 denial_headline client inputs out old mid new h tells line outside denied (inr whole) =
     let comes : out ≡ Ended (endings.Denied line) h.book.refused = h.comes ∙ ap (λ (e : Ending). Ended e h.book.refused) whole.ends in
     let same : new ≡ mid = ended_line out line h.book.refused mid new comes tells in
-    let two = denying_deeds (decision_text (Deny line) services.Authsrv client.peer) (denied_text line) (devices_at old (book_at_first (origin_of inputs) most_entries h.before) nowhere) (record (devices_at mid h.book h.dialer) { logs = whole.between }) whole.session in
+    let text : List ℕ = decision_text (Deny line) services.Authsrv client.peer in
+    let first : Devices BookOrigin = devices_at old (book_at_first (origin_of inputs) most_entries h.before) nowhere in
+    let Left : WorldView → Type 0 = λ w. Session no_rows (denying_row text (denied_text line)) first (devices_at w h.book h.dialer) endings.Done in
+    let session : Session no_rows (denying_row text (denied_text line)) first (devices_at new h.book h.dialer) endings.Done = subst Left (sym same) whole.session in
+    let two = denying_deeds text (denied_text line) first (devices_at new h.book h.dialer) session in
     inr (
       inl (record {
         outside = outside;
         line = line;
         denied = denied;
-        first = devices_at old (book_at_first (origin_of inputs) most_entries h.before) nowhere;
-        last = record (devices_at mid h.book h.dialer) { logs = whole.between };
-        session = whole.session;
+        before = h.before;
+        keeper = h.keeper;
+        book = h.book;
+        dialer = h.dialer;
+        session = session;
         tried = two.tried;
         deeds = two.are;
-        told = ap (λ (w : WorldView). w.output.given) same ∙ whole.gave;
+        told = session_gave no_rows (denying_row text (denied_text line)) first (devices_at new h.book h.dialer) endings.Done session;
       }),
       inr (record { line = line; denied = denied; logged = ap (λ (w : WorldView). w.logs) same ∙ whole.logs; status_is = ap status_of comes }),
     )

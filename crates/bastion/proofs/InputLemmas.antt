@@ -1,10 +1,9 @@
 -- From what the table says to the inputs of a command.
-use Rattle.std.proofs.Common.{◌≡◌, ◌∙◌, ℕ, List, [], ◌∷◌, ap, refl, sym, subst, Bool, true, false}
-use Rattle.std.specs.Prelude.{Option, Some, None, Result, Ok, Err, IfSome}
+use Rattle.std.proofs.Common.{◌≡◌, ◌∙◌, ℕ, List, [], ◌∷◌, ap, refl, sym, subst, true, false}
+use Rattle.std.specs.Prelude.{Option, Some, Result, Ok, Err, IfSome}
 use Rattle.auth_machine.specs.Opening.{ReadsAs, records_in}
 use Rattle.auth_machine.specs.Policy.{PolicyView, policy_of}
 use Rattle.auth_records.specs.Spelling.{Fields}
-use Rattle.fw_outside.specs.FilesView.{FilesView}
 use Rattle.fw_outside.specs.KeeperView.{AreLoaded, KeeperView, NamedBytes}
 use Rattle.gate_rules.specs.Reading.{RuleBook, rules_of}
 use Rattle.gate_rules.specs.declared.fault.RuleFault.{RuleFault}

@@ -1,5 +1,6 @@
 pub mod AttendedLemmas
 pub mod ClientLemmas
+pub mod CompleteLemmas
 pub mod ConnLemmas
 pub mod DoesLemmas
 pub mod HeadlineLemmas

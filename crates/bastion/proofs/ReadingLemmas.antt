@@ -7,8 +7,8 @@ use Rattle.netperm_table.specs.Table.{table_of}
 use Rattle.gate_rules.specs.declared.fault.RuleFault.{RuleFault}
 use Rattle.bastion.specs.declared.outcome.Device.TheVariants as device
 use Rattle.bastion.specs.declared.outcome.Outcome.{Outcome}
-use Rattle.bastion.specs.declared.outcome.Outcome.TheVariants.{Usage, Unread, Failed, NoMemory, Decided, Ended}
-use Rattle.bastion.specs.declared.outcome.Refusal.TheVariants.{Table, Rule, Record}
+use Rattle.bastion.specs.declared.outcome.Outcome.TheVariants.{Unread, Failed, NoMemory}
+use Rattle.bastion.specs.declared.outcome.Refusal.TheVariants.{Table, Rule}
 use Rattle.bastion.specs.Inputs.{OfHeld, OfText, OfTextOr}
 use Rattle.bastion.specs.Reading.{Finds, OfTable, ReadsLines, ReadsTable, or_rule_fault, ruling_by, ruling_in}
 

@@ -13,18 +13,17 @@ use Rattle.fw_types.specs.declared.ending.Ending.TheVariants as endings
 use Rattle.gate_rules.specs.Verdict.{verdict_of}
 use Rattle.gate_rules.specs.declared.verdict.Verdict.{Verdict}
 use Rattle.gate_rules.specs.declared.verdict.Verdict.TheVariants.{Permit, Deny}
-use Rattle.bastion.specs.Inputs.{HasInputs, Inputs, is_of_line, needs_records}
+use Rattle.bastion.specs.Inputs.{Inputs, is_of_line, needs_records}
 use Rattle.bastion.specs.Outcome.{CountRose, DeviceRose, EndingRose, KeeperRose, fault_line_of, status_of, verdict_status}
-use Rattle.bastion.specs.Run.{CallsIf, DoesFor, DoesLine, FilesFailed, ReadsOnly, Run, Stops, Tells, TellsIf, Worked, verdict_for}
-use Rattle.bastion.specs.Status.{ByCount, ByInputs, IsComplete, IsHeld, IsServed, IsStatus, IsStatusFor, SomeRose, TakesIn}
+use Rattle.bastion.specs.Run.{CallsIf, DoesLine, FilesFailed, ReadsOnly, Run, Stops, TellsIf, Worked}
+use Rattle.bastion.specs.Status.{IsHeld, IsServed, IsStatus, IsStatusFor, SomeRose, TakesIn}
 use Rattle.bastion.specs.Words.{LineView}
-use Rattle.bastion.specs.Works.{Announced, Prints, PrintsAfter, Shown, Works, announced, shown}
+use Rattle.bastion.specs.Works.{PrintsAfter, Works, announced, shown}
 use Rattle.bastion.specs.WorldView.{SessionInputs, WorldView}
 use Rattle.bastion.specs.declared.outcome.Device.{Device}
 use Rattle.bastion.specs.declared.outcome.Device.TheVariants as device
 use Rattle.bastion.specs.declared.outcome.Outcome.{Outcome}
 use Rattle.bastion.specs.declared.outcome.Outcome.TheVariants.{Usage, Unread, Failed, NoMemory, Decided, Ended}
-use Rattle.bastion.specs.declared.outcome.Refusal.{Refusal}
 use Rattle.bastion.specs.declared.outcome.Step.{Step}
 use Rattle.bastion.specs.declared.outcome.Step.TheVariants as steps
 use Rattle.bastion.specs.declared.words.Command.{Command}
@@ -106,7 +105,7 @@ both_keepers : (old new : Option KeeperView) (before after : KeeperView) → old
 both_keepers old new before after a b rose =
     subst (λ (k : Option KeeperView). KeeperRose k new) (sym a) (subst (λ (k : Option KeeperView). KeeperRose (Some before) k) (sym b) rose)
 
-stops_rose : (name : List ℕ) (command : Command) (outcome : Outcome) (old new : WorldView) → Stops name command outcome old new → CountRose outcome old new
+pub stops_rose : (name : List ℕ) (command : Command) (outcome : Outcome) (old new : WorldView) → Stops name command outcome old new → CountRose outcome old new
 stops_rose name command (Failed device.Table) old new h = files_rose name old.files new.files h.failed
 stops_rose name command (Failed device.Records) old new h =
     both_keepers old.inputs.keeper new.inputs.keeper h.before h.after h.keeper (ap (λ (i : SessionInputs). i.keeper) h.inputs) (missed_rose h.before h.after h.failed)
@@ -175,7 +174,7 @@ count_from name records (Failed which) old mid new only h = device_from name rec
 count_from name records (Ended ending refused) old mid new only h = ending_from ending old mid new (only_left name records old mid only).input only.output only.logs h
 count_from name records outcome old mid new only h = tt
 
-worked_rose : (name : List ℕ) (command : Command) (outcome : Outcome) (old new : WorldView) → Worked name command outcome old new → CountRose outcome old new
+pub worked_rose : (name : List ℕ) (command : Command) (outcome : Outcome) (old new : WorldView) → Worked name command outcome old new → CountRose outcome old new
 worked_rose name command outcome old new h = count_from name (needs_records command) outcome old h.middle new h.only (works_rose command h.inputs outcome h.middle new h.works)
 
 pub does_rose : (line : Option LineView) (outcome : Outcome) (old new : WorldView) → DoesLine line outcome old new → CountRose outcome old new
@@ -201,7 +200,7 @@ tells_later None old new is = record {
 }
 tells_later (Some text) old new h = record { files = h.files; output = h.output; inputs = h.inputs; logs = gives_most h.told text old.logs new.logs h.logged }
 
-some_later : (old mid new : WorldView) → Later mid new → SomeRose old mid → SomeRose old new
+pub some_later : (old mid new : WorldView) → Later mid new → SomeRose old mid → SomeRose old new
 some_later old mid new h (inl files) = inl (subst (λ (f : FilesView). Rose old.files.missing f.missing ⊎ Rose old.files.read_faults f.read_faults) (sym h.files) files)
 some_later old mid new h (inr (inl (inl output))) = inr (inl (inl (subst (λ (s : SinkView). Rose old.output.faults s.faults) (sym h.output) output)))
 some_later old mid new h (inr (inl (inr logs))) = inr (inl (inr (rose_later old.logs.faults mid.logs.faults new.logs.faults logs h.logs)))
@@ -240,7 +239,7 @@ verdict_four : {A : Type 0} (verdict : Verdict) → verdict_status verdict ≡ 4
 verdict_four (Permit line) is = absurd (omega (arith, is))
 verdict_four (Deny line) is = absurd (omega (arith, is))
 
-count_some : (outcome : Outcome) (old new : WorldView) → CountRose outcome old new → status_of outcome ≡ 4 → SomeRose old new
+pub count_some : (outcome : Outcome) (old new : WorldView) → CountRose outcome old new → status_of outcome ≡ 4 → SomeRose old new
 count_some Usage old new h is = absurd (omega (arith, is))
 count_some (Unread refusal) old new h is = absurd (omega (arith, is))
 count_some (Failed which) old new h is = device_some which old new h
@@ -295,7 +294,7 @@ held_then status a b c d before after (inr (six, inl took)) =
     inr (six, inl (subst (λ (s : SourceView). TookMost s d.input) before (subst (λ (i : SessionInputs). TookMost a.input i.input) (sym after) took)))
 held_then status a b c d before after (inr (six, inr full)) = inr (six, inr (record { book = full.book; kept = ap (λ (i : SessionInputs). i.keeper) after ∙ full.kept; full = full.full }))
 
-served_then : (console : Bool) (verdict : Verdict) (status : ℕ) (a b c d : SessionInputs) → a.input ≡ c.input → d ≡ b → IsServed console verdict status a b → IsServed console verdict status c d
+pub served_then : (console : Bool) (verdict : Verdict) (status : ℕ) (a b c d : SessionInputs) → a.input ≡ c.input → d ≡ b → IsServed console verdict status a b → IsServed console verdict status c d
 served_then true verdict status a b c d before after h = held_then status a b c d before after h
 served_then false (Permit line) status a b c d before after h = held_then status a b c d before after h
 served_then false (Deny line) status a b c d before after h = h
@@ -323,15 +322,6 @@ does_status (Some line) outcome old mid new (inr h) later = worked_status line.t
 pub run_status : (line : Option LineView) (status : ℕ) (old new : WorldView) → Run line status old new → IsStatus line status old new
 run_status line status old new ran =
     subst (λ (s : ℕ). IsStatus line s old new) (sym ran.status_is) (does_status line ran.outcome old ran.middle new ran.does (tells_later (fault_line_of ran.outcome) ran.middle new ran.tells))
-
-unless_rose : (line : Option LineView) (status : ℕ) (old new : WorldView) → (SomeRose old new → ⊥) → IsStatus line status old new → IsComplete line status old new
-unless_rose None status old new none h = h
-unless_rose (Some line) status old new none (inl (inl count)) = absurd (none count.rose)
-unless_rose (Some line) status old new none (inl (inr five)) = inl five
-unless_rose (Some line) status old new none (inr inputs) = inr inputs
-
-pub run_complete : (line : Option LineView) (status : ℕ) (old new : WorldView) → Run line status old new → (SomeRose old new → ⊥) → IsComplete line status old new
-run_complete line status old new ran none = unless_rose line status old new none (run_status line status old new ran)
 
 -- ---- what is left
 

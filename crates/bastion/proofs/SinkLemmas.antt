@@ -1,5 +1,5 @@
 -- What a sink that was given a text has counted.
-use Rattle.std.proofs.Common.{arith, ap, refl, sym, subst, ◌≡◌, ◌≤◌, ℕ, List}
+use Rattle.std.proofs.Common.{arith, ap, ◌≡◌, ◌≤◌, ℕ, List}
 use Rattle.std.specs.Prelude.{Result, Ok, Err}
 use Rattle.fw_outside.specs.Counts.{Rose}
 use Rattle.fw_outside.specs.SinkView.{Cut, Gives, SinkView}

@@ -1,6 +1,6 @@
 -- The headline, a field a sentence, as far as there are commands for it: the replies of the authentication server are those
 -- of one legal history; every denial logs its line.
-use Rattle.std.specs.Prelude.{◌≡◌, ◌≢◌, ℕ, ◌⊎◌, Bool, true, false, List, [], ◌∷◌, Option, Some, None, Ok, filter, length, map, Result, IfSome}
+use Rattle.std.specs.Prelude.{◌≡◌, ◌≢◌, ℕ, ◌⊎◌, Bool, true, false, List, [], ◌∷◌, Option, Some, None, Ok, filter, length, map, Result}
 use Rattle.std.specs.List.{list_any}
 use Rattle.auth_events.specs.declared.reply.Reply.{Reply}
 use Rattle.auth_events.specs.declared.request.Request.{Request}
@@ -10,7 +10,9 @@ use Rattle.auth_machine.specs.Port.{BookOrigin}
 use Rattle.authsrv_gate.specs.Dialogue.{rows, session_row}
 use Rattle.authsrv_gate.specs.declared.place.Place.{Place}
 use Rattle.fw_acts.specs.Acts.{Row}
+use Rattle.fw_outside.specs.DialerView.{DialerView}
 use Rattle.fw_outside.specs.KeeperView.{KeeperView}
+use Rattle.fw_outside.specs.SinkView.{SinkView}
 use Rattle.fw_outside.specs.ToldList.{grown}
 use Rattle.fw_types.specs.declared.ending.Ending.{Ending}
 use Rattle.fw_types.specs.declared.ending.Ending.TheVariants.{Done}
@@ -30,10 +32,10 @@ use Rattle.session_acts.specs.Met.{acts}
 use Rattle.session_acts.specs.Session.{Session, deeds_of}
 use Rattle.session_acts.specs.Talk.{answered, asked, is_entered, is_refused_as_full, said_of}
 use Rattle.session_acts.specs.World.{Devices}
-use Rattle.bastion.specs.Conn.{logged_row, patient, timeout_of}
-use Rattle.bastion.specs.Endings.{denied_text}
+use Rattle.bastion.specs.Conn.{NotedIf, logged_row, patient, timeout_of}
+use Rattle.bastion.specs.Endings.{denied_text, ending_line}
 use Rattle.bastion.specs.Inputs.{HasInputs, Inputs, needs_records}
-use Rattle.bastion.specs.Outcome.{status_of, verdict_status}
+use Rattle.bastion.specs.Outcome.{fault_line_of, status_of, verdict_status}
 use Rattle.bastion.specs.Run.{ReadsOnly, verdict_for}
 use Rattle.bastion.specs.Serving.{book_at_first, devices_at, most_entries, origin_of}
 use Rattle.bastion.specs.Texts.{decision_text}
@@ -101,38 +103,45 @@ lent_to false rules devices = patient (timeout_of rules) devices
 abbrev pub talk_of : List Deed → List (Request × Reply)
 talk_of deeds = answered (gives asked deeds)
 
--- A session was held with a client whom the rules permit, or who is at the console, over a book of the records that the
--- keeper had. What it asked and was answered, but for what was refused since the history was full, is the whole of the
--- history, in order; that is legal by the policy and the records, and the keeper has the records after it and has counted a
--- failure for each entry that was not kept. The client was given what the session's deeds tell. And the status is the
--- ending's, but 6 where the session was done and a request had been refused.
+-- A session was held with a client whom the rules permit, or who is at the console, over the run's devices and a book of the
+-- records that the keeper had. What it asked and was answered, but for what was refused since the history was full, is the
+-- whole of the history, in order; that is legal by the policy and the records, and the keeper has the records after it and
+-- has counted a failure for each entry that was not kept. The client was given what the session's deeds tell. Behind the
+-- session the log was given the ending's line, and that of the limit, where there are such. And the status is the ending's,
+-- but 6 where the session was done and a request had been refused.
 pub record OfHistory (client : Client) (inputs : Inputs) (status : ℕ) (old new : WorldView) : Type 0 where
   pub before : KeeperView
   pub keeper : old.inputs.keeper ≡ Some before
   pub line : ℕ
   pub admitted : client.console ≡ false → verdict_for (Authsrv client) inputs ≡ Permit line
-  pub last : Devices BookOrigin
-  pub ending : Ending
-  pub session : Session rows (begins client.console client.peer line) (lent_to client.console inputs.rules (devices_at old (book_at_first (origin_of inputs) most_entries before) nowhere)) last ending
   pub book : BookView
+  pub dialer : DialerView
+  pub logs : SinkView
+  pub ending : Ending
+  pub session : Session rows (begins client.console client.peer line) (lent_to client.console inputs.rules (devices_at old (book_at_first (origin_of inputs) most_entries before) nowhere)) (record (devices_at new book dialer) { logs = logs }) ending
   pub legal : IsLegal (origin_of inputs) book.history
   pub talk : map said_of book.history ≡ filter is_entered (talk_of (deeds_of session.held))
   pub has : HasRecords (origin_of inputs) book.history book.keeper
   pub faults : CountsUnkept before.faults book.history book.keeper
   pub kept : new.inputs.keeper ≡ Some book.keeper
   pub told : new.output.given ≡ grown old.output.given (gives told (deeds_of session.held))
+  pub ended : SinkView
+  pub noted : NotedIf (ending_line services.Authsrv client.peer ending) logs ended
+  pub limited : NotedIf (fault_line_of (Ended ending (list_any is_refused_as_full (talk_of (deeds_of session.held))))) ended new.logs
   pub full : list_any is_refused_as_full (talk_of (deeds_of session.held)) ≡ true → length book.history ≡ most_entries
   pub status_is : status ≡ status_of (Ended ending (list_any is_refused_as_full (talk_of (deeds_of session.held))))
 
--- The rules deny the client, who isn't at the console. Two deeds were done, in this order: the line of the denial was given to
--- the log, whole; and then the client was given the words of it, or a front of them.
+-- The rules deny the client, who isn't at the console. Over the run's devices two deeds were done, in this order: the line of
+-- the denial was given to the log, whole; and then the client was given the words of it, or a front of them.
 pub record IsToldOff (client : Client) (inputs : Inputs) (old new : WorldView) : Type 0 where
   pub outside : client.console ≡ false
   pub line : ℕ
   pub denied : verdict_for (Authsrv client) inputs ≡ Deny line
-  pub first : Devices BookOrigin
-  pub last : Devices BookOrigin
-  pub session : Session no_rows (denying_row (decision_text (Deny line) services.Authsrv client.peer) (denied_text line)) first last Done
+  pub before : KeeperView
+  pub keeper : old.inputs.keeper ≡ Some before
+  pub book : BookView
+  pub dialer : DialerView
+  pub session : Session no_rows (denying_row (decision_text (Deny line) services.Authsrv client.peer) (denied_text line)) (devices_at old (book_at_first (origin_of inputs) most_entries before) nowhere) (devices_at new book dialer) Done
   pub tried : Result (Unit {0}) (Front (denied_text line))
   pub deeds : deeds_ran session.held.ran ≡ line_logged (decision_text (Deny line) services.Authsrv client.peer) ∷ record { act = Try (denied_text line); outcome = Ok tried } ∷ []
   pub told : new.output.given ≡ grown old.output.given (gives told (deeds_of session.held))

@@ -1,3 +1,4 @@
+pub mod Complete
 pub mod Conn
 pub mod Deciding
 pub mod Endings

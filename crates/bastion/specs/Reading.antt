@@ -1,6 +1,6 @@
 -- How what a command needs is read.
 -- No public clause cites these: they say what private functions answer.
-use Rattle.std.specs.Prelude.{◌≡◌, ℕ, ◌⊎◌, Bool, true, false, List, Result, Ok, Err}
+use Rattle.std.specs.Prelude.{◌≡◌, ℕ, Bool, true, false, List, Result, Ok, Err}
 use Rattle.fw_outside.specs.FilesView.{FilesView}
 use Rattle.netperm_table.specs.declared.line.Line.{Line}
 use Rattle.netperm_table.specs.declared.table_fault.TableFault.{TableFault}
@@ -16,7 +16,7 @@ use Rattle.bastion.specs.declared.outcome.Device.TheVariants as device
 use Rattle.bastion.specs.declared.outcome.Outcome.{Outcome}
 use Rattle.bastion.specs.declared.outcome.Outcome.TheVariants.{Unread, Failed, NoMemory}
 use Rattle.bastion.specs.declared.outcome.Refusal.{Refusal}
-use Rattle.bastion.specs.declared.outcome.Refusal.TheVariants.{Table, Rule, Record}
+use Rattle.bastion.specs.declared.outcome.Refusal.TheVariants.{Table, Rule}
 use Rattle.bastion.specs.declared.outcome.Step.{Step}
 use Rattle.bastion.specs.declared.outcome.Step.TheVariants as steps
 use Rattle.bastion.specs.declared.server_rules.ServerRules.{ServerRules}

@@ -3,7 +3,7 @@ use Rattle.std.specs.Prelude.{◌≡◌, ℕ, ◌⊎◌, Bool, true, false, not,
 use Rattle.fw_outside.specs.Counts.{Rose}
 use Rattle.fw_outside.specs.FilesView.{FilesView, MissesFile}
 use Rattle.fw_outside.specs.KeeperView.{IsCalled, KeeperFailed, KeeperView}
-use Rattle.fw_outside.specs.SinkView.{Gives, SinkView}
+use Rattle.fw_outside.specs.SinkView.{Gives}
 use Rattle.fw_outside.specs.ToldList.{AddsOne}
 use Rattle.fw_outside.specs.declared.failed.Failed as sink
 use Rattle.fw_types.specs.declared.peer.Peer.{Peer}

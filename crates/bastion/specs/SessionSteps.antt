@@ -1,6 +1,6 @@
 -- A session of the server step by step: the book of the records that the keeper has is opened, the client served, and the keeper given back.
 -- No public clause cites these: they say what private functions answer.
-use Rattle.std.specs.Prelude.{◌≡◌, ℕ, List, true, length, Some, None, Result, Ok, Err}
+use Rattle.std.specs.Prelude.{◌≡◌, ℕ, List, true, length, Some, None, Ok, Err}
 use Rattle.auth_records.specs.Spelling.{Fields}
 use Rattle.fw_outside.specs.DialerView.{DialerView}
 use Rattle.fw_outside.specs.KeeperView.{IsCalled, KeeperFailed, KeeperView}
@@ -13,7 +13,6 @@ use Rattle.auth_machine.specs.declared.open_fault.OpenFault.{OpenFault}
 use Rattle.auth_machine.specs.declared.open_fault.OpenFault.TheVariants as faults
 use Rattle.fw_types.specs.declared.ending.Ending.{Ending}
 use Rattle.gate_rules.specs.Reading.{RuleBook}
-use Rattle.bastion.specs.Inputs.{Inputs}
 use Rattle.bastion.specs.Serving.{Attended, Serves, book_at_first, devices_at, most_entries}
 use Rattle.bastion.specs.WorldView.{WorldView}
 use Rattle.bastion.specs.declared.outcome.Device.TheVariants as device

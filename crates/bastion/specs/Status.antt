@@ -72,11 +72,6 @@ abbrev pub IsStatus : Option LineView → ℕ → WorldView → WorldView → Ty
 IsStatus None status old new = status ≡ 2
 IsStatus (Some line) status old new = IsStatusFor line.table line.command status old new
 
--- where no count rose: by the inputs of the command, or there was no memory
-abbrev pub IsComplete : Option LineView → ℕ → WorldView → WorldView → Type 0
-IsComplete None status old new = status ≡ 2
-IsComplete (Some line) status old new = (status ≡ 5) ⊎ ByInputs line.table line.command status old new
-
 -- no more bytes were taken than a session may take; and after so many the status is 6
 pub record TakesIn (status : ℕ) (old new : SourceView) : Type 0 where
   pub took : TookAtMost old new

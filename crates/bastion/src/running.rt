@@ -1,10 +1,11 @@
 //! The call that the program makes.
 ghost use Rattle.std.specs.Prelude.{◌≡◌, ◌↔◌, IsSome, None, Some};
+ghost use Rattle.bastion.specs.Complete.{IsComplete};
 ghost use Rattle.bastion.specs.Headline.{Headline};
 ghost use Rattle.bastion.specs.Outcome.{fault_line_of};
 ghost use Rattle.bastion.specs.Reading.{Finds, ruling_in};
 ghost use Rattle.bastion.specs.Run.{DoesFor, DoesLine, Run, TellsIf};
-ghost use Rattle.bastion.specs.Status.{IsComplete, IsStatus, SomeRose, TakesIn};
+ghost use Rattle.bastion.specs.Status.{IsStatus, SomeRose, TakesIn};
 ghost use Rattle.bastion.specs.Words.{line_of};
 ghost use Rattle.bastion.specs.declared.words.Command.TheVariants.{Netacl, Table, Authsrv};
 ghost use Rattle.gate_rules.specs.Reading.{rules_of};
@@ -109,7 +110,8 @@ pub fn run<T: Kit>(alloc: Global, words: &[Octets], world: &mut World<T>) -> u8
     ensures status { IsStatus (line_of words.now) result world.old world.new }
     // At most 2^40 bytes are taken of the input; after so many the status is 6.
     ensures taken { TakesIn result world.old.inputs.input world.new.inputs.input }
-    // So where no count rose, the status is what the inputs say, or there was no memory.
+    // Where no count rose, all that the inputs call for was logged and printed whole, and the status is by them; or there
+    // was no memory.
     ensures complete { ¬ (SomeRose world.old world.new) → IsComplete (line_of words.now) result world.old world.new }
     // Each source that the run got was given back: as many are out as before.
     ensures returned { world.new.files.out ≡ world.old.files.out }

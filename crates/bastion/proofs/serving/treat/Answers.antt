@@ -1,7 +1,5 @@
 use Rattle.std.proofs.Common.{subst, ◌∙◌, ◌≡◌, ap, List, ℕ, false}
 use Rattle.authsrv_gate.specs.Dialogue.{rows, session_row}
-use Rattle.fw_outside.specs.DialerView.{DialerView, dialer_waiting}
-use Rattle.fw_outside.specs.SourceView.{SourceView, waiting}
 use Rattle.gate_rules.specs.declared.verdict.Verdict.{Verdict}
 use Rattle.gate_rules.specs.declared.verdict.Verdict.TheVariants.{Deny, Permit}
 use Rattle.session_acts.specs.Denying.{denying_row, no_rows}
