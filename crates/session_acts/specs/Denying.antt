@@ -12,6 +12,6 @@ module _ {Origin : Type 0} where
   abbrev pub denying_row : List ℕ → List ℕ → Row (acts Origin) NoPlace
   denying_row line words = Do (Log line) (λ logged. Do (Try words) (λ tried. Over))
 
-  -- there is no place, and so no row from one: this table is never used
+  -- no row leads to a place, so this table is never used
   abbrev pub no_rows : PlaceTable (acts Origin) NoPlace
   no_rows = record { act = λ place. Hear Lines; go = λ place heard. Over }

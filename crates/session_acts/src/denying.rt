@@ -1,10 +1,10 @@
 ghost use Rattle.session_acts.specs.Denying.{denying_row, no_rows};
 
-use crate::{Cause, Script, Stage};
+use crate::{Cause, Form, Script, Stage};
 
-/// Where a denied client waits: nowhere.
+/// Where a denied client would wait: no row leads there.
 #[derive(Drop)]
-pub enum NoPlace {}
+pub struct NoPlace;
 
 /// What a client comes to that is denied: a line is logged, and then it is tried to tell the client these words. Where the
 /// log fails the client is told nothing.
@@ -33,7 +33,9 @@ impl<'l, 'w> Script for Denying<'l, 'w> {
         Ok(None)
     }
 
-    fn turn<D: Stage>(&self, _stage: &mut D, place: NoPlace) -> Result<Option<NoPlace>, Cause> {
-        match place {}
+    #[tactic(auto, using(crate::proofs::Acting::acting))]
+    fn turn<D: Stage>(&self, stage: &mut D, _place: NoPlace) -> Result<Option<NoPlace>, Cause> {
+        stage.hear(Form::Lines)?;
+        Ok(None)
     }
 }

@@ -1,6 +1,6 @@
 //! Devices that stand in for those which a kind of session doesn't have.
 ghost use Rattle.std.specs.Prelude.{◌≡◌, None};
-ghost use Rattle.fw_outside.specs.SourceView.{fresh};
+ghost use Rattle.fw_outside.specs.SourceView.{fresh, waiting};
 ghost use Rattle.session_acts.specs.Dummies.{nowhere, silent};
 
 use fw_outside::{Dialed, Dialer, Failed, Got, Sink, Source};
@@ -23,19 +23,21 @@ impl Sink for Silent {
     }
 }
 
-/// The source of a link that never comes up.
+/// The source of a link that never comes up: it is at its end.
 #[derive(Drop)]
-pub enum NoSource {}
+pub struct NoSource {
+    waits: u32,
+}
 
 impl Source for NoSource {
-    ghost source_view = { λ source. fresh None };
+    ghost source_view = { λ source. waiting (fresh None) source.waits };
 
     fn take(&mut self, _buf: &mut [u8]) -> Result<Got, Failed> {
-        match *self {}
+        Ok(Got::End)
     }
 
-    fn patience(&mut self, _seconds: u32) {
-        match *self {}
+    fn patience(&mut self, seconds: u32) {
+        self.waits = seconds;
     }
 }
 
@@ -79,8 +81,9 @@ impl Dialer for Nowhere {
         Dialed::Refused
     }
 
-    fn hang_up(&mut self, from: NoSource, _to: Silent) {
-        match from {}
+    // Read so that the check sees which dialer this is.
+    fn hang_up(&mut self, _from: NoSource, _to: Silent) {
+        let _ = &self.waits;
     }
 
     fn patience(&mut self, seconds: u32) {
