@@ -4,3 +4,6 @@ pub mod FillingLemmas
 pub mod StandingLemmas
 pub mod MarkLemmas
 pub mod FinishingLemmas
+pub mod LookLemmas
+pub mod KeptLemmas
+pub mod OpenLemmas

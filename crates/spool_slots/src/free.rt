@@ -49,7 +49,12 @@ impl<D: Disk> Free<D> {
 
     /// Begins a message from a sender of at most 256 bytes to 1 to 1,000 recipients of 1 to 256 bytes, and takes the
     /// memory that it needs until it is finished.
-    pub fn start(self, alloc: Global, from: &[u8], rcpts: &OctetsList) -> Result<Filling<D>, StartFault<D>>
+    pub fn start(
+        self,
+        alloc: Global,
+        from: &[u8],
+        rcpts: &OctetsList,
+    ) -> Result<Filling<D>, StartFault<D>>
         requires { IsEnvelope from.now rcpts.now }
         ensures ok { IfOk result (λ filling. IsOnward self.number self.disk filling.number filling.disk) }
         ensures empty { IfOk result (λ filling. (filling.pen.len ≡ 0) × (filling.pen.held ≡ [])) }

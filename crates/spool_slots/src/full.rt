@@ -1,12 +1,17 @@
-ghost use Rattle.std.specs.Prelude.{◌≡◌, MatchResult, IfOk, IfErr, true, false};
+ghost use Rattle.std.specs.Prelude.{◌≡◌, MatchResult, IfOk, IfErr, IfSome, OnOk, true, false};
 ghost use Rattle.fw_disk.specs.Moments.{EachImage, Now, Through};
 ghost use Rattle.slot_bytes.specs.Layout.{Mail};
+ghost use Rattle.slot_bytes.specs.SlotView.{mail_view};
 ghost use Rattle.spool_slots.specs.Images.{HasMessageBehind, IsFreeImage, IsFreeOrWhole, IsWholeImage, IsWholeOrAside};
 ghost use Rattle.spool_slots.specs.Media.{IsFull};
+ghost use Rattle.spool_slots.specs.Messages.{Leaves};
 ghost use Rattle.spool_slots.specs.States.{IsBrokenFull, IsOnward, Keeps, KeepsAside};
 
-use crate::{Aside, Broken, Free};
+use crate::messages::read_message;
+use crate::{Aside, Broken, Free, ReadBack};
 use fw_disk::{Disk, Failed, set_byte};
+use slot_bytes::Message;
+use std::alloc::Global;
 use std::marker::Model;
 
 /// A slot with a message.
@@ -46,6 +51,26 @@ impl<D: Disk> Full<D> {
         ensures { result ≡ self.now.number }
     {
         self.number
+    }
+
+    /// Reads the message. If the disk fails, the slot stays as it is and is unread.
+    pub fn message(&mut self, alloc: Global) -> Result<Message, ReadBack>
+        ensures message { IfOk result (λ message. (m : Mail) → Keeps m self.old
+            → IfSome self.old.disk.told (λ _. mail_view message ≡ m)) }
+        ensures number { self.new.number ≡ self.old.number }
+        ensures told { self.new.disk.told ≡ self.old.disk.told }
+        ensures ok { OnOk result (self.new.disk.faults ≡ self.old.disk.faults) }
+        ensures read { OnOk result (self.new.unread ≡ self.old.unread) }
+        ensures err { IfErr result (λ fault. Leaves fault self.old self.new) }
+    {
+        match read_message(alloc, &mut self.disk) {
+            Ok(message) => Ok(message),
+            Err(ReadBack::DiskFault) => {
+                self.unread = true;
+                Err(ReadBack::DiskFault)
+            }
+            Err(ReadBack::NoMemory) => Err(ReadBack::NoMemory),
+        }
     }
 
     /// Gives up a slot that couldn't be read; the disk isn't called.
