@@ -143,11 +143,9 @@ told_more n at room block front front' ended (Some tape) ea er ef ee r f =
     subst (λ (l : List ℕ). IsFrontOf l ended tape.now.seen) (sym ef)
     (subst (λ (b : Bool). IsFrontOf (front ++ take n block) b tape.now.seen) (sym ee) (more_front_of n block front tape.now.seen read f))
 
-pub more_front : (n at room : ℕ) (block front front' : List ℕ) (ended : Bool) (old new : DiskView) → HasRead n at room block old new → at ≡ length front → room ≡ 4096 → front' ≡ front ++ take (n - 0) block → ended ≡ nat_lt n 4096
+pub more_front : (n at room : ℕ) (block front front' : List ℕ) (ended : Bool) (old new : DiskView) → HasRead n at room block old new → at ≡ length front → room ≡ 4096 → front' ≡ front ++ take n block → ended ≡ nat_lt n 4096
     → IfSome old.told (λ tape. IsFrontOf front false tape.now.seen) → IfSome old.told (λ tape. IsFrontOf front' ended tape.now.seen)
-more_front n at room block front front' ended old new r ea er ef ee f =
-    let same : n - 0 ≡ n = omega arith in
-    told_more n at room block front front' ended old.told ea er (ef ∙ ap (λ (k : ℕ). front ++ take k block) same) ee r.told f
+more_front n at room block front front' ended old new r ea er ef ee f = told_more n at room block front front' ended old.told ea er ef ee r.told f
 
 none_of_it : (told : Option Tape) → IfSome told (λ tape. IsFrontOf [] false tape.now.seen)
 none_of_it None = tt

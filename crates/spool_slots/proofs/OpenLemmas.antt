@@ -170,9 +170,9 @@ filled_body head place n room body old new r e f g h =
     let read : IfSome old.told (λ tape. IsFront n place head.len body tape.now.seen) = subst (λ (x : ℕ). IfSome old.told (λ tape. IsFront n place x body tape.now.seen)) e r.told in
     told_body head place n body old.told f g (omega (arith, r.fits, e)) h read
 
-pub short_body : (head : code.Head) (place n room : ℕ) (body : List ℕ) (old new : DiskView) → HasRead n place room body old new → room ≡ head.len → n < head.len → Now IsFull old
-    → IfSome old.told (λ tape. IsHeadOf head place tape.now.seen) → new.told ≡ None
-short_body head place n room body old new r e lt f h =
+pub short_body : (head : code.Head) (place n room : ℕ) (body : List ℕ) (old new : DiskView) → HasRead n place room body old new → IfSome old.told (λ tape. IsHeadOf head place tape.now.seen) → Now IsFull old → room ≡ head.len → n < head.len
+    → new.told ≡ None
+short_body head place n room body old new r h f e lt =
     ap (λ (v : DiskView). v.told) r.is ∙ never_cut head place n body old.told lt f h (subst (λ (x : ℕ). IfSome old.told (λ tape. IsFront n place x body tape.now.seen)) e r.told)
 
 told_message : (head : code.Head) (place : ℕ) (body : List ℕ) (m : Mail) (told : Option Tape) → IfSome told (λ tape. IsHeadOf head place tape.now.seen) → IfSome told (λ tape. IsBodyAt head place body tape.now.seen) → IfSome told (λ tape. IsSettled (readings.Whole m) tape.now)

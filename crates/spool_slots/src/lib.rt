@@ -1,9 +1,10 @@
 //! Slots: files on disks, each of which holds one message or none.
 //!
-//! Each state of a slot is a type that owns the slot's disk. [`format()`] makes a [`Free`] slot of any disk. A message
-//! is begun by [`Free::start`], added to by [`Filling::add`], and stands once [`Filling::finish`] answers Ok; a [`Full`]
-//! slot is released or set [`Aside`], and a slot whose disk failed is [`Broken`]. What every image of the disk is read
-//! as, which is what a crash may leave, is said by the definitions of `specs/Images.antt`.
+//! Each state of a slot is a type that owns the slot's disk. [`format()`] makes a [`Free`] slot of any disk, and
+//! [`open`] says what stands on one. A message is begun by [`Free::start`], added to by [`Filling::add`], and stands
+//! once [`Filling::finish`] answers Ok; [`Full::message`] reads it. A [`Full`] slot is released or set [`Aside`], and a
+//! slot whose disk failed is [`Broken`]. What every image of the disk is read as, which is what a crash may leave, is
+//! said by the definitions of `specs/Images.antt`.
 #![tactic(auto)]
 
 mod adding;

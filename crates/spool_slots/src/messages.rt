@@ -57,7 +57,7 @@ fn fill_body<D: Disk>(
 {
     match disk.read(place, body) {
         Ok(count) => {
-            if count < body.len() {
+            if count < head.len as usize {
                 return Err(doubted(disk));
             }
             Ok(())
