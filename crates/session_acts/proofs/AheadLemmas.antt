@@ -14,11 +14,14 @@ use Rattle.session_acts.specs.Distance.{ahead, ahead_of_client}
 use Rattle.session_acts.specs.Met.{AtClient, Hears, Heeds, HeedsLine, IsTold, Met, acts, stop_of}
 use Rattle.session_acts.specs.World.{Speaker, World}
 use Rattle.session_acts.specs.declared.cause.Cause.{Cause}
+use Rattle.session_acts.specs.declared.form.Form.{Form}
+use Rattle.session_acts.specs.declared.form.Form.TheVariants.{Lines}
 use Rattle.session_acts.specs.declared.silence.Silence.{Silence}
+use Rattle.session_acts.specs.Forms.{IsHeardIn}
 use Rattle.session_acts.proofs.DeedLemmas.{ran_last}
 
-pub heeds_ahead : (heard : Heard) (old new : Speaker) (h : Heeds heard old new) → ahead old ≡ length h.listens.bytes + ahead new
-heeds_ahead heard old new h =
+pub heeds_ahead : (form : Form) (heard : Heard) (old new : Speaker) (h : Heeds form heard old new) → ahead old ≡ length h.listens.bytes + ahead new
+heeds_ahead form heard old new h =
     let lengths : length (old.reader.pending ++ h.listens.reads.taken_now) ≡ length (h.listens.bytes ++ h.reader.pending) = ap length h.listens.reads.reader in
     let left = length-append old.reader.pending h.listens.reads.taken_now in
     let right = length-append h.listens.bytes h.reader.pending in
@@ -26,20 +29,20 @@ heeds_ahead heard old new h =
     let is : ahead old ≡ length h.listens.bytes + (length h.reader.pending + h.reader.room) = omega (arith, lengths, left, right, room) in
     is ∙ ap (λ (s : Speaker). length h.listens.bytes + ahead s) (sym h.is)
 
-heeds_nearer : (heard : Heard) (old new : Speaker) → Heeds heard old new → ahead new ≤ ahead old
-heeds_nearer heard old new h = let is = heeds_ahead heard old new h in omega (arith, is)
+heeds_nearer : (form : Form) (heard : Heard) (old new : Speaker) → Heeds form heard old new → ahead new ≤ ahead old
+heeds_nearer form heard old new h = let is = heeds_ahead form heard old new h in omega (arith, is)
 
-line_nearer : (heard : Heard) (old new : Speaker) → HeedsLine heard old new → ahead new ≤ ahead old
-line_nearer (Line line) old new h = heeds_nearer (Line line) old new h
-line_nearer TooLong old new h = heeds_nearer TooLong old new h
-line_nearer (Stopped stops.End) old new h = heeds_nearer (Stopped stops.End) old new h
-line_nearer (Stopped stops.Idle) old new h = absurd h
-line_nearer (Stopped stops.Failed) old new h = absurd h
-line_nearer (Stopped stops.Spent) old new h = absurd h
+line_nearer : (form : Form) (heard : Heard) (old new : Speaker) → HeedsLine form heard old new → ahead new ≤ ahead old
+line_nearer form (Line line) old new h = heeds_nearer form (Line line) old new h
+line_nearer form TooLong old new h = heeds_nearer form TooLong old new h
+line_nearer form (Stopped stops.End) old new h = heeds_nearer form (Stopped stops.End) old new h
+line_nearer form (Stopped stops.Idle) old new h = absurd h
+line_nearer form (Stopped stops.Failed) old new h = absurd h
+line_nearer form (Stopped stops.Spent) old new h = absurd h
 
-hears_nearer : (outcome : Result Heard Silence) (old new : Speaker) → Hears outcome old new → ahead new ≤ ahead old
-hears_nearer (Ok heard) old new h = line_nearer heard old new h
-hears_nearer (Err silence) old new h = heeds_nearer (Stopped (stop_of silence)) old new h
+hears_nearer : (form : Form) (outcome : Result Heard Silence) (old new : Speaker) → Hears form outcome old new → ahead new ≤ ahead old
+hears_nearer form (Ok heard) old new h = line_nearer form heard old new h
+hears_nearer form (Err silence) old new h = heeds_nearer form (Stopped (stop_of silence)) old new h
 
 same_nearer : (old new : Speaker) → new ≡ old → ahead new ≤ ahead old
 same_nearer old new is = subst (λ (s : Speaker). ahead s ≤ ahead old) (sym is) (omega (arith))
@@ -48,7 +51,7 @@ told_nearer : (text : List ℕ) (outcome : Result (Unit {0}) (Front text)) (old 
 told_nearer text outcome old new h = subst (λ (s : Speaker). ahead s ≤ ahead old) (sym h.is) (omega (arith))
 
 client_nearer : (act : Act) (outcome : Outcome act) (old new : Speaker) → AtClient act outcome old new → ahead new ≤ ahead old
-client_nearer Hear outcome old new h = hears_nearer outcome old new h
+client_nearer (Hear form) outcome old new h = hears_nearer form outcome old new h
 client_nearer (Say text) outcome old new h = told_nearer text outcome old new h
 client_nearer (Try text) (Ok tried) old new h = told_nearer text tried old new h
 client_nearer (Try text) (Err never) old new h = absurd never
@@ -87,16 +90,22 @@ IsSomeLine (Line line) = Unit {0}
 IsSomeLine TooLong = Unit {0}
 IsSomeLine (Stopped stop) = ⊥
 
+-- such a line is some bytes, in each form
+some_line : (form : Form) (heard : Heard) (bytes : List ℕ) → IsSomeLine heard → IsHeardIn form heard bytes → 0 < length bytes
+some_line Lines (Line line) bytes some is = no_line bytes line.items is.is
+some_line Lines TooLong bytes some is = no_line bytes is.line is.is
+some_line Lines (Stopped stop) bytes some is = absurd some
+
 -- hearing one takes some bytes
-pub heard_ahead : {Origin : Type 0} (heard : Heard) (old new : World Origin) → IsSomeLine heard → Met Hear (Ok heard) old new → ahead_of_client new < ahead_of_client old
-heard_ahead (Line line) old new some met =
-    let h : Heeds (Line line) old.client new.client = met.client in
-    let is = heeds_ahead (Line line) old.client new.client h in
-    let more : 0 < length h.listens.bytes = no_line h.listens.bytes line.items h.listens.is_heard.is in
+pub heard_ahead : {Origin : Type 0} (form : Form) (heard : Heard) (old new : World Origin) → IsSomeLine heard → Met (Hear form) (Ok heard) old new → ahead_of_client new < ahead_of_client old
+heard_ahead form (Line line) old new some met =
+    let h : Heeds form (Line line) old.client new.client = met.client in
+    let is = heeds_ahead form (Line line) old.client new.client h in
+    let more : 0 < length h.listens.bytes = some_line form (Line line) h.listens.bytes some h.listens.is_heard in
     omega (arith, is, more)
-heard_ahead TooLong old new some met =
-    let h : Heeds TooLong old.client new.client = met.client in
-    let is = heeds_ahead TooLong old.client new.client h in
-    let more : 0 < length h.listens.bytes = no_line h.listens.bytes h.listens.is_heard.line h.listens.is_heard.is in
+heard_ahead form TooLong old new some met =
+    let h : Heeds form TooLong old.client new.client = met.client in
+    let is = heeds_ahead form TooLong old.client new.client h in
+    let more : 0 < length h.listens.bytes = some_line form TooLong h.listens.bytes some h.listens.is_heard in
     omega (arith, is, more)
-heard_ahead (Stopped stop) old new some met = absurd some
+heard_ahead form (Stopped stop) old new some met = absurd some

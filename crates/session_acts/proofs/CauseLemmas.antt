@@ -28,6 +28,8 @@ use Rattle.session_acts.specs.Session.{Session, closing, deeds_of, ending_by, en
 use Rattle.session_acts.specs.World.{Devices, Office, Server, Speaker, World, at_first, devices_of, most_taken}
 use Rattle.session_acts.specs.declared.cause.Cause.{Cause}
 use Rattle.session_acts.specs.declared.cause.Cause.TheVariants.{ClientFault, ServerFault, LogFault, AuthFault, Idle, NoRoute, Spent, NoMemory}
+use Rattle.session_acts.specs.declared.form.Form.{Form}
+use Rattle.session_acts.specs.declared.form.Form.TheVariants.{Lines}
 use Rattle.session_acts.specs.declared.silence.Silence.{Silence}
 use Rattle.session_acts.specs.declared.silence.Silence.TheVariants.{Quiet, Broken, Limit}
 use Rattle.session_acts.proofs.DeedLemmas.{all_last, deeds_done, deeds_parted, held_deeds, ran_deeds}
@@ -74,26 +76,26 @@ or_left : (a b : Bool) → a ≡ true → (a || b) ≡ true
 or_left a b is = ap (λ (z : Bool). z || b) is
 
 -- a speaker whose source failed
-faulted : (old new : Speaker) → Heeds (Stopped stops.Failed) old new → Rose old.inlet.faults new.inlet.faults
-faulted old new h =
+faulted : (form : Form) (old new : Speaker) → Heeds form (Stopped stops.Failed) old new → Rose old.inlet.faults new.inlet.faults
+faulted form old new h =
     subst (λ (s : Speaker). Rose old.inlet.faults s.inlet.faults) (sym h.is) (halted_faults h.listens.reads.taken_now old.inlet h.listens.middle h.inlet h.listens.reads.takes h.listens.closes.1)
 
-idled : (old new : Speaker) → Heeds (Stopped stops.Idle) old new → Rose old.inlet.idles new.inlet.idles
-idled old new h =
+idled : (form : Form) (old new : Speaker) → Heeds form (Stopped stops.Idle) old new → Rose old.inlet.idles new.inlet.idles
+idled form old new h =
     subst (λ (s : Speaker). Rose old.inlet.idles s.inlet.idles) (sym h.is) (halted_idles h.listens.reads.taken_now old.inlet h.listens.middle h.inlet h.listens.reads.takes h.listens.closes.1)
 
-used_up : (old new : Speaker) → Heeds (Stopped stops.Spent) old new → new.reader.room ≡ 0
-used_up old new h = ap (λ (s : Speaker). s.reader.room) h.is ∙ eqb-true h.reader.room 0 (sym h.listens.spent)
+used_up : (form : Form) (old new : Speaker) → Heeds form (Stopped stops.Spent) old new → new.reader.room ≡ 0
+used_up form old new h = ap (λ (s : Speaker). s.reader.room) h.is ∙ eqb-true h.reader.room 0 (sym h.listens.spent)
 
 dropped : (text : List ℕ) (front : Front text) (old new : Speaker) → IsTold text (Err front) old new → Rose old.outlet.faults new.outlet.faults
 dropped text front old new h =
     subst (λ (s : Speaker). Rose old.outlet.faults s.outlet.faults) (sym h.is) (subst (λ (s : SinkView). Rose old.outlet.faults s.faults) (sym h.gets.is) h.gets.rose)
 
 module _ {Origin : Type 0} where
-  hear_counted : (silence : Silence) (old new : World Origin) → Hears (Err silence) old.client new.client → Counted (silence_cause ClientFault silence) old new
-  hear_counted Quiet old new h = inl (idled old.client new.client h)
-  hear_counted Broken old new h = inl (faulted old.client new.client h)
-  hear_counted Limit old new h = inl (used_up old.client new.client h)
+  hear_counted : (form : Form) (silence : Silence) (old new : World Origin) → Hears form (Err silence) old.client new.client → Counted (silence_cause ClientFault silence) old new
+  hear_counted form Quiet old new h = inl (idled form old.client new.client h)
+  hear_counted form Broken old new h = inl (faulted form old.client new.client h)
+  hear_counted form Limit old new h = inl (used_up form old.client new.client h)
 
   fault_counted : (request : Request) (fault : PortFault) (before : Office Origin) (old new : World Origin) → before.port ≡ old.office.port → Asking request (Err fault) before new.office → Counted (fault_cause fault) old new
   fault_counted request faults.NoMemory before old new same h = tt
@@ -108,10 +110,10 @@ module _ {Origin : Type 0} where
   take_counted : (silence : Silence) (link : Option Speaker) (old new : World Origin) → Takes (Err silence) link old.server new.server → Counted (silence_cause ServerFault silence) old new
   take_counted silence None old new h = let clash = h.0 in absurd (cc)
   take_counted Quiet (Some link) old new h =
-      inr (subst (λ (s : Server). HasIdled s.link) (sym h.is) (positive link.inlet.idles h.speaker.inlet.idles (idled link h.speaker h.hears)))
+      inr (subst (λ (s : Server). HasIdled s.link) (sym h.is) (positive link.inlet.idles h.speaker.inlet.idles (idled Lines link h.speaker h.hears)))
   take_counted Broken (Some link) old new h =
-      subst (λ (s : Server). HasBroken s.link) (sym h.is) (or_left (nat_lt 0 h.speaker.inlet.faults) (nat_lt 0 h.speaker.outlet.faults) (positive link.inlet.faults h.speaker.inlet.faults (faulted link h.speaker h.hears)))
-  take_counted Limit (Some link) old new h = inr (subst (λ (s : Server). IsUsedUp s.link) (sym h.is) (used_up link h.speaker h.hears))
+      subst (λ (s : Server). HasBroken s.link) (sym h.is) (or_left (nat_lt 0 h.speaker.inlet.faults) (nat_lt 0 h.speaker.outlet.faults) (positive link.inlet.faults h.speaker.inlet.faults (faulted Lines link h.speaker h.hears)))
+  take_counted Limit (Some link) old new h = inr (subst (λ (s : Server). IsUsedUp s.link) (sym h.is) (used_up Lines link h.speaker h.hears))
 
   pass_counted : (text : List ℕ) (front : Front text) (link : Option Speaker) (old new : World Origin) → Passes text (Err front) link old.server new.server → Counted ServerFault old new
   pass_counted text front None old new h = let clash = h.0 in absurd (cc)
@@ -126,7 +128,7 @@ module _ {Origin : Type 0} where
       rose_within old.server.dialer.refusals dialing.cleared.refusals new.server.dialer.refusals new.server.dialer.refusals before.refusals since (omega (arith))
 
   stop_counted : (act : Act) (halt : Halt act) (old new : World Origin) → Met act (Err halt) old new → Counted (cause_by act halt) old new
-  stop_counted Hear halt old new met = hear_counted halt old new met.client
+  stop_counted (Hear form) halt old new met = hear_counted form halt old new met.client
   stop_counted (Say text) halt old new met = inr (dropped text halt old.client new.client met.client)
   stop_counted (Try text) halt old new met = absurd halt
   stop_counted (Log text) halt old new met = subst (λ (s : SinkView). Rose old.logs.faults s.faults) (sym met.logs.is) met.logs.rose

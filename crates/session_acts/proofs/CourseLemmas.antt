@@ -124,7 +124,7 @@ act_stands : (console : Bool) (state : CourseState) (asks : List (Request × Opt
 act_stands console state asks (Ask request) outcome stands may = ask_stands console state asks request (reply_of outcome) stands may
 act_stands console state asks (Renew name hash) (Ok salts) stands may = renew_stands console state asks (requests.Password name salts.0 hash) (Some salts.1) refl stands may
 act_stands console state asks (Renew name hash) (Err salts) stands may = renew_stands console state asks (requests.Password name salts.0 hash) None refl stands may
-act_stands console state asks Hear outcome stands may = same_stands console state asks stands
+act_stands console state asks (Hear form) outcome stands may = same_stands console state asks stands
 act_stands console state asks (Say text) outcome stands may = same_stands console state asks stands
 act_stands console state asks (Try text) outcome stands may = same_stands console state asks stands
 act_stands console state asks (Log text) outcome stands may = same_stands console state asks stands

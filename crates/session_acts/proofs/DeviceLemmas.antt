@@ -1,3 +1,5 @@
+use Rattle.session_acts.specs.Forms.{ListensIn}
+use Rattle.session_acts.specs.declared.form.Form.{Form}
 -- What a session's devices keep: counts that never fall, and the bytes that were taken.
 use Rattle.std.proofs.Common.{arith, ◌≡◌, refl, sym, ap, subst, ◌∙◌, ℕ, ◌+◌, ◌≤◌, Bool, true, false, List, [], ◌++◌, length, Option, Some, None, Result, Ok, Err, append_assoc, append-nil}
 use Rattle.std.proofs.lemmas.List.{length-append}
@@ -14,7 +16,7 @@ use Rattle.fw_outside.specs.DialerView.{DialerView, RoseIf}
 use Rattle.fw_outside.specs.SinkView.{SinkView}
 use Rattle.fw_outside.specs.SourceView.{Broke, Idled, SourceView}
 use Rattle.fw_outside.specs.ToldList.{grown}
-use Rattle.fw_outside.specs.LineReaderView.{Listens, TookBytes, LineReaderView}
+use Rattle.fw_outside.specs.LineReaderView.{TookBytes, LineReaderView}
 use Rattle.fw_outside.specs.LineReaderView as reader
 use Rattle.fw_outside.specs.declared.heard.Heard.{Heard}
 use Rattle.fw_outside.specs.declared.heard.Heard.TheVariants.{Line, TooLong, Stopped}
@@ -119,8 +121,8 @@ pulled_source : (bytes : List ℕ) (u v : LineReaderView) (before middle : Sourc
 pulled_source bytes u v before middle taken_now room =
     by_source before middle _ u v taken_now.is (record { faults = omega (arith); idles = omega (arith); waits = refl; bytes = bytes; took = refl; grew = taken_now.grew; room = room })
 
-pub listens_source : (heard : Heard) (u v : LineReaderView) (before after : SourceView) → Listens heard u v before after → SourceKeeps before after u v
-listens_source heard u v before after h =
+pub listens_source : (form : Form) (heard : Heard) (u v : LineReaderView) (before after : SourceView) → ListensIn form heard u v before after → SourceKeeps before after u v
+listens_source form heard u v before after h =
     both_source before h.middle after u v v (pulled_source h.reads.taken_now u v before h.middle h.reads.takes h.reads.room) (halts_source heard v h.middle after h.closes)
 
 -- a source that counts behind a window has counted since before it was read into it

@@ -20,13 +20,14 @@ use Rattle.session_acts.specs.Hearing.{AreHeard, TakesHeard, heard_in}
 use Rattle.session_acts.specs.Met.{AtClient, Heeds, HeedsLine, IsTold, acts, stop_of}
 use Rattle.session_acts.specs.Session.{Held, deeds_of}
 use Rattle.session_acts.specs.World.{Speaker, World}
+use Rattle.session_acts.specs.declared.form.Form.{Form}
 use Rattle.session_acts.specs.declared.silence.Silence.{Silence}
 use Rattle.session_acts.proofs.DeedLemmas.{all_gain, held_deeds}
 use Rattle.session_acts.proofs.DeviceLemmas.{by_nothing}
 use Rattle.session_acts.proofs.ToldLemmas.{by_both}
 
 -- some bytes were taken, and what was pending before and these are what was heard and what is pending now
-record HearsOn (heards : List Heard) (old new : Speaker) : Type 0 where
+record HearsOn (heards : List (Form × Heard)) (old new : Speaker) : Type 0 where
   bytes : List ℕ
   pieces : List (List ℕ)
   grew : Grew (length bytes) old.inlet.amount new.inlet.amount
@@ -41,7 +42,7 @@ concat_both : (first more : List (List ℕ)) → concat (first ++ more) ≡ conc
 concat_both [] more = refl
 concat_both (one ∷ first) more = ap (λ (z : List ℕ). one ++ z) (concat_both first more) ∙ sym (append_assoc one (concat first) (concat more))
 
-heard_both : (heards others : List Heard) (first more : List (List ℕ)) → AreHeard heards first → AreHeard others more → AreHeard (heards ++ others) (first ++ more)
+heard_both : (heards others : List (Form × Heard)) (first more : List (List ℕ)) → AreHeard heards first → AreHeard others more → AreHeard (heards ++ others) (first ++ more)
 heard_both [] others [] more a b = b
 heard_both [] others (piece ∷ first) more a b = absurd a
 heard_both (one ∷ heards) others [] more a b = absurd a
@@ -64,7 +65,7 @@ hears_nothing speaker = record {
   near = λ near. near;
 }
 
-hears_both : (heards others : List Heard) (old mid new : Speaker) → HearsOn heards old mid → HearsOn others mid new → HearsOn (heards ++ others) old new
+hears_both : (heards others : List (Form × Heard)) (old mid new : Speaker) → HearsOn heards old mid → HearsOn others mid new → HearsOn (heards ++ others) old new
 hears_both heards others old mid new a b = record {
   bytes = a.bytes ++ b.bytes;
   pieces = a.pieces ++ b.pieces;
@@ -108,13 +109,13 @@ leaves_untaken (Stopped stops.Spent) left before after h = untaken_by before bef
 leaves_untaken (Stopped stops.Idle) left before after h = untaken_by (record before { idles = h.1.count }) before after h.1.is (record { amount = refl; taken = refl })
 leaves_untaken (Stopped stops.Failed) left before after h = untaken_by (record before { faults = h.1.count }) before after h.1.is (record { amount = refl; taken = refl })
 
-heeds_hearing : (heard : Heard) (old new : Speaker) → Heeds heard old new → HearsOn (heard ∷ []) old new
-heeds_hearing heard old new h =
+heeds_hearing : (form : Form) (heard : Heard) (old new : Speaker) → Heeds form heard old new → HearsOn ((form, heard) ∷ []) old new
+heeds_hearing form heard old new h =
     let reads = h.listens.reads in
     let middle = h.listens.middle in
     let untaken = leaves_untaken heard h.reader middle h.inlet h.listens.closes in
     let grew : Grew (length reads.taken_now) old.inlet.amount middle.amount = subst (λ (s : SourceView). Grew (length reads.taken_now) old.inlet.amount s.amount) (sym reads.takes.is) reads.takes.grew in
-    subst (λ (s : Speaker). HearsOn (heard ∷ []) old s) (sym h.is) (record {
+    subst (λ (s : Speaker). HearsOn ((form, heard) ∷ []) old s) (sym h.is) (record {
       bytes = reads.taken_now;
       pieces = h.listens.bytes ∷ [];
       grew = subst (λ (n : ℕ). Grew (length reads.taken_now) old.inlet.amount n) (sym untaken.amount) grew;
@@ -124,17 +125,17 @@ heeds_hearing heard old new h =
       near = λ near. h.near;
     })
 
-line_hearing : (heard : Heard) (old new : Speaker) → HeedsLine heard old new → HearsOn (heard ∷ []) old new
-line_hearing (Line line) old new h = heeds_hearing (Line line) old new h
-line_hearing TooLong old new h = heeds_hearing TooLong old new h
-line_hearing (Stopped stops.End) old new h = heeds_hearing (Stopped stops.End) old new h
-line_hearing (Stopped stops.Idle) old new h = absurd h
-line_hearing (Stopped stops.Failed) old new h = absurd h
-line_hearing (Stopped stops.Spent) old new h = absurd h
+line_hearing : (form : Form) (heard : Heard) (old new : Speaker) → HeedsLine form heard old new → HearsOn ((form, heard) ∷ []) old new
+line_hearing form (Line line) old new h = heeds_hearing form (Line line) old new h
+line_hearing form TooLong old new h = heeds_hearing form TooLong old new h
+line_hearing form (Stopped stops.End) old new h = heeds_hearing form (Stopped stops.End) old new h
+line_hearing form (Stopped stops.Idle) old new h = absurd h
+line_hearing form (Stopped stops.Failed) old new h = absurd h
+line_hearing form (Stopped stops.Spent) old new h = absurd h
 
 act_hearing : (act : Act) (outcome : Outcome act) (old new : Speaker) → AtClient act outcome old new → HearsOn (heard_in act outcome) old new
-act_hearing Hear (Ok heard) old new h = line_hearing heard old new h
-act_hearing Hear (Err silence) old new h = heeds_hearing (Stopped (stop_of silence)) old new h
+act_hearing (Hear form) (Ok heard) old new h = line_hearing form heard old new h
+act_hearing (Hear form) (Err silence) old new h = heeds_hearing form (Stopped (stop_of silence)) old new h
 act_hearing (Say text) outcome old new h = told_hearing text outcome old new h
 act_hearing (Try text) (Ok tried) old new h = told_hearing text tried old new h
 act_hearing (Try text) (Err never) old new h = absurd never

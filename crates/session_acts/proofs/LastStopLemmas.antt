@@ -71,7 +71,7 @@ take_lacks Broken is = absurd (cc)
 take_lacks Limit is = absurd (cc)
 
 stop_lacks : (act : Act) (halt : Halt act) → cause_by act halt ≡ causes.NoMemory → lacked_memory act (Err halt) ≡ true
-stop_lacks Hear halt is = hear_lacks halt is
+stop_lacks (Hear form) halt is = hear_lacks halt is
 stop_lacks (Say text) halt is = absurd (cc)
 stop_lacks (Try text) halt is = absurd halt
 stop_lacks (Log text) halt is = absurd (cc)

@@ -1,6 +1,7 @@
 pub mod Acting
 pub mod AheadLemmas
 pub mod CauseLemmas
+pub mod ClientLemmas
 pub mod CourseLemmas
 pub mod DeedLemmas
 pub mod DeviceLemmas

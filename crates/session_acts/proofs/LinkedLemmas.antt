@@ -135,7 +135,7 @@ module _ {Origin : Type 0} where
   served_one (Pass text) outcome old new met = served_passes text outcome old.server.link old.server new.server refl met.server
   served_one HangUp (Ok done) old new met = served_hanging old.server new.server met.server
   served_one HangUp (Err never) old new met = absurd never
-  served_one Hear outcome old new met = served_same old.server new.server met.server
+  served_one (Hear form) outcome old new met = served_same old.server new.server met.server
   served_one (Say text) outcome old new met = served_same old.server new.server met.server
   served_one (Try text) outcome old new met = served_same old.server new.server met.server
   served_one (Log text) outcome old new met = served_same old.server new.server met.server

@@ -33,7 +33,7 @@ module _ {Origin : Type 0} where
   refused_one (Dial dest) (Err never) old new met = absurd never
   refused_one (Reach dest) (Ok up) old new met = none_refused (Reach dest) (Ok up) old new met
   refused_one (Reach dest) (Err halt) old new met = dialed_in_vain dest old.server new.server met.server
-  refused_one Hear outcome old new met = none_refused Hear outcome old new met
+  refused_one (Hear form) outcome old new met = none_refused (Hear form) outcome old new met
   refused_one (Say text) outcome old new met = none_refused (Say text) outcome old new met
   refused_one (Try text) outcome old new met = none_refused (Try text) outcome old new met
   refused_one (Log text) outcome old new met = none_refused (Log text) outcome old new met

@@ -14,6 +14,7 @@ use Rattle.session_acts.specs.Met.{opened_then}
 use Rattle.session_acts.specs.Session.{closing, ending_of, freeing}
 use Rattle.session_acts.specs.Talk.{asked, numbers_told, thrown}
 use Rattle.session_acts.specs.declared.cause.Cause.TheVariants as causes
+use Rattle.session_acts.specs.declared.form.Form.TheVariants.{Lines}
 use Rattle.session_acts.specs.declared.silence.Silence.TheVariants.{Quiet, Broken, Limit}
 
 -- a text of two bytes, cut behind the first
@@ -55,7 +56,7 @@ a_second_open_that_is_denied_changes_nothing = refl
 a_silent_server : cause_by Take Broken ≡ causes.ServerFault
 a_silent_server = refl
 
-a_silent_client : cause_by Hear Limit ≡ causes.Spent
+a_silent_client : cause_by (Hear Lines) Limit ≡ causes.Spent
 a_silent_client = refl
 
 nothing_is_owed : closing None (Err faults.Link) ≡ []

@@ -22,6 +22,7 @@ use Rattle.session_acts.specs.Session.{Session, closing, ending_by, ending_of, f
 use Rattle.session_acts.specs.World.{Devices, Speaker, World, at_first, most_taken}
 use Rattle.session_acts.specs.declared.cause.Cause.{Cause}
 use Rattle.session_acts.specs.declared.cause.Cause.TheVariants.{ClientFault, Idle}
+use Rattle.session_acts.specs.declared.form.Form.{Form}
 use Rattle.session_acts.specs.declared.silence.Silence.{Silence}
 use Rattle.session_acts.specs.declared.silence.Silence.TheVariants.{Quiet, Broken, Limit}
 use Rattle.session_acts.proofs.CauseLemmas.{session_stays}
@@ -34,23 +35,23 @@ none_left speaker = speaker.reader.room == 0
 same_left : (old new : Speaker) → new ≡ old → none_left old ≡ false → none_left new ≡ false
 same_left old new is more = ap none_left is ∙ more
 
-heeds_left : (heard : Heard) (old new : Speaker) (h : Heeds heard old new) → none_left new ≡ (h.reader.room == 0)
-heeds_left heard old new h = ap none_left h.is
+heeds_left : (form : Form) (heard : Heard) (old new : Speaker) (h : Heeds form heard old new) → none_left new ≡ (h.reader.room == 0)
+heeds_left form heard old new h = ap none_left h.is
 
-line_left : (heard : Heard) (old new : Speaker) → HeedsLine heard old new → none_left new ≡ false
-line_left (Line line) old new h = heeds_left (Line line) old new h ∙ sym h.listens.spent
-line_left TooLong old new h = heeds_left TooLong old new h ∙ sym h.listens.spent
-line_left (Stopped stops.End) old new h = heeds_left (Stopped stops.End) old new h ∙ sym h.listens.spent
-line_left (Stopped stops.Idle) old new h = absurd h
-line_left (Stopped stops.Failed) old new h = absurd h
-line_left (Stopped stops.Spent) old new h = absurd h
+line_left : (form : Form) (heard : Heard) (old new : Speaker) → HeedsLine form heard old new → none_left new ≡ false
+line_left form (Line line) old new h = heeds_left form (Line line) old new h ∙ sym h.listens.spent
+line_left form TooLong old new h = heeds_left form TooLong old new h ∙ sym h.listens.spent
+line_left form (Stopped stops.End) old new h = heeds_left form (Stopped stops.End) old new h ∙ sym h.listens.spent
+line_left form (Stopped stops.Idle) old new h = absurd h
+line_left form (Stopped stops.Failed) old new h = absurd h
+line_left form (Stopped stops.Spent) old new h = absurd h
 
 told_left : (text : List ℕ) (outcome : Result (Unit {0}) (Front text)) (old new : Speaker) → IsTold text outcome old new → none_left old ≡ false → none_left new ≡ false
 told_left text outcome old new h more = ap none_left h.is ∙ more
 
 -- no act that is done takes all
 act_left : {Origin : Type 0} (act : Act) (answer : Answer act) (old new : World Origin) → Met act (Ok answer) old new → none_left old.client ≡ false → none_left new.client ≡ false
-act_left Hear heard old new met more = line_left heard old.client new.client met.client
+act_left (Hear form) heard old new met more = line_left form heard old.client new.client met.client
 act_left (Say text) done old new met more = told_left text (Ok done) old.client new.client met.client more
 act_left (Try text) tried old new met more = told_left text tried old.client new.client met.client more
 act_left (Log text) done old new met more = same_left old.client new.client met.client more
@@ -70,13 +71,13 @@ IsSpentBy cause speaker = none_left speaker ≡ true → is_spent_ending (ending
 more_spent : (cause : Cause) (speaker : Speaker) → none_left speaker ≡ false → IsSpentBy cause speaker
 more_spent cause speaker more none = absurd (true≢false (sym none ∙ more))
 
-hear_left : (silence : Silence) (old new : Speaker) → Hears (Err silence) old new → IsSpentBy (silence_cause ClientFault silence) new
-hear_left Quiet old new h = more_spent Idle new (heeds_left (Stopped stops.Idle) old new h ∙ sym h.listens.spent)
-hear_left Broken old new h = more_spent ClientFault new (heeds_left (Stopped stops.Failed) old new h ∙ sym h.listens.spent)
-hear_left Limit old new h = λ none. refl
+hear_left : (form : Form) (silence : Silence) (old new : Speaker) → Hears form (Err silence) old new → IsSpentBy (silence_cause ClientFault silence) new
+hear_left form Quiet old new h = more_spent Idle new (heeds_left form (Stopped stops.Idle) old new h ∙ sym h.listens.spent)
+hear_left form Broken old new h = more_spent ClientFault new (heeds_left form (Stopped stops.Failed) old new h ∙ sym h.listens.spent)
+hear_left form Limit old new h = λ none. refl
 
 stop_left : {Origin : Type 0} (act : Act) (halt : Halt act) (old new : World Origin) → Met act (Err halt) old new → none_left old.client ≡ false → IsSpentBy (cause_by act halt) new.client
-stop_left Hear halt old new met more = hear_left halt old.client new.client met.client
+stop_left (Hear form) halt old new met more = hear_left form halt old.client new.client met.client
 stop_left (Say text) halt old new met more = more_spent ClientFault new.client (told_left text (Err halt) old.client new.client met.client more)
 stop_left (Try text) halt old new met more = absurd halt
 stop_left (Log text) halt old new met more = more_spent (cause_by (Log text) halt) new.client (same_left old.client new.client met.client more)

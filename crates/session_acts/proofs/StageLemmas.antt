@@ -1,12 +1,20 @@
 -- What the desk's devices did, as acts.
-use Rattle.std.proofs.Common.{refl, ap, ℕ, List, Option, Some, None, Result, Ok, Err}
+use Rattle.std.proofs.Common.{refl, ap, ℕ, ◌≤◌, length, List, Option, Some, None, Result, Ok, Err}
+use Rattle.fw_outside.specs.LineReaderView.{LineReaderView, Listens}
+use Rattle.fw_outside.specs.SourceView.{SourceView}
+use Rattle.fw_outside.specs.declared.heard.Heard.{Heard}
+use Rattle.fw_outside.specs.declared.heard.Heard.TheVariants.{Line, TooLong, Stopped}
+use Rattle.fw_outside.specs.declared.heard.Stop.TheVariants as stops
 use Rattle.fw_outside.specs.SinkView.{Cut, Gives, SinkView}
 use Rattle.fw_outside.specs.declared.failed.Failed.{Failed}
 use Rattle.session_acts.specs.Acts.{Front}
 use Rattle.fw_outside.specs.DialerView.{DialerView}
-use Rattle.session_acts.specs.Link.{PassesSo}
-use Rattle.session_acts.specs.Met.{CutAt, Gets, Passes}
+use Rattle.session_acts.specs.Link.{PassesSo, outcome_of}
+use Rattle.session_acts.specs.Met.{CutAt, Gets, Hears, Heeds, Passes}
 use Rattle.session_acts.specs.World.{Server, Speaker}
+use Rattle.session_acts.specs.declared.form.Form.{Form}
+use Rattle.session_acts.specs.declared.form.Form.TheVariants.{Lines}
+use Rattle.session_acts.specs.declared.silence.Silence.{Silence}
 
 -- the front that a sink was given
 abbrev pub front_of : {text : List ℕ} {old new : SinkView} → Cut text old new → Front text
@@ -36,3 +44,27 @@ passes text failed dialer (Some link) new passed = record {
   halt = front_of passed.gives;
   passes = record { speaker = record link { outlet = passed.outlet }; told = record { outlet = passed.outlet; gets = cut_at passed.gives; is = refl }; is = ap (λ (l : Option Speaker). record { dialer = dialer; link = l }) passed.is };
 }
+
+-- what a reader of lines hears is heard in the form of lines
+heeds_lines : (heard : Heard) (old new : LineReaderView) (before after : SourceView) (outlet : SinkView) → Listens heard old new before after → length new.pending ≤ 4096
+    → Heeds Lines heard (record { inlet = before; reader = old; outlet = outlet }) (record { inlet = after; reader = new; outlet = outlet })
+heeds_lines heard old new before after outlet h near = record {
+  inlet = after;
+  reader = new;
+  listens = record { bytes = h.bytes; middle = h.middle; is_heard = h.is_heard; rest = h.rest; reads = h.reads; closes = h.closes; spent = h.spent; behind = h.behind };
+  near = near;
+  is = refl;
+}
+
+pub hears_lines : (heard : Heard) (old new : LineReaderView) (before after : SourceView) (outlet : SinkView) → Listens heard old new before after → length new.pending ≤ 4096
+    → Hears Lines (outcome_of heard) (record { inlet = before; reader = old; outlet = outlet }) (record { inlet = after; reader = new; outlet = outlet })
+hears_lines (Line line) old new before after outlet h near = heeds_lines (Line line) old new before after outlet h near
+hears_lines TooLong old new before after outlet h near = heeds_lines TooLong old new before after outlet h near
+hears_lines (Stopped stops.End) old new before after outlet h near = heeds_lines (Stopped stops.End) old new before after outlet h near
+hears_lines (Stopped stops.Idle) old new before after outlet h near = heeds_lines (Stopped stops.Idle) old new before after outlet h near
+hears_lines (Stopped stops.Failed) old new before after outlet h near = heeds_lines (Stopped stops.Failed) old new before after outlet h near
+hears_lines (Stopped stops.Spent) old new before after outlet h near = heeds_lines (Stopped stops.Spent) old new before after outlet h near
+
+-- there is no other form
+pub hears_in : (form : Form) (outcome : Result Heard Silence) (old new : Speaker) → Hears Lines outcome old new → Hears form outcome old new
+hears_in Lines outcome old new h = h

@@ -18,6 +18,8 @@ use Rattle.session_acts.specs.Acts.Act.{Hear, Say, Try, Log, Note, Ask, Renew, D
 use Rattle.session_acts.specs.Deeds.{Lasts}
 use Rattle.session_acts.specs.Met.{Asking, AtClient, AtLogs, AtOffice, AtServer, Clears, ConnectsIf, Dialing, Gets, Hanging, Hears, Heeds, HeedsLine, IsTold, Met, Passes, Takes, number_told, stop_of}
 use Rattle.session_acts.specs.World.{Office, Server, Speaker, World, most_taken}
+use Rattle.session_acts.specs.declared.form.Form.{Form}
+use Rattle.session_acts.specs.declared.form.Form.TheVariants.{Lines}
 use Rattle.session_acts.specs.declared.silence.Silence.{Silence}
 use Rattle.session_acts.proofs.DeviceLemmas.{DialerKeeps, PortKeeps, SinkKeeps, SourceKeeps, asks_port, both_dialer, both_port, both_sink, both_source, listens_source, rose_if, same_dialer, same_port, same_sink, same_source}
 
@@ -30,21 +32,21 @@ pub record SpeakerKeeps (old new : Speaker) : Type 0 where
 same_speaker : (old new : Speaker) → new ≡ old → SpeakerKeeps old new
 same_speaker old new is = subst (λ (s : Speaker). SpeakerKeeps old s) (sym is) (record { source = same_source old.inlet old.reader; sink = same_sink old.outlet })
 
-heeds_keeps : (heard : Heard) (old new : Speaker) → Heeds heard old new → SpeakerKeeps old new
-heeds_keeps heard old new h =
-    subst (λ (s : Speaker). SpeakerKeeps old s) (sym h.is) (record { source = listens_source heard old.reader h.reader old.inlet h.inlet h.listens; sink = same_sink old.outlet })
+heeds_keeps : (form : Form) (heard : Heard) (old new : Speaker) → Heeds form heard old new → SpeakerKeeps old new
+heeds_keeps form heard old new h =
+    subst (λ (s : Speaker). SpeakerKeeps old s) (sym h.is) (record { source = listens_source form heard old.reader h.reader old.inlet h.inlet h.listens; sink = same_sink old.outlet })
 
-line_keeps : (heard : Heard) (old new : Speaker) → HeedsLine heard old new → SpeakerKeeps old new
-line_keeps (Line line) old new h = heeds_keeps (Line line) old new h
-line_keeps TooLong old new h = heeds_keeps TooLong old new h
-line_keeps (Stopped stops.End) old new h = heeds_keeps (Stopped stops.End) old new h
-line_keeps (Stopped stops.Idle) old new h = absurd h
-line_keeps (Stopped stops.Failed) old new h = absurd h
-line_keeps (Stopped stops.Spent) old new h = absurd h
+line_keeps : (form : Form) (heard : Heard) (old new : Speaker) → HeedsLine form heard old new → SpeakerKeeps old new
+line_keeps form (Line line) old new h = heeds_keeps form (Line line) old new h
+line_keeps form TooLong old new h = heeds_keeps form TooLong old new h
+line_keeps form (Stopped stops.End) old new h = heeds_keeps form (Stopped stops.End) old new h
+line_keeps form (Stopped stops.Idle) old new h = absurd h
+line_keeps form (Stopped stops.Failed) old new h = absurd h
+line_keeps form (Stopped stops.Spent) old new h = absurd h
 
-pub hears_keeps : (outcome : Result Heard Silence) (old new : Speaker) → Hears outcome old new → SpeakerKeeps old new
-hears_keeps (Ok heard) old new h = line_keeps heard old new h
-hears_keeps (Err silence) old new h = heeds_keeps (Stopped (stop_of silence)) old new h
+pub hears_keeps : (form : Form) (outcome : Result Heard Silence) (old new : Speaker) → Hears form outcome old new → SpeakerKeeps old new
+hears_keeps form (Ok heard) old new h = line_keeps form heard old new h
+hears_keeps form (Err silence) old new h = heeds_keeps form (Stopped (stop_of silence)) old new h
 
 pub gets_keeps : (text : List ℕ) (outcome : Result (Unit {0}) (Front text)) (old new : SinkView) → Gets text outcome old new → SinkKeeps old new
 gets_keeps text (Ok done) old new h = subst (λ (s : SinkView). SinkKeeps old s) (sym h) (record { drops = omega (arith); shut = refl })
@@ -55,7 +57,7 @@ told_keeps text outcome old new h =
     subst (λ (s : Speaker). SpeakerKeeps old s) (sym h.is) (record { source = same_source old.inlet old.reader; sink = gets_keeps text outcome old.outlet h.outlet h.gets })
 
 client_keeps : (act : Act) (outcome : Outcome act) (old new : Speaker) → AtClient act outcome old new → SpeakerKeeps old new
-client_keeps Hear outcome old new h = hears_keeps outcome old new h
+client_keeps (Hear form) outcome old new h = hears_keeps form outcome old new h
 client_keeps (Say text) outcome old new h = told_keeps text outcome old new h
 client_keeps (Try text) (Ok tried) old new h = told_keeps text tried old new h
 client_keeps (Try text) (Err never) old new h = absurd never
@@ -78,7 +80,7 @@ logs_keeps : (act : Act) (outcome : Outcome act) (old new : SinkView) → AtLogs
 logs_keeps (Log text) outcome old new h = gets_keeps text outcome old new h
 logs_keeps (Note text) (Ok tried) old new h = gets_keeps text tried old new h
 logs_keeps (Note text) (Err never) old new h = absurd never
-logs_keeps Hear outcome old new h = same_logs old new h
+logs_keeps (Hear form) outcome old new h = same_logs old new h
 logs_keeps (Say text) outcome old new h = same_logs old new h
 logs_keeps (Try text) outcome old new h = same_logs old new h
 logs_keeps (Ask request) outcome old new h = same_logs old new h
@@ -103,7 +105,7 @@ module _ {Origin : Type 0} where
   office_keeps (Ask request) outcome old new h = asking_keeps request outcome old new h.asking
   office_keeps (Renew name hash) (Ok salted) old new h = asking_keeps (requests.Password name salted.0 hash) (Ok salted.1) (record old { dice = h.dice }) new h.asking
   office_keeps (Renew name hash) (Err salted) old new h = asking_keeps (requests.Password name salted.0 hash) (Err salted.1) (record old { dice = h.dice }) new h.asking
-  office_keeps Hear outcome old new h = same_office old new h
+  office_keeps (Hear form) outcome old new h = same_office old new h
   office_keeps (Say text) outcome old new h = same_office old new h
   office_keeps (Try text) outcome old new h = same_office old new h
   office_keeps (Log text) outcome old new h = same_office old new h
@@ -186,7 +188,7 @@ link_keeps link speaker old new up keeps is =
 
 takes_keeps : (outcome : Result Heard Silence) (link : Option Speaker) (old new : Server) → old.link ≡ link → Takes outcome link old new → ServerKeeps old new
 takes_keeps outcome None old new up h = same_server old new h.1
-takes_keeps outcome (Some link) old new up h = link_keeps link h.speaker old new up (hears_keeps outcome link h.speaker h.hears) h.is
+takes_keeps outcome (Some link) old new up h = link_keeps link h.speaker old new up (hears_keeps Lines outcome link h.speaker h.hears) h.is
 
 passes_keeps : (text : List ℕ) (outcome : Result (Unit {0}) (Front text)) (link : Option Speaker) (old new : Server) → old.link ≡ link → Passes text outcome link old new → ServerKeeps old new
 passes_keeps text outcome None old new up h = same_server old new h.1
@@ -201,7 +203,7 @@ server_keeps Take outcome old new h = takes_keeps outcome old.link old new refl 
 server_keeps (Pass text) outcome old new h = passes_keeps text outcome old.link old new refl h
 server_keeps HangUp (Ok done) old new h = hanging_keeps old new h
 server_keeps HangUp (Err never) old new h = absurd never
-server_keeps Hear outcome old new h = same_server old new h
+server_keeps (Hear form) outcome old new h = same_server old new h
 server_keeps (Say text) outcome old new h = same_server old new h
 server_keeps (Try text) outcome old new h = same_server old new h
 server_keeps (Log text) outcome old new h = same_server old new h

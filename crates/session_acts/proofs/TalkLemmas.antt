@@ -67,7 +67,7 @@ module _ {Origin : Type 0} where
   entered_one (Ask request) outcome old new h = entered_asking request outcome old new h.asking
   entered_one (Renew name hash) (Ok salts) old new h = entered_renewing name hash salts.0 (Ok salts.1) old new h
   entered_one (Renew name hash) (Err salts) old new h = entered_renewing name hash salts.0 (Err salts.1) old new h
-  entered_one Hear outcome old new h = same_talk old new h
+  entered_one (Hear form) outcome old new h = same_talk old new h
   entered_one (Say text) outcome old new h = same_talk old new h
   entered_one (Try text) outcome old new h = same_talk old new h
   entered_one (Log text) outcome old new h = same_talk old new h
@@ -118,7 +118,7 @@ module _ {Origin : Type 0} where
       subst (λ (salts : List (List ℕ)). Adds salts old.dice.told new.dice.told) (sym (no_salt request h.other)) same
   thrown_one (Renew name hash) (Ok salts) old new h = renewing_dice name hash salts.0 (Ok salts.1) old new h
   thrown_one (Renew name hash) (Err salts) old new h = renewing_dice name hash salts.0 (Err salts.1) old new h
-  thrown_one Hear outcome old new h = same_dice old new h
+  thrown_one (Hear form) outcome old new h = same_dice old new h
   thrown_one (Say text) outcome old new h = same_dice old new h
   thrown_one (Try text) outcome old new h = same_dice old new h
   thrown_one (Log text) outcome old new h = same_dice old new h

@@ -11,6 +11,7 @@ use Rattle.session_acts.specs.Deeds.{Gains}
 use Rattle.session_acts.specs.Laws.{TellsClient, TellsLog, got, logged, told}
 use Rattle.session_acts.specs.Met.{Gets, Hears, HeedsLine, Met}
 use Rattle.session_acts.specs.World.{Speaker, World}
+use Rattle.session_acts.specs.declared.form.Form.{Form}
 use Rattle.session_acts.specs.declared.silence.Silence.{Silence}
 
 pub by_nothing : (bytes : Option (List ℕ)) → bytes ≡ grown bytes []
@@ -30,24 +31,24 @@ gets_grew text (Ok done) old new gets = ap (λ (s : SinkView). s.given) gets
 gets_grew text (Err front) old new gets = ap (λ (s : SinkView). s.given) gets.is
 
 -- hearing leaves the sink
-line_outlet : (heard : Heard) (old new : Speaker) → HeedsLine heard old new → new.outlet ≡ old.outlet
-line_outlet (Line line) old new heeds = ap (λ (s : Speaker). s.outlet) heeds.is
-line_outlet TooLong old new heeds = ap (λ (s : Speaker). s.outlet) heeds.is
-line_outlet (Stopped stops.End) old new heeds = ap (λ (s : Speaker). s.outlet) heeds.is
-line_outlet (Stopped stops.Idle) old new heeds = absurd heeds
-line_outlet (Stopped stops.Failed) old new heeds = absurd heeds
-line_outlet (Stopped stops.Spent) old new heeds = absurd heeds
+line_outlet : (form : Form) (heard : Heard) (old new : Speaker) → HeedsLine form heard old new → new.outlet ≡ old.outlet
+line_outlet form (Line line) old new heeds = ap (λ (s : Speaker). s.outlet) heeds.is
+line_outlet form TooLong old new heeds = ap (λ (s : Speaker). s.outlet) heeds.is
+line_outlet form (Stopped stops.End) old new heeds = ap (λ (s : Speaker). s.outlet) heeds.is
+line_outlet form (Stopped stops.Idle) old new heeds = absurd heeds
+line_outlet form (Stopped stops.Failed) old new heeds = absurd heeds
+line_outlet form (Stopped stops.Spent) old new heeds = absurd heeds
 
-pub hears_outlet : (outcome : Result Heard Silence) (old new : Speaker) → Hears outcome old new → new.outlet ≡ old.outlet
-hears_outlet (Ok heard) old new hears = line_outlet heard old new hears
-hears_outlet (Err silence) old new hears = ap (λ (s : Speaker). s.outlet) hears.is
+pub hears_outlet : (form : Form) (outcome : Result Heard Silence) (old new : Speaker) → Hears form outcome old new → new.outlet ≡ old.outlet
+hears_outlet form (Ok heard) old new hears = line_outlet form heard old new hears
+hears_outlet form (Err silence) old new hears = ap (λ (s : Speaker). s.outlet) hears.is
 
 module _ {Origin : Type 0} where
   same_client : (old new : World Origin) → new.client ≡ old.client → TellsClient [] old new
   same_client old new same = same_sink old.client.outlet new.client.outlet (ap (λ (s : Speaker). s.outlet) same)
 
   told_one : (act : Act) (outcome : Outcome act) (old new : World Origin) → Met act outcome old new → TellsClient (told act outcome) old new
-  told_one Hear outcome old new met = same_sink old.client.outlet new.client.outlet (hears_outlet outcome old.client new.client met.client)
+  told_one (Hear form) outcome old new met = same_sink old.client.outlet new.client.outlet (hears_outlet form outcome old.client new.client met.client)
   told_one (Say text) outcome old new met =
       ap (λ (s : Speaker). s.outlet.given) met.client.is ∙ gets_grew text outcome old.client.outlet met.client.outlet met.client.gets
   told_one (Try text) (Ok tried) old new met =
@@ -74,7 +75,7 @@ module _ {Origin : Type 0} where
   logged_one (Log text) outcome old new met = gets_grew text outcome old.logs new.logs met.logs
   logged_one (Note text) (Ok tried) old new met = gets_grew text tried old.logs new.logs met.logs
   logged_one (Note text) (Err never) old new met = absurd never
-  logged_one Hear outcome old new met = same_sink old.logs new.logs met.logs
+  logged_one (Hear form) outcome old new met = same_sink old.logs new.logs met.logs
   logged_one (Say text) outcome old new met = same_sink old.logs new.logs met.logs
   logged_one (Try text) outcome old new met = same_sink old.logs new.logs met.logs
   logged_one (Ask request) outcome old new met = same_sink old.logs new.logs met.logs

@@ -7,16 +7,18 @@ use Rattle.auth_events.specs.declared.request.Request.{Request}
 use Rattle.fw_outside.specs.declared.heard.Heard.{Heard}
 use Rattle.fw_types.specs.declared.dest.Dest.{Dest}
 use Rattle.session_acts.specs.declared.cause.Cause.{Cause}
+use Rattle.session_acts.specs.declared.form.Form.{Form}
 use Rattle.session_acts.specs.declared.silence.Silence.{Silence}
 use Rattle.session_acts.specs.declared.silence.Silence.TheVariants.{Quiet, Broken, Limit}
 use Rattle.session_acts.specs.declared.cause.Cause.TheVariants.{ClientFault, ServerFault, LogFault, AuthFault, Idle, NoRoute, Spent, NoMemory}
 
--- To the client: hear a line of it, say a text, and try to say one. To the log: log a text, and note one. At the port: ask,
--- at a moment of the clock; and renew a password, which is salted by the dice. To the server: dial a destination; reach one;
--- take a line of the server; pass a text to it; hang up. What is tried or noted never stops the session. Dialing is
--- answered by whether the link came up, and reaching stops where it doesn't; both first hang up a link that is up.
+-- To the client: hear a line of it, in one of the forms; say a text; try to say one. To the log: log a text, and note one.
+-- At the port: ask, at a moment of the clock; and renew a password, which is salted by the dice. To the server: dial a
+-- destination; reach one; take a line of the server; pass a text to it; hang up. What is tried or noted never stops the
+-- session. Dialing is answered by whether the link came up, and reaching stops where it doesn't; both first hang up a link
+-- that is up.
 pub data Act : Type 0 where
-  Hear : Act
+  Hear : (form : Form) → Act
   Say : (text : List ℕ) → Act
   Try : (text : List ℕ) → Act
   Log : (text : List ℕ) → Act
@@ -37,7 +39,7 @@ pub record Front (text : List ℕ) : Type 0 where
   pub short : text ≢ [] → rest ≢ []
 
 abbrev pub Answer : Act → Type 0
-Answer Hear = Heard
+Answer (Hear form) = Heard
 Answer (Say text) = Unit {0}
 Answer (Try text) = Result (Unit {0}) (Front text)
 Answer (Log text) = Unit {0}
@@ -52,7 +54,7 @@ Answer HangUp = Unit {0}
 
 -- in which ways an act stops
 abbrev pub Halt : Act → Type 0
-Halt Hear = Silence
+Halt (Hear form) = Silence
 Halt (Say text) = Front text
 Halt (Try text) = ⊥
 Halt (Log text) = Front text
@@ -83,7 +85,7 @@ silence_cause fault Broken = fault
 silence_cause fault Limit = Spent
 
 abbrev pub cause_by : (act : Act) → Halt act → Cause
-cause_by Hear halt = silence_cause ClientFault halt
+cause_by (Hear form) halt = silence_cause ClientFault halt
 cause_by (Say text) halt = ClientFault
 cause_by (Try text) halt = absurd halt
 cause_by (Log text) halt = LogFault

@@ -1,9 +1,12 @@
 pub mod Acts
 pub mod Causes
+pub mod Client
 pub mod Closing
 pub mod Course
 pub mod Deeds
+pub mod Denying
 pub mod Distance
+pub mod Forms
 pub mod Hearing
 pub mod Laws
 pub mod Link

@@ -11,7 +11,7 @@ use Rattle.fw_outside.specs.ClockView.{ClockView, GaveTime}
 use Rattle.fw_outside.specs.Counts.{Rose}
 use Rattle.fw_outside.specs.DialerView.{ComesUp, DialerView, HangsUp, Refuses}
 use Rattle.fw_outside.specs.DiceView.{DiceView, GaveSalt}
-use Rattle.fw_outside.specs.LineReaderView.{LineReaderView, Listens}
+use Rattle.fw_outside.specs.LineReaderView.{LineReaderView}
 use Rattle.fw_outside.specs.SinkView.{SinkView}
 use Rattle.fw_outside.specs.SourceView.{SourceView}
 use Rattle.fw_outside.specs.ToldList.{grown}
@@ -23,38 +23,41 @@ use Rattle.fw_outside.specs.declared.heard.Stop.TheVariants as stops
 use Rattle.fw_types.specs.declared.dest.Dest.{Dest}
 use Rattle.session_acts.specs.Acts.{Act, Answer, Front, Halt, Outcome, cause_by}
 use Rattle.session_acts.specs.Acts.Act.{Hear, Say, Try, Log, Note, Ask, Renew, Dial, Reach, Take, Pass, HangUp}
+use Rattle.session_acts.specs.Forms.{ListensIn}
 use Rattle.session_acts.specs.World.{Office, Server, Speaker, World, unheard}
 use Rattle.session_acts.specs.declared.cause.Cause.{Cause}
+use Rattle.session_acts.specs.declared.form.Form.{Form}
+use Rattle.session_acts.specs.declared.form.Form.TheVariants.{Lines}
 use Rattle.session_acts.specs.declared.silence.Silence.{Silence}
 use Rattle.session_acts.specs.declared.silence.Silence.TheVariants.{Quiet, Broken, Limit}
 
 -- ---- what is heard and said
 
--- this was heard, and at most 4,096 bytes were taken beyond it
-pub record Heeds (heard : Heard) (old new : Speaker) : Type 0 where
+-- this was heard in a form, and at most 4,096 bytes were taken beyond it
+pub record Heeds (form : Form) (heard : Heard) (old new : Speaker) : Type 0 where
   pub inlet : SourceView
   pub reader : LineReaderView
-  pub listens : Listens heard old.reader reader old.inlet inlet
+  pub listens : ListensIn form heard old.reader reader old.inlet inlet
   pub near : length reader.pending ≤ 4096
   pub is : new ≡ record old { inlet = inlet; reader = reader }
 
 -- a line, or the end
-abbrev pub HeedsLine : Heard → Speaker → Speaker → Type 0
-HeedsLine (Line line) old new = Heeds (Line line) old new
-HeedsLine TooLong old new = Heeds TooLong old new
-HeedsLine (Stopped stops.End) old new = Heeds (Stopped stops.End) old new
-HeedsLine (Stopped stops.Idle) old new = ⊥
-HeedsLine (Stopped stops.Failed) old new = ⊥
-HeedsLine (Stopped stops.Spent) old new = ⊥
+abbrev pub HeedsLine : Form → Heard → Speaker → Speaker → Type 0
+HeedsLine form (Line line) old new = Heeds form (Line line) old new
+HeedsLine form TooLong old new = Heeds form TooLong old new
+HeedsLine form (Stopped stops.End) old new = Heeds form (Stopped stops.End) old new
+HeedsLine form (Stopped stops.Idle) old new = ⊥
+HeedsLine form (Stopped stops.Failed) old new = ⊥
+HeedsLine form (Stopped stops.Spent) old new = ⊥
 
 abbrev pub stop_of : Silence → Stop
 stop_of Quiet = stops.Idle
 stop_of Broken = stops.Failed
 stop_of Limit = stops.Spent
 
-abbrev pub Hears : Result Heard Silence → Speaker → Speaker → Type 0
-Hears (Ok heard) old new = HeedsLine heard old new
-Hears (Err silence) old new = Heeds (Stopped (stop_of silence)) old new
+abbrev pub Hears : Form → Result Heard Silence → Speaker → Speaker → Type 0
+Hears form (Ok heard) old new = HeedsLine form heard old new
+Hears form (Err silence) old new = Heeds form (Stopped (stop_of silence)) old new
 
 -- the sink failed behind this front of a text, which it was given
 pub record CutAt {text : List ℕ} (front : Front text) (old new : SinkView) : Type 0 where
@@ -85,7 +88,7 @@ IsTriedTold text (Err never) old new = ⊥
 -- ---- the client and the log
 
 abbrev pub AtClient : (act : Act) → Outcome act → Speaker → Speaker → Type 0
-AtClient Hear outcome old new = Hears outcome old new
+AtClient (Hear form) outcome old new = Hears form outcome old new
 AtClient (Say text) outcome old new = IsTold text outcome old new
 AtClient (Try text) outcome old new = IsTriedTold text outcome old new
 AtClient act outcome old new = new ≡ old
@@ -191,10 +194,10 @@ abbrev pub Reaches : Dest → Result (Unit {0}) (Unit {0}) → Server → Server
 Reaches dest (Ok up) old new = Dialing dest true old new
 Reaches dest (Err halt) old new = Dialing dest false old new
 
--- the server was heard
+-- the server was heard, in lines
 pub record HearsServer (outcome : Result Heard Silence) (link : Speaker) (old new : Server) : Type 0 where
   pub speaker : Speaker
-  pub hears : Hears outcome link speaker
+  pub hears : Hears Lines outcome link speaker
   pub is : new ≡ record old { link = Some speaker }
 
 -- where no link is up, that is the end

@@ -7,7 +7,7 @@ ghost use Rattle.session_acts.specs.Link.{link_view};
 ghost use Rattle.session_acts.specs.Met.{Asking, opened_then, reply_of};
 
 use crate::link::{Link, clear, connect, heed, pass_text, take_line};
-use crate::{Cause, Silence, Stage};
+use crate::{Cause, Form, Silence, Stage};
 use auth_events::{AuthPort, PortFault, Reply, Request};
 use fw_outside::{Clock, Dialer, Dice, Failed, Heard, LineReader, Sink, Source};
 use fw_types::{Dest, Name};
@@ -128,8 +128,8 @@ where
         self.link.is_some()
     }
 
-    fn hear(&mut self) -> Result<Heard, Cause> {
-        match heed(&mut self.reader, self.from) {
+    fn hear(&mut self, form: Form) -> Result<Heard, Cause> {
+        match heed(form, &mut self.reader, self.from) {
             Ok(heard) => Ok(heard),
             Err(silence) => Err(silence_cause(Cause::ClientFault, silence)),
         }

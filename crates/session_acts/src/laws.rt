@@ -1,5 +1,5 @@
 //! What holds of every session, whatever its script.
-ghost use Rattle.std.specs.Prelude.{◌≡◌, ◌≢◌, ◌||◌, Bool, [], true, None, Err, filter, length, map};
+ghost use Rattle.std.specs.Prelude.{◌≡◌, ◌≢◌, ◌||◌, ℕ, Bool, List, [], true, None, Err, filter, length, map};
 ghost use Rattle.std.specs.List.{AllByRecursion, list_any};
 ghost use Rattle.auth_events.specs.Port.{places};
 ghost use Rattle.auth_events.specs.declared.reply.Reply.{Reply};
@@ -8,16 +8,18 @@ ghost use Rattle.fw_acts.specs.Acts.{Row, PlaceTable};
 ghost use Rattle.fw_acts.specs.Acts.Row.{Do};
 ghost use Rattle.fw_types.specs.declared.ending.Ending.{Ending};
 ghost use Rattle.fw_types.specs.declared.ending.Ending.TheVariants.{NoMemory};
-ghost use Rattle.session_acts.specs.Acts.Act.{Ask};
+ghost use Rattle.session_acts.specs.Acts.Act.{Ask, Log};
+ghost use Rattle.session_acts.specs.Client.{Denies, LogsFirst};
 ghost use Rattle.session_acts.specs.Course.{AreOfOne, Course, CourseState, KeepsCourse};
 ghost use Rattle.session_acts.specs.Deeds.{gives};
+ghost use Rattle.session_acts.specs.Denying.{denying_row, no_rows};
 ghost use Rattle.session_acts.specs.Hearing.{TakesHeard, heard_in};
 ghost use Rattle.session_acts.specs.LastStop.{StopsLast, one_lacked_memory};
 ghost use Rattle.session_acts.specs.Laws.{CallsDialer, CountsRefusals, LinksDialer, TellsClient, TellsLog, called, linked, logged, refused, told};
 ghost use Rattle.session_acts.specs.Met.{acts};
-ghost use Rattle.session_acts.specs.Session.{Held, deeds_of};
+ghost use Rattle.session_acts.specs.Session.{Held, Session, deeds_of};
 ghost use Rattle.session_acts.specs.Talk.{Entered, ThrowsSalts, answered, asked, is_entered, is_refused_as_full, said_of, thrown};
-ghost use Rattle.session_acts.specs.World.{World};
+ghost use Rattle.session_acts.specs.World.{Devices, World};
 ghost use Rattle.session_acts.specs.declared.cause.Cause.{Cause};
 
 /// What a client was given by a session is what its deeds say and try to say, one after another: of a text at which the
@@ -120,6 +122,19 @@ pub fn a_session_is_closed_once<Origin, P>()
 pub fn a_stop_is_last<Origin, P>()
     ensures { (rows : PlaceTable (acts Origin) P) (first : Row (acts Origin) P) (old new : World Origin) (ending : Ending)
         (cause : Cause) (held : Held rows first old new ending) → held.dialogue ≡ Err cause → StopsLast cause held }
+{}
+
+/// A session before which a line is logged: either the log fails within that line, and then nothing else is done at any
+/// device (the client is told nothing, nothing is asked or dialed); or what the log is given begins with the line, and then
+/// the session goes on as its rows say (`first`). So the verdict's line is logged before a client is told words. A client
+/// that is denied is given the words, or a front of them, where the log has the whole line, and nothing else is done
+/// (`denied`).
+pub fn a_line_is_logged_first<Origin, P>()
+    ensures first { (line : List ℕ) (rows : PlaceTable (acts Origin) P) (first : Row (acts Origin) P)
+        (old new : Devices Origin) (ending : Ending) (session : Session rows (Do (Log line) (λ done. first)) old new ending) →
+        LogsFirst line rows first old new ending session }
+    ensures denied { (line words : List ℕ) (old new : Devices Origin) (ending : Ending) →
+        Session no_rows (denying_row line words) old new ending → Denies line words old new ending }
 {}
 
 /// In a session that ends for want of memory some request got no answer for that, be it one of the script's or the close that

@@ -11,9 +11,12 @@
 #![tactic(auto)]
 
 mod cause;
+mod denying;
 mod desk;
+mod form;
 pub mod laws;
 mod link;
+mod logged;
 mod script;
 mod session;
 mod silence;
@@ -21,6 +24,9 @@ mod stage;
 mod telling;
 
 pub use cause::Cause;
+pub use denying::{Denying, NoPlace};
+pub use form::Form;
+pub use logged::Logged;
 pub use script::Script;
 pub use session::session_over;
 pub use silence::Silence;

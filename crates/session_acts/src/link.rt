@@ -2,10 +2,11 @@
 ghost use Rattle.std.specs.Prelude.{◌≡◌, None};
 ghost use Rattle.fw_outside.specs.DialerView.{DialerView};
 ghost use Rattle.fw_outside.specs.SinkView.{SinkView};
-ghost use Rattle.session_acts.specs.Link.{PassesSo, link_view};
+ghost use Rattle.session_acts.specs.Link.{PassesSo, link_view, outcome_of};
 ghost use Rattle.session_acts.specs.Met.{Clears, Dialing, Hears, Takes};
+ghost use Rattle.session_acts.specs.declared.form.Form.TheVariants.{Lines};
 
-use crate::Silence;
+use crate::{Form, Silence};
 use fw_outside::{Dialed, Dialer, Failed, Heard, LineReader, Sink, Source, Stop};
 use fw_types::Dest;
 
@@ -20,17 +21,42 @@ pub(crate) struct Link<I, O> {
     reader: LineReader,
 }
 
-// The next line of a source, one that is too long, or the end.
-pub(crate) fn heed<S: Source>(reader: &mut LineReader, from: &mut S) -> Result<Heard, Silence>
-    ensures { (outlet : SinkView) → Hears result
-        (record { inlet = S.source_view from.old; reader = reader.old; outlet = outlet })
-        (record { inlet = S.source_view from.new; reader = reader.new; outlet = outlet }) }
+// How a session takes what a reader of lines hears.
+fn outcome_of(heard: Heard) -> Result<Heard, Silence>
+    ensures { result ≡ outcome_of heard }
 {
-    match reader.next(from) {
+    match heard {
+        Heard::Line(line) => Ok(Heard::Line(line)),
+        Heard::TooLong => Ok(Heard::TooLong),
+        Heard::Stopped(Stop::End) => Ok(Heard::Stopped(Stop::End)),
         Heard::Stopped(Stop::Idle) => Err(Silence::Quiet),
         Heard::Stopped(Stop::Failed) => Err(Silence::Broken),
         Heard::Stopped(Stop::Spent) => Err(Silence::Limit),
-        heard => Ok(heard),
+    }
+}
+
+// The next line of a source, one that is too long, or the end.
+fn heed_line<S: Source>(reader: &mut LineReader, from: &mut S) -> Result<Heard, Silence>
+    ensures { (outlet : SinkView) → Hears Lines result
+        (record { inlet = S.source_view from.old; reader = reader.old; outlet = outlet })
+        (record { inlet = S.source_view from.new; reader = reader.new; outlet = outlet }) }
+{
+    let heard = reader.next(from);
+    outcome_of(heard)
+}
+
+// What is heard next of a source, in a form.
+pub(crate) fn heed<S: Source>(
+    form: Form,
+    reader: &mut LineReader,
+    from: &mut S,
+) -> Result<Heard, Silence>
+    ensures { (outlet : SinkView) → Hears form result
+        (record { inlet = S.source_view from.old; reader = reader.old; outlet = outlet })
+        (record { inlet = S.source_view from.new; reader = reader.new; outlet = outlet }) }
+{
+    match form {
+        Form::Lines => heed_line(reader, from),
     }
 }
 
@@ -78,7 +104,7 @@ pub(crate) fn take_line<I: Source, O: Sink>(link: &mut Option<Link<I, O>>) -> Re
     let Some(mut up) = link.take() else {
         return Ok(Heard::Stopped(Stop::End));
     };
-    let heard = heed(&mut up.reader, &mut up.from);
+    let heard = heed_line(&mut up.reader, &mut up.from);
     *link = Some(up);
     heard
 }

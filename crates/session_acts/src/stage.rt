@@ -3,7 +3,7 @@ ghost use Rattle.session_acts.specs.Acts.Act.{Ask, Dial, HangUp, Hear, Log, Pass
 ghost use Rattle.session_acts.specs.Met.{Acted, Jotted, Met, Tried, is_password};
 ghost use Rattle.session_acts.specs.World.{World};
 
-use crate::Cause;
+use crate::{Cause, Form};
 use auth_events::{Reply, Request};
 use fw_outside::Heard;
 use fw_types::{Dest, Name};
@@ -24,9 +24,9 @@ pub trait Stage {
     fn is_linked(&self) -> bool
         ensures { result ≡ is_some (world self.now).server.link };
 
-    /// The next line of the client, one that is too long, or the end.
-    fn hear(&mut self) -> Result<Heard, Cause>
-        ensures { Acted Hear result (world self.old) (world self.new) };
+    /// The next line of the client in this form, one that is too long, or the end.
+    fn hear(&mut self, form: Form) -> Result<Heard, Cause>
+        ensures { Acted (Hear form) result (world self.old) (world self.new) };
 
     /// Gives the client a text.
     fn say(&mut self, text: &[u8]) -> Result<(), Cause>

@@ -6,6 +6,7 @@ use Rattle.session_acts.specs.Acts.Act.{Hear, Take}
 use Rattle.session_acts.specs.Distance.{ahead_of_client}
 use Rattle.session_acts.specs.Met.{Met}
 use Rattle.session_acts.specs.World.{World}
+use Rattle.session_acts.specs.declared.form.Form.TheVariants.{Lines}
 use Rattle.session_acts.specs.declared.cause.Cause.{Cause}
 use Rattle.session_acts.proofs.AheadLemmas.{heard_ahead, met_ahead}
 use Rattle.session_rows.specs.Relay.{IsNext, distance}
@@ -18,10 +19,10 @@ nearer_by None old new less = tt
 nearer_by (Some Waiting) old new less = omega (arith, less)
 nearer_by (Some Answering) old new less = omega (arith, less)
 
-pub near_client : {Origin : Type 0} (heard : Heard) (old mid new : World Origin) (next : Option Place) → Met Hear (Ok heard) old mid → ahead_of_client new ≤ ahead_of_client mid → IsNext heard next
+pub near_client : {Origin : Type 0} (heard : Heard) (old mid new : World Origin) (next : Option Place) → Met (Hear Lines) (Ok heard) old mid → ahead_of_client new ≤ ahead_of_client mid → IsNext heard next
     → IfSome next (λ p. distance p new < distance Waiting old)
-near_client (Line line) old mid new next met more is = let less = heard_ahead (Line line) old mid tt met in nearer_by next old new (omega (arith, less, more))
-near_client TooLong old mid new next met more is = let less = heard_ahead TooLong old mid tt met in nearer_by next old new (omega (arith, less, more))
+near_client (Line line) old mid new next met more is = let less = heard_ahead Lines (Line line) old mid tt met in nearer_by next old new (omega (arith, less, more))
+near_client TooLong old mid new next met more is = let less = heard_ahead Lines TooLong old mid tt met in nearer_by next old new (omega (arith, less, more))
 near_client (Stopped stop) old mid new next met more is = subst (λ (n : Option Place). IfSome n (λ p. distance p new < distance Waiting old)) (sym is) tt
 
 pub near_server : {Origin : Type 0} (heard : Heard) (old mid new : World Origin) (next : Option Place) → Met Take (Ok heard) old mid → ahead_of_client new ≤ ahead_of_client mid → IfSome next (λ place. place ≡ Waiting)

@@ -10,12 +10,13 @@ use Rattle.session_acts.specs.Acts.Act.{Hear, Say, Try, Log, Reach, Take, Pass}
 use Rattle.session_acts.specs.Distance.{ahead_of_client}
 use Rattle.session_acts.specs.Met.{acts}
 use Rattle.session_acts.specs.World.{World}
+use Rattle.session_acts.specs.declared.form.Form.TheVariants.{Lines}
 use Rattle.session_rows.specs.declared.relay.Place.{Place}
 use Rattle.session_rows.specs.declared.relay.Place.TheVariants.{Waiting, Answering}
 
 -- the session waits for a line of the client, or for the server's answer
 abbrev pub act_at : Place → Act
-act_at Waiting = Hear
+act_at Waiting = Hear Lines
 act_at Answering = Take
 
 module _ {Origin : Type 0} where

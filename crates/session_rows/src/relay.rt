@@ -12,7 +12,7 @@ ghost use Rattle.session_rows.specs.declared.relay.Place.TheVariants.{Answering,
 use arrayvec::ArrayVec;
 use fw_outside::Heard;
 use fw_types::{Dest, append_byte, copy_of};
-use session_acts::{Cause, Script, Stage, tell};
+use session_acts::{Cause, Form, Script, Stage, tell};
 
 /// Where the session waits.
 #[derive(Drop)]
@@ -98,7 +98,7 @@ fn client_turn<D: Stage>(stage: &mut D) -> Result<Option<Place>, Cause>
     ensures nearer { IfOk result (λ next. IfSome next (λ p.
         distance p (D.world stage.new) < distance Waiting (D.world stage.old))) }
 {
-    let heard = stage.hear()?;
+    let heard = stage.hear(Form::Lines)?;
     client_row(stage, heard)
 }
 

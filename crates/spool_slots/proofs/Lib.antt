@@ -7,3 +7,4 @@ pub mod FinishingLemmas
 pub mod LookLemmas
 pub mod KeptLemmas
 pub mod OpenLemmas
+pub mod EventLemmas

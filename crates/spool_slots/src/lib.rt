@@ -33,4 +33,5 @@ pub use full::Full;
 pub use opening::{Opened, open};
 pub use read_back::ReadBack;
 pub use slot_why::SlotWhy;
+pub use spool_law::laws;
 pub use start_fault::StartFault;

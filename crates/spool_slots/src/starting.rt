@@ -2,6 +2,8 @@
 ghost use Rattle.std.specs.Prelude.{◌≡◌, ◌+◌, ◌∷◌, [], ℕ, List, length, MatchResult, IfOk, IfErr};
 ghost use Rattle.fw_disk.specs.Moments.{EachImage, Now, Through};
 ghost use Rattle.slot_bytes.specs.Layout.{IsEnvelope, behind_marks};
+ghost use Rattle.spool_law.specs.Events.{IsBegun};
+ghost use Rattle.spool_law.specs.Runs.{Known, Runs};
 ghost use Rattle.spool_slots.specs.Images.{IsFreeImage};
 ghost use Rattle.spool_slots.specs.Media.{IsVacant, begun};
 ghost use Rattle.spool_slots.specs.States.{Drafts, IsBrokenIn, IsOnward};
@@ -48,6 +50,9 @@ pub(crate) fn begin<D: Disk>(
     ensures images { MatchResult result
         (λ filling. Through (EachImage IsFreeImage) (D.disk_view disk) filling.disk)
         (λ broken. Through (EachImage IsFreeImage) (D.disk_view disk) broken.disk) }
+    ensures runs { (k : Known) → IsBegun k.use_of → MatchResult result
+        (λ filling. Runs k (D.disk_view disk) k filling.disk)
+        (λ broken. Runs k (D.disk_view disk) k broken.disk) }
     ensures err { IfErr result (λ broken. IsBrokenIn number (D.disk_view disk) broken) }
 {
     let mut disk = disk;

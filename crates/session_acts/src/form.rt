@@ -1,0 +1,6 @@
+/// In which form a client is heard.
+#[derive(Clone, Copy, Debug, PartialEq, Eq)]
+pub enum Form {
+    /// As lines of at most 512 bytes, which end at LF.
+    Lines,
+}

@@ -1,0 +1,7 @@
+mod ReadLemmas
+mod ImageLemmas
+mod SlotLemmas
+mod WorldLemmas
+pub mod RunLemmas
+mod EventLemmas
+mod ExampleLemmas

@@ -1,0 +1,5 @@
+pub mod World
+pub mod Images
+pub mod Events
+pub mod Safe
+pub mod Runs

@@ -1,0 +1,19 @@
+-- What must hold of a spool at any time.
+use Rattle.std.specs.Prelude.{◌≡◌, ℕ, ◌⊎◌}
+use Rattle.std.specs.List.{Contains}
+use Rattle.fw_disk.specs.Moments.{EachImage}
+use Rattle.spool_law.specs.World.{Letter, World}
+use Rattle.spool_law.specs.World.Use.{Opened}
+use Rattle.spool_law.specs.Images.{IsFree, IsKept, IsOneOf}
+
+-- whatever a crash leaves, one slot, which is this message's, reads as this message, set aside or not
+pub record Stands (l : Letter) (w : World) : Type 0 where
+  pub slot : ℕ
+  pub is : (w.slots slot).use_of ≡ Opened l
+  pub kept : EachImage (IsKept l.mail) (w.slots slot).medium
+
+-- Each message that was answered for stands or was accepted. Whatever a crash leaves of a slot is free, or a message
+-- that was begun and finished. So it is never bad, and never a part of a message.
+pub record IsSafe (w : World) : Type 0 where
+  pub answered : (l : Letter) → Contains w.answered l → Contains w.accepted l ⊎ Stands l w
+  pub images : (n : ℕ) → EachImage (λ image. IsFree image ⊎ IsOneOf w.finished image) (w.slots n).medium

@@ -1,0 +1,29 @@
+//! What holds of all spools.
+ghost use Rattle.std.specs.Prelude.{◌≡◌, ℕ, List, [], ◌∷◌};
+ghost use Rattle.fw_disk.specs.DiskView.{Tape};
+ghost use Rattle.fw_disk.specs.Moments.{Since};
+ghost use Rattle.spool_law.specs.World.{Letter, World, formatted};
+ghost use Rattle.spool_law.specs.Events.{Step, Event, ArePossible, after_all};
+ghost use Rattle.spool_law.specs.Safe.{IsSafe};
+ghost use Rattle.spool_law.specs.Runs.{Known, Does, IsReached, AreEvents, known_in};
+
+/// Whatever happens to slots that were formatted, each message that was answered for stands or was accepted, and what a
+/// crash leaves of a slot is free or a whole message that was begun and finished.
+pub fn stands()
+    ensures { (events : List Event) → ArePossible events formatted → IsSafe (after_all events formatted) }
+{}
+
+/// What a call does to one slot's disk, as steps, are events of the spool. Each medium that the disk had since the call
+/// began is where some first of these steps lead, so a crash at that moment is a crash after these.
+pub fn calls_are_events()
+    ensures events { (steps : List Step) (w : World) (n : ℕ) (old new : Tape) (l : Known) →
+        (w.slots n).medium ≡ old.now → Does steps (known_in w n) old l new → AreEvents steps w n l new }
+    ensures moments { (steps : List Step) (k l : Known) (old new : Tape) →
+        Does steps k old l new → Since (IsReached k old) old new }
+{}
+
+/// The law `stands` is not empty: a message can be begun, written, finished and answered for.
+pub fn a_message_can_stand()
+    ensures { (events : List Event) × (l : Letter) × ArePossible events formatted ×
+        ((after_all events formatted).answered ≡ l ∷ []) }
+{}
