@@ -12,11 +12,10 @@ use Rattle.slot_bytes.specs.Reading.{reads}
 use Rattle.slot_bytes.specs.Reading.Reading.{Whole}
 use Rattle.spool_law.specs.World.{Letter, Use, OfLetter}
 use Rattle.spool_law.specs.World.Use.{Begun, Opened}
-use Rattle.spool_law.specs.Events.{IsBegun, added, opened, longer, new_letter}
+use Rattle.spool_law.specs.Events.{IsBegun, added, opened, longer}
 use Rattle.spool_law.specs.Images.{IsWhole, IsReady}
 use Rattle.spool_law.specs.Runs.{Known, Runs, used_for}
 use Rattle.spool_law.proofs.RunLemmas.{runs_here, runs_failed, runs_then, runs_start, runs_add, runs_write, runs_sync, runs_open, runs_opened, runs_close, runs_aside}
-use Rattle.spool_slots.specs.Images.{IsFreeImage, IsWholeImage}
 use Rattle.spool_slots.specs.Media.{IsVacant, IsSettled, IsStanding, IsFull, IsAside}
 use Rattle.spool_slots.specs.Started.{begun_in}
 use Rattle.spool_slots.specs.States.{SlotView}
@@ -37,12 +36,12 @@ begun_here k view = runs_here k view
 pub runs_begun : (k : Known) (l : Letter) (a b : DiskView) → k.use_of ≡ Begun l → GoesOn a b → Runs k a k b ⊎ Runs k a (used_for (Opened l) k) b
 runs_begun k l a b e g = inl (g k (begun_use k.use_of l e))
 
-pub runs_added : (k : Known) (l : Letter) (piece : List ℕ) (a b : DiskView) → k.use_of ≡ Begun l → GoesOn a b → Runs k a (used_for (Begun (longer piece l)) k) b
-runs_added k l piece a b e g =
-    let t : Known = used_for (Begun (longer piece l)) k in
+pub runs_added : (k t : Known) (l : Letter) (piece : List ℕ) (a b : DiskView) → k.use_of ≡ Begun l → t ≡ used_for (Begun (longer piece l)) k → GoesOn a b → Runs k a t b
+runs_added k t l piece a b e f g =
+    let n : Known = used_for (Begun (longer piece l)) k in
     let add : Runs k a (used_for (added piece k.use_of) k) a = runs_add k piece a (begun_use k.use_of l e) in
-    let same : used_for (added piece k.use_of) k ≡ t = ap (λ (u : Use). used_for (added piece u) k) e in
-    runs_then k t t a a b (subst (λ (x : Known). Runs k a x a) same add) (g t tt)
+    let same : used_for (added piece k.use_of) k ≡ n = ap (λ (u : Use). used_for (added piece u) k) e in
+    subst (λ (x : Known). Runs k a x b) (sym f) (runs_then k n n a a b (subst (λ (x : Known). Runs k a x a) same add) (g n tt))
 
 pub runs_begins : (k : Known) (from : List ℕ) (rcpts : List (List ℕ)) (a b : DiskView) → Now IsVacant a → GoesOn a b → Runs k a (begun_in k from rcpts) b
 runs_begins k from rcpts a b v g =
