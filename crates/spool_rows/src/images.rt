@@ -6,7 +6,7 @@ use fw_memory::MemDisk;
 use fw_types::NoMemory;
 use row_lines::{Told, add_number, cut_word, numbers_of};
 use slot_bytes::Message;
-use spool_slots::{Full, Opened, ReadBack, SlotWhy, open};
+use spool_slots::{Broken, Full, Opened, ReadBack, SlotWhy, open};
 use std::alloc::Global;
 
 // How many images open as what; a message other than the one that was written is told as bad.
@@ -46,13 +46,25 @@ fn count_full(
     Ok(())
 }
 
+fn count_broken(
+    broken: Broken<MemDisk>,
+    why: SlotWhy,
+    counts: &mut Counts,
+) -> Result<(), NoMemory> {
+    let _ = broken.into_disk();
+    if why == SlotWhy::NoMemory {
+        return Err(NoMemory);
+    }
+    counts.bad = counts.bad.saturating_add(1);
+    Ok(())
+}
+
 fn count(alloc: Global, disk: MemDisk, length: u64, counts: &mut Counts) -> Result<(), NoMemory> {
     match open(alloc, 7, disk) {
         Ok(Opened::Free(_)) => counts.free = counts.free.saturating_add(1),
         Ok(Opened::Full(full)) => count_full(alloc, full, length, counts)?,
         Ok(Opened::Aside(_)) => counts.aside = counts.aside.saturating_add(1),
-        Err((_, SlotWhy::NoMemory)) => return Err(NoMemory),
-        Err((_, _)) => counts.bad = counts.bad.saturating_add(1),
+        Err((broken, why)) => count_broken(broken, why, counts)?,
     }
     Ok(())
 }

@@ -6,7 +6,7 @@ use crate::slots::tell_message;
 use fw_memory::{Calls, MemDisk};
 use fw_types::{NoMemory, Octets};
 use row_lines::{Told, add_number, add_word, cut_word};
-use spool_slots::{Full, Opened, ReadBack, SlotWhy, open};
+use spool_slots::{Broken, Full, Opened, ReadBack, SlotWhy, open};
 use std::alloc::Global;
 
 // A disk with these bytes that fails from a call on, counted behind those of `open`.
@@ -75,6 +75,25 @@ fn tell_full(alloc: Global, full: Full<MemDisk>, out: &mut Told) -> Result<(), N
     Ok(())
 }
 
+fn tell_why(broken: Broken<MemDisk>, why: SlotWhy, out: &mut Told) -> Result<(), NoMemory> {
+    match why {
+        SlotWhy::BadSlot { at } => {
+            let _ = broken.into_disk();
+            add_word(out, b"bad at");
+            add_number(out, at);
+            Ok(())
+        }
+        SlotWhy::DiskFault => {
+            let _ = tell_broken(broken, out);
+            Ok(())
+        }
+        SlotWhy::NoMemory => {
+            let _ = broken.into_disk();
+            Err(NoMemory)
+        }
+    }
+}
+
 /// `open DIGITS FIRST => free`, `full MESSAGE`, `aside`, `bad at PLACE` or `broken`: what the bytes open as, with the
 /// message read. The disk's calls are counted behind those of `open`, which makes three where a message stands.
 pub(crate) fn tell_open(alloc: Global, asked: &[u8], out: &mut Told) -> Result<(), NoMemory> {
@@ -83,14 +102,7 @@ pub(crate) fn tell_open(alloc: Global, asked: &[u8], out: &mut Told) -> Result<(
         Ok(Opened::Free(_)) => add_word(out, b"free"),
         Ok(Opened::Full(full)) => tell_full(alloc, full, out)?,
         Ok(Opened::Aside(_)) => add_word(out, b"aside"),
-        Err((_, SlotWhy::BadSlot { at })) => {
-            add_word(out, b"bad at");
-            add_number(out, at);
-        }
-        Err((broken, SlotWhy::DiskFault)) => {
-            let _ = tell_broken(broken, out);
-        }
-        Err((_, SlotWhy::NoMemory)) => return Err(NoMemory),
+        Err((broken, why)) => tell_why(broken, why, out)?,
     }
     Ok(())
 }
