@@ -59,14 +59,32 @@ fn count_broken(
     Ok(())
 }
 
+fn count_opened(
+    alloc: Global,
+    opened: Opened<MemDisk>,
+    length: u64,
+    counts: &mut Counts,
+) -> Result<(), NoMemory> {
+    match opened {
+        Opened::Free(free) => {
+            let _ = free.into_disk();
+            counts.free = counts.free.saturating_add(1);
+            Ok(())
+        }
+        Opened::Full(full) => count_full(alloc, full, length, counts),
+        Opened::Aside(aside) => {
+            let _ = aside.into_disk();
+            counts.aside = counts.aside.saturating_add(1);
+            Ok(())
+        }
+    }
+}
+
 fn count(alloc: Global, disk: MemDisk, length: u64, counts: &mut Counts) -> Result<(), NoMemory> {
     match open(alloc, 7, disk) {
-        Ok(Opened::Free(_)) => counts.free = counts.free.saturating_add(1),
-        Ok(Opened::Full(full)) => count_full(alloc, full, length, counts)?,
-        Ok(Opened::Aside(_)) => counts.aside = counts.aside.saturating_add(1),
-        Err((broken, why)) => count_broken(broken, why, counts)?,
+        Ok(opened) => count_opened(alloc, opened, length, counts),
+        Err((broken, why)) => count_broken(broken, why, counts),
     }
-    Ok(())
 }
 
 fn tell_counts(counts: Counts, out: &mut Told) {

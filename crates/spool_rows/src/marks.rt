@@ -94,15 +94,28 @@ fn tell_why(broken: Broken<MemDisk>, why: SlotWhy, out: &mut Told) -> Result<(),
     }
 }
 
+fn tell_opened(alloc: Global, opened: Opened<MemDisk>, out: &mut Told) -> Result<(), NoMemory> {
+    match opened {
+        Opened::Free(free) => {
+            let _ = free.into_disk();
+            add_word(out, b"free");
+            Ok(())
+        }
+        Opened::Full(full) => tell_full(alloc, full, out),
+        Opened::Aside(aside) => {
+            let _ = aside.into_disk();
+            add_word(out, b"aside");
+            Ok(())
+        }
+    }
+}
+
 /// `open DIGITS FIRST => free`, `full MESSAGE`, `aside`, `bad at PLACE` or `broken`: what the bytes open as, with the
 /// message read. The disk's calls are counted behind those of `open`, which makes three where a message stands.
 pub(crate) fn tell_open(alloc: Global, asked: &[u8], out: &mut Told) -> Result<(), NoMemory> {
     let (digits, first) = cut_word(asked);
     match open(alloc, 7, disk_of(alloc, digits, failing(first))?) {
-        Ok(Opened::Free(_)) => add_word(out, b"free"),
-        Ok(Opened::Full(full)) => tell_full(alloc, full, out)?,
-        Ok(Opened::Aside(_)) => add_word(out, b"aside"),
-        Err((broken, why)) => tell_why(broken, why, out)?,
+        Ok(opened) => tell_opened(alloc, opened, out),
+        Err((broken, why)) => tell_why(broken, why, out),
     }
-    Ok(())
 }
