@@ -2,6 +2,9 @@
 
 use crate::disks::{tell_crash, tell_disk};
 use crate::formats::{tell_crashes, tell_format};
+use crate::images::{tell_fill_crashes, tell_mark_crashes};
+use crate::letters::{tell_abandon, tell_fill};
+use crate::marks::{tell_mark, tell_open};
 use crate::slots::{base_of, tell_base, tell_head, tell_length, tell_slot};
 use fw_types::NoMemory;
 use row_lines::{Rows, Told, add};
@@ -40,6 +43,13 @@ impl Rows for Kinds {
             "crash" => tell_crash(alloc, asked, out)?,
             "format" => tell_format(alloc, asked, out)?,
             "format-crashes" => tell_crashes(alloc, asked, out)?,
+            "fill" => tell_fill(alloc, asked, out)?,
+            "abandon" => tell_abandon(alloc, asked, out)?,
+            "open" => tell_open(alloc, asked, out)?,
+            "set-aside" | "release" => tell_mark(alloc, kind, asked, out)?,
+            "fill-crashes" => tell_fill_crashes(alloc, asked, out)?,
+            "set-aside-crashes" => tell_mark_crashes(alloc, "set-aside", asked, out)?,
+            "release-crashes" => tell_mark_crashes(alloc, "release", asked, out)?,
             _ => add(out, b"no such kind"),
         }
         Ok(())

@@ -4,7 +4,10 @@
 
 mod disks;
 mod formats;
+mod images;
 mod kinds;
+mod letters;
+mod marks;
 mod slots;
 
 use kinds::Kinds;

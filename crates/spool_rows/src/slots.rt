@@ -10,7 +10,7 @@ fn bytes_of(alloc: Global, digits: &[u8]) -> Result<Vec<u8>, NoMemory> {
     from_hex(alloc, str::from_utf8(digits).unwrap_or(""))
 }
 
-fn tell_message(message: &Message, out: &mut Told) {
+pub(crate) fn tell_message(message: &Message, out: &mut Told) {
     add_word(out, b"from [");
     add(out, message.from.bytes());
     add(out, b"] to");

@@ -192,8 +192,8 @@ written_added pen old new e h s = record {
 pub has_written : (at : ℕ) (held : List ℕ) (pen pen' : Pen) (old new : DiskView) → at ≡ pen.at → held ≡ pen.held → new ≡ record old { told = option_map (changed (written_at at held)) old.told } → pen' ≡ moved_pen pen → Now (IsFilling pen) old → Through IsShut old new → HasAdded [] pen old pen' new
 has_written at held pen pen' old new ea eh e p h s =
     let is : new ≡ record old { told = option_map (changed (written_at pen.at pen.held)) old.told } = e
-        ∙ ap (λ (n : ℕ). let v : DiskView = record old { told = option_map (changed (written_at n held)) old.told } in v) ea
-        ∙ ap (λ (l : List ℕ). let v : DiskView = record old { told = option_map (changed (written_at pen.at l)) old.told } in v) eh in
+    ∙ ap (λ (n : ℕ). let v : DiskView = record old { told = option_map (changed (written_at n held)) old.told } in v) ea
+    ∙ ap (λ (l : List ℕ). let v : DiskView = record old { told = option_map (changed (written_at pen.at l)) old.told } in v) eh in
     subst (λ (x : Pen). HasAdded [] pen old x new) (sym p) (written_added pen old new is h s)
 
 -- ---- beginning

@@ -4,3 +4,7 @@ pub mod FillingLemmas
 pub mod StandingLemmas
 pub mod MarkLemmas
 pub mod FinishingLemmas
+pub mod LookLemmas
+pub mod KeptLemmas
+pub mod OpenLemmas
+pub mod EventLemmas

@@ -40,7 +40,7 @@ aside_gate view h = told_long IsAside 0 (λ m f. omega arith) view.told view.fau
 
 -- ---- images of what stands
 
-whole_image : (m : Mail) (medium : Medium) → IsSettled (Whole m) medium → EachImage (IsWholeImage m) medium
+pub whole_image : (m : Mail) (medium : Medium) → IsSettled (Whole m) medium → EachImage (IsWholeImage m) medium
 whole_image m medium s image is =
     let o = whole_open m medium s in
     ap reads (standing_images o.gate 0 m medium o.stands image is) ∙ reads_whole o.gate m o.stands.rest o.low o.high o.stands.mail

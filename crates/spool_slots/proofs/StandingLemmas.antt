@@ -44,15 +44,15 @@ one_byte_image s image at b within is =
     let x : ℕ = get_or image at 0 in
     let len : length image ≡ length s = omega (arith, is.no_shorter, is.no_longer, within) in
     ext_get_or 0 image (set s at x) (omega (arith, len, length-set s at x)) (λ i lt.
-      elim (less_or i at) [
-        | inl low ↦ kept_byte s image at b i is (omega (arith, lt, len)) (inl low) ∙ sym (get_or-set_other s at i x 0 (λ e. omega (arith, low, e)))
-        | inr le ↦ elim (less_or at i) [
-          | inl high ↦ kept_byte s image at b i is (omega (arith, lt, len)) (inr high) ∙ sym (get_or-set_other s at i x 0 (λ e. omega (arith, high, e)))
-          | inr ge ↦
-              let here : i ≡ at = omega (arith, le, ge) in
-              ap (λ (j : ℕ). get_or image j 0) here ∙ sym (get_or-set_same s at x 0 within) ∙ ap (λ (j : ℕ). get_or (set s at x) j 0) (sym here)
-        ]
-      ])
+    elim (less_or i at) [
+      | inl low ↦ kept_byte s image at b i is (omega (arith, lt, len)) (inl low) ∙ sym (get_or-set_other s at i x 0 (λ e. omega (arith, low, e)))
+      | inr le ↦ elim (less_or at i) [
+        | inl high ↦ kept_byte s image at b i is (omega (arith, lt, len)) (inr high) ∙ sym (get_or-set_other s at i x 0 (λ e. omega (arith, high, e)))
+        | inr ge ↦
+            let here : i ≡ at = omega (arith, le, ge) in
+            ap (λ (j : ℕ). get_or image j 0) here ∙ sym (get_or-set_same s at x 0 within) ∙ ap (λ (j : ℕ). get_or (set s at x) j 0) (sym here)
+      ]
+    ])
 
 -- an image of bytes that are spelled with one byte
 pub record IsOneByte (spell : ℕ → List ℕ) (image : List ℕ) : Type 0 where

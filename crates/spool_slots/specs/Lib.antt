@@ -3,3 +3,7 @@ pub mod Media
 pub mod States
 pub mod Filled
 pub mod Started
+pub mod Looks
+pub mod Found
+pub mod Opened
+pub mod Messages

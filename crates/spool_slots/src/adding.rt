@@ -4,6 +4,8 @@ ghost use Rattle.fw_outside.specs.Counts.{Rose};
 ghost use Rattle.fw_disk.specs.Medium.{written_at};
 ghost use Rattle.fw_disk.specs.DiskView.{changed, length_told};
 ghost use Rattle.fw_disk.specs.Moments.{Now, Through};
+ghost use Rattle.spool_law.specs.Events.{IsBegun};
+ghost use Rattle.spool_law.specs.Runs.{Known, Runs};
 ghost use Rattle.spool_slots.specs.Filled.{HasAdded};
 ghost use Rattle.spool_slots.specs.Media.{IsFilling, IsShut};
 
@@ -17,6 +19,7 @@ pub(crate) fn fill<D: Disk>(disk: &mut D, at: u64, bytes: &[u8]) -> Result<(), F
     requires behind { 1 ≤ at }
     requires within { IfSome (length_told (D.disk_view disk.old)) (λ len. at ≤ len) }
     ensures moments { Through IsShut (D.disk_view disk.old) (D.disk_view disk.new) }
+    ensures runs { (k : Known) → IsBegun k.use_of → Runs k (D.disk_view disk.old) k (D.disk_view disk.new) }
     ensures ok { OnOk result (D.disk_view disk.new ≡ record (D.disk_view disk.old) {
       told = option_map (changed (written_at at bytes.now)) (D.disk_view disk.old).told;
     }) }
@@ -32,6 +35,7 @@ pub(crate) fn write_held<D: Disk>(disk: &mut D, pen: &mut Pen) -> Result<(), Fai
     ensures ok { OnOk result (HasAdded [] pen.old (D.disk_view disk.old) pen.new (D.disk_view disk.new)) }
     ensures empty { OnOk result (pen.new.held ≡ []) }
     ensures moments { Through IsShut (D.disk_view disk.old) (D.disk_view disk.new) }
+    ensures runs { (k : Known) → IsBegun k.use_of → Runs k (D.disk_view disk.old) k (D.disk_view disk.new) }
     ensures err { OnErr result (Rose (D.disk_view disk.old).faults (D.disk_view disk.new).faults) }
 {
     fill(disk, pen.at(), pen.held())?;
@@ -60,6 +64,7 @@ fn write_block<D: Disk>(disk: &mut D, pen: &mut Pen, piece: &[u8]) -> Result<(),
     ensures ok { OnOk result (HasAdded piece.now pen.old (D.disk_view disk.old) pen.new (D.disk_view disk.new)) }
     ensures empty { OnOk result (pen.new.held ≡ []) }
     ensures moments { Through IsShut (D.disk_view disk.old) (D.disk_view disk.new) }
+    ensures runs { (k : Known) → IsBegun k.use_of → Runs k (D.disk_view disk.old) k (D.disk_view disk.new) }
     ensures err { OnErr result (Rose (D.disk_view disk.old).faults (D.disk_view disk.new).faults) }
 {
     hold(disk, pen, piece);
@@ -67,7 +72,7 @@ fn write_block<D: Disk>(disk: &mut D, pen: &mut Pen, piece: &[u8]) -> Result<(),
 }
 
 /// Adds a piece, and writes each full block.
-#[tactic(auto, using(crate::proofs::FillingLemmas::front_none, crate::proofs::FillingLemmas::front_more, crate::proofs::FillingLemmas::front_all, crate::proofs::FillingLemmas::front_filling, crate::proofs::FillingLemmas::front_moments, crate::proofs::FillingLemmas::front_fits))]
+#[tactic(auto, using(crate::proofs::FillingLemmas::front_none, crate::proofs::FillingLemmas::front_more, crate::proofs::FillingLemmas::front_all, crate::proofs::FillingLemmas::front_filling, crate::proofs::FillingLemmas::front_moments, crate::proofs::FillingLemmas::front_fits, crate::proofs::EventLemmas::runs_on, crate::proofs::EventLemmas::begun_here))]
 pub(crate) fn add_all<D: Disk>(disk: &mut D, pen: &mut Pen, piece: &[u8]) -> Result<(), Failed>
     requires filling { Now (IsFilling pen.old) (D.disk_view disk.old) }
     requires few { length pen.old.held ≤ 8191 }
@@ -75,6 +80,7 @@ pub(crate) fn add_all<D: Disk>(disk: &mut D, pen: &mut Pen, piece: &[u8]) -> Res
     ensures ok { OnOk result (HasAdded piece.now pen.old (D.disk_view disk.old) pen.new (D.disk_view disk.new)) }
     ensures few { OnOk result (length pen.new.held ≤ 8191) }
     ensures moments { Through IsShut (D.disk_view disk.old) (D.disk_view disk.new) }
+    ensures runs { (k : Known) → IsBegun k.use_of → Runs k (D.disk_view disk.old) k (D.disk_view disk.new) }
     ensures err { OnErr result (Rose (D.disk_view disk.old).faults (D.disk_view disk.new).faults) }
 {
     let mut rest = piece;

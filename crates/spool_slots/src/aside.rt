@@ -1,6 +1,9 @@
 ghost use Rattle.std.specs.Prelude.{◌≡◌, MatchResult, IfOk, IfErr};
 ghost use Rattle.fw_disk.specs.Moments.{EachImage, Now, Through};
 ghost use Rattle.slot_bytes.specs.Layout.{Mail};
+ghost use Rattle.std.specs.List.{Contains};
+ghost use Rattle.spool_law.specs.World.{OfLetter};
+ghost use Rattle.spool_law.specs.Runs.{Known, Runs};
 ghost use Rattle.spool_slots.specs.Images.{HasMessageBehind, IsAsideImage, IsFreeImage, IsFreeOrAside};
 ghost use Rattle.spool_slots.specs.Media.{IsAside};
 ghost use Rattle.spool_slots.specs.States.{IsBrokenIn, IsOnward, KeepsAside};
@@ -44,9 +47,12 @@ impl<D: Disk> Aside<D> {
     }
 
     /// Closes the gate: the slot is free for a message again.
-    #[tactic(auto, using(crate::proofs::MarkLemmas::aside_gate, crate::proofs::MarkLemmas::release_aside_vacant, crate::proofs::MarkLemmas::release_aside_moments, crate::proofs::MarkLemmas::failed_release_aside_moments, crate::proofs::MarkLemmas::failed_release_aside_behind))]
+    #[tactic(auto, using(crate::proofs::MarkLemmas::aside_gate, crate::proofs::MarkLemmas::release_aside_vacant, crate::proofs::MarkLemmas::release_aside_moments, crate::proofs::MarkLemmas::failed_release_aside_moments, crate::proofs::MarkLemmas::failed_release_aside_behind, crate::proofs::EventLemmas::runs_released, crate::proofs::EventLemmas::runs_not_released))]
     pub fn release(self) -> Result<Free<D>, Broken<D>>
         ensures ok { IfOk result (λ free. IsOnward self.number self.disk free.number free.disk) }
+        ensures events { (k : Known) → OfLetter (Contains k.accepted) k.use_of → MatchResult result
+            (λ free. Runs k self.disk k free.disk)
+            (λ broken. Runs k self.disk k broken.disk) }
         ensures images { (m : Mail) → KeepsAside m self → MatchResult result
             (λ free. Through (EachImage (IsFreeOrAside m)) self.disk free.disk)
             (λ broken. Through (EachImage (IsFreeOrAside m)) self.disk broken.disk) }

@@ -1,6 +1,10 @@
-ghost use Rattle.std.specs.Prelude.{◌≡◌, ◌+◌, ◌≤◌, ℕ, length, MatchResult, IfOk, IfErr, false};
+ghost use Rattle.std.specs.Prelude.{◌≡◌, ◌+◌, ◌≤◌, ℕ, length, MatchResult, IfOk, IfErr, false, ◌⊎◌};
 ghost use Rattle.fw_disk.specs.Moments.{EachImage, Now, Through};
 ghost use Rattle.slot_bytes.specs.Layout.{Mail};
+ghost use Rattle.spool_law.specs.World.{Letter};
+ghost use Rattle.spool_law.specs.World.Use.{Begun, Opened};
+ghost use Rattle.spool_law.specs.Events.{longer as longer_letter};
+ghost use Rattle.spool_law.specs.Runs.{Known, Runs, used_for};
 ghost use Rattle.spool_slots.specs.Images.{IsFreeImage, IsFreeOrWhole};
 ghost use Rattle.spool_slots.specs.Media.{IsFilling, longer};
 ghost use Rattle.spool_slots.specs.States.{Drafts, IsBrokenIn, IsOnward, Keeps, Opens, OpensOrNot};
@@ -51,7 +55,7 @@ impl<D: Disk> Filling<D> {
 
     /// Adds a piece at the body's end, which stays within 67,108,864 bytes. Each full 8,192 bytes are written, and at
     /// most 8,191 are held back.
-    #[tactic(auto, using(crate::proofs::ShutLemmas::through_free))]
+    #[tactic(auto, using(crate::proofs::ShutLemmas::through_free, crate::proofs::EventLemmas::runs_added))]
     pub fn add(self, piece: &[u8]) -> Result<Filling<D>, Broken<D>>
         requires { self.pen.len + length piece.now ≤ 67108864 }
         ensures ok { IfOk result (λ filling. IsOnward self.number self.disk filling.number filling.disk) }
@@ -61,6 +65,9 @@ impl<D: Disk> Filling<D> {
         ensures images { MatchResult result
             (λ filling. Through (EachImage IsFreeImage) self.disk filling.disk)
             (λ broken. Through (EachImage IsFreeImage) self.disk broken.disk) }
+        ensures events { (k : Known) (l : Letter) → k.use_of ≡ Begun l → MatchResult result
+            (λ filling. Runs k self.disk (used_for (Begun (longer_letter piece.now l)) k) filling.disk)
+            (λ broken. Runs k self.disk (used_for (Begun (longer_letter piece.now l)) k) broken.disk) }
         ensures err { IfErr result (λ broken. IsBrokenIn self.number self.disk broken) }
     {
         let Filling {
@@ -82,6 +89,9 @@ impl<D: Disk> Filling<D> {
         ensures images { (m : Mail) → Drafts m self → MatchResult result
             (λ full. Opens m self.disk full.disk)
             (λ broken. OpensOrNot m self.disk broken.disk) }
+        ensures events { (k : Known) (l : Letter) → k.use_of ≡ Begun l → Drafts l.mail self → MatchResult result
+            (λ full. Runs k self.disk (used_for (Opened l) k) full.disk)
+            (λ broken. Runs k self.disk k broken.disk ⊎ Runs k self.disk (used_for (Opened l) k) broken.disk) }
         ensures err { IfErr result (λ broken. IsBrokenIn self.number self.disk broken) }
     {
         let Filling {

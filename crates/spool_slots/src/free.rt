@@ -1,9 +1,10 @@
 ghost use Rattle.std.specs.Prelude.{◌≡◌, MatchResult, IfOk, IfErr, []};
 ghost use Rattle.fw_disk.specs.Moments.{EachImage, Now, Through};
 ghost use Rattle.slot_bytes.specs.Layout.{IsEnvelope};
+ghost use Rattle.spool_law.specs.Runs.{Known, Runs};
 ghost use Rattle.spool_slots.specs.Images.{IsFreeImage};
 ghost use Rattle.spool_slots.specs.Media.{IsShut, IsVacant, begun};
-ghost use Rattle.spool_slots.specs.Started.{IsNotBegun, LeavesFree};
+ghost use Rattle.spool_slots.specs.Started.{IsNotBegun, LeavesFree, RunsBegun, begun_in};
 ghost use Rattle.spool_slots.specs.States.{Drafts, IsOnward};
 
 use crate::starting::{begin, prepare};
@@ -49,7 +50,13 @@ impl<D: Disk> Free<D> {
 
     /// Begins a message from a sender of at most 256 bytes to 1 to 1,000 recipients of 1 to 256 bytes, and takes the
     /// memory that it needs until it is finished.
-    pub fn start(self, alloc: Global, from: &[u8], rcpts: &OctetsList) -> Result<Filling<D>, StartFault<D>>
+    #[tactic(auto, using(crate::proofs::EventLemmas::runs_begins, crate::proofs::EventLemmas::runs_same))]
+    pub fn start(
+        self,
+        alloc: Global,
+        from: &[u8],
+        rcpts: &OctetsList,
+    ) -> Result<Filling<D>, StartFault<D>>
         requires { IsEnvelope from.now rcpts.now }
         ensures ok { IfOk result (λ filling. IsOnward self.number self.disk filling.number filling.disk) }
         ensures empty { IfOk result (λ filling. (filling.pen.len ≡ 0) × (filling.pen.held ≡ [])) }
@@ -57,6 +64,9 @@ impl<D: Disk> Free<D> {
         ensures images { MatchResult result
             (λ filling. Through (EachImage IsFreeImage) self.disk filling.disk)
             (λ fault. LeavesFree self fault) }
+        ensures events { (k : Known) → MatchResult result
+            (λ filling. Runs k self.disk (begun_in k from.now rcpts.now) filling.disk)
+            (λ fault. RunsBegun k from.now rcpts.now self fault) }
         ensures err { IfErr result (λ fault. IsNotBegun self fault) }
     {
         let Free { number, disk } = self;

@@ -1,12 +1,20 @@
-ghost use Rattle.std.specs.Prelude.{◌≡◌, MatchResult, IfOk, IfErr, true, false};
+ghost use Rattle.std.specs.Prelude.{◌≡◌, MatchResult, IfOk, IfErr, IfSome, OnOk, true, false};
 ghost use Rattle.fw_disk.specs.Moments.{EachImage, Now, Through};
 ghost use Rattle.slot_bytes.specs.Layout.{Mail};
+ghost use Rattle.slot_bytes.specs.SlotView.{mail_view};
+ghost use Rattle.std.specs.List.{Contains};
+ghost use Rattle.spool_law.specs.World.{OfLetter};
+ghost use Rattle.spool_law.specs.Runs.{Known, Runs};
 ghost use Rattle.spool_slots.specs.Images.{HasMessageBehind, IsFreeImage, IsFreeOrWhole, IsWholeImage, IsWholeOrAside};
 ghost use Rattle.spool_slots.specs.Media.{IsFull};
+ghost use Rattle.spool_slots.specs.Messages.{Leaves};
 ghost use Rattle.spool_slots.specs.States.{IsBrokenFull, IsOnward, Keeps, KeepsAside};
 
-use crate::{Aside, Broken, Free};
+use crate::messages::read_message;
+use crate::{Aside, Broken, Free, ReadBack};
 use fw_disk::{Disk, Failed, set_byte};
+use slot_bytes::Message;
+use std::alloc::Global;
 use std::marker::Model;
 
 /// A slot with a message.
@@ -48,6 +56,28 @@ impl<D: Disk> Full<D> {
         self.number
     }
 
+    /// Reads the message. If the disk fails, the slot stays as it is and is unread.
+    #[tactic(auto, using(crate::proofs::EventLemmas::runs_only_read))]
+    pub fn message(&mut self, alloc: Global) -> Result<Message, ReadBack>
+        ensures message { IfOk result (λ message. (m : Mail) → Keeps m self.old
+            → IfSome self.old.disk.told (λ _. mail_view message ≡ m)) }
+        ensures events { (k : Known) → Runs k self.old.disk k self.new.disk }
+        ensures number { self.new.number ≡ self.old.number }
+        ensures told { self.new.disk.told ≡ self.old.disk.told }
+        ensures ok { OnOk result (self.new.disk.faults ≡ self.old.disk.faults) }
+        ensures read { OnOk result (self.new.unread ≡ self.old.unread) }
+        ensures err { IfErr result (λ fault. Leaves fault self.old self.new) }
+    {
+        match read_message(alloc, &mut self.disk) {
+            Ok(message) => Ok(message),
+            Err(ReadBack::DiskFault) => {
+                self.unread = true;
+                Err(ReadBack::DiskFault)
+            }
+            Err(ReadBack::NoMemory) => Err(ReadBack::NoMemory),
+        }
+    }
+
     /// Gives up a slot that couldn't be read; the disk isn't called.
     pub fn into_broken(self) -> Broken<D>
         requires { self.unread ≡ true }
@@ -67,10 +97,13 @@ impl<D: Disk> Full<D> {
     }
 
     /// Sets the message aside.
-    #[tactic(auto, using(crate::proofs::MarkLemmas::full_mark, crate::proofs::MarkLemmas::set_aside_ok, crate::proofs::MarkLemmas::set_aside_some, crate::proofs::MarkLemmas::set_aside_moments, crate::proofs::MarkLemmas::failed_aside_moments, crate::proofs::MarkLemmas::failed_aside_behind))]
+    #[tactic(auto, using(crate::proofs::MarkLemmas::full_mark, crate::proofs::MarkLemmas::set_aside_ok, crate::proofs::MarkLemmas::set_aside_some, crate::proofs::MarkLemmas::set_aside_moments, crate::proofs::MarkLemmas::failed_aside_moments, crate::proofs::MarkLemmas::failed_aside_behind, crate::proofs::EventLemmas::runs_set_aside, crate::proofs::EventLemmas::runs_not_set_aside))]
     pub fn set_aside(self) -> Result<Aside<D>, Broken<D>>
         ensures ok { IfOk result (λ aside. IsOnward self.number self.disk aside.number aside.disk) }
         ensures aside { IfOk result (λ aside. (m : Mail) → Keeps m self → KeepsAside m aside) }
+        ensures events { (k : Known) → MatchResult result
+            (λ aside. Runs k self.disk k aside.disk)
+            (λ broken. Runs k self.disk k broken.disk) }
         ensures images { (m : Mail) → Keeps m self → MatchResult result
             (λ aside. Through (EachImage (IsWholeOrAside m)) self.disk aside.disk)
             (λ broken. Through (EachImage (IsWholeOrAside m)) self.disk broken.disk) }
@@ -90,9 +123,12 @@ impl<D: Disk> Full<D> {
     }
 
     /// Closes the gate: the slot is free for a message again.
-    #[tactic(auto, using(crate::proofs::MarkLemmas::full_gate, crate::proofs::MarkLemmas::release_vacant, crate::proofs::MarkLemmas::release_moments, crate::proofs::MarkLemmas::failed_release_moments, crate::proofs::MarkLemmas::failed_release_behind))]
+    #[tactic(auto, using(crate::proofs::MarkLemmas::full_gate, crate::proofs::MarkLemmas::release_vacant, crate::proofs::MarkLemmas::release_moments, crate::proofs::MarkLemmas::failed_release_moments, crate::proofs::MarkLemmas::failed_release_behind, crate::proofs::EventLemmas::runs_released, crate::proofs::EventLemmas::runs_not_released))]
     pub fn release(self) -> Result<Free<D>, Broken<D>>
         ensures ok { IfOk result (λ free. IsOnward self.number self.disk free.number free.disk) }
+        ensures events { (k : Known) → OfLetter (Contains k.accepted) k.use_of → MatchResult result
+            (λ free. Runs k self.disk k free.disk)
+            (λ broken. Runs k self.disk k broken.disk) }
         ensures images { (m : Mail) → Keeps m self → MatchResult result
             (λ free. Through (EachImage (IsFreeOrWhole m)) self.disk free.disk)
             (λ broken. Through (EachImage (IsFreeOrWhole m)) self.disk broken.disk) }

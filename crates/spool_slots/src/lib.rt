@@ -1,9 +1,10 @@
 //! Slots: files on disks, each of which holds one message or none.
 //!
-//! Each state of a slot is a type that owns the slot's disk. [`format()`] makes a [`Free`] slot of any disk. A message
-//! is begun by [`Free::start`], added to by [`Filling::add`], and stands once [`Filling::finish`] answers Ok; a [`Full`]
-//! slot is released or set [`Aside`], and a slot whose disk failed is [`Broken`]. What every image of the disk is read
-//! as, which is what a crash may leave, is said by the definitions of `specs/Images.antt`.
+//! Each state of a slot is a type that owns the slot's disk. [`format()`] makes a [`Free`] slot of any disk, and
+//! [`open`] says what stands on one. A message is begun by [`Free::start`], added to by [`Filling::add`], and stands
+//! once [`Filling::finish`] answers Ok; [`Full::message`] reads it. A [`Full`] slot is released or set [`Aside`], and a
+//! slot whose disk failed is [`Broken`]. What every image of the disk is read as, which is what a crash may leave, is
+//! said by the definitions of `specs/Images.antt`.
 #![tactic(auto)]
 
 mod adding;
@@ -14,7 +15,12 @@ mod filling;
 mod finishing;
 mod free;
 mod full;
+mod looking;
+mod messages;
+mod opening;
 mod pen;
+mod read_back;
+mod slot_why;
 mod start_fault;
 mod starting;
 
@@ -24,4 +30,8 @@ pub use clearing::format;
 pub use filling::Filling;
 pub use free::Free;
 pub use full::Full;
+pub use opening::{Opened, open};
+pub use read_back::ReadBack;
+pub use slot_why::SlotWhy;
+pub use spool_law::laws;
 pub use start_fault::StartFault;
