@@ -9,6 +9,7 @@ use crate::server_rules::ServerRules;
 use crate::{Device, Outcome, Refusal, Step};
 use auth_machine::Policy;
 use fw_outside::Files;
+use fw_types::NoMemory;
 use gate_rules::{Rules, RulesFault, Service};
 use netperm_table::{Table, TableFault};
 use std::alloc::Global;
@@ -47,13 +48,14 @@ fn read_rules(alloc: Global, table: &Table, service: &Service) -> Result<Rules, 
     }
 }
 
-fn read_policy(alloc: Global, table: &Table) -> Result<Policy, Outcome>
+// What the server goes by, where its rules were read.
+fn read_policy(alloc: Global, table: &Table, rules: &Rules) -> Result<Policy, Outcome>
+    requires { rules_of Authsrv table.now ≡ Ok rules.now }
     ensures { ReadsLines (policy_of table.now) result }
 {
-    match Policy::of(alloc, table) {
+    match Policy::beside(alloc, table, rules) {
         Ok(policy) => Ok(policy),
-        Err(RulesFault::Rule(fault)) => Err(Outcome::Unread(Refusal::Rule(fault))),
-        Err(RulesFault::NoMemory) => Err(Outcome::NoMemory(Step::Policy)),
+        Err(NoMemory) => Err(Outcome::NoMemory(Step::Policy)),
     }
 }
 
@@ -62,7 +64,7 @@ fn with_policy(alloc: Global, table: &Table, rules: Rules) -> Result<ServerRules
     requires { rules_of Authsrv table.now ≡ Ok rules }
     ensures { ReadsLines (server_rules_of table.now) result }
 {
-    match read_policy(alloc, table) {
+    match read_policy(alloc, table, &rules) {
         Ok(policy) => Ok(ServerRules { rules, policy }),
         Err(outcome) => Err(outcome),
     }
