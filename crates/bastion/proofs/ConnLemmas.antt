@@ -13,8 +13,7 @@ use Rattle.gate_rules.specs.Verdict.{verdict_of}
 use Rattle.gate_rules.specs.declared.service.Service.{Service}
 use Rattle.gate_rules.specs.declared.verdict.Verdict.{Verdict}
 use Rattle.gate_rules.specs.declared.verdict.Verdict.TheVariants.{Permit, Deny}
-use Rattle.session_acts.specs.Causes.{WaitsFor, is_spent_ending}
-use Rattle.session_acts.proofs.WaitedLemmas.{session_waited}
+use Rattle.session_acts.specs.Causes.{SessionKeeps, is_spent_ending}
 use Rattle.session_acts.specs.Client.{Denies}
 use Rattle.session_acts.specs.Serverless.{CausedAlone, TakesExactly}
 use Rattle.session_acts.specs.World.{Devices}
@@ -25,14 +24,19 @@ use Rattle.session_acts.proofs.ServerlessLemmas.{logged_serverless, session_serv
 use Rattle.session_acts.proofs.DeviceLemmas.{by_nothing}
 use Rattle.fw_outside.proofs.CountLemmas.{grew_none}
 use Rattle.fw_outside.specs.Counts.{Grew, Rose}
-use Rattle.bastion.specs.Conn.{AtConsole, Causes, Conn, IsRefused, NotedIf, Permits, Treats, TurnsAway, WaitsAs, denied_by, dialer_then, logged_row, patient, timeout_of}
+use Rattle.bastion.specs.Conn.{AtConsole, Causes, Conn, IsRefused, NotedIf, Permits, Treats, TurnsAway, Untouched, WaitsAs, denied_by, dialer_then, lent_by, logged_row, patient, timeout_of}
 use Rattle.bastion.specs.Endings.{denied_text, ending_line}
 use Rattle.bastion.specs.Texts.{decision_text}
-use Rattle.bastion.proofs.SinkLemmas.{gives_most, rose_later, same_low}
+use Rattle.bastion.proofs.SinkLemmas.{gives_most, gives_shut, rose_later, same_low}
+use Rattle.bastion.proofs.WaitLemmas.{session_waits}
 
 noted_most : (line : Option (List ℕ)) (old new : SinkView) → NotedIf line old new → old.faults ≤ new.faults
 noted_most None old new is = same_low old.faults new.faults (ap (λ (s : SinkView). s.faults) is)
 noted_most (Some line) old new noted = gives_most noted.told line old new noted.gives
+
+noted_shut : (line : Option (List ℕ)) (old new : SinkView) → NotedIf line old new → new.shut ≡ old.shut
+noted_shut None old new is = ap (λ (s : SinkView). s.shut) is
+noted_shut (Some line) old new noted = gives_shut noted.told line old new noted.gives
 
 module _ {Origin : Type 0} where
   abbrev with_logs : Devices Origin → SinkView → Devices Origin
@@ -151,25 +155,20 @@ module _ {Origin : Type 0} where
 
   -- ---- the wait
 
-  waits_later : (ending : Ending) (old new : Devices Origin) (logs : SinkView) → WaitsFor ending old (with_logs new logs) → WaitsFor ending old new
-  waits_later Done old new logs h = tt
-  waits_later (Denied line) old new logs h = tt
-  waits_later ClientFault old new logs h = tt
-  waits_later ServerFault old new logs h = tt
-  waits_later LogFault old new logs h = tt
-  waits_later AuthFault old new logs h = tt
-  waits_later Idle old new logs (inl client) = inl client
-  waits_later Idle old new logs (inr link) = inr (record { rose = link.rose; link = link.link; last = link.last; waited = link.waited })
-  waits_later NoRoute old new logs h = tt
-  waits_later Spent old new logs h = tt
-  waits_later NoMemory old new logs h = tt
+  treats_waited : (verdict : Verdict) (service : Service) (rules : RuleBook) (peer : Peer) (ending : Ending) (old new : Devices Origin) → Treats verdict service rules peer ending old new → WaitsAs verdict rules ending old new
+  treats_waited (Deny line) service rules peer ending old new h = tt
+  treats_waited (Permit line) service rules peer ending old new h =
+      session_waits rows (logged_row (decision_text (Permit line) service peer) (session_row false)) (patient (timeout_of rules) old) new ending h
+      (logged_serverless (decision_text (Permit line) service peer) (keeps_serverless Origin false))
 
-  treats_waited : (verdict : Verdict) (service : Service) (rules : RuleBook) (peer : Peer) (ending : Ending) (old new : Devices Origin) (logs : SinkView) → Treats verdict service rules peer ending old (with_logs new logs) → WaitsAs verdict rules ending old new
-  treats_waited (Deny line) service rules peer ending old new logs h = tt
-  treats_waited (Permit line) service rules peer ending old new logs h = waits_later ending (patient (timeout_of rules) old) new logs (session_waited h)
+  -- the log has no part in how long the client was waited for
+  waits_with : (verdict : Verdict) (rules : RuleBook) (ending : Ending) (old new : Devices Origin) (logs : SinkView) → WaitsAs verdict rules ending old (with_logs new logs) → WaitsAs verdict rules ending old new
+  waits_with (Deny line) rules ending old new logs h = tt
+  waits_with (Permit line) rules ending old new logs h = h
 
   pub conn_waited : (service : Service) (rules : RuleBook) (peer : Peer) (old new : Devices Origin) (ending : Ending) → Conn service rules peer old new ending → WaitsAs (verdict_of rules peer) rules ending old new
-  conn_waited service rules peer old new ending conn = treats_waited (verdict_of rules peer) service rules peer ending old new conn.logs conn.treats
+  conn_waited service rules peer old new ending conn =
+      waits_with (verdict_of rules peer) rules ending old new conn.logs (treats_waited (verdict_of rules peer) service rules peer ending old (with_logs new conn.logs) conn.treats)
 
   -- ---- whom the rules deny
 
@@ -215,8 +214,47 @@ module _ {Origin : Type 0} where
   pub conn_origin : (service : Service) (rules : RuleBook) (peer : Peer) (old new : Devices Origin) (ending : Ending) → Conn service rules peer old new ending → new.port.origin ≡ old.port.origin
   conn_origin service rules peer old new ending conn = treats_origin (verdict_of rules peer) service rules peer ending old (with_logs new conn.logs) conn.treats
 
+  treats_home : (verdict : Verdict) (service : Service) (rules : RuleBook) (peer : Peer) (ending : Ending) (old new : Devices Origin) → Treats verdict service rules peer ending old new → new.port.home ≡ old.port.home
+  treats_home (Deny line) service rules peer ending old new h = (session_keeps h.session).home
+  treats_home (Permit line) service rules peer ending old new h = (session_keeps h).home
+
+  pub conn_home : (service : Service) (rules : RuleBook) (peer : Peer) (old new : Devices Origin) (ending : Ending) → Conn service rules peer old new ending → new.port.home ≡ old.port.home
+  conn_home service rules peer old new ending conn = treats_home (verdict_of rules peer) service rules peer ending old (with_logs new conn.logs) conn.treats
+
   pub console_origin : (service : Service) (peer : Peer) (old new : Devices Origin) (ending : Ending) → AtConsole service peer old new ending → new.port.origin ≡ old.port.origin
   console_origin service peer old new ending h = (session_keeps h.session).origin
+
+  -- ---- no count falls
+
+  keeps_later : (old new : Devices Origin) (logs : SinkView) → logs.faults ≤ new.logs.faults → new.logs.shut ≡ logs.shut → SessionKeeps old (with_logs new logs) → SessionKeeps old new
+  keeps_later old new logs later shut h =
+      let before : old.logs.faults ≤ logs.faults = h.log_drops in
+      record {
+        faults = h.faults;
+        idles = h.idles;
+        drops = h.drops;
+        log_drops = omega (arith, before, later);
+        breaks = h.breaks;
+        strays = h.strays;
+        refusals = h.refusals;
+        link_faults = h.link_faults;
+        link_idles = h.link_idles;
+        waits = h.waits;
+        link_waits = h.link_waits;
+        shut = h.shut;
+        log_shut = shut ∙ h.log_shut;
+        origin = h.origin;
+        home = h.home;
+      }
+
+  treats_keeps : (verdict : Verdict) (service : Service) (rules : RuleBook) (peer : Peer) (ending : Ending) (old new : Devices Origin) → Treats verdict service rules peer ending old new → SessionKeeps (lent_by verdict rules old) new
+  treats_keeps (Deny line) service rules peer ending old new h = session_keeps h.session
+  treats_keeps (Permit line) service rules peer ending old new h = session_keeps h
+
+  pub conn_keeps : (service : Service) (rules : RuleBook) (peer : Peer) (old new : Devices Origin) (ending : Ending) → Conn service rules peer old new ending → SessionKeeps (lent_by (verdict_of rules peer) rules old) new
+  conn_keeps service rules peer old new ending conn =
+      keeps_later (lent_by (verdict_of rules peer) rules old) new conn.logs (noted_most (ending_line service peer ending) conn.logs new.logs conn.noted) (noted_shut (ending_line service peer ending) conn.logs new.logs conn.noted)
+      (treats_keeps (verdict_of rules peer) service rules peer ending old (with_logs new conn.logs) conn.treats)
 
   -- ---- from the code
 
@@ -225,3 +263,11 @@ module _ {Origin : Type 0} where
 
   pub treated_permit : (verdict : Verdict) (line : ℕ) (service : Service) (rules : RuleBook) (peer : Peer) (ending : Ending) (old new : Devices Origin) → verdict ≡ Permit line → Permits line service rules peer ending old new → Treats verdict service rules peer ending old new
   treated_permit verdict line service rules peer ending old new is h = subst (λ (v : Verdict). Treats v service rules peer ending old new) (sym is) h
+
+-- ---- what a denied client leaves
+
+pub untouched_deny : {A : Type 0} (verdict : Verdict) (line : ℕ) (old new : A) → verdict ≡ Deny line → new ≡ old → Untouched verdict old new
+untouched_deny verdict line old new is same = subst (λ (v : Verdict). Untouched v old new) (sym is) same
+
+pub untouched_permit : {A : Type 0} (verdict : Verdict) (line : ℕ) (old new : A) → verdict ≡ Permit line → Untouched verdict old new
+untouched_permit verdict line old new is = subst (λ (v : Verdict). Untouched v old new) (sym is) tt

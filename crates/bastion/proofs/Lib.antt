@@ -2,9 +2,11 @@ pub mod AttendedLemmas
 pub mod ClientLemmas
 pub mod CompleteLemmas
 pub mod ConnLemmas
+pub mod DenialLemmas
 pub mod DoesLemmas
 pub mod HeadlineLemmas
 pub mod InputLemmas
 pub mod ReadingLemmas
 pub mod RunLemmas
 pub mod SinkLemmas
+pub mod WaitLemmas

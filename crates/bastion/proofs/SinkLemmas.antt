@@ -20,5 +20,10 @@ pub gives_most : (told : Result (Unit {0}) Failed) (text : List ℕ) (old new : 
 gives_most (Ok done) text old new gives = same_low old.faults new.faults (ap (λ (d : SinkView). d.faults) gives)
 gives_most (Err failed) text old new gives = (cut_rose text old new gives).0
 
+-- and it was told the end, or not, as before
+pub gives_shut : (told : Result (Unit {0}) Failed) (text : List ℕ) (old new : SinkView) → Gives told text old new → new.shut ≡ old.shut
+gives_shut (Ok done) text old new gives = ap (λ (d : SinkView). d.shut) gives
+gives_shut (Err failed) text old new gives = ap (λ (d : SinkView). d.shut) gives.is
+
 pub rose_later : (a b c : ℕ) → Rose a b → b ≤ c → Rose a c
 rose_later a b c rose later = let low = rose.0 in let least = rose.1 in (omega arith, omega arith)

@@ -5,7 +5,7 @@ use Rattle.fw_acts.specs.Acts.{Row}
 use Rattle.fw_acts.specs.Acts.Row.{Do}
 use Rattle.fw_outside.specs.DialerView.{DialerView, dialer_waiting}
 use Rattle.fw_outside.specs.SinkView.{Gives, SinkView}
-use Rattle.fw_outside.specs.SourceView.{waiting}
+use Rattle.fw_outside.specs.SourceView.{SourceView, waiting}
 use Rattle.fw_outside.specs.declared.failed.Failed.{Failed}
 use Rattle.fw_types.specs.declared.ending.Ending.{Ending}
 use Rattle.fw_types.specs.declared.ending.Ending.TheVariants as endings
@@ -17,7 +17,7 @@ use Rattle.gate_rules.specs.declared.setting.Setting.TheVariants.{Timeout}
 use Rattle.gate_rules.specs.declared.verdict.Verdict.{Verdict}
 use Rattle.gate_rules.specs.declared.verdict.Verdict.TheVariants.{Permit, Deny}
 use Rattle.session_acts.specs.Acts.Act.{Log}
-use Rattle.session_acts.specs.Causes.{WaitsFor}
+use Rattle.session_acts.specs.Causes.{WaitedInVain}
 use Rattle.session_acts.specs.Denying.{denying_row, no_rows}
 use Rattle.session_acts.specs.Met.{acts}
 use Rattle.session_acts.specs.Serverless.{CausedAlone}
@@ -107,7 +107,22 @@ abbrev pub dialer_then : Verdict → RuleBook → DialerView → DialerView
 dialer_then (Permit line) rules dialer = dialer_waiting dialer (timeout_of rules)
 dialer_then (Deny line) rules dialer = dialer
 
+-- the devices as a client meets them: they wait as the rules have it for whom the verdict permits
+abbrev pub lent_by : {Origin : Type 0} → Verdict → RuleBook → Devices Origin → Devices Origin
+lent_by (Permit line) rules devices = patient (timeout_of rules) devices
+lent_by (Deny line) rules devices = devices
+
+-- where the ending is idle, the client's source waited in vain, as long as it was to wait; there is no server to wait for
+abbrev pub WaitsAlone : Ending → SourceView → SourceView → Type 0
+WaitsAlone endings.Idle old new = WaitedInVain old new
+WaitsAlone ending old new = Unit {0}
+
 -- where a client whom the verdict permits was idle, its source waited as long as the rules have it
 abbrev pub WaitsAs : {Origin : Type 0} → Verdict → RuleBook → Ending → Devices Origin → Devices Origin → Type 0
-WaitsAs (Permit line) rules ending old new = WaitsFor ending (patient (timeout_of rules) old) new
+WaitsAs (Permit line) rules ending old new = WaitsAlone ending (waiting old.inlet (timeout_of rules)) new.inlet
 WaitsAs (Deny line) rules ending old new = Unit {0}
+
+-- where the verdict denies, this is left as it was
+abbrev pub Untouched : {A : Type 0} → Verdict → A → A → Type 0
+Untouched (Deny line) old new = new ≡ old
+Untouched (Permit line) old new = Unit {0}

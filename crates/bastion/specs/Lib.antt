@@ -13,6 +13,7 @@ pub mod SessionSteps
 pub mod Status
 pub mod TableReport
 pub mod Texts
+pub mod TurningAway
 pub mod Words
 pub mod Works
 pub mod WorldView

@@ -1,13 +1,14 @@
 //! One client of a service: the verdict, the session, and how it ended.
 ghost use Rattle.std.specs.Prelude.{◌≡◌, true, false};
 ghost use Rattle.authsrv_gate.specs.Dialogue.{rows, session_row};
-ghost use Rattle.bastion.specs.Conn.{AtConsole, Causes, Conn, IsRefused, NotedIf, Treats, WaitsAs, denied_by, dialer_then, logged_row, patient, seconds_by, timeout_of};
+ghost use Rattle.bastion.specs.Conn.{AtConsole, Causes, Conn, IsRefused, Noted, NotedIf, Treats, Untouched, WaitsAs, denied_by, dialer_then, lent_by, logged_row, patient, seconds_by, timeout_of};
 ghost use Rattle.bastion.specs.Endings.{ending_line};
+ghost use Rattle.bastion.specs.TurningAway.{TurnedAway};
 ghost use Rattle.fw_outside.specs.DialerView.{dialer_waiting};
 ghost use Rattle.fw_outside.specs.SourceView.{waiting};
 ghost use Rattle.gate_rules.specs.Verdict.{verdict_of};
 ghost use Rattle.gate_rules.specs.declared.service.Service.TheVariants.{Authsrv};
-ghost use Rattle.session_acts.specs.Denying.{denying_row, no_rows};
+ghost use Rattle.session_acts.specs.Causes.{SessionKeeps};
 ghost use Rattle.session_acts.specs.Serverless.{TakesExactly};
 ghost use Rattle.session_acts.specs.Session.{Session};
 ghost use Rattle.session_acts.specs.World.{devices_with};
@@ -17,10 +18,10 @@ use crate::endings::{denied_line, ending_line};
 use crate::texts::decision_line;
 use auth_events::AuthPort;
 use authsrv_gate::AuthsrvScript;
-use fw_outside::{Clock, Dialer, Dice, Sink, Source};
+use fw_outside::{Clock, Dialer, Dice, Failed, Sink, Source};
 use fw_types::{Ending, Peer};
 use gate_rules::{Rules, Service, Setting, Verdict};
-use session_acts::{Denying, Logged, session_over};
+use session_acts::{Logged, session_over};
 
 fn seconds_by(set: Option<(u64, u32)>) -> u32
     ensures { result ≡ seconds_by set }
@@ -57,35 +58,25 @@ fn denied_by(line: u32, told: Ending) -> Ending
     }
 }
 
-// Logs this line and then tries to tell the client these words.
-fn turn_away<P, S, K, G, D, C, R>(
-    line: &[u8],
-    words: &[u8],
-    port: &mut P,
-    from: &mut S,
-    to: &mut K,
-    logs: &mut G,
-    dialer: &mut D,
-    clock: &mut C,
-    dice: &mut R,
-) -> Ending
-where
-    P: AuthPort,
-    S: Source,
-    K: Sink,
-    G: Sink,
-    D: Dialer,
-    C: Clock,
-    R: Dice,
-    ensures { Session no_rows (denying_row line.now words.now)
-        (devices_with (P.port port.old) (S.source_view from.old) (K.sink_view to.old) (G.sink_view logs.old)
-        (D.dialer_view dialer.old) (C.clock_view clock.old) (R.dice_view dice.old))
-        (devices_with (P.port port.new) (S.source_view from.new) (K.sink_view to.new) (G.sink_view logs.new)
-        (D.dialer_view dialer.new) (C.clock_view clock.new) (R.dice_view dice.new))
-        result }
+// Tries to tell the client these words.
+fn try_words<K: Sink>(words: &[u8], to: &mut K)
+    ensures { Noted words.now (K.sink_view to.old) (K.sink_view to.new) }
 {
-    let script = Denying { line, words };
-    session_over(&script, port, from, to, logs, dialer, clock, dice)
+    let _ = to.give(words);
+}
+
+// Logs this line and then tries to tell the client these words. Nothing else is touched.
+fn turn_away<K: Sink, G: Sink>(line: &[u8], words: &[u8], to: &mut K, logs: &mut G) -> Ending
+    ensures { TurnedAway line.now words.now result (K.sink_view to.old) (K.sink_view to.new)
+        (G.sink_view logs.old) (G.sink_view logs.new) }
+{
+    match logs.give(line) {
+        Ok(()) => {
+            try_words(words, to);
+            Ending::Done
+        }
+        Err(Failed) => Ending::LogFault,
+    }
 }
 
 // Logs this line and then holds the session.
@@ -247,11 +238,12 @@ where
     D: Dialer,
     C: Clock,
     R: Dice,
-    ensures { Treats verdict service.now rules.now peer.now result
+    ensures treats { Treats verdict service.now rules.now peer.now result
         (devices_with (P.port port.old) (S.source_view from.old) (K.sink_view to.old) (G.sink_view logs.old)
         (D.dialer_view dialer.old) (C.clock_view clock.old) (R.dice_view dice.old))
         (devices_with (P.port port.new) (S.source_view from.new) (K.sink_view to.new) (G.sink_view logs.new)
         (D.dialer_view dialer.new) (C.clock_view clock.new) (R.dice_view dice.new)) }
+    ensures untouched { Untouched verdict port.old port.new }
 {
     let text = decision_line(verdict, service, peer);
     let said = text.as_slice();
@@ -259,7 +251,7 @@ where
         Verdict::Deny { line } => {
             let words = denied_line(line);
             let denial = words.as_slice();
-            let told = turn_away(said, denial, port, from, to, logs, dialer, clock, dice);
+            let told = turn_away(said, denial, to, logs);
             denied_by(line, told)
         }
         Verdict::Permit { .. } => {
@@ -326,8 +318,18 @@ where
     // The dialer is asked for nothing: it is told how long to wait, for whom the rules permit.
     ensures undialed { D.dialer_view dialer.new ≡ dialer_then (verdict_of rules.now peer.now) rules.now
         (D.dialer_view dialer.old) }
-    // Whose history the port's is stays.
+    // What the port's answers stand on stays, and so does whose history it belongs to.
     ensures origin { (P.port port.new).origin ≡ (P.port port.old).origin }
+    ensures home { (P.port port.new).home ≡ (P.port port.old).home }
+    // Where the rules deny the peer, the port isn't touched at all.
+    ensures untouched { Untouched (verdict_of rules.now peer.now) port.old port.new }
+    // No count falls; and for whom the rules permit, the client's source and the dialer wait as the rules have it at the
+    // return, too.
+    ensures keeps { SessionKeeps (lent_by (verdict_of rules.now peer.now) rules.now
+        (devices_with (P.port port.old) (S.source_view from.old) (K.sink_view to.old) (G.sink_view logs.old)
+        (D.dialer_view dialer.old) (C.clock_view clock.old) (R.dice_view dice.old)))
+        (devices_with (P.port port.new) (S.source_view from.new) (K.sink_view to.new) (G.sink_view logs.new)
+        (D.dialer_view dialer.new) (C.clock_view clock.new) (R.dice_view dice.new)) }
 {
     let verdict = verdict_of(rules, peer);
     let ending = treat(

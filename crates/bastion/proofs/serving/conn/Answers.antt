@@ -1,8 +1,8 @@
 use Rattle.std.proofs.Common.{subst}
 use Rattle.gate_rules.specs.declared.verdict.Verdict.{Verdict}
 use Rattle.session_acts.specs.World.{Devices, devices_with}
-use Rattle.bastion.specs.Conn.{Conn, Treats}
-use Rattle.bastion.proofs.ConnLemmas.{conn_caused, conn_origin, conn_refused, conn_spent, conn_undialed, conn_waited}
+use Rattle.bastion.specs.Conn.{Conn, Treats, Untouched}
+use Rattle.bastion.proofs.ConnLemmas.{conn_caused, conn_home, conn_keeps, conn_origin, conn_refused, conn_spent, conn_undialed, conn_waited}
 use Rattle.bastion.proofs.serving.conn.Goals as goal
 
 pub returns : goal.returns
@@ -12,7 +12,7 @@ returns g c =
     let mid : Devices g.row.P-Origin.Denot = devices_with (g.P.AuthPort.port c.treat-ending.new.port) (g.S.Source.source_view c.treat-ending.new.from) (g.K.Sink.sink_view c.treat-ending.new.to) (g.G.Sink.sink_view c.treat-ending.new.logs)
     (g.D.Dialer.dialer_view c.treat-ending.new.dialer) (g.C.Clock.clock_view c.treat-ending.new.clock) (g.R.Dice.dice_view c.treat-ending.new.dice) in
     let new : Devices g.row.P-Origin.Denot = record mid { logs = g.G.Sink.sink_view c.note_ending.new.logs } in
-    let treats = subst (λ (v : Verdict). Treats v c.args.service.now c.args.rules.now c.args.peer.now c.treat-ending.result old mid) c.verdict_of-verdict.ensures c.treat-ending.ensures in
+    let treats = subst (λ (v : Verdict). Treats v c.args.service.now c.args.rules.now c.args.peer.now c.treat-ending.result old mid) c.verdict_of-verdict.ensures c.treat-ending.ensures.treats in
     let conn : Conn c.args.service.now c.args.rules.now c.args.peer.now old new c.treat-ending.result = record { logs = g.G.Sink.sink_view c.treat-ending.new.logs; treats = treats; noted = c.note_ending.ensures } in
     record {
       conn = conn;
@@ -22,4 +22,7 @@ returns g c =
       refused = conn_refused c.args.service.now c.args.rules.now c.args.peer.now old new c.treat-ending.result conn;
       undialed = conn_undialed c.args.service.now c.args.rules.now c.args.peer.now old new c.treat-ending.result conn;
       origin = conn_origin c.args.service.now c.args.rules.now c.args.peer.now old new c.treat-ending.result conn;
+      home = conn_home c.args.service.now c.args.rules.now c.args.peer.now old new c.treat-ending.result conn;
+      untouched = subst (λ (v : Verdict). Untouched v c.args.port.now c.treat-ending.new.port) c.verdict_of-verdict.ensures c.treat-ending.ensures.untouched;
+      keeps = conn_keeps c.args.service.now c.args.rules.now c.args.peer.now old new c.treat-ending.result conn;
     }

@@ -1,0 +1,92 @@
+-- Turning a client away is the session of a denial: its log was given the line, and its sink the words.
+use Rattle.std.proofs.Common.{◌≡◌, refl, sym, subst, ℕ, List, [], ◌∷◌, inl, inr}
+use Rattle.std.specs.Prelude.{Ok, Err}
+use Rattle.auth_events.specs.declared.port.PortFault.TheVariants as faults
+use Rattle.fw_acts.specs.Acts.Row.{Over}
+use Rattle.fw_outside.specs.SinkView.{Cut, SinkView}
+use Rattle.fw_outside.specs.ToldList.{grown}
+use Rattle.fw_types.specs.declared.ending.Ending.{Ending}
+use Rattle.fw_types.specs.declared.ending.Ending.TheVariants as endings
+use Rattle.session_acts.specs.Acts.Act.{Log, Try}
+use Rattle.session_acts.specs.Denying.{denying_row, no_rows}
+use Rattle.session_acts.specs.Session.{Session}
+use Rattle.session_acts.specs.World.{Devices, World, at_first}
+use Rattle.session_acts.specs.declared.cause.Cause.TheVariants as causes
+use Rattle.session_acts.proofs.StageLemmas.{Gift, cut_at, front_of, gift}
+use Rattle.bastion.specs.TurningAway.{TurnedAway}
+
+module _ {Origin : Type 0} where
+  -- the log failed within the line
+  untold_session : (line words : List ℕ) (old : Devices Origin) (logs : SinkView) → Cut line old.logs logs → Session no_rows (denying_row line words) old (record old { logs = logs }) endings.LogFault
+  untold_session line words old logs cut =
+      let last : World Origin = record (at_first old []) { logs = logs } in
+      record {
+        names = [];
+        last = last;
+        held = record {
+          dialogue = Err causes.LogFault;
+          mid = last;
+          ran = record {
+            steps = [];
+            left = denying_row line words;
+            mid = at_first old [];
+            run = refl;
+            does = refl;
+            comes = record {
+              halt = front_of cut;
+              is_cause = refl;
+              met = record { client = refl; logs = cut_at cut; office = refl; server = refl; names = refl };
+            };
+          };
+          answer = Err faults.Link;
+          after = refl;
+          ends = refl;
+        };
+        leaves = refl;
+      }
+
+  -- it has the line, and the client got the words, or a front of them
+  told_session : (line words : List ℕ) (old : Devices Origin) (told logs : SinkView) → logs ≡ record (old.logs) { given = grown old.logs.given line } → Gift words old.outlet told
+      → Session no_rows (denying_row line words) old (record old { outlet = told; logs = logs }) endings.Done
+  told_session line words old told logs logged h =
+      let start : World Origin = at_first old [] in
+      let noted : World Origin = record start { logs = logs } in
+      let last : World Origin = record noted { client = record (start.client) { outlet = told } } in
+      record {
+        names = [];
+        last = last;
+        held = record {
+          dialogue = Ok tt;
+          mid = last;
+          ran = record {
+            steps = record { act = Log line; answer = tt } ∷ record { act = Try words; answer = h.tried } ∷ [];
+            left = Over;
+            mid = last;
+            run = (tt, refl, (h.tried, refl, refl));
+            does = (
+              noted,
+              record { client = refl; logs = logged; office = refl; server = refl; names = refl },
+              (
+                last,
+                record { client = record { outlet = told; gets = h.gets; is = refl }; logs = refl; office = refl; server = refl; names = refl },
+                refl,
+              ),
+            );
+            comes = (refl, refl);
+          };
+          answer = Err faults.Link;
+          after = refl;
+          ends = refl;
+        };
+        leaves = refl;
+      }
+
+  pub away_session : (line words : List ℕ) (ending : Ending) (old : Devices Origin) (told logs : SinkView) → TurnedAway line words ending old.outlet told old.logs logs
+      → Session no_rows (denying_row line words) old (record old { outlet = told; logs = logs }) ending
+  away_session line words ending old told logs (inl h) =
+      let Told : SinkView → Type 0 = λ s. Session no_rows (denying_row line words) old (record old { outlet = s; logs = logs }) endings.LogFault in
+      let Ends : Ending → Type 0 = λ e. Session no_rows (denying_row line words) old (record old { outlet = told; logs = logs }) e in
+      subst Ends (sym h.ends) (subst Told (sym h.same) (untold_session line words old logs h.cut))
+  away_session line words ending old told logs (inr h) =
+      let Ends : Ending → Type 0 = λ e. Session no_rows (denying_row line words) old (record old { outlet = told; logs = logs }) e in
+      subst Ends (sym h.ends) (told_session line words old told logs h.logged (gift h.tried.told words old.outlet told h.tried.gives))
