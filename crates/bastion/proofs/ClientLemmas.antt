@@ -3,7 +3,7 @@ use Rattle.std.proofs.Common.{◌≡◌, sym, ◌∙◌, ap, subst, refl, ℕ, B
 use Rattle.std.specs.Bool.{OnTrue}
 use Rattle.std.specs.Prelude.{Option, Some, None}
 use Rattle.auth_machine.specs.Book.{BookView}
-use Rattle.auth_machine.specs.History.{CountsUnkept, HasRecords, IsLegal, Origin}
+use Rattle.auth_machine.specs.History.{CountsUnkept, HasRecords, IsLegal, IsSound, Origin}
 use Rattle.auth_machine.specs.Port.{BookOrigin, book_origin}
 use Rattle.fw_outside.specs.DialerView.{DialerView}
 use Rattle.fw_outside.specs.KeeperView.{KeeperView}
@@ -17,7 +17,7 @@ use Rattle.gate_rules.specs.declared.verdict.Verdict.TheVariants.{Permit, Deny}
 use Rattle.session_acts.specs.Dummies.{nowhere}
 use Rattle.bastion.specs.Conn.{dialer_then}
 use Rattle.bastion.specs.Inputs.{Inputs}
-use Rattle.bastion.specs.Serving.{Serves, book_at_first, devices_at, most_entries, origin_of}
+use Rattle.bastion.specs.Serving.{Serves, UntouchedAt, book_at_first, devices_at, most_entries, origin_of}
 use Rattle.bastion.specs.SessionSteps.{GivesBack, HoldsOver, IsUndialed, OfRecords, Opened, Proceeds}
 use Rattle.bastion.specs.WorldView.{WorldView}
 use Rattle.bastion.specs.declared.outcome.Outcome.{Outcome}
@@ -38,14 +38,16 @@ on_true false P h is = absurd (cc)
 
 -- the session was held, and then the keeper given back
 pub held_over : (client : Client) (rules : RuleBook) (first book : BookView) (dialer : DialerView) (ending : Ending) (refused : Bool) (old mid new : WorldView)
-    → Serves client.console rules client.peer (devices_at old first nowhere) (devices_at mid book dialer) ending → IsUndialed nowhere dialer → mid.files ≡ old.files
+    → Serves client.console rules client.peer (devices_at old first nowhere) (devices_at mid book dialer) ending → IsUndialed nowhere dialer → UntouchedAt client.console (verdict_of rules client.peer) first book → mid.files ≡ old.files
     → refused ≡ book.refused → OnTrue refused (length book.history ≡ book.limit) → GivesBack book mid new → HoldsOver client rules first (Ended ending refused) old new
-held_over client rules first book dialer ending refused old mid new serves undialed files refused_is full back = record {
+held_over client rules first book dialer ending refused old mid new serves undialed untouched files refused_is full back = record {
   book = book;
   ending = ending;
   dialer = dialer;
   serves = with_keeper_back client rules first book nowhere dialer ending old mid new (Some book.keeper) back.is serves;
   undialed = undialed;
+  untouched = untouched;
+  sound = back.sound;
   legal = back.legal;
   has = back.has;
   faults = back.faults;
@@ -66,6 +68,11 @@ from_first : (client : Client) (rules : RuleBook) (first other last : BookView) 
 from_first client rules first other last dialer ending old mid new keeper is without h =
     subst (λ (b : BookView). Serves client.console rules client.peer (devices_at old b nowhere) (devices_at new last dialer) ending) is
     (subst (λ (d : WorldView). Serves client.console rules client.peer (devices_at d first nowhere) (devices_at new last dialer) ending) without h)
+
+untouched_keeper : (console : Bool) (verdict : Verdict) (old new : BookView) → UntouchedAt console verdict old new → UntouchedAt console verdict old.keeper new.keeper
+untouched_keeper true verdict old new h = tt
+untouched_keeper false (Permit line) old new h = tt
+untouched_keeper false (Deny line) old new h = ap (λ (b : BookView). b.keeper) h
 
 of_records : (client : Client) (server_rules : ServerRules) (first : BookView) (outcome : Outcome) (old mid new : WorldView) → Opened server_rules.policy first old mid → (over : HoldsOver client server_rules.rules first outcome mid new)
     → OfRecords client server_rules (Ended over.ending over.book.refused) old new
@@ -92,6 +99,8 @@ of_records client server_rules first outcome old mid new opened over =
         dialer = over.dialer;
         serves = from_first client server_rules.rules first (book_at_first (origin_of inputs) most_entries first.keeper) over.book over.dialer over.ending old mid new None begun opened.is over.serves;
         undialed = over.undialed;
+        untouched = untouched_keeper client.console (verdict_of server_rules.rules client.peer) first over.book over.untouched;
+        sound = subst (λ (o : Origin). IsSound o) origin over.sound;
         legal = subst (λ (o : Origin). IsLegal o over.book.history) origin over.legal;
         has = subst (λ (o : Origin). HasRecords o over.book.history over.book.keeper) origin over.has;
         faults = subst (λ (n : ℕ). CountsUnkept n over.book.history over.book.keeper) failed over.faults;

@@ -1,17 +1,19 @@
 -- The work of `authsrv`: a client is served over a book of the records, and the keeper is given back.
 use Rattle.std.specs.Prelude.{◌≡◌, ℕ, Bool, true, false, [], length, Some}
 use Rattle.auth_machine.specs.Book.{BookView}
-use Rattle.auth_machine.specs.History.{CountsUnkept, HasRecords, IsLegal, Origin}
+use Rattle.auth_machine.specs.History.{CountsUnkept, HasRecords, IsLegal, IsSound, Origin}
 use Rattle.auth_machine.specs.Port.{BookOrigin, book_port}
 use Rattle.fw_outside.specs.DialerView.{DialerView}
 use Rattle.fw_outside.specs.KeeperView.{KeeperView}
 use Rattle.fw_types.specs.declared.ending.Ending.{Ending}
 use Rattle.fw_types.specs.declared.peer.Peer.{Peer}
 use Rattle.gate_rules.specs.Reading.{RuleBook}
+use Rattle.gate_rules.specs.Verdict.{verdict_of}
 use Rattle.gate_rules.specs.declared.service.Service.TheVariants.{Authsrv}
+use Rattle.gate_rules.specs.declared.verdict.Verdict.{Verdict}
 use Rattle.session_acts.specs.Dummies.{nowhere, refusing}
 use Rattle.session_acts.specs.World.{Devices, devices_with}
-use Rattle.bastion.specs.Conn.{AtConsole, Conn}
+use Rattle.bastion.specs.Conn.{AtConsole, Conn, Untouched}
 use Rattle.bastion.specs.Inputs.{Inputs}
 use Rattle.bastion.specs.WorldView.{WorldView}
 use Rattle.bastion.specs.declared.outcome.Outcome as outcomes
@@ -27,6 +29,11 @@ abbrev pub Serves : Bool → RuleBook → Peer → Devices BookOrigin → Device
 Serves true rules peer old new ending = AtConsole Authsrv peer old new ending
 Serves false rules peer old new ending = Conn Authsrv rules peer old new ending
 
+-- where the verdict denies a client that isn't at the console, this is left as it was
+abbrev pub UntouchedAt : {A : Type 0} → Bool → Verdict → A → A → Type 0
+UntouchedAt true verdict old new = Unit {0}
+UntouchedAt false verdict old new = Untouched verdict old new
+
 -- a book of these records, of which nothing was asked yet
 abbrev pub book_at_first : Origin → ℕ → KeeperView → BookView
 book_at_first origin limit view = record { history = []; limit = limit; origin = origin; keeper = view; failed_before = view.faults; refused = false; asks = 0 }
@@ -39,8 +46,9 @@ most_entries = 4194304
 abbrev pub origin_of : Inputs → Origin
 origin_of inputs = record { policy = inputs.policy; records = inputs.records }
 
--- The session was held over the records that the keeper had. The history of its requests is legal, and full where one was
--- refused for that; the keeper has the records after it, and has counted a failure for each entry that was not kept.
+-- The session was held over the records that the keeper had. These are sound; the history of its requests is legal, and full
+-- where one was refused for that; the keeper has the records after it, and has counted a failure for each entry that was not
+-- kept. After a client whom the rules deny, the keeper is as the load left it, its count of calls too.
 pub record Attended (client : Client) (inputs : Inputs) (out : outcomes.Outcome) (old new : WorldView) : Type 0 where
   pub before : KeeperView
   pub keeper : old.inputs.keeper ≡ Some before
@@ -49,6 +57,8 @@ pub record Attended (client : Client) (inputs : Inputs) (out : outcomes.Outcome)
   pub dialer : DialerView
   pub serves : Serves client.console inputs.rules client.peer (devices_at old (book_at_first (origin_of inputs) most_entries before) nowhere) (devices_at new book dialer) ending
   pub undialed : dialer ≡ refusing 0 dialer.waits
+  pub untouched : UntouchedAt client.console (verdict_of inputs.rules client.peer) before book.keeper
+  pub sound : IsSound (origin_of inputs)
   pub legal : IsLegal (origin_of inputs) book.history
   pub has : HasRecords (origin_of inputs) book.history book.keeper
   pub faults : CountsUnkept before.faults book.history book.keeper

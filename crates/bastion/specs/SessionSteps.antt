@@ -6,14 +6,15 @@ use Rattle.fw_outside.specs.DialerView.{DialerView}
 use Rattle.fw_outside.specs.KeeperView.{IsCalled, KeeperFailed, KeeperView}
 use Rattle.session_acts.specs.Dummies.{nowhere}
 use Rattle.auth_machine.specs.Book.{BookView}
-use Rattle.auth_machine.specs.History.{CountsUnkept, HasRecords, IsLegal}
+use Rattle.auth_machine.specs.History.{CountsUnkept, HasRecords, IsLegal, IsSound}
 use Rattle.auth_machine.specs.Opening.{ReadsAs}
 use Rattle.auth_machine.specs.Policy.{PolicyView}
 use Rattle.auth_machine.specs.declared.open_fault.OpenFault.{OpenFault}
 use Rattle.auth_machine.specs.declared.open_fault.OpenFault.TheVariants as faults
 use Rattle.fw_types.specs.declared.ending.Ending.{Ending}
 use Rattle.gate_rules.specs.Reading.{RuleBook}
-use Rattle.bastion.specs.Serving.{Attended, Serves, book_at_first, devices_at, most_entries}
+use Rattle.gate_rules.specs.Verdict.{verdict_of}
+use Rattle.bastion.specs.Serving.{Attended, Serves, UntouchedAt, book_at_first, devices_at, most_entries}
 use Rattle.bastion.specs.WorldView.{WorldView}
 use Rattle.bastion.specs.declared.outcome.Device.TheVariants as device
 use Rattle.bastion.specs.declared.outcome.Outcome.{Outcome}
@@ -74,6 +75,7 @@ Unopened _ old new = ⊥
 -- the keeper of this book is there again, with the records after its history
 pub record GivesBack (book : BookView) (old new : WorldView) : Type 0 where
   pub is : new ≡ record old { inputs = record (old.inputs) { keeper = Some book.keeper } }
+  pub sound : IsSound book.origin
   pub legal : IsLegal book.origin book.history
   pub has : HasRecords book.origin book.history book.keeper
   pub faults : CountsUnkept book.failed_before book.history book.keeper
@@ -89,6 +91,8 @@ pub record HoldsOver (client : Client) (rules : RuleBook) (first : BookView) (ou
   pub dialer : DialerView
   pub serves : Serves client.console rules client.peer (devices_at old first nowhere) (devices_at new book dialer) ending
   pub undialed : IsUndialed nowhere dialer
+  pub untouched : UntouchedAt client.console (verdict_of rules client.peer) first book
+  pub sound : IsSound book.origin
   pub legal : IsLegal book.origin book.history
   pub has : HasRecords book.origin book.history book.keeper
   pub faults : CountsUnkept book.failed_before book.history book.keeper

@@ -1,11 +1,12 @@
 //! The command `authsrv`: the table and the records are read, a client is served, and the records are given back.
 ghost use Rattle.std.specs.Prelude.{◌≡◌, IsSome, IfOk, IfErr, true};
-ghost use Rattle.bastion.specs.Conn.{AtConsole, Conn};
+ghost use Rattle.bastion.specs.Conn.{AtConsole, Conn, Untouched};
 ghost use Rattle.bastion.specs.Reading.{Finds, ruling_in, server_rules_of};
 ghost use Rattle.bastion.specs.Run.{DoesFor};
-ghost use Rattle.bastion.specs.Serving.{Serves, devices_at};
+ghost use Rattle.bastion.specs.Serving.{Serves, UntouchedAt, devices_at};
 ghost use Rattle.bastion.specs.SessionSteps.{IsUndialed, GivesBack, HoldsOver, Opened, Proceeds, Unopened, opening_fault};
 ghost use Rattle.bastion.specs.declared.words.Command.TheVariants.{Authsrv};
+ghost use Rattle.gate_rules.specs.Verdict.{verdict_of};
 ghost use Rattle.gate_rules.specs.declared.service.Service.TheVariants as services;
 
 use crate::reading::find_server_rules;
@@ -103,6 +104,7 @@ fn hold_by_rules<T: Kit>(
 ) -> Ending
     ensures conn { Conn services.Authsrv rules.now peer.now (devices_at world.old book.old dialer.old)
         (devices_at world.new book.new dialer.new) result }
+    ensures untouched { Untouched (verdict_of rules.now peer.now) book.old book.new }
     ensures files { world.new.files ≡ world.old.files }
     ensures keeper { world.new.inputs.keeper ≡ world.old.inputs.keeper }
 {
@@ -130,6 +132,7 @@ fn hold<T: Kit>(
     ensures serves { Serves client.now.console rules.now client.now.peer (devices_at world.old book.old dialer.old)
         (devices_at world.new book.new dialer.new) result }
     ensures undialed { IsUndialed dialer.old dialer.new }
+    ensures untouched { UntouchedAt client.now.console (verdict_of rules.now client.now.peer) book.old book.new }
     ensures files { world.new.files ≡ world.old.files }
     ensures keeper { world.new.inputs.keeper ≡ world.old.inputs.keeper }
 {
