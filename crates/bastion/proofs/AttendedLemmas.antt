@@ -1,5 +1,5 @@
 -- What a session of the authentication server comes to, by its ending.
-use Rattle.std.proofs.Common.{◌≡◌, ℕ, [], length, refl, sym, ◌∙◌, ap, subst, inl, inr, arith, ◌⊎◌, ◌==◌, Bool, true, false}
+use Rattle.std.proofs.Common.{◌≡◌, ◌<◌, ℕ, [], length, refl, sym, ◌∙◌, ap, subst, inl, inr, arith, ◌⊎◌, ◌==◌, Bool, true, false}
 use Rattle.std.specs.Prelude.{Some, if◌then◌else◌}
 use Rattle.auth_machine.specs.Book.{BookView}
 use Rattle.auth_machine.specs.Port.{BookOrigin}
@@ -24,12 +24,13 @@ use Rattle.bastion.specs.Conn.{Causes, IsRefused}
 use Rattle.bastion.specs.Inputs.{Inputs}
 use Rattle.bastion.specs.Outcome.{CountRose, EndingRose, status_of}
 use Rattle.bastion.specs.Serving.{Attended, Serves, book_at_first, devices_at, most_entries, origin_of}
-use Rattle.bastion.specs.Status.{IsHeld, IsServed, TakesIn}
+use Rattle.bastion.specs.Status.{IsFull, IsHeld, IsServed, TakesIn}
 use Rattle.bastion.specs.WorldView.{WorldView}
 use Rattle.bastion.specs.declared.outcome.Outcome.{Outcome}
 use Rattle.bastion.specs.declared.outcome.Outcome.TheVariants.{Ended}
 use Rattle.bastion.specs.declared.words.Client.{Client}
 use Rattle.bastion.proofs.ConnLemmas.{conn_caused, conn_refused, conn_spent, console_caused, console_spent}
+use Rattle.bastion.proofs.SessionLemmas.{serves_takes}
 
 no_rise : {A : Type 0} → Rose 0 0 → A
 no_rise rose = let late = rose.1 in absurd (omega (arith, late))
@@ -98,26 +99,26 @@ takes_same status old new is = record { took = record { bytes = []; most = omega
 -- ---- the status
 
 -- a session that came to its end, or to a limit, by whether a request was refused
-held_limit : (refused : Bool) (book : BookView) (old new : WorldView) → refused ≡ book.refused → (book.refused ≡ true → length book.history ≡ most_entries) → new.inputs.keeper ≡ Some book.keeper → IsHeld (if refused then 6 else 0) old.inputs new.inputs
-held_limit true book old new is full kept = inr (refl, inr (record { book = book; kept = kept; full = full (sym is) }))
-held_limit false book old new is full kept = inl refl
+held_limit : (refused : Bool) (book : BookView) (old new : WorldView) → refused ≡ book.refused → (book.refused ≡ true → IsFull old.inputs new.inputs) → IsHeld (if refused then 6 else 0) old.inputs new.inputs
+held_limit true book old new is full = inr (refl, inr (full (sym is)))
+held_limit false book old new is full = inl refl
 
 -- the status of a session's ending: as held, 4, or 5
 abbrev ByEnding : ℕ → WorldView → WorldView → Type 0
 ByEnding status old new = ((status ≡ 4) ⊎ (status ≡ 5)) ⊎ IsHeld status old.inputs new.inputs
 
-ending_by : (ending : Ending) (book : BookView) (old new : WorldView) (first : BookView) (dialer : DialerView) → (book.refused ≡ true → length book.history ≡ most_entries) → new.inputs.keeper ≡ Some book.keeper
+ending_by : (ending : Ending) (book : BookView) (old new : WorldView) (first : BookView) (dialer : DialerView) → (book.refused ≡ true → IsFull old.inputs new.inputs)
     → CausedAlone ending (devices_at old first nowhere) (devices_at new book dialer) → ByEnding (status_of (Ended ending book.refused)) old new
-ending_by Done book old new first dialer full kept h = inr (held_limit book.refused book old new refl full kept)
-ending_by (Denied line) book old new first dialer full kept h = absurd h
-ending_by ClientFault book old new first dialer full kept h = inl (inl refl)
-ending_by ServerFault book old new first dialer full kept h = inl (inl refl)
-ending_by LogFault book old new first dialer full kept h = inl (inl refl)
-ending_by AuthFault book old new first dialer full kept h = inl (inl refl)
-ending_by Idle book old new first dialer full kept h = inl (inl refl)
-ending_by NoRoute book old new first dialer full kept h = inl (inl refl)
-ending_by Spent book old new first dialer full kept h = inr (inr (refl, inl h))
-ending_by NoMemory book old new first dialer full kept h = inl (inr refl)
+ending_by Done book old new first dialer full h = inr (held_limit book.refused book old new refl full)
+ending_by (Denied line) book old new first dialer full h = absurd h
+ending_by ClientFault book old new first dialer full h = inl (inl refl)
+ending_by ServerFault book old new first dialer full h = inl (inl refl)
+ending_by LogFault book old new first dialer full h = inl (inl refl)
+ending_by AuthFault book old new first dialer full h = inl (inl refl)
+ending_by Idle book old new first dialer full h = inl (inl refl)
+ending_by NoRoute book old new first dialer full h = inl (inl refl)
+ending_by Spent book old new first dialer full h = inr (inr (refl, inl h))
+ending_by NoMemory book old new first dialer full h = inl (inr refl)
 
 denied_status : (line : ℕ) (ending : Ending) (refused : Bool) (old new : WorldView) → IsRefused (Deny line) ending → ((status_of (Ended ending refused) ≡ 4) ⊎ (status_of (Ended ending refused) ≡ 5)) ⊎ (status_of (Ended ending refused) ≡ 1)
 denied_status line ending refused old new (inl denied) = inr (ap (λ (e : Ending). status_of (Ended e refused)) denied)
@@ -135,22 +136,27 @@ causes_permit line NoRoute old new h = h
 causes_permit line Spent old new h = h
 causes_permit line NoMemory old new h = h
 
-verdict_by : (verdict : Verdict) (ending : Ending) (book : BookView) (old new : WorldView) (first : BookView) (dialer : DialerView) → (book.refused ≡ true → length book.history ≡ most_entries) → new.inputs.keeper ≡ Some book.keeper
+verdict_by : (verdict : Verdict) (ending : Ending) (book : BookView) (old new : WorldView) (first : BookView) (dialer : DialerView) → (book.refused ≡ true → IsFull old.inputs new.inputs)
     → Causes verdict ending (devices_at old first nowhere) (devices_at new book dialer) → IsRefused verdict ending → ((status_of (Ended ending book.refused) ≡ 4) ⊎ (status_of (Ended ending book.refused) ≡ 5)) ⊎ IsServed false verdict (status_of (Ended ending book.refused)) old.inputs new.inputs
-verdict_by (Permit line) ending book old new first dialer full kept h refused = ending_by ending book old new first dialer full kept (causes_permit line ending (devices_at old first nowhere) (devices_at new book dialer) h)
-verdict_by (Deny line) ending book old new first dialer full kept h refused = denied_status line ending book.refused old new refused
+verdict_by (Permit line) ending book old new first dialer full h refused = ending_by ending book old new first dialer full (causes_permit line ending (devices_at old first nowhere) (devices_at new book dialer) h)
+verdict_by (Deny line) ending book old new first dialer full h refused = denied_status line ending book.refused old new refused
 
-serves_by : (console : Bool) (rules : RuleBook) (peer : Peer) (ending : Ending) (book : BookView) (old new : WorldView) (first : BookView) (dialer : DialerView) → (book.refused ≡ true → length book.history ≡ most_entries)
-    → new.inputs.keeper ≡ Some book.keeper → Serves console rules peer (devices_at old first nowhere) (devices_at new book dialer) ending
+serves_by : (console : Bool) (rules : RuleBook) (peer : Peer) (ending : Ending) (book : BookView) (old new : WorldView) (first : BookView) (dialer : DialerView) → (book.refused ≡ true → IsFull old.inputs new.inputs)
+    → Serves console rules peer (devices_at old first nowhere) (devices_at new book dialer) ending
     → ((status_of (Ended ending book.refused) ≡ 4) ⊎ (status_of (Ended ending book.refused) ≡ 5)) ⊎ IsServed console (verdict_of rules peer) (status_of (Ended ending book.refused)) old.inputs new.inputs
-serves_by true rules peer ending book old new first dialer full kept h =
-    ending_by ending book old new first dialer full kept (console_caused Authsrv peer (devices_at old first nowhere) (devices_at new book dialer) ending h)
-serves_by false rules peer ending book old new first dialer full kept h =
-    verdict_by (verdict_of rules peer) ending book old new first dialer full kept (conn_caused Authsrv rules peer (devices_at old first nowhere) (devices_at new book dialer) ending h)
+serves_by true rules peer ending book old new first dialer full h =
+    ending_by ending book old new first dialer full (console_caused Authsrv peer (devices_at old first nowhere) (devices_at new book dialer) ending h)
+serves_by false rules peer ending book old new first dialer full h =
+    verdict_by (verdict_of rules peer) ending book old new first dialer full (conn_caused Authsrv rules peer (devices_at old first nowhere) (devices_at new book dialer) ending h)
     (conn_refused Authsrv rules peer (devices_at old first nowhere) (devices_at new book dialer) ending h)
+
+attended_full : (client : Client) (inputs : Inputs) (out : Outcome) (old new : WorldView) (h : Attended client inputs out old new) → h.book.refused ≡ true → IsFull old.inputs new.inputs
+attended_full client inputs out old new h refused =
+    let takes = serves_takes client.console inputs.rules client.peer (origin_of inputs) h.before old new h.book h.dialer h.ending h.serves refused in
+    record { moments = takes.moments; told = takes.told; many = subst (λ (n : ℕ). n < length takes.moments) (h.full refused) takes.many }
 
 pub attended_status : (client : Client) (inputs : Inputs) (out : Outcome) (old new : WorldView) → Attended client inputs out old new
     → ((status_of out ≡ 4) ⊎ (status_of out ≡ 5)) ⊎ IsServed client.console (verdict_of inputs.rules client.peer) (status_of out) old.inputs new.inputs
 attended_status client inputs out old new h =
     let By : Outcome → Type 0 = λ o. ((status_of o ≡ 4) ⊎ (status_of o ≡ 5)) ⊎ IsServed client.console (verdict_of inputs.rules client.peer) (status_of o) old.inputs new.inputs in
-    subst By (sym h.comes) (serves_by client.console inputs.rules client.peer h.ending h.book old new (book_at_first (origin_of inputs) most_entries h.before) h.dialer h.full h.kept h.serves)
+    subst By (sym h.comes) (serves_by client.console inputs.rules client.peer h.ending h.book old new (book_at_first (origin_of inputs) most_entries h.before) h.dialer (attended_full client inputs out old new h) h.serves)

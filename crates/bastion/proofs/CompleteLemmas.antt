@@ -1,13 +1,11 @@
 -- In a run in which no count rose, all was done.
 use Rattle.std.proofs.Common.{◌≡◌, ◌≤◌, ℕ, List, [], ◌++◌, refl, sym, ◌∙◌, ap, subst, inl, inr, ◌⊎◌, true}
 use Rattle.std.specs.Prelude.{Option, Some, None, Result, Ok, Err, codes}
-use Rattle.fw_outside.specs.Counts.{Rose}
 use Rattle.fw_outside.specs.SinkView.{Gives, SinkView}
 use Rattle.fw_outside.specs.ToldList.{grown}
 use Rattle.fw_outside.specs.declared.failed.Failed as sink
 use Rattle.gate_rules.specs.Verdict.{verdict_of}
 use Rattle.gate_rules.specs.declared.verdict.Verdict.{Verdict}
-use Rattle.session_acts.proofs.DeviceLemmas.{rose_within}
 use Rattle.session_acts.proofs.ToldLemmas.{by_nothing}
 use Rattle.bastion.specs.Complete.{AllDone, IsComplete, IsWhole}
 use Rattle.bastion.specs.Outcome.{fault_line_of, refusal_text, status_of, verdict_status}
@@ -23,29 +21,9 @@ use Rattle.bastion.specs.declared.words.Command.TheVariants.{Netacl, Table, Auth
 use Rattle.bastion.specs.declared.words.Client.{Client}
 use Rattle.bastion.proofs.AttendedLemmas.{attended_status}
 use Rattle.bastion.proofs.RunLemmas.{count_some, only_left, served_then, some_later, stops_left, stops_rose, tells_later, worked_rose}
-use Rattle.bastion.proofs.SinkLemmas.{cut_rose, same_low}
-
--- what was given to a sink that counted nothing was given whole
-gave_whole : (told : Result (Unit {0}) sink.Failed) (text : List ℕ) (old new : SinkView) → (Rose old.faults new.faults → ⊥) → Gives told text old new → new ≡ with_given old text
-gave_whole (Ok done) text old new never gives = gives
-gave_whole (Err failed) text old new never gives = absurd (never (cut_rose text old new gives))
-
--- between the beginning and the end no sink counts a failure
-record Quiet (old new : WorldView) : Type 0 where
-  logs : (a b : ℕ) → old.logs.faults ≤ a → b ≤ new.logs.faults → Rose a b → ⊥
-  output : (a b : ℕ) → old.output.faults ≤ a → b ≤ new.output.faults → Rose a b → ⊥
-
-quiet : (old new : WorldView) → (SomeRose old new → ⊥) → Quiet old new
-quiet old new none = record {
-  logs = λ a b low high rose. none (inr (inl (inr (rose_within old.logs.faults a b new.logs.faults low rose high))));
-  output = λ a b low high rose. none (inr (inl (inl (rose_within old.output.faults a b new.output.faults low rose high))));
-}
-
-same_from : (a b : SinkView) → b ≡ a → a.faults ≤ b.faults
-same_from a b is = same_low a.faults b.faults (ap (λ (s : SinkView). s.faults) is)
-
-same_to : (a b : SinkView) → b ≡ a → b.faults ≤ a.faults
-same_to a b is = same_low b.faults a.faults (ap (λ (s : SinkView). s.faults) (sym is))
+use Rattle.bastion.proofs.QuietLemmas.{Quiet, gave_whole, quiet, same_from, same_to}
+use Rattle.bastion.proofs.ServedLemmas.{attended_whole}
+use Rattle.bastion.proofs.SinkLemmas.{cut_rose}
 
 grown_from : (text : List ℕ) (a b c : SinkView) → b ≡ a → c ≡ with_given b text → c.given ≡ grown a.given text
 grown_from text a b c same is = ap (λ (s : SinkView). s.given) is ∙ ap (λ (s : SinkView). grown s.given text) same
@@ -121,11 +99,13 @@ served_whole name client outcome old mid new none h tells (inl (inl four)) =
 served_whole name client outcome old mid new none h tells (inl (inr five)) = inl five
 served_whole name client outcome old mid new none h tells (inr served) =
     let later = tells_later (fault_line_of outcome) mid new tells in
+    let left = only_left name true old h.middle h.only in
     inr (record {
       read = Ok h.inputs;
       inputs = h.read;
       does =
-          served_then client.console (verdict_of h.inputs.rules client.peer) (status_of outcome) h.middle.inputs mid.inputs old.inputs new.inputs (only_left name true old h.middle h.only).input later.inputs served;
+          attended_whole client h.inputs outcome old h.middle mid new (quiet old new none) h.only.logs h.only.output h.works tells
+          (served_then client.console (verdict_of h.inputs.rules client.peer) (status_of outcome) h.middle.inputs mid.inputs old.inputs new.inputs left.input left.clock later.inputs served);
     })
 
 worked_complete : (name : List ℕ) (command : Command) (outcome : Outcome) (old mid new : WorldView) → (SomeRose old new → ⊥) → Worked name command outcome old mid → TellsIf (fault_line_of outcome) mid new

@@ -1,6 +1,7 @@
 -- From what a run did to the headline.
 use Rattle.std.proofs.Common.{◌≡◌, ◌≢◌, ℕ, List, [], ◌∷◌, ◌++◌, length, map, filter, refl, sym, ◌∙◌, ap, subst, inl, inr, arith, ◌⊎◌, ◌||◌, Bool, true, false}
 use Rattle.std.specs.List.{list_any}
+use Rattle.std.specs.Option.{option_map}
 use Rattle.std.specs.Prelude.{Option, Some, None, Result, Ok, Err}
 use Rattle.auth_events.specs.Port.{Port, places}
 use Rattle.auth_machine.specs.Book.{BookView}
@@ -17,6 +18,7 @@ use Rattle.session_acts.specs.declared.cause.Cause.TheVariants as causes
 use Rattle.session_acts.specs.declared.denying.NoPlace.{NoPlace}
 use Rattle.fw_outside.specs.SinkView.{Gives, SinkView}
 use Rattle.fw_outside.specs.DialerView.{DialerView}
+use Rattle.fw_outside.specs.KeeperView.{KeeperView}
 use Rattle.fw_outside.specs.ToldList.{grown}
 use Rattle.fw_outside.specs.declared.failed.Failed as sink
 use Rattle.fw_types.specs.declared.ending.Ending.{Ending}
@@ -43,13 +45,13 @@ use Rattle.session_acts.proofs.DeedLemmas.{all_gain, held_deeds}
 use Rattle.session_acts.proofs.EntryLemmas.{whole_talk}
 use Rattle.session_acts.proofs.TalkLemmas.{entered_gains}
 use Rattle.session_acts.proofs.ToldLemmas.{told_gains}
-use Rattle.bastion.specs.Conn.{NotedIf, Treats, denied_by}
+use Rattle.bastion.specs.Conn.{NotedIf, denied_by}
 use Rattle.bastion.specs.Endings.{denied_text, ending_line}
-use Rattle.bastion.specs.Headline.{Headline, HeadlineFor, IsDenied, IsPermitted, IsSilent, IsToldOff, OfHistory, begins, lent_to, talk_of}
+use Rattle.bastion.specs.Headline.{Headline, HeadlineFor, IsDenied, IsPermitted, IsSilent, IsToldOff, IsUnserved, OfHistory, begins, lent_to, table_kept, talk_of}
 use Rattle.bastion.specs.Inputs.{Inputs}
 use Rattle.bastion.specs.Outcome.{fault_line_of, status_of, verdict_status}
-use Rattle.bastion.specs.Run.{DoesLine, Run, Stops, TellsIf, Worked, verdict_for}
-use Rattle.bastion.specs.Serving.{Attended, Serves, book_at_first, devices_at, most_entries, origin_of}
+use Rattle.bastion.specs.Run.{DoesLine, ReadsOnly, Run, Stops, TellsIf, Worked, verdict_for}
+use Rattle.bastion.specs.Serving.{Attended, UntouchedAt, book_at_first, devices_at, most_entries, origin_of}
 use Rattle.bastion.specs.Status.{IsHeld, IsServed}
 use Rattle.bastion.specs.Texts.{decision_text}
 use Rattle.bastion.specs.Words.{LineView}
@@ -63,7 +65,8 @@ use Rattle.bastion.specs.declared.words.Command.{Command}
 use Rattle.bastion.specs.declared.words.Command.TheVariants.{Netacl, Table, Authsrv}
 use Rattle.bastion.specs.declared.words.Query.{Query}
 use Rattle.bastion.proofs.AttendedLemmas.{attended_status}
-use Rattle.bastion.proofs.RunLemmas.{Later, stops_left, tells_later}
+use Rattle.bastion.proofs.SessionLemmas.{OfDenial, OfSession, lent_outlet, lent_port, serves_so, tells_noted}
+use Rattle.bastion.proofs.RunLemmas.{Later, only_left, stops_left, tells_later}
 
 -- ---- nothing was done
 
@@ -78,10 +81,16 @@ stops_undenied name command (Ended ending refused) old new h is = h
 stops_silent : (name : List ℕ) (command : Command) (outcome : Outcome) (old mid new : WorldView) → Stops name command outcome old mid → Later mid new → IsSilent (status_of outcome) old new
 stops_silent name command outcome old mid new h later = record { output = later.output ∙ (stops_left name command outcome old mid h).output; undenied = stops_undenied name command outcome old mid h }
 
-silent_headline : (name : List ℕ) (command : Command) (status : ℕ) (old new : WorldView) → IsSilent status old new → HeadlineFor name command status old new
-silent_headline name (Netacl query) status old new h = record { replies_legal = tt; denials_logged = inl h }
+silent_headline : (name : List ℕ) (command : Command) (status : ℕ) (old new : WorldView) → IsUnserved status old new → HeadlineFor name command status old new
+silent_headline name (Netacl query) status old new h = record { replies_legal = tt; denials_logged = inl h.silent }
 silent_headline name (Table query) status old new h = record { replies_legal = tt; denials_logged = tt }
-silent_headline name (Authsrv client) status old new h = record { replies_legal = inl h; denials_logged = inl h }
+silent_headline name (Authsrv client) status old new h = record { replies_legal = inl h; denials_logged = inl h.silent }
+
+stops_unserved : (name : List ℕ) (command : Command) (outcome : Outcome) (old mid new : WorldView) → Stops name command outcome old mid → Later mid new → IsUnserved (status_of outcome) old new
+stops_unserved name command outcome old mid new h later = record {
+  silent = stops_silent name command outcome old mid new h later;
+  kept = ap table_kept later.inputs ∙ (stops_left name command outcome old mid h).table;
+}
 
 -- ---- netacl
 
@@ -119,35 +128,6 @@ netacl_by query inputs (Deny line) text outcome old mid new is (Ok done) logged 
     }))
 
 -- ---- a session
-
--- a session was held
-record OfSession (console : Bool) (verdict : Verdict) (rules : RuleBook) (peer : Peer) (old new : Devices BookOrigin) (ending : Ending) : Type 0 where
-  line : ℕ
-  admitted : console ≡ false → verdict ≡ Permit line
-  logs : SinkView
-  session : Session rows (begins console peer line) (lent_to console rules old) (record new { logs = logs }) ending
-  noted : NotedIf (ending_line services.Authsrv peer ending) logs new.logs
-
--- a client was denied
-record OfDenial (console : Bool) (verdict : Verdict) (peer : Peer) (old new : Devices BookOrigin) (ending : Ending) : Type 0 where
-  outside : console ≡ false
-  line : ℕ
-  denied : verdict ≡ Deny line
-  logs : SinkView
-  told : Ending
-  session : Session no_rows (denying_row (decision_text (Deny line) services.Authsrv peer) (denied_text line)) old (record new { logs = logs }) told
-  ends : ending ≡ denied_by line told
-  noted : NotedIf (ending_line services.Authsrv peer ending) logs new.logs
-
-treats_so : (verdict : Verdict) (rules : RuleBook) (peer : Peer) (old new : Devices BookOrigin) (logs : SinkView) (ending : Ending) → Treats verdict services.Authsrv rules peer ending old (record new { logs = logs })
-    → NotedIf (ending_line services.Authsrv peer ending) logs new.logs → OfSession false verdict rules peer old new ending ⊎ OfDenial false verdict peer old new ending
-treats_so (Permit line) rules peer old new logs ending h noted = inl (record { line = line; admitted = λ outside. refl; logs = logs; session = h; noted = noted })
-treats_so (Deny line) rules peer old new logs ending h noted = inr (record { outside = refl; line = line; denied = refl; logs = logs; told = h.told; session = h.session; ends = h.ends; noted = noted })
-
-serves_so : (console : Bool) (rules : RuleBook) (peer : Peer) (old new : Devices BookOrigin) (ending : Ending) → Serves console rules peer old new ending
-    → OfSession console (verdict_of rules peer) rules peer old new ending ⊎ OfDenial console (verdict_of rules peer) peer old new ending
-serves_so true rules peer old new ending h = inl (record { line = 0; admitted = λ outside. absurd (cc); logs = h.logs; session = h.session; noted = h.noted })
-serves_so false rules peer old new ending h = treats_so (verdict_of rules peer) rules peer old new h.logs ending h.treats h.noted
 
 session_gave : {P : Type 0} (table : PlaceTable (acts BookOrigin) P) (first : Row (acts BookOrigin) P) (old new : Devices BookOrigin) (ending : Ending) (session : Session table first old new ending)
     → new.outlet.given ≡ grown old.outlet.given (gives told (deeds_of session.held))
@@ -226,19 +206,6 @@ denial_so : (console : Bool) (verdict : Verdict) (peer : Peer) (old new : Device
 denial_so console verdict peer old new ending h =
     denial_by h.line peer old new h.logs h.told ending h.ends h.noted h.session (denies (decision_text (Deny h.line) services.Authsrv peer) (denied_text h.line) old (record new { logs = h.logs }) h.told h.session)
 
-lent_port : (console : Bool) (rules : RuleBook) (devices : Devices BookOrigin) → (lent_to console rules devices).port ≡ devices.port
-lent_port true rules devices = refl
-lent_port false rules devices = refl
-
-lent_outlet : (console : Bool) (rules : RuleBook) (devices : Devices BookOrigin) → (lent_to console rules devices).outlet ≡ devices.outlet
-lent_outlet true rules devices = refl
-lent_outlet false rules devices = refl
-
--- the log's line of an outcome, as of an ending
-tells_noted : (line : Option (List ℕ)) (mid new : WorldView) → TellsIf line mid new → NotedIf line mid.logs new.logs
-tells_noted None mid new is = ap (λ (w : WorldView). w.logs) is
-tells_noted (Some text) mid new h = record { told = h.told; gives = h.logged }
-
 abbrev left_so : SessionInputs → SinkView → BookView → DialerView → SinkView → Devices BookOrigin
 left_so inputs output book dialer logs = devices_with (book_port book) inputs.input output logs dialer inputs.clock inputs.dice
 
@@ -277,6 +244,7 @@ of_history client inputs out old mid new h tells s =
       logs = s.logs;
       ending = h.ending;
       session = session;
+      sound = h.sound;
       legal = h.legal;
       talk = subst (λ (p : Port BookOrigin). map said_of p.seen ≡ filter is_entered (talk_of deeds)) port whole;
       has = h.has;
@@ -315,7 +283,7 @@ ended_line out line refused mid new is h = let P : Outcome → Type 0 = λ o. Te
 -- what the headline says of a client, by its inputs
 abbrev ClientHeadline : Client → Inputs → ℕ → WorldView → WorldView → Type 0
 ClientHeadline client inputs status old new =
-    IsSilent status old new
+    IsUnserved status old new
     ⊎ ((IsToldOff client inputs old new ⊎ OfHistory client inputs status old new) × (IsPermitted (Authsrv client) inputs status ⊎ IsDenied (Authsrv client) services.Authsrv client.peer inputs status old new))
 
 session_headline : (client : Client) (inputs : Inputs) (out : Outcome) (old mid new : WorldView) → (h : Attended client inputs out old mid) → TellsIf (fault_line_of out) mid new
@@ -330,12 +298,27 @@ session_headline client inputs out old mid new h tells s =
       }),
     )
 
+-- after a client whom the rules deny the keeper is as the load left it
+untouched_deny : (console : Bool) (verdict : Verdict) (line : ℕ) (old new : KeeperView) → console ≡ false → verdict ≡ Deny line → UntouchedAt console verdict old new → new ≡ old
+untouched_deny true verdict line old new outside denied h = absurd (cc)
+untouched_deny false (Permit other) line old new outside denied h = absurd (cc)
+untouched_deny false (Deny other) line old new outside denied h = h
+
+denied_keeper : (client : Client) (inputs : Inputs) (out : Outcome) (old mid new : WorldView) (line : ℕ) (h : Attended client inputs out old mid) → client.console ≡ false → verdict_for (Authsrv client) inputs ≡ Deny line → new.inputs ≡ mid.inputs
+    → new.inputs.keeper ≡ Some h.before
+denied_keeper client inputs out old mid new line h outside denied same =
+    ap (λ (i : SessionInputs). i.keeper) same ∙ h.kept ∙ ap (λ (k : KeeperView). Some k) (untouched_deny client.console (verdict_for (Authsrv client) inputs) line h.before h.book.keeper outside denied h.untouched)
+
 denial_headline : (client : Client) (inputs : Inputs) (out : Outcome) (old mid new : WorldView) → (h : Attended client inputs out old mid) → TellsIf (fault_line_of out) mid new → (line : ℕ) → client.console ≡ false → verdict_for (Authsrv client) inputs ≡ Deny line
     → DeniesCut (devices_at old (book_at_first (origin_of inputs) most_entries h.before) nowhere) (devices_at mid h.book h.dialer) h.ending
     ⊎ DeniesWhole line client.peer (devices_at old (book_at_first (origin_of inputs) most_entries h.before) nowhere) (devices_at mid h.book h.dialer) h.ending
     → ClientHeadline client inputs (status_of out) old new
 denial_headline client inputs out old mid new h tells line outside denied (inl cut) =
-    inl (record { output = (tells_later (fault_line_of out) mid new tells).output ∙ cut.outlet; undenied = ended_log out h.ending h.book.refused h.comes cut.ends })
+    let later = tells_later (fault_line_of out) mid new tells in
+    inl (record {
+      silent = record { output = later.output ∙ cut.outlet; undenied = ended_log out h.ending h.book.refused h.comes cut.ends };
+      kept = ap (option_map (λ (k : KeeperView). k.table)) (denied_keeper client inputs out old mid new line h outside denied later.inputs ∙ sym h.keeper);
+    })
 denial_headline client inputs out old mid new h tells line outside denied (inr whole) =
     let comes : out ≡ Ended (endings.Denied line) h.book.refused = h.comes ∙ ap (λ (e : Ending). Ended e h.book.refused) whole.ends in
     let same : new ≡ mid = ended_line out line h.book.refused mid new comes tells in
@@ -357,6 +340,7 @@ denial_headline client inputs out old mid new h tells line outside denied (inr w
         tried = two.tried;
         deeds = two.are;
         told = session_gave no_rows (denying_row text (denied_text line)) first (devices_at new h.book h.dialer) endings.Done session;
+        kept = denied_keeper client inputs out old mid new line h outside denied (ap (λ (w : WorldView). w.inputs) same);
       }),
       inr (record { line = line; denied = denied; logged = ap (λ (w : WorldView). w.logs) same ∙ whole.logs; status_is = ap status_of comes }),
     )
@@ -380,14 +364,17 @@ attended_headline client inputs out old mid new h tells =
 silent_from : (status : ℕ) (old mid new : WorldView) → mid.output ≡ old.output → IsSilent status mid new → IsSilent status old new
 silent_from status old mid new is h = record { output = h.output ∙ is; undenied = h.undenied }
 
+unserved_from : (name : List ℕ) (status : ℕ) (old mid new : WorldView) → ReadsOnly name true old mid → IsUnserved status mid new → IsUnserved status old new
+unserved_from name status old mid new only h = record { silent = silent_from status old mid new only.output h.silent; kept = h.kept ∙ (only_left name true old mid only).table }
+
 netacl_headline : (name : List ℕ) (query : Query) (outcome : Outcome) (status : ℕ) (old mid new : WorldView) (h : Worked name (Netacl query) outcome old mid)
     → IsSilent status h.middle new ⊎ (IsPermitted (Netacl query) h.inputs status ⊎ IsDenied (Netacl query) query.service query.peer h.inputs status h.middle new) → HeadlineFor name (Netacl query) status old new
 netacl_headline name query outcome status old mid new h (inl silent) = record { replies_legal = tt; denials_logged = inl (silent_from status old h.middle new h.only.output silent) }
 netacl_headline name query outcome status old mid new h (inr so) = record { replies_legal = tt; denials_logged = inr (record { inputs = h.inputs; read = h.read; middle = h.middle; only = h.only; so = so }) }
 
 client_headline : (name : List ℕ) (client : Client) (outcome : Outcome) (status : ℕ) (old mid new : WorldView) (h : Worked name (Authsrv client) outcome old mid) → ClientHeadline client h.inputs status h.middle new → HeadlineFor name (Authsrv client) status old new
-client_headline name client outcome status old mid new h (inl silent) =
-    let so = silent_from status old h.middle new h.only.output silent in record { replies_legal = inl so; denials_logged = inl so }
+client_headline name client outcome status old mid new h (inl unserved) =
+    let so = unserved_from name status old h.middle new h.only unserved in record { replies_legal = inl so; denials_logged = inl so.silent }
 client_headline name client outcome status old mid new h (inr so) = record {
   replies_legal = inr (record { inputs = h.inputs; read = h.read; middle = h.middle; only = h.only; so = so.0 });
   denials_logged = inr (record { inputs = h.inputs; read = h.read; middle = h.middle; only = h.only; so = so.1 });
@@ -404,7 +391,7 @@ worked_headline name (Authsrv client) outcome old mid new h tells =
 does_headline : (line : Option LineView) (outcome : Outcome) (old mid new : WorldView) → DoesLine line outcome old mid → TellsIf (fault_line_of outcome) mid new → Headline line (status_of outcome) old new
 does_headline None outcome old mid new h tells = tt
 does_headline (Some line) outcome old mid new (inl h) tells =
-    silent_headline line.table line.command (status_of outcome) old new (stops_silent line.table line.command outcome old mid new h (tells_later (fault_line_of outcome) mid new tells))
+    silent_headline line.table line.command (status_of outcome) old new (stops_unserved line.table line.command outcome old mid new h (tells_later (fault_line_of outcome) mid new tells))
 does_headline (Some line) outcome old mid new (inr h) tells = worked_headline line.table line.command outcome old mid new h tells
 
 pub run_headline : (line : Option LineView) (status : ℕ) (old new : WorldView) → Run line status old new → Headline line status old new

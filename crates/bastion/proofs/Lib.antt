@@ -6,7 +6,11 @@ pub mod DenialLemmas
 pub mod DoesLemmas
 pub mod HeadlineLemmas
 pub mod InputLemmas
+pub mod LoglessLemmas
+pub mod QuietLemmas
 pub mod ReadingLemmas
 pub mod RunLemmas
+pub mod ServedLemmas
+pub mod SessionLemmas
 pub mod SinkLemmas
 pub mod WaitLemmas

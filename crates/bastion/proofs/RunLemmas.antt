@@ -1,22 +1,26 @@
 -- From what a run did to its clauses.
 use Rattle.std.proofs.Common.{◌≡◌, ◌≤◌, ℕ, List, refl, sym, ◌∙◌, ap, subst, inl, inr, arith, ◌⊎◌, Bool, true, false}
+use Rattle.std.specs.Option.{option_map}
 use Rattle.std.specs.Prelude.{Option, Some, None, Result, Ok, Err, IsSome, not}
+use Rattle.fw_outside.specs.ClockView.{ClockView}
 use Rattle.fw_outside.specs.Counts.{Rose}
 use Rattle.fw_outside.specs.FilesView.{FilesView}
-use Rattle.fw_outside.specs.KeeperView.{KeeperFailed, KeeperView}
+use Rattle.fw_outside.specs.KeeperView.{KeeperFailed, KeeperView, NamedBytes}
 use Rattle.fw_outside.specs.SinkView.{Gives, SinkView}
 use Rattle.fw_outside.specs.SourceView.{SourceView}
 use Rattle.session_acts.specs.Causes.{TookMost}
+use Rattle.session_acts.specs.Laws.{Adds}
 use Rattle.fw_outside.specs.declared.failed.Failed as sink
 use Rattle.fw_types.specs.declared.ending.Ending.{Ending}
 use Rattle.fw_types.specs.declared.ending.Ending.TheVariants as endings
 use Rattle.gate_rules.specs.Verdict.{verdict_of}
 use Rattle.gate_rules.specs.declared.verdict.Verdict.{Verdict}
 use Rattle.gate_rules.specs.declared.verdict.Verdict.TheVariants.{Permit, Deny}
+use Rattle.bastion.specs.Headline.{table_kept}
 use Rattle.bastion.specs.Inputs.{Inputs, is_of_line, needs_records}
 use Rattle.bastion.specs.Outcome.{CountRose, DeviceRose, EndingRose, KeeperRose, fault_line_of, status_of, verdict_status}
 use Rattle.bastion.specs.Run.{CallsIf, DoesLine, FilesFailed, ReadsOnly, Run, Stops, TellsIf, Worked}
-use Rattle.bastion.specs.Status.{IsHeld, IsServed, IsStatus, IsStatusFor, SomeRose, TakesIn}
+use Rattle.bastion.specs.Status.{IsFull, IsHeld, IsServed, IsStatus, IsStatusFor, SomeRose, TakesIn}
 use Rattle.bastion.specs.Words.{LineView}
 use Rattle.bastion.specs.Works.{PrintsAfter, Works, announced, shown}
 use Rattle.bastion.specs.WorldView.{SessionInputs, WorldView}
@@ -33,13 +37,15 @@ use Rattle.bastion.proofs.SinkLemmas.{cut_rose, gives_most, rose_later, same_low
 
 -- ---- what reading leaves
 
--- as many sources are out, and nothing was taken, told or logged; the keeper is there
+-- as many sources are out, and nothing was taken, told or logged; the keeper is there, and has what it had
 pub record Left (old new : WorldView) : Type 0 where
   pub out : new.files.out ≡ old.files.out
   pub input : new.inputs.input ≡ old.inputs.input
+  pub clock : new.inputs.clock ≡ old.inputs.clock
   pub output : new.output ≡ old.output
   pub logs : new.logs ≡ old.logs
   pub keeper : IsSome old.inputs.keeper → IsSome new.inputs.keeper
+  pub table : table_kept new.inputs ≡ table_kept old.inputs
 
 some_there : (new : Option KeeperView) (view : KeeperView) → new ≡ Some view → IsSome new
 some_there new view is = subst (λ (k : Option KeeperView). IsSome k) (sym is) refl
@@ -48,17 +54,32 @@ calls_input : (records : Bool) (old new : SessionInputs) → CallsIf records old
 calls_input true old new h = ap (λ (i : SessionInputs). i.input) h.is
 calls_input false old new h = ap (λ (i : SessionInputs). i.input) h
 
+calls_clock : (records : Bool) (old new : SessionInputs) → CallsIf records old new → new.clock ≡ old.clock
+calls_clock true old new h = ap (λ (i : SessionInputs). i.clock) h.is
+calls_clock false old new h = ap (λ (i : SessionInputs). i.clock) h
+
 calls_there : (records : Bool) (old new : SessionInputs) → CallsIf records old new → IsSome old.keeper → IsSome new.keeper
 calls_there true old new h there = some_there new.keeper h.after (ap (λ (i : SessionInputs). i.keeper) h.is)
 calls_there false old new h there = subst (λ (i : SessionInputs). IsSome i.keeper) (sym h) there
+
+some_table : (old new : Option KeeperView) (before after : KeeperView) → old ≡ Some before → new ≡ Some after → after.table ≡ before.table → option_map (λ (k : KeeperView). k.table) new ≡ option_map (λ (k : KeeperView). k.table) old
+some_table old new before after is now same =
+    ap (option_map (λ (k : KeeperView). k.table)) now ∙ ap (λ (t : Option NamedBytes). Some t) same ∙ sym (ap (option_map (λ (k : KeeperView). k.table)) is)
+
+calls_table : (records : Bool) (old new : SessionInputs) → CallsIf records old new → table_kept new ≡ table_kept old
+calls_table true old new h =
+    some_table old.keeper new.keeper h.before h.after h.keeper (ap (λ (i : SessionInputs). i.keeper) h.is) (ap (λ (k : KeeperView). k.table) h.called.is)
+calls_table false old new h = ap table_kept h
 
 pub only_left : (name : List ℕ) (records : Bool) (old new : WorldView) → ReadsOnly name records old new → Left old new
 only_left name records old new h = record {
   out = ap (λ (f : FilesView). f.out) h.files.is;
   input = calls_input records old.inputs new.inputs h.inputs;
+  clock = calls_clock records old.inputs new.inputs h.inputs;
   output = h.output;
   logs = h.logs;
   keeper = calls_there records old.inputs new.inputs h.inputs;
+  table = calls_table records old.inputs new.inputs h.inputs;
 }
 
 files_out : (name : List ℕ) (old new : FilesView) → FilesFailed name old new → new.out ≡ old.out
@@ -78,16 +99,21 @@ stops_left name command (Unread refusal) old new h = only_left name (not (is_of_
 stops_left name command (Failed device.Table) old new h = record {
   out = files_out name old.files new.files h.failed;
   input = ap (λ (i : SessionInputs). i.input) h.inputs;
+  clock = ap (λ (i : SessionInputs). i.clock) h.inputs;
   output = h.output;
   logs = h.logs;
   keeper = λ there. subst (λ (i : SessionInputs). IsSome i.keeper) (sym h.inputs) there;
+  table = ap table_kept h.inputs;
 }
 stops_left name command (Failed device.Records) old new h = record {
   out = ap (λ (f : FilesView). f.out) h.files.is;
   input = ap (λ (i : SessionInputs). i.input) h.inputs;
+  clock = ap (λ (i : SessionInputs). i.clock) h.inputs;
   output = h.output;
   logs = h.logs;
   keeper = λ there. some_there new.inputs.keeper h.after (ap (λ (i : SessionInputs). i.keeper) h.inputs);
+  table =
+      some_table old.inputs.keeper new.inputs.keeper h.before h.after h.keeper (ap (λ (i : SessionInputs). i.keeper) h.inputs) (ap (λ (k : KeeperView). k.table) h.failed.is);
 }
 stops_left name command (NoMemory step) old new h = lacks_left name command step old new h
 stops_left name command outcome old new h = absurd h
@@ -288,16 +314,25 @@ served_so name command outcome old mid new Served rose later is (inl (inr five))
 served_so name command outcome old mid new Served rose later is (inr served) = is served
 
 -- the inputs of a session as it began and as it was left
-held_then : (status : ℕ) (a b c d : SessionInputs) → a.input ≡ c.input → d ≡ b → IsHeld status a b → IsHeld status c d
-held_then status a b c d before after (inl zero) = inl zero
-held_then status a b c d before after (inr (six, inl took)) =
-    inr (six, inl (subst (λ (s : SourceView). TookMost s d.input) before (subst (λ (i : SessionInputs). TookMost a.input i.input) (sym after) took)))
-held_then status a b c d before after (inr (six, inr full)) = inr (six, inr (record { book = full.book; kept = ap (λ (i : SessionInputs). i.keeper) after ∙ full.kept; full = full.full }))
+full_then : (a b c d : SessionInputs) → a.clock ≡ c.clock → d ≡ b → IsFull a b → IsFull c d
+full_then a b c d clock after full =
+    let Told : ClockView → ClockView → Type 0 = λ one other. Adds full.moments one.told other.told in
+    record {
+      moments = full.moments;
+      told = subst (λ (o : ClockView). Told o d.clock) clock (subst (λ (i : SessionInputs). Told a.clock i.clock) (sym after) full.told);
+      many = full.many;
+    }
 
-pub served_then : (console : Bool) (verdict : Verdict) (status : ℕ) (a b c d : SessionInputs) → a.input ≡ c.input → d ≡ b → IsServed console verdict status a b → IsServed console verdict status c d
-served_then true verdict status a b c d before after h = held_then status a b c d before after h
-served_then false (Permit line) status a b c d before after h = held_then status a b c d before after h
-served_then false (Deny line) status a b c d before after h = h
+held_then : (status : ℕ) (a b c d : SessionInputs) → a.input ≡ c.input → a.clock ≡ c.clock → d ≡ b → IsHeld status a b → IsHeld status c d
+held_then status a b c d before clock after (inl zero) = inl zero
+held_then status a b c d before clock after (inr (six, inl took)) =
+    inr (six, inl (subst (λ (s : SourceView). TookMost s d.input) before (subst (λ (i : SessionInputs). TookMost a.input i.input) (sym after) took)))
+held_then status a b c d before clock after (inr (six, inr full)) = inr (six, inr (full_then a b c d clock after full))
+
+pub served_then : (console : Bool) (verdict : Verdict) (status : ℕ) (a b c d : SessionInputs) → a.input ≡ c.input → a.clock ≡ c.clock → d ≡ b → IsServed console verdict status a b → IsServed console verdict status c d
+served_then true verdict status a b c d before clock after h = held_then status a b c d before clock after h
+served_then false (Permit line) status a b c d before clock after h = held_then status a b c d before clock after h
+served_then false (Deny line) status a b c d before clock after h = h
 
 worked_status : (name : List ℕ) (command : Command) (outcome : Outcome) (old mid new : WorldView) → Worked name command outcome old mid → Later mid new → IsStatusFor name command (status_of outcome) old new
 worked_status name (Netacl query) outcome old mid new h later =
@@ -310,8 +345,9 @@ worked_status name (Table query) outcome old mid new h later =
     (subst (ByVerdict (verdict_of h.inputs.rules query.peer)) (sym h.works.printed.is) (shown_status (verdict_of h.inputs.rules query.peer) h.works.printed.printing))
 worked_status name (Authsrv client) outcome old mid new h later =
     let Served : Type 0 = IsServed client.console (verdict_of h.inputs.rules client.peer) (status_of outcome) h.middle.inputs mid.inputs in
+    let left = only_left name true old h.middle h.only in
     served_so name (Authsrv client) outcome old mid new Served (worked_rose name (Authsrv client) outcome old mid h) later
-    (λ served. inr (record { read = Ok h.inputs; inputs = h.read; is = served_then client.console (verdict_of h.inputs.rules client.peer) (status_of outcome) h.middle.inputs mid.inputs old.inputs new.inputs (only_left name true old h.middle h.only).input later.inputs served }))
+    (λ served. inr (record { read = Ok h.inputs; inputs = h.read; is = served_then client.console (verdict_of h.inputs.rules client.peer) (status_of outcome) h.middle.inputs mid.inputs old.inputs new.inputs left.input left.clock later.inputs served }))
     (attended_status client h.inputs outcome h.middle mid h.works)
 
 does_status : (line : Option LineView) (outcome : Outcome) (old mid new : WorldView) → DoesLine line outcome old mid → Later mid new → IsStatus line (status_of outcome) old new

@@ -1,15 +1,24 @@
 -- What is done in a run in which no count rose: all that is called for, whole.
-use Rattle.std.specs.Prelude.{◌≡◌, ℕ, ◌⊎◌, List, [], ◌++◌, codes, Option, Some, None, Result, Ok, Err}
+use Rattle.std.specs.Prelude.{◌≡◌, ℕ, ◌⊎◌, Bool, true, false, List, [], ◌++◌, codes, Option, Some, None, Result, Ok, Err, unwrap_or}
 use Rattle.fw_outside.specs.ToldList.{grown}
+use Rattle.fw_types.specs.declared.ending.Ending.{Ending}
+use Rattle.fw_types.specs.declared.ending.Ending.TheVariants.{Done, Spent}
+use Rattle.fw_types.specs.declared.peer.Peer.{Peer}
+use Rattle.gate_rules.specs.declared.service.Service.TheVariants as services
+use Rattle.gate_rules.specs.declared.verdict.Verdict.{Verdict}
+use Rattle.gate_rules.specs.declared.verdict.Verdict.TheVariants.{Permit, Deny}
+use Rattle.bastion.specs.Endings.{denied_text, ending_line}
 use Rattle.bastion.specs.Inputs.{HasInputs, Inputs}
-use Rattle.bastion.specs.Outcome.{refusal_text, verdict_status}
+use Rattle.bastion.specs.Outcome.{fault_line_of, refusal_text, status_of, verdict_status}
 use Rattle.bastion.specs.Run.{verdict_for}
-use Rattle.bastion.specs.Status.{IsServed}
+use Rattle.bastion.specs.Status.{IsHeld}
 use Rattle.bastion.specs.TableReport.{report_text}
 use Rattle.bastion.specs.Texts.{decision_text, print_text}
 use Rattle.bastion.specs.Words.{LineView}
 use Rattle.bastion.specs.WorldView.{WorldView}
+use Rattle.bastion.specs.declared.outcome.Outcome.TheVariants.{Ended}
 use Rattle.bastion.specs.declared.outcome.Refusal.{Refusal}
+use Rattle.bastion.specs.declared.words.Client.{Client}
 use Rattle.bastion.specs.declared.words.Command.{Command}
 use Rattle.bastion.specs.declared.words.Command.TheVariants.{Netacl, Table, Authsrv}
 
@@ -19,14 +28,45 @@ pub record IsWhole (logged printed : List ℕ) (comes status : ℕ) (old new : W
   pub output : new.output.given ≡ grown old.output.given printed
   pub status_is : status ≡ comes
 
--- what can't be read is told to the log; the verdict's line is logged, and its text printed; of a session, the status
+-- ---- a session
+
+-- the line before a session: that of the permission, and none at the console
+abbrev pub opening_text : Bool → Verdict → Peer → List ℕ
+opening_text true verdict peer = []
+opening_text false verdict peer = decision_text verdict services.Authsrv peer
+
+-- behind it stand the ending's line, and that of the limit where a request had been refused
+abbrev pub session_text : Bool → Verdict → Peer → Ending → Bool → List ℕ
+session_text console verdict peer ending refused =
+    opening_text console verdict peer ++ unwrap_or (ending_line services.Authsrv peer ending) [] ++ unwrap_or (fault_line_of (Ended ending refused)) []
+
+-- a session came to its end, or to the most bytes that it may take; the log has taken its lines whole, and nothing else
+pub record IsHeldWhole (client : Client) (verdict : Verdict) (status : ℕ) (old new : WorldView) : Type 0 where
+  pub ending : Ending
+  pub ends : (ending ≡ Done) ⊎ (ending ≡ Spent)
+  pub refused : Bool
+  pub logs : new.logs.given ≡ grown old.logs.given (session_text client.console verdict client.peer ending refused)
+  pub status_is : status ≡ status_of (Ended ending refused)
+  pub held : IsHeld status old.inputs new.inputs
+
+-- a client whom the rules deny is told so, unless it is at the console; for any other a session is held
+abbrev pub IsServedWhole : Bool → Verdict → Client → ℕ → WorldView → WorldView → Type 0
+IsServedWhole true verdict client status old new = IsHeldWhole client verdict status old new
+IsServedWhole false (Permit line) client status old new = IsHeldWhole client (Permit line) status old new
+IsServedWhole false (Deny line) client status old new =
+    IsWhole (decision_text (Deny line) services.Authsrv client.peer) (denied_text line) 1 status old new
+
+-- ---- all commands
+
+-- what can't be read is told to the log; the verdict's line is logged, and its text printed; a client is denied, or its session
+-- held
 abbrev pub IsAllDone : Command → Result Inputs Refusal → ℕ → WorldView → WorldView → Type 0
 IsAllDone command (Err refusal) status old new = IsWhole (codes "fault " ++ refusal_text refusal ++ codes "\n") [] 3 status old new
 IsAllDone (Netacl query) (Ok inputs) status old new =
     IsWhole (decision_text (verdict_for (Netacl query) inputs) query.service query.peer) (print_text inputs.rules (verdict_for (Netacl query) inputs)) (verdict_status (verdict_for (Netacl query) inputs)) status old new
 IsAllDone (Table query) (Ok inputs) status old new =
     IsWhole [] (report_text inputs.rules (verdict_for (Table query) inputs)) (verdict_status (verdict_for (Table query) inputs)) status old new
-IsAllDone (Authsrv client) (Ok inputs) status old new = IsServed client.console (verdict_for (Authsrv client) inputs) status old.inputs new.inputs
+IsAllDone (Authsrv client) (Ok inputs) status old new = IsServedWhole client.console (verdict_for (Authsrv client) inputs) client status old new
 
 -- by the inputs of the command, or by what can't be read
 pub record AllDone (name : List ℕ) (command : Command) (status : ℕ) (old new : WorldView) : Type 0 where

@@ -2,16 +2,17 @@
 -- of one legal history; every denial logs its line.
 use Rattle.std.specs.Prelude.{◌≡◌, ◌≢◌, ℕ, ◌⊎◌, Bool, true, false, List, [], ◌∷◌, Option, Some, None, Ok, filter, length, map, Result}
 use Rattle.std.specs.List.{list_any}
+use Rattle.std.specs.Option.{option_map}
 use Rattle.auth_events.specs.declared.reply.Reply.{Reply}
 use Rattle.auth_events.specs.declared.request.Request.{Request}
 use Rattle.auth_machine.specs.Book.{BookView}
-use Rattle.auth_machine.specs.History.{CountsUnkept, HasRecords, IsLegal}
+use Rattle.auth_machine.specs.History.{CountsUnkept, HasRecords, IsLegal, IsSound}
 use Rattle.auth_machine.specs.Port.{BookOrigin}
 use Rattle.authsrv_gate.specs.Dialogue.{rows, session_row}
 use Rattle.authsrv_gate.specs.declared.place.Place.{Place}
 use Rattle.fw_acts.specs.Acts.{Row}
 use Rattle.fw_outside.specs.DialerView.{DialerView}
-use Rattle.fw_outside.specs.KeeperView.{KeeperView}
+use Rattle.fw_outside.specs.KeeperView.{KeeperView, NamedBytes}
 use Rattle.fw_outside.specs.SinkView.{SinkView}
 use Rattle.fw_outside.specs.ToldList.{grown}
 use Rattle.fw_types.specs.declared.ending.Ending.{Ending}
@@ -41,7 +42,7 @@ use Rattle.bastion.specs.Serving.{book_at_first, devices_at, most_entries, origi
 use Rattle.bastion.specs.Texts.{decision_text}
 use Rattle.bastion.specs.Words.{LineView}
 use Rattle.bastion.specs.Works.{with_given}
-use Rattle.bastion.specs.WorldView.{WorldView}
+use Rattle.bastion.specs.WorldView.{SessionInputs, WorldView}
 use Rattle.bastion.specs.declared.outcome.Outcome.TheVariants.{Ended}
 use Rattle.bastion.specs.declared.words.Client.{Client}
 use Rattle.bastion.specs.declared.words.Command.{Command}
@@ -89,6 +90,10 @@ DenialLogged name (Authsrv client) status old new = LogsDenial name (Authsrv cli
 
 -- ---- the replies are those of one legal history
 
+-- the names with their bytes that a keeper has, where one is there and tells
+abbrev pub table_kept : SessionInputs → Option (Option NamedBytes)
+table_kept inputs = option_map (λ keeper. keeper.table) inputs.keeper
+
 -- what is done first: at the console the session; else the line of the permission is logged before it
 abbrev pub begins : Bool → Peer → ℕ → Row (acts BookOrigin) Place
 begins true peer line = session_row true
@@ -105,8 +110,8 @@ talk_of deeds = answered (gives asked deeds)
 
 -- A session was held with a client whom the rules permit, or who is at the console, over the run's devices and a book of the
 -- records that the keeper had. What it asked and was answered, but for what was refused since the history was full, is the
--- whole of the history, in order; that is legal by the policy and the records, and the keeper has the records after it and
--- has counted a failure for each entry that was not kept. The client was given what the session's deeds tell. Behind the
+-- whole of the history, in order; that is legal by the policy and the records, which are sound, and the keeper has the records
+-- after it and has counted a failure for each entry that was not kept. The client was given what the session's deeds tell. Behind the
 -- session the log was given the ending's line, and that of the limit, where there are such. And the status is the ending's,
 -- but 6 where the session was done and a request had been refused.
 pub record OfHistory (client : Client) (inputs : Inputs) (status : ℕ) (old new : WorldView) : Type 0 where
@@ -119,6 +124,7 @@ pub record OfHistory (client : Client) (inputs : Inputs) (status : ℕ) (old new
   pub logs : SinkView
   pub ending : Ending
   pub session : Session rows (begins client.console client.peer line) (lent_to client.console inputs.rules (devices_at old (book_at_first (origin_of inputs) most_entries before) nowhere)) (record (devices_at new book dialer) { logs = logs }) ending
+  pub sound : IsSound (origin_of inputs)
   pub legal : IsLegal (origin_of inputs) book.history
   pub talk : map said_of book.history ≡ filter is_entered (talk_of (deeds_of session.held))
   pub has : HasRecords (origin_of inputs) book.history book.keeper
@@ -132,7 +138,8 @@ pub record OfHistory (client : Client) (inputs : Inputs) (status : ℕ) (old new
   pub status_is : status ≡ status_of (Ended ending (list_any is_refused_as_full (talk_of (deeds_of session.held))))
 
 -- The rules deny the client, who isn't at the console. Over the run's devices two deeds were done, in this order: the line of
--- the denial was given to the log, whole; and then the client was given the words of it, or a front of them.
+-- the denial was given to the log, whole; and then the client was given the words of it, or a front of them. The keeper is as
+-- the load left it.
 pub record IsToldOff (client : Client) (inputs : Inputs) (old new : WorldView) : Type 0 where
   pub outside : client.console ≡ false
   pub line : ℕ
@@ -145,6 +152,12 @@ pub record IsToldOff (client : Client) (inputs : Inputs) (old new : WorldView) :
   pub tried : Result (Unit {0}) (Front (denied_text line))
   pub deeds : deeds_ran session.held.ran ≡ line_logged (decision_text (Deny line) services.Authsrv client.peer) ∷ record { act = Try (denied_text line); outcome = Ok tried } ∷ []
   pub told : new.output.given ≡ grown old.output.given (gives told (deeds_of session.held))
+  pub kept : new.inputs.keeper ≡ Some before
+
+-- No session was held, and nobody was told that it is denied: the client was told nothing, and the keeper has what it had.
+pub record IsUnserved (status : ℕ) (old new : WorldView) : Type 0 where
+  pub silent : IsSilent status old new
+  pub kept : table_kept new.inputs ≡ table_kept old.inputs
 
 pub record IsReplied (name : List ℕ) (client : Client) (status : ℕ) (old new : WorldView) : Type 0 where
   pub inputs : Inputs
@@ -156,12 +169,13 @@ pub record IsReplied (name : List ℕ) (client : Client) (status : ℕ) (old new
 abbrev pub IsReplying : List ℕ → Command → ℕ → WorldView → WorldView → Type 0
 IsReplying name (Netacl query) status old new = Unit {0}
 IsReplying name (Table query) status old new = Unit {0}
-IsReplying name (Authsrv client) status old new = IsSilent status old new ⊎ IsReplied name client status old new
+IsReplying name (Authsrv client) status old new = IsUnserved status old new ⊎ IsReplied name client status old new
 
 -- ---- the headline
 
 pub record HeadlineFor (name : List ℕ) (command : Command) (status : ℕ) (old new : WorldView) : Type 0 where
-  -- a client of `authsrv` is told nothing; or that it is denied; or the replies of one legal history
+  -- a client of `authsrv` is told nothing, and the keeper has what it had; or that it is denied; or the replies of one legal
+  -- history
   pub replies_legal : IsReplying name command status old new
   -- nobody is told anything, or the rules permit, or the log has the whole line of the denial
   pub denials_logged : DenialLogged name command status old new

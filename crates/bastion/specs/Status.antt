@@ -1,7 +1,7 @@
 -- What the status of a run says, and when it comes.
-use Rattle.std.specs.Prelude.{◌≡◌, ℕ, ◌⊎◌, Bool, true, false, List, length, Option, Some, None, Result, Ok, Err}
-use Rattle.auth_machine.specs.Book.{BookView}
+use Rattle.std.specs.Prelude.{◌≡◌, ℕ, ◌<◌, ◌⊎◌, Bool, true, false, List, length, Option, Some, None, Result, Ok, Err}
 use Rattle.session_acts.specs.Causes.{TookAtMost, TookMost}
+use Rattle.session_acts.specs.Laws.{Adds}
 use Rattle.session_acts.specs.World.{most_taken}
 use Rattle.fw_outside.specs.Counts.{Rose}
 use Rattle.fw_outside.specs.SourceView.{SourceView}
@@ -25,15 +25,15 @@ SomeRose old new =
     ⊎ (Rose old.inputs.input.faults new.inputs.input.faults ⊎ Rose old.inputs.input.idles new.inputs.input.idles)
     ⊎ KeeperRose old.inputs.keeper new.inputs.keeper
 
--- so many entries are in the history as fit
-pub record IsFull (new : SessionInputs) : Type 0 where
-  pub book : BookView
-  pub kept : new.keeper ≡ Some book.keeper
-  pub full : length book.history ≡ most_entries
+-- more requests were asked than fit in a history: each took a moment of the clock
+pub record IsFull (old new : SessionInputs) : Type 0 where
+  pub moments : List ℕ
+  pub told : Adds moments old.clock.told new.clock.told
+  pub many : most_entries < length moments
 
--- as many bytes as may be were taken of the input, or the history is full
+-- as many bytes as may be were taken of the input, or more was asked than fits in a history
 abbrev pub IsAtLimit : SessionInputs → SessionInputs → Type 0
-IsAtLimit old new = TookMost old.input new.input ⊎ IsFull new
+IsAtLimit old new = TookMost old.input new.input ⊎ IsFull old new
 
 -- a session: 0, or 6 where it came to a limit
 abbrev pub IsHeld : ℕ → SessionInputs → SessionInputs → Type 0
