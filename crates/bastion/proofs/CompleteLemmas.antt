@@ -104,7 +104,7 @@ served_whole name client outcome old mid new none h tells (inr served) =
       read = Ok h.inputs;
       inputs = h.read;
       does =
-          attended_whole client h.inputs outcome old h.middle mid new (quiet old new none) h.only.logs h.only.output h.works tells
+          attended_whole name client h.inputs outcome old h.middle mid new (quiet old new none) h.only h.works tells
           (served_then client.console (verdict_of h.inputs.rules client.peer) (status_of outcome) h.middle.inputs mid.inputs old.inputs new.inputs left.input left.clock later.inputs served);
     })
 

@@ -210,7 +210,7 @@ abbrev left_so : SessionInputs → SinkView → BookView → DialerView → Sink
 left_so inputs output book dialer logs = devices_with (book_port book) inputs.input output logs dialer inputs.clock inputs.dice
 
 -- what a session over a book asked and told
-of_history : (client : Client) (inputs : Inputs) (out : Outcome) (old mid new : WorldView) → (h : Attended client inputs out old mid) → TellsIf (fault_line_of out) mid new
+pub of_history : (client : Client) (inputs : Inputs) (out : Outcome) (old mid new : WorldView) → (h : Attended client inputs out old mid) → TellsIf (fault_line_of out) mid new
     → OfSession client.console (verdict_for (Authsrv client) inputs) inputs.rules client.peer (devices_at old (book_at_first (origin_of inputs) most_entries h.before) nowhere) (devices_at mid h.book h.dialer) h.ending
     → OfHistory client inputs (status_of out) old new
 of_history client inputs out old mid new h tells s =

@@ -1,5 +1,6 @@
 -- In a run in which no count rose, the log has the lines of a client of the authentication server whole.
 use Rattle.std.proofs.Common.{arith, ◌≡◌, ◌≢◌, ◌≤◌, ◌∙◌, refl, sym, ap, subst, ℕ, List, [], ◌++◌, inl, inr, ◌⊎◌, Bool, true, false}
+use Rattle.std.specs.List.{list_any}
 use Rattle.std.specs.Prelude.{Option, Result, Ok, Err, unwrap_or}
 use Rattle.auth_machine.specs.Port.{BookOrigin}
 use Rattle.authsrv_gate.specs.Dialogue.{rows, session_row}
@@ -17,17 +18,18 @@ use Rattle.session_acts.specs.Acts.{Front}
 use Rattle.session_acts.specs.Client.{Denies, LogsFirst, with_line}
 use Rattle.session_acts.specs.Dummies.{nowhere}
 use Rattle.session_acts.specs.Met.{Gets}
-use Rattle.session_acts.specs.Session.{Session}
+use Rattle.session_acts.specs.Session.{Session, deeds_of}
+use Rattle.session_acts.specs.Talk.{is_refused_as_full}
 use Rattle.session_acts.specs.World.{Devices}
 use Rattle.session_acts.proofs.ClientLemmas.{denies, logs_first}
 use Rattle.session_acts.proofs.ToldLemmas.{by_both, by_nothing}
 use Rattle.bastion.specs.Complete.{IsHeldWhole, IsServedWhole, IsWhole, opening_text}
 use Rattle.bastion.specs.Conn.{NotedIf, denied_by, logged_row, patient, timeout_of}
 use Rattle.bastion.specs.Endings.{denied_text, ending_line}
-use Rattle.bastion.specs.Headline.{begins, lent_to}
+use Rattle.bastion.specs.Headline.{OfHistory, begins, lent_to, talk_of}
 use Rattle.bastion.specs.Inputs.{Inputs}
 use Rattle.bastion.specs.Outcome.{fault_line_of, status_of}
-use Rattle.bastion.specs.Run.{TellsIf, verdict_for}
+use Rattle.bastion.specs.Run.{ReadsOnly, TellsIf, verdict_for}
 use Rattle.bastion.specs.Serving.{Attended, book_at_first, devices_at, most_entries, origin_of}
 use Rattle.bastion.specs.Status.{IsHeld, IsServed}
 use Rattle.bastion.specs.Texts.{decision_text}
@@ -36,10 +38,11 @@ use Rattle.bastion.specs.declared.outcome.Outcome.{Outcome}
 use Rattle.bastion.specs.declared.outcome.Outcome.TheVariants.{Ended}
 use Rattle.bastion.specs.declared.words.Client.{Client}
 use Rattle.bastion.specs.declared.words.Command.TheVariants.{Authsrv}
+use Rattle.bastion.proofs.HeadlineLemmas.{of_history}
 use Rattle.bastion.proofs.LoglessLemmas.{server_logless}
 use Rattle.bastion.proofs.QuietLemmas.{Quiet, noted_later, noted_whole}
-use Rattle.bastion.proofs.RunLemmas.{served_then, tells_later}
-use Rattle.bastion.proofs.SessionLemmas.{OfDenial, OfSession, serves_so, tells_noted}
+use Rattle.bastion.proofs.RunLemmas.{tells_later}
+use Rattle.bastion.proofs.SessionLemmas.{OfDenial, OfSession, serves_so}
 use Rattle.bastion.proofs.SinkLemmas.{same_low}
 
 -- ---- the lines of a session
@@ -115,31 +118,31 @@ ends_by endings.Idle refused old new h = absurd (never_held 4 old new (λ is. om
 ends_by endings.NoRoute refused old new h = absurd (never_held 4 old new (λ is. omega (arith, is)) (λ is. omega (arith, is)) h)
 ends_by endings.NoMemory refused old new h = absurd (never_held 5 old new (λ is. omega (arith, is)) (λ is. omega (arith, is)) h)
 
-session_whole : (client : Client) (inputs : Inputs) (out : Outcome) (old middle mid new : WorldView) → Quiet old new → middle.logs ≡ old.logs → (h : Attended client inputs out middle mid) → TellsIf (fault_line_of out) mid new
-    → OfSession client.console (verdict_for (Authsrv client) inputs) inputs.rules client.peer (devices_at middle (book_at_first (origin_of inputs) most_entries h.before) nowhere) (devices_at mid h.book h.dialer) h.ending
-    → IsHeld (status_of out) old.inputs new.inputs → IsHeldWhole client (verdict_for (Authsrv client) inputs) (status_of out) old new
-session_whole client inputs out old middle mid new q same h tells s held =
-    let later = tells_later (fault_line_of out) mid new tells in
+history_whole : (name : List ℕ) (client : Client) (inputs : Inputs) (status : ℕ) (old middle new : WorldView) → Quiet old new → ReadsOnly name true old middle → OfHistory client inputs status middle new → IsHeld status old.inputs new.inputs
+    → IsHeldWhole name client inputs status old new
+history_whole name client inputs status old middle new q only x held =
     let verdict : Verdict = verdict_for (Authsrv client) inputs in
-    let first : Devices BookOrigin = devices_at middle (book_at_first (origin_of inputs) most_entries h.before) nowhere in
-    let left : Devices BookOrigin = record (devices_at mid h.book h.dialer) { logs = s.logs } in
-    let start : old.logs.faults ≤ middle.logs.faults = same_low old.logs.faults middle.logs.faults (ap (λ (l : SinkView). l.faults) same) in
-    let noted : s.logs.faults ≤ mid.logs.faults = noted_later (ending_line services.Authsrv client.peer h.ending) s.logs mid.logs s.noted in
-    let after : mid.logs.faults ≤ new.logs.faults = later.logs in
-    let begun = begun_by client.console verdict s.line inputs.rules client.peer first left h.ending s.admitted
-    (q.logs middle.logs.faults s.logs.faults start (omega (arith, noted, after))) s.session in
-    let kept : s.logs.faults ≡ middle.logs.faults = begun.faults in
-    let second = noted_whole (ending_line services.Authsrv client.peer h.ending) s.logs mid.logs (q.logs s.logs.faults mid.logs.faults (omega (arith, kept, start)) after) s.noted in
-    let third = noted_whole (fault_line_of (Ended h.ending h.book.refused)) mid.logs new.logs (q.logs mid.logs.faults new.logs.faults (omega (arith, kept, start, noted)) (omega (arith)))
-    (subst (λ (o : Outcome). NotedIf (fault_line_of o) mid.logs new.logs) h.comes (tells_noted (fault_line_of out) mid new tells)) in
-    let opened : s.logs.given ≡ grown old.logs.given (opening_text client.console verdict client.peer) = begun.given ∙ ap (λ (l : SinkView). grown l.given (opening_text client.console verdict client.peer)) same in
+    let first : Devices BookOrigin = devices_at middle (book_at_first (origin_of inputs) most_entries x.before) nowhere in
+    let left : Devices BookOrigin = record (devices_at new x.book x.dialer) { logs = x.logs } in
+    let refused : Bool = list_any is_refused_as_full (talk_of (deeds_of x.session.held)) in
+    let ending : Option (List ℕ) = ending_line services.Authsrv client.peer x.ending in
+    let limit : Option (List ℕ) = fault_line_of (Ended x.ending refused) in
+    let opening : List ℕ = opening_text client.console verdict client.peer in
+    let start : old.logs.faults ≤ middle.logs.faults = same_low old.logs.faults middle.logs.faults (ap (λ (l : SinkView). l.faults) only.logs) in
+    let noted : x.logs.faults ≤ x.ended.faults = noted_later ending x.logs x.ended x.noted in
+    let after : x.ended.faults ≤ new.logs.faults = noted_later limit x.ended new.logs x.limited in
+    let begun = begun_by client.console verdict x.line inputs.rules client.peer first left x.ending x.admitted
+    (q.logs middle.logs.faults x.logs.faults start (omega (arith, noted, after))) x.session in
+    let kept : x.logs.faults ≡ middle.logs.faults = begun.faults in
+    let second = noted_whole ending x.logs x.ended (q.logs x.logs.faults x.ended.faults (omega (arith, kept, start)) after) x.noted in
+    let third = noted_whole limit x.ended new.logs (q.logs x.ended.faults new.logs.faults (omega (arith, kept, start, noted)) (omega (arith))) x.limited in
+    let opened : x.logs.given ≡ grown old.logs.given opening = begun.given ∙ ap (λ (l : SinkView). grown l.given opening) only.logs in
     record {
-      ending = h.ending;
-      ends = ends_by h.ending h.book.refused old new (subst (λ (o : Outcome). IsHeld (status_of o) old.inputs new.inputs) h.comes held);
-      refused = h.book.refused;
-      logs =
-          three_given (opening_text client.console verdict client.peer) (unwrap_or (ending_line services.Authsrv client.peer h.ending) []) (unwrap_or (fault_line_of (Ended h.ending h.book.refused)) []) old.logs s.logs mid.logs new.logs opened second third;
-      status_is = ap status_of h.comes;
+      middle = middle;
+      only = only;
+      session = x;
+      ends = ends_by x.ending refused old new (subst (λ (n : ℕ). IsHeld n old.inputs new.inputs) x.status_is held);
+      logs = three_given opening (unwrap_or ending []) (unwrap_or limit []) old.logs x.logs x.ended new.logs opened second third;
       held = held;
     }
 
@@ -175,29 +178,31 @@ denial_whole client inputs out old middle mid new q logs output h tells d =
     }
 
 -- a session was held: so the client is at the console, or permitted
-held_whole : (console : Bool) (verdict : Verdict) (line : ℕ) (client : Client) (status : ℕ) (old new : WorldView) → (console ≡ false → verdict ≡ Permit line) → IsServed console verdict status old.inputs new.inputs
-    → (IsHeld status old.inputs new.inputs → IsHeldWhole client verdict status old new) → IsServedWhole console verdict client status old new
-held_whole true verdict line client status old new admitted served whole = whole served
-held_whole false (Permit other) line client status old new admitted served whole = whole served
-held_whole false (Deny other) line client status old new admitted served whole = absurd (cc (admitted refl))
+held_whole : (console : Bool) (verdict : Verdict) (line : ℕ) (name : List ℕ) (client : Client) (inputs : Inputs) (status : ℕ) (old new : WorldView) → (console ≡ false → verdict ≡ Permit line) → IsServed console verdict status old.inputs new.inputs
+    → (IsHeld status old.inputs new.inputs → IsHeldWhole name client inputs status old new) → IsServedWhole console verdict name client inputs status old new
+held_whole true verdict line name client inputs status old new admitted served whole = whole served
+held_whole false (Permit other) line name client inputs status old new admitted served whole = whole served
+held_whole false (Deny other) line name client inputs status old new admitted served whole = absurd (cc (admitted refl))
 
-told_off_whole : (console : Bool) (verdict : Verdict) (line : ℕ) (client : Client) (status : ℕ) (old new : WorldView) → console ≡ false → verdict ≡ Deny line
-    → IsWhole (decision_text (Deny line) services.Authsrv client.peer) (denied_text line) 1 status old new → IsServedWhole console verdict client status old new
-told_off_whole console verdict line client status old new outside denied whole =
-    subst (λ (c : Bool). IsServedWhole c verdict client status old new) (sym outside) (subst (λ (v : Verdict). IsServedWhole false v client status old new) (sym denied) whole)
+told_off_whole : (console : Bool) (verdict : Verdict) (line : ℕ) (name : List ℕ) (client : Client) (inputs : Inputs) (status : ℕ) (old new : WorldView) → console ≡ false → verdict ≡ Deny line
+    → IsWhole (decision_text (Deny line) services.Authsrv client.peer) (denied_text line) 1 status old new → IsServedWhole console verdict name client inputs status old new
+told_off_whole console verdict line name client inputs status old new outside denied whole =
+    subst (λ (c : Bool). IsServedWhole c verdict name client inputs status old new) (sym outside) (subst (λ (v : Verdict). IsServedWhole false v name client inputs status old new) (sym denied) whole)
 
-served_by : (client : Client) (inputs : Inputs) (out : Outcome) (old middle mid new : WorldView) → Quiet old new → middle.logs ≡ old.logs → middle.output ≡ old.output → (h : Attended client inputs out middle mid) → TellsIf (fault_line_of out) mid new
+served_by : (name : List ℕ) (client : Client) (inputs : Inputs) (out : Outcome) (old middle mid new : WorldView) → Quiet old new → ReadsOnly name true old middle → (h : Attended client inputs out middle mid) → TellsIf (fault_line_of out) mid new
     → IsServed client.console (verdict_for (Authsrv client) inputs) (status_of out) old.inputs new.inputs
     → OfSession client.console (verdict_for (Authsrv client) inputs) inputs.rules client.peer (devices_at middle (book_at_first (origin_of inputs) most_entries h.before) nowhere) (devices_at mid h.book h.dialer) h.ending
     ⊎ OfDenial client.console (verdict_for (Authsrv client) inputs) client.peer (devices_at middle (book_at_first (origin_of inputs) most_entries h.before) nowhere) (devices_at mid h.book h.dialer) h.ending
-    → IsServedWhole client.console (verdict_for (Authsrv client) inputs) client (status_of out) old new
-served_by client inputs out old middle mid new q logs output h tells served (inl s) =
-    held_whole client.console (verdict_for (Authsrv client) inputs) s.line client (status_of out) old new s.admitted served (λ held. session_whole client inputs out old middle mid new q logs h tells s held)
-served_by client inputs out old middle mid new q logs output h tells served (inr d) =
-    told_off_whole client.console (verdict_for (Authsrv client) inputs) d.line client (status_of out) old new d.outside d.denied (denial_whole client inputs out old middle mid new q logs output h tells d)
+    → IsServedWhole client.console (verdict_for (Authsrv client) inputs) name client inputs (status_of out) old new
+served_by name client inputs out old middle mid new q only h tells served (inl s) =
+    held_whole client.console (verdict_for (Authsrv client) inputs) s.line name client inputs (status_of out) old new s.admitted served
+    (λ held. history_whole name client inputs (status_of out) old middle new q only (of_history client inputs out middle mid new h tells s) held)
+served_by name client inputs out old middle mid new q only h tells served (inr d) =
+    told_off_whole client.console (verdict_for (Authsrv client) inputs) d.line name client inputs (status_of out) old new d.outside d.denied
+    (denial_whole client inputs out old middle mid new q only.logs only.output h tells d)
 
-pub attended_whole : (client : Client) (inputs : Inputs) (out : Outcome) (old middle mid new : WorldView) → Quiet old new → middle.logs ≡ old.logs → middle.output ≡ old.output → Attended client inputs out middle mid → TellsIf (fault_line_of out) mid new
-    → IsServed client.console (verdict_for (Authsrv client) inputs) (status_of out) old.inputs new.inputs → IsServedWhole client.console (verdict_for (Authsrv client) inputs) client (status_of out) old new
-attended_whole client inputs out old middle mid new q logs output h tells served =
-    served_by client inputs out old middle mid new q logs output h tells served
+pub attended_whole : (name : List ℕ) (client : Client) (inputs : Inputs) (out : Outcome) (old middle mid new : WorldView) → Quiet old new → ReadsOnly name true old middle → Attended client inputs out middle mid → TellsIf (fault_line_of out) mid new
+    → IsServed client.console (verdict_for (Authsrv client) inputs) (status_of out) old.inputs new.inputs → IsServedWhole client.console (verdict_for (Authsrv client) inputs) name client inputs (status_of out) old new
+attended_whole name client inputs out old middle mid new q only h tells served =
+    served_by name client inputs out old middle mid new q only h tells served
     (serves_so client.console inputs.rules client.peer (devices_at middle (book_at_first (origin_of inputs) most_entries h.before) nowhere) (devices_at mid h.book h.dialer) h.ending h.serves)

@@ -1,5 +1,6 @@
 -- What is done in a run in which no count rose: all that is called for, whole.
 use Rattle.std.specs.Prelude.{◌≡◌, ℕ, ◌⊎◌, Bool, true, false, List, [], ◌++◌, codes, Option, Some, None, Result, Ok, Err, unwrap_or}
+use Rattle.std.specs.List.{list_any}
 use Rattle.fw_outside.specs.ToldList.{grown}
 use Rattle.fw_types.specs.declared.ending.Ending.{Ending}
 use Rattle.fw_types.specs.declared.ending.Ending.TheVariants.{Done, Spent}
@@ -7,10 +8,13 @@ use Rattle.fw_types.specs.declared.peer.Peer.{Peer}
 use Rattle.gate_rules.specs.declared.service.Service.TheVariants as services
 use Rattle.gate_rules.specs.declared.verdict.Verdict.{Verdict}
 use Rattle.gate_rules.specs.declared.verdict.Verdict.TheVariants.{Permit, Deny}
+use Rattle.session_acts.specs.Session.{deeds_of}
+use Rattle.session_acts.specs.Talk.{is_refused_as_full}
 use Rattle.bastion.specs.Endings.{denied_text, ending_line}
+use Rattle.bastion.specs.Headline.{OfHistory, talk_of}
 use Rattle.bastion.specs.Inputs.{HasInputs, Inputs}
-use Rattle.bastion.specs.Outcome.{fault_line_of, refusal_text, status_of, verdict_status}
-use Rattle.bastion.specs.Run.{verdict_for}
+use Rattle.bastion.specs.Outcome.{fault_line_of, refusal_text, verdict_status}
+use Rattle.bastion.specs.Run.{ReadsOnly, verdict_for}
 use Rattle.bastion.specs.Status.{IsHeld}
 use Rattle.bastion.specs.TableReport.{report_text}
 use Rattle.bastion.specs.Texts.{decision_text, print_text}
@@ -40,39 +44,40 @@ abbrev pub session_text : Bool → Verdict → Peer → Ending → Bool → List
 session_text console verdict peer ending refused =
     opening_text console verdict peer ++ unwrap_or (ending_line services.Authsrv peer ending) [] ++ unwrap_or (fault_line_of (Ended ending refused)) []
 
--- a session came to its end, or to the most bytes that it may take; the log has taken its lines whole, and nothing else
-pub record IsHeldWhole (client : Client) (verdict : Verdict) (status : ℕ) (old new : WorldView) : Type 0 where
-  pub ending : Ending
-  pub ends : (ending ≡ Done) ⊎ (ending ≡ Spent)
-  pub refused : Bool
-  pub logs : new.logs.given ≡ grown old.logs.given (session_text client.console verdict client.peer ending refused)
-  pub status_is : status ≡ status_of (Ended ending refused)
+-- The session of this run, as the headline has it, came to its end, or to the most bytes that it may take. The log has taken
+-- its lines whole, and nothing else: the last of them exactly where a request of it had been refused.
+pub record IsHeldWhole (name : List ℕ) (client : Client) (inputs : Inputs) (status : ℕ) (old new : WorldView) : Type 0 where
+  pub middle : WorldView
+  pub only : ReadsOnly name true old middle
+  pub session : OfHistory client inputs status middle new
+  pub ends : (session.ending ≡ Done) ⊎ (session.ending ≡ Spent)
+  pub logs : new.logs.given ≡ grown old.logs.given (session_text client.console (verdict_for (Authsrv client) inputs) client.peer session.ending (list_any is_refused_as_full (talk_of (deeds_of session.session.held))))
   pub held : IsHeld status old.inputs new.inputs
 
 -- a client whom the rules deny is told so, unless it is at the console; for any other a session is held
-abbrev pub IsServedWhole : Bool → Verdict → Client → ℕ → WorldView → WorldView → Type 0
-IsServedWhole true verdict client status old new = IsHeldWhole client verdict status old new
-IsServedWhole false (Permit line) client status old new = IsHeldWhole client (Permit line) status old new
-IsServedWhole false (Deny line) client status old new =
+abbrev pub IsServedWhole : Bool → Verdict → List ℕ → Client → Inputs → ℕ → WorldView → WorldView → Type 0
+IsServedWhole true verdict name client inputs status old new = IsHeldWhole name client inputs status old new
+IsServedWhole false (Permit line) name client inputs status old new = IsHeldWhole name client inputs status old new
+IsServedWhole false (Deny line) name client inputs status old new =
     IsWhole (decision_text (Deny line) services.Authsrv client.peer) (denied_text line) 1 status old new
 
 -- ---- all commands
 
 -- what can't be read is told to the log; the verdict's line is logged, and its text printed; a client is denied, or its session
 -- held
-abbrev pub IsAllDone : Command → Result Inputs Refusal → ℕ → WorldView → WorldView → Type 0
-IsAllDone command (Err refusal) status old new = IsWhole (codes "fault " ++ refusal_text refusal ++ codes "\n") [] 3 status old new
-IsAllDone (Netacl query) (Ok inputs) status old new =
+abbrev pub IsAllDone : List ℕ → Command → Result Inputs Refusal → ℕ → WorldView → WorldView → Type 0
+IsAllDone name command (Err refusal) status old new = IsWhole (codes "fault " ++ refusal_text refusal ++ codes "\n") [] 3 status old new
+IsAllDone name (Netacl query) (Ok inputs) status old new =
     IsWhole (decision_text (verdict_for (Netacl query) inputs) query.service query.peer) (print_text inputs.rules (verdict_for (Netacl query) inputs)) (verdict_status (verdict_for (Netacl query) inputs)) status old new
-IsAllDone (Table query) (Ok inputs) status old new =
+IsAllDone name (Table query) (Ok inputs) status old new =
     IsWhole [] (report_text inputs.rules (verdict_for (Table query) inputs)) (verdict_status (verdict_for (Table query) inputs)) status old new
-IsAllDone (Authsrv client) (Ok inputs) status old new = IsServedWhole client.console (verdict_for (Authsrv client) inputs) client status old new
+IsAllDone name (Authsrv client) (Ok inputs) status old new = IsServedWhole client.console (verdict_for (Authsrv client) inputs) name client inputs status old new
 
 -- by the inputs of the command, or by what can't be read
 pub record AllDone (name : List ℕ) (command : Command) (status : ℕ) (old new : WorldView) : Type 0 where
   pub read : Result Inputs Refusal
   pub inputs : HasInputs name command read old
-  pub does : IsAllDone command read status old new
+  pub does : IsAllDone name command read status old new
 
 -- or there was no memory
 abbrev pub IsComplete : Option LineView → ℕ → WorldView → WorldView → Type 0
