@@ -79,11 +79,14 @@ used_for u k = record { begun = k.begun; accepted = k.accepted; use_of = u }
 
 -- ---- moments
 
--- some first of the steps lead to this medium
-pub record IsReached (k : Known) (old : Tape) (m : Medium) : Type 0 where
+-- some first of these steps, each possible when it comes, lead to this medium
+pub record IsReached (steps : List Step) (k : Known) (old : Tape) (m : Medium) : Type 0 where
+  pub front : List Step
+  pub rest : List Step
+  pub are : steps ≡ front ++ rest
   pub l : Known
   pub tape : Tape
-  pub front : IsRun k old l tape
+  pub does : Does front k old l tape
   pub now : tape.now ≡ m
 
 -- ---- in a spool
