@@ -6,6 +6,12 @@ use Rattle.slot_bytes.specs.Layout.{Mail, IsMail, behind_marks, slot_bytes}
 use Rattle.slot_bytes.specs.Reading.{Reading, reads}
 use Rattle.slot_bytes.specs.Reading.Reading.{Free, Whole, Aside}
 
+-- ---- bytes as read
+
+-- the byte at this place, as read, is this
+abbrev pub HasByte : ℕ → ℕ → Medium → Type 0
+HasByte place byte m = get_or m.seen place 0 ≡ byte
+
 -- ---- a closed gate
 
 -- the gate is closed on the disk, and wasn't written since

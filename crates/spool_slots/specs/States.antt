@@ -65,6 +65,10 @@ pub record IsBrokenFull (number : ℕ) (old : DiskView) (slot : BrokenView) : Ty
 
 -- ---- answers
 
+-- a disk that tells its media goes on telling them, and no other begins to
+abbrev pub StillTells : DiskView → DiskView → Type 0
+StillTells old new = Through (λ m. Unit {0}) old new
+
 -- two zeros, which are synced
 pub record HasCleared (old new : DiskView) : Type 0 where
   pub faults : new.faults ≡ old.faults
