@@ -1,5 +1,5 @@
 -- Finishing a message.
-use Rattle.std.proofs.Common.{◌≡◌, ℕ, ◌+◌, ◌<◌, ◌≤◌, lit≤, List, [], ◌∷◌, ◌++◌, length, get_or, drop, Option, Some, None, Result, Ok, Err, refl, sym, ap, subst, ◌∙◌, arith, append-nil, inl, inr}
+use Rattle.std.proofs.Common.{◌≡◌, ℕ, ◌+◌, ◌<◌, ◌≤◌, lit≤, List, [], ◌∷◌, ◌++◌, length, get_or, set, Option, Some, None, Result, Ok, Err, refl, sym, ap, subst, ◌∙◌, arith, append-nil, inl, inr}
 use Rattle.std.specs.Prelude.{IfSome, OnOk}
 use Rattle.std.specs.Int.{w64, to_be_bytes}
 use Rattle.fw_outside.specs.declared.failed.Failed.{Failed}
@@ -11,9 +11,10 @@ use Rattle.fw_disk.proofs.MomentLemmas.{through_then}
 use Rattle.slot_bytes.specs.Layout.{Mail, IsMail, behind_marks, slot_bytes}
 use Rattle.slot_bytes.specs.Reading.{reads}
 use Rattle.slot_bytes.specs.Reading.Reading.{Free, Whole}
+use Rattle.spool_law.specs.Images.{IsReady}
 use Rattle.spool_slots.specs.Images.{IsFreeImage, IsFreeOrWhole}
 use Rattle.spool_slots.specs.Filled.{HasAdded, HasLaid}
-use Rattle.spool_slots.specs.Media.{HasByte, IsShut, Pen, begun, longer, draft_head, IsDraft, IsFilling, IsReady, IsSettled, IsStanding, IsFull}
+use Rattle.spool_slots.specs.Media.{HasByte, IsShut, Pen, begun, longer, draft_head, IsDraft, IsFilling, IsSettled, IsStanding, IsFull}
 use Rattle.spool_slots.specs.States.{Opens, OpensOrNot}
 use Rattle.spool_slots.proofs.ShutLemmas.{now_weaker, shut_gate, shut_written, through_free}
 use Rattle.spool_slots.proofs.FillingLemmas.{longer_nothing, filling_shut}
@@ -84,12 +85,12 @@ opened_image m medium s image is =
       | inr some ↦ inr (ap reads x.is ∙ reads_whole x.byte m s.rest some x.fits s.mail)
     ]
 
-ready_image : (m : Mail) (medium : Medium) → IsStanding 0 0 m medium → IsReady m medium
+pub ready_image : (m : Mail) (medium : Medium) → IsStanding 0 0 m medium → EachImage (IsReady m) medium
 ready_image m medium s image is =
     let e : image ≡ kept_bytes 0 0 m s.rest = standing_images 0 0 m medium s image is in
     record {
       free = ap reads e ∙ reads_closed 0 m s.rest;
-      whole = ap (λ (l : List ℕ). reads (1 ∷ drop 1 l)) e ∙ reads_whole 1 m s.rest (lit≤ tt) (omega arith) s.mail;
+      behind = ap (λ (l : List ℕ). reads (set l 0 1)) e ∙ reads_whole 1 m s.rest (lit≤ tt) (omega arith) s.mail;
     }
 
 opened_settled : (m : Mail) (medium : Medium) → IsStanding 0 0 m medium → IsImage (written_at 0 (1 ∷ []) medium) (written_at 0 (1 ∷ []) medium).seen → IsSettled (Whole m) (synced_now (written_at 0 (1 ∷ []) medium))
@@ -117,7 +118,7 @@ pub opens_ok : (m : Mail) (a b c : DiskView) → Through IsShut a b → Now (IsS
 opens_ok m a b c t h s = record {
   middle = b;
   before = through_free a b t;
-  ready = now_weaker (IsStanding 0 0 m) (IsReady m) (ready_image m) b h;
+  ready = now_weaker (IsStanding 0 0 m) (EachImage (IsReady m)) (ready_image m) b h;
   after = set_moments (IsStanding 0 0 m) (IsFreeOrWhole m) 0 1 (closed_image m) (opened_image m) b c s h;
 }
 
@@ -125,7 +126,7 @@ pub opens_err : (m : Mail) (a b c : DiskView) → Through IsShut a b → Now (Is
 opens_err m a b c t h s = inr (record {
   middle = b;
   before = through_free a b t;
-  ready = now_weaker (IsStanding 0 0 m) (IsReady m) (ready_image m) b h;
+  ready = now_weaker (IsStanding 0 0 m) (EachImage (IsReady m)) (ready_image m) b h;
   after = failed_moments (IsStanding 0 0 m) (IsFreeOrWhole m) 0 1 (closed_image m) (opened_image m) b c s h;
 })
 

@@ -6,8 +6,9 @@ use Rattle.fw_disk.specs.DiskView.{DiskView}
 use Rattle.fw_disk.specs.Moments.{Now, Through, EachImage}
 use Rattle.slot_bytes.specs.Layout.{Mail}
 use Rattle.slot_bytes.specs.Reading.Reading.{Free, Whole, Aside}
+use Rattle.spool_law.specs.Images.{IsReady}
 use Rattle.spool_slots.specs.Images.{IsFreeImage, IsFreeOrWhole}
-use Rattle.spool_slots.specs.Media.{Pen, IsDraft, IsReady, IsSettled}
+use Rattle.spool_slots.specs.Media.{Pen, IsDraft, IsSettled}
 
 -- a slot by its number, and its disk
 pub record SlotView : Type 0 where
@@ -89,7 +90,7 @@ pub record IsOnward (number : ℕ) (old : DiskView) (to : ℕ) (new : DiskView) 
 pub record Opens (m : Mail) (old new : DiskView) : Type 0 where
   pub middle : DiskView
   pub before : Through (EachImage IsFreeImage) old middle
-  pub ready : Now (IsReady m) middle
+  pub ready : Now (EachImage (IsReady m)) middle
   pub after : Through (EachImage (IsFreeOrWhole m)) middle new
 
 -- the gate wasn't written yet, or it was, but not before every image was ready
