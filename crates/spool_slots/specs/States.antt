@@ -27,7 +27,7 @@ pub record FullView : Type 0 where
   pub disk : DiskView
   pub unread : Bool
 
--- a broken slot, whether it held a message, and whether its disk failed
+-- a broken slot, whether it came from a `Full`, and whether its disk failed
 pub record BrokenView : Type 0 where
   pub number : ℕ
   pub disk : DiskView
@@ -50,14 +50,14 @@ KeepsAside m slot = Now (IsSettled (Aside m)) slot.disk
 
 -- ---- refusals
 
--- a slot that held nothing, and whose disk failed in this call
+-- a slot that didn't come from a `Full`, and whose disk failed in this call
 pub record IsBrokenIn (number : ℕ) (old : DiskView) (slot : BrokenView) : Type 0 where
   pub number_is : slot.number ≡ number
   pub rose : Rose old.faults slot.disk.faults
   pub empty : slot.from_full ≡ false
   pub fault : slot.from_fault ≡ true
 
--- a slot that held a message, and whose disk failed in this call
+-- a slot that came from a `Full`, and whose disk failed in this call
 pub record IsBrokenFull (number : ℕ) (old : DiskView) (slot : BrokenView) : Type 0 where
   pub number_is : slot.number ≡ number
   pub rose : Rose old.faults slot.disk.faults

@@ -151,7 +151,7 @@ fn sync_and_find<D: Disk>(alloc: Global, disk: &mut D) -> Result<Found, SlotWhy>
     find(alloc, disk)
 }
 
-/// Opens the slot that stands on a disk. It begins with a sync, and reads no more of the file than it needs.
+/// Opens the slot that stands on a disk: syncs it, and says what stands there.
 #[tactic(auto, using(crate::proofs::OpenLemmas::free_vacant))]
 pub fn open<D: Disk>(alloc: Global, number: u32, disk: D) -> Result<Opened<D>, (Broken<D>, SlotWhy)>
     ensures ok { IfOk result (λ slot. IsOnward number (D.disk_view disk) (number_of slot) (disk_of slot)) }
