@@ -12,7 +12,6 @@ mod opening;
 mod queue;
 mod rack;
 mod shelving;
-mod store4;
 
 pub use mail_store::MailStore;
 pub use opening::RackFault;
