@@ -1,8 +1,6 @@
 -- Taking slots apart, one after the other.
-use Rattle.std.proofs.Common.{◌≡◌, ℕ, zero, suc, ◌+◌, ◌<◌, ◌≤◌, List, [], ◌∷◌, ◌++◌, length, take, drop, map, refl, sym, ap, subst, ◌∙◌, arith, append_assoc, length-append}
+use Rattle.std.proofs.Common.{◌≡◌, ℕ, suc, ◌+◌, ◌<◌, ◌≤◌, List, [], ◌∷◌, ◌++◌, length, take, drop, map, refl, sym, ap, subst, ◌∙◌, arith, append_assoc, length-append}
 use Rattle.std.proofs.lemmas.List.{map-append, append-nil}
-use Rattle.fw_disk.specs.DiskView.{DiskView}
-use Rattle.spool_rack.specs.Opening.{HeldView}
 use Rattle.spool_rack.specs.Room.{QueueView}
 
 front_of : (X : Type 0) (x : X) (items : List X) → take 1 items ≡ x ∷ [] → items ≡ x ∷ drop 1 items

@@ -1,6 +1,6 @@
 -- Finding a loan, and striking it out.
-use Rattle.std.proofs.Common.{◌≡◌, ℕ, zero, suc, ◌+◌, ◌<◌, Bool, true, false, cond, not, nat_eq, nat_lt, List, [], ◌∷◌, ◌++◌, length, take, drop, map, Option, Some, None, refl, sym, ap, subst, ◌∙◌, arith, ◌⊎◌, inl, inr}
-use Rattle.std.specs.List.{prefix_len, position, remove, find}
+use Rattle.std.proofs.Common.{◌≡◌, ℕ, suc, ◌+◌, ◌<◌, Bool, true, false, cond, not, nat_eq, nat_lt, List, [], ◌∷◌, length, map, Some, None, refl, ap, subst, arith, ◌⊎◌, inl, inr}
+use Rattle.std.specs.List.{prefix_len, position, remove}
 use Rattle.std.proofs.lemmas.List.{length-map}
 use Rattle.std.proofs.lemmas.Bool.Decides.{nat_tests}
 use Rattle.spool_rack.specs.Store.{Loan, IsOut, OfLoan, loan_of, struck}

@@ -1,12 +1,12 @@
 -- Opening the slots of disks, one after the other.
-use Rattle.std.proofs.Common.{◌≡◌, ℕ, zero, suc, ◌+◌, ◌<◌, ◌≤◌, List, [], ◌∷◌, ◌++◌, length, take, drop, map, refl, sym, ap, subst, ◌∙◌, arith, append_assoc, length-append}
+use Rattle.std.proofs.Common.{◌≡◌, ℕ, suc, ◌+◌, ◌<◌, ◌≤◌, List, [], ◌∷◌, ◌++◌, length, take, drop, map, refl, sym, ap, subst, ◌∙◌, arith, append_assoc, length-append}
 use Rattle.std.proofs.lemmas.List.{map-append, append-nil, length-map}
 use Rattle.fw_disk.specs.DiskView.{DiskView}
 use Rattle.spool_slots.specs.declared.opening.Opened.{Opened}
 use Rattle.spool_slots.specs.declared.slot_why.SlotWhy.{SlotWhy}
 use Rattle.spool_slots.specs.States.{BrokenView}
 use Rattle.spool_slots.specs.Opened.{IsReadAs, disk_of}
-use Rattle.spool_rack.specs.Opening.{IsSlotOf, AreSlotsOf, HasBroken, WasOpened, CameBack}
+use Rattle.spool_rack.specs.Opening.{IsSlotOf, AreSlotsOf, HasBroken, CameBack}
 use Rattle.spool_slots.specs.declared.opening.Opened.TheVariants.{Free, Full, Aside}
 use Rattle.spool_rack.specs.Room.{QueueView}
 use Rattle.spool_rack.specs.Shelving.{IsReadable, AreReadable}

@@ -1,5 +1,5 @@
 -- Full slots that can be read, and slots that are out.
-use Rattle.std.proofs.Common.{◌≡◌, ℕ, Bool, true, false, List, [], ◌∷◌, ◌++◌, take, drop, Option, Some, None, refl, sym, ap, subst, ◌∙◌}
+use Rattle.std.proofs.Common.{◌≡◌, ℕ, Bool, false, List, [], ◌∷◌, ◌++◌, take, drop, Option, Some, None, subst}
 use Rattle.std.specs.List.{AllByRecursion}
 use Rattle.spool_slots.specs.States.{FullView}
 use Rattle.spool_rack.specs.Store.{Loan, IsOut, OfLoan, WasTaken, loan_of}

@@ -1,5 +1,5 @@
 -- Putting slots into queues, one after the other.
-use Rattle.std.proofs.Common.{◌≡◌, ℕ, zero, suc, ◌+◌, ◌<◌, ◌≤◌, false, List, [], ◌∷◌, ◌++◌, length, take, drop, refl, sym, ap, subst, ◌∙◌, arith, append_assoc, length-append}
+use Rattle.std.proofs.Common.{◌≡◌, ℕ, suc, ◌+◌, ◌<◌, ◌≤◌, false, List, [], ◌∷◌, ◌++◌, length, take, drop, refl, sym, ap, subst, ◌∙◌, arith, append_assoc, length-append}
 use Rattle.std.specs.List.{AllByRecursion}
 use Rattle.std.proofs.lemmas.List.{append-nil}
 use Rattle.spool_slots.specs.declared.opening.Opened.{Opened}
@@ -9,7 +9,7 @@ use Rattle.spool_rack.specs.declared.shelving.Shelves.{Shelves}
 use Rattle.spool_rack.specs.Store.{Loan}
 use Rattle.spool_rack.specs.Room.{QueueView, HasRoom}
 use Rattle.spool_rack.specs.Opening.{queues_of, store_of}
-use Rattle.spool_rack.specs.Shelving.{HasSpace, IsBare, IsShelved, IsReadable, AreReadable, shelved, at_back}
+use Rattle.spool_rack.specs.Shelving.{HasSpace, IsBare, IsShelved, AreReadable, shelved}
 
 -- what is shelved and what is left are all
 pub record IsShelving (X : Type 0) (all left : List (Opened X)) (old now : Shelves X) : Type 0 where

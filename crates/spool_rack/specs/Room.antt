@@ -1,5 +1,5 @@
 -- What a rack is made of.
-use Rattle.std.specs.Prelude.{◌≡◌, ℕ, ◌+◌, ◌≤◌, false, List, [], length, map, None}
+use Rattle.std.specs.Prelude.{◌≡◌, ℕ, ◌+◌, ◌≤◌, false, List, [], length, None}
 use Rattle.std.specs.List.{AllByRecursion}
 use Rattle.spool_slots.specs.States.{SlotView, FullView, BrokenView}
 use Rattle.spool_rack.specs.Store.{Loan}

@@ -3,7 +3,7 @@ use Rattle.std.specs.Prelude.{◌≡◌, ℕ, ◌+◌, ◌≤◌, false, List, [
 use Rattle.std.specs.List.{AllByRecursion}
 use Rattle.spool_slots.specs.declared.opening.Opened.{Opened}
 use Rattle.spool_slots.specs.declared.opening.Opened.TheVariants.{Free, Full, Aside}
-use Rattle.spool_slots.specs.States.{SlotView, FullView, BrokenView}
+use Rattle.spool_slots.specs.States.{BrokenView}
 use Rattle.spool_rack.specs.declared.shelving.Shelves.{Shelves}
 use Rattle.spool_rack.specs.Store.{Loan}
 use Rattle.spool_rack.specs.Room.{QueueView}

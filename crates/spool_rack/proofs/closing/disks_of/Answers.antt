@@ -1,8 +1,8 @@
-use Rattle.std.proofs.Common.{◌≡◌, List, [], ◌++◌, drop, map, ap, subst, sym, ◌∙◌}
+use Rattle.std.proofs.Common.{◌≡◌, List, drop, ap, subst, sym}
 use Rattle.fw_disk.specs.DiskView.{DiskView}
 use Rattle.spool_rack.specs.Opening.{HeldView}
 use Rattle.spool_rack.specs.Room.{QueueView}
-use Rattle.spool_rack.proofs.ClosingLemmas.{IsMade, made_next, made_last}
+use Rattle.spool_rack.proofs.ClosingLemmas.{IsMade, made_next}
 use Rattle.spool_rack.proofs.closing.disks_of.Goals as goal
 
 pub loop-slot-preserved : goal.loop-slot-preserved

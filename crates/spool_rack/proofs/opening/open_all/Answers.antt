@@ -1,6 +1,5 @@
-use Rattle.std.proofs.Common.{◌≡◌, List, [], ◌∷◌, ◌++◌, drop, map, refl, ap, ◌∙◌}
+use Rattle.std.proofs.Common.{◌≡◌, List, ◌∷◌, ◌++◌, drop, map, refl, ap, ◌∙◌}
 use Rattle.fw_disk.specs.DiskView.{DiskView}
-use Rattle.spool_slots.specs.declared.opening.Opened.{Opened}
 use Rattle.spool_slots.specs.Opened.{disk_of}
 use Rattle.spool_rack.specs.Room.{QueueView}
 use Rattle.spool_rack.specs.Opening.{IsSlotOf, HasBroken}

@@ -1,4 +1,4 @@
-use Rattle.std.proofs.Common.{◌≡◌, List, drop, ap, subst, sym, ◌∙◌}
+use Rattle.std.proofs.Common.{◌≡◌, List, drop, ap, subst, sym}
 use Rattle.spool_slots.specs.declared.opening.Opened.{Opened}
 use Rattle.spool_rack.specs.Room.{QueueView}
 use Rattle.spool_rack.proofs.ShelfLemmas.{IsShelving, shelf_next, shelf_last}
