@@ -89,6 +89,7 @@ differs k n other =
 pub are_events : (steps : List Step) (w : World) (n : ℕ) (old new : Tape) (l : Known) → (w.slots n).medium ≡ old.now → Does steps (known_in w n) old l new → AreEvents steps w n l new
 are_events [] w n old new l e d = record {
   possible = tt;
+  known = sym d.0;
   slot = slot_same w n old e ∙ ap (λ (t : Tape). slot_of (known_in w n) t) (sym d.1) ∙ ap (λ (k : Known). slot_of k new) (sym d.0);
   others = λ k other. refl;
 }
@@ -100,6 +101,7 @@ are_events (step ∷ steps) w n old new l e d =
     let rest = are_events steps next n (tape_after step (known_in w n) old) new l (medium_next step w n old e) does in
     record {
       possible = (can, rest.possible);
+      known = rest.known;
       slot = rest.slot;
       others = λ k other. rest.others k other ∙ away_is k n (stepped w.begun step (w.slots n)) w.slots (differs k n other);
     }

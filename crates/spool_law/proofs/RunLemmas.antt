@@ -1,5 +1,5 @@
 -- Runs of steps: one after the other, and from the calls of a disk.
-use Rattle.std.proofs.Common.{◌≡◌, ℕ, ◌+◌, ◌≤◌, Bool, true, false, cond, List, [], ◌∷◌, ◌++◌, length, Option, Some, None, Result, Ok, Err, refl, sym, subst, ◌∙◌, ◌⊎◌, inl, inr}
+use Rattle.std.proofs.Common.{◌≡◌, ℕ, ◌+◌, ◌≤◌, Bool, true, false, cond, List, [], ◌∷◌, ◌++◌, length, Option, Some, None, Result, Ok, Err, refl, sym, ap, subst, ◌∙◌, ◌⊎◌, inl, inr}
 use Rattle.std.specs.Prelude.{IfSome, option_map}
 use Rattle.std.specs.List.{Contains}
 use Rattle.fw_outside.specs.declared.failed.Failed.{Failed as DiskFailed}
@@ -199,14 +199,18 @@ runs_aside k result old new whole h = either_same (Runs k old k new) (changes_ei
 
 -- ---- moments
 
-reached_here : (k : Known) (tape : Tape) → IsReached k tape tape.now
-reached_here k tape = record { l = k; tape = tape; front = run_here k tape; now = refl }
+reached_here : (steps : List Step) (k : Known) (tape : Tape) → IsReached steps k tape tape.now
+reached_here steps k tape = record { front = []; rest = steps; are = refl; l = k; tape = tape; does = (refl, refl); now = refl }
 
-reached_after : (step : Step) (k : Known) (old : Tape) → IsPossibleAt step k.accepted (slot_of k old) → (m : Medium) → IsReached (known_after step old k) (tape_after step k old) m → IsReached k old m
-reached_after step k old can m r = record {
+reached_after : (step : Step) (steps : List Step) (k : Known) (old : Tape) → IsPossibleAt step k.accepted (slot_of k old) → (m : Medium)
+    → IsReached steps (known_after step old k) (tape_after step k old) m → IsReached (step ∷ steps) k old m
+reached_after step steps k old can m r = record {
+  front = step ∷ r.front;
+  rest = r.rest;
+  are = ap (λ (x : List Step). step ∷ x) r.are;
   l = r.l;
   tape = r.tape;
-  front = run_then k (known_after step old k) r.l old (tape_after step k old) r.tape (run_one step k old can) r.front;
+  does = (can, r.does);
   now = r.now;
 }
 
@@ -215,12 +219,14 @@ step_since P true m tape h k = since_onward P m tape h k
 step_since P false m tape h k = since_here P tape h
 
 -- each medium since the first step is where some first of the steps lead
-pub does_moments : (steps : List Step) (k l : Known) (old new : Tape) → Does steps k old l new → Since (IsReached k old) old new
-does_moments [] k l old new d = subst (Since (IsReached k old) old) (sym d.1) (since_here (IsReached k old) old (reached_here k old))
+pub does_moments : (steps : List Step) (k l : Known) (old new : Tape) → Does steps k old l new → Since (IsReached steps k old) old new
+does_moments [] k l old new d = subst (Since (IsReached [] k old) old) (sym d.1) (since_here (IsReached [] k old) old (reached_here [] k old))
 does_moments (step ∷ steps) k l old new d =
     let mid : Tape = tape_after step k old in
     let after : Known = known_after step old k in
-    let first : Since (IsReached k old) old mid =
-    step_since (IsReached k old) (is_noted step) (stepped k.begun step (slot_of k old)).medium old (reached_here k old) (reached_after step k old d.0 mid.now (reached_here after mid)) in
-    let rest : Since (IsReached after mid) mid new = does_moments steps after l mid new d.1 in
-    since_then (IsReached k old) old mid new first (since_weaker (IsReached after mid) (IsReached k old) (reached_after step k old d.0) mid new rest)
+    let first : Since (IsReached (step ∷ steps) k old) old mid =
+    step_since (IsReached (step ∷ steps) k old) (is_noted step) (stepped k.begun step (slot_of k old)).medium old
+    (reached_here (step ∷ steps) k old) (reached_after step steps k old d.0 mid.now (reached_here steps after mid)) in
+    let rest : Since (IsReached steps after mid) mid new = does_moments steps after l mid new d.1 in
+    since_then (IsReached (step ∷ steps) k old) old mid new first
+    (since_weaker (IsReached steps after mid) (IsReached (step ∷ steps) k old) (reached_after step steps k old d.0) mid new rest)

@@ -353,6 +353,7 @@ safe_of : (w : World) → IsSound w → IsSafe w
 safe_of w s = record {
   answered = s.answered;
   images = λ n. as_reads w.finished (w.slots n).medium (w.slots n).use_of (s.good n).is_as;
+  sound = λ n. (s.good n).sound;
 }
 
 pub always_safe : (events : List Event) → ArePossible events formatted → IsSafe (after_all events formatted)

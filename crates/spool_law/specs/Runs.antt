@@ -79,18 +79,22 @@ used_for u k = record { begun = k.begun; accepted = k.accepted; use_of = u }
 
 -- ---- moments
 
--- some first of the steps lead to this medium
-pub record IsReached (k : Known) (old : Tape) (m : Medium) : Type 0 where
+-- some first of these steps, each possible when it comes, lead to this medium
+pub record IsReached (steps : List Step) (k : Known) (old : Tape) (m : Medium) : Type 0 where
+  pub front : List Step
+  pub rest : List Step
+  pub are : steps ≡ front ++ rest
   pub l : Known
   pub tape : Tape
-  pub front : IsRun k old l tape
+  pub does : Does front k old l tape
   pub now : tape.now ≡ m
 
 -- ---- in a spool
 
--- These steps of one slot, as events of the spool, are each possible when they come. They lead the slot to where its
--- tape went, and leave the other slots alone.
+-- These steps of one slot, as events of the spool, are each possible when they come. They lead to what is known after
+-- them, and the slot to where its tape went, and leave the other slots alone. So the steps of a further call can follow.
 pub record AreEvents (steps : List Step) (w : World) (n : ℕ) (l : Known) (new : Tape) : Type 0 where
   pub possible : ArePossible (map (At n) steps) w
+  pub known : known_in (after_all (map (At n) steps) w) n ≡ l
   pub slot : (after_all (map (At n) steps) w).slots n ≡ slot_of l new
   pub others : (k : ℕ) → (k ≡ n → ⊥) → (after_all (map (At n) steps) w).slots k ≡ w.slots k

@@ -1,6 +1,7 @@
 -- What must hold of a spool at any time.
 use Rattle.std.specs.Prelude.{◌≡◌, ℕ, ◌⊎◌}
 use Rattle.std.specs.List.{Contains}
+use Rattle.fw_disk.specs.Medium.{IsImage}
 use Rattle.fw_disk.specs.Moments.{EachImage}
 use Rattle.spool_law.specs.World.{Letter, World}
 use Rattle.spool_law.specs.World.Use.{Opened}
@@ -13,7 +14,9 @@ pub record Stands (l : Letter) (w : World) : Type 0 where
   pub kept : EachImage (IsKept l.mail) (w.slots slot).medium
 
 -- Each message that was answered for stands or was accepted. Whatever a crash leaves of a slot is free, or a message
--- that was begun and finished. So it is never bad, and never a part of a message.
+-- that was begun and finished. So it is never bad, and never a part of a message. The bytes as read are one thing that a
+-- crash may leave, so there always is one.
 pub record IsSafe (w : World) : Type 0 where
   pub answered : (l : Letter) → Contains w.answered l → Contains w.accepted l ⊎ Stands l w
   pub images : (n : ℕ) → EachImage (λ image. IsFree image ⊎ IsOneOf w.finished image) (w.slots n).medium
+  pub sound : (n : ℕ) → IsImage (w.slots n).medium (w.slots n).medium.seen

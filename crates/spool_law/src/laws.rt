@@ -19,7 +19,7 @@ pub fn calls_are_events()
     ensures events { (steps : List Step) (w : World) (n : ℕ) (old new : Tape) (l : Known) →
         (w.slots n).medium ≡ old.now → Does steps (known_in w n) old l new → AreEvents steps w n l new }
     ensures moments { (steps : List Step) (k l : Known) (old new : Tape) →
-        Does steps k old l new → Since (IsReached k old) old new }
+        Does steps k old l new → Since (IsReached steps k old) old new }
 {}
 
 /// The law `stands` is not empty: a message can be begun, written, finished and answered for.

@@ -1,5 +1,5 @@
 -- Each call as events of the spool.
-use Rattle.std.proofs.Common.{◌≡◌, ℕ, ◌+◌, ◌<◌, ◌≤◌, List, [], ◌∷◌, ◌++◌, length, Option, Some, None, Result, Ok, Err, refl, sym, ap, subst, ◌∙◌, lit≤, arith, set, ◌⊎◌, inl, inr}
+use Rattle.std.proofs.Common.{◌≡◌, ℕ, ◌+◌, ◌<◌, ◌≤◌, List, [], ◌∷◌, ◌++◌, length, Option, Some, None, Result, Ok, Err, refl, sym, ap, subst, ◌∙◌, ◌⊎◌, inl, inr}
 use Rattle.std.specs.Prelude.{IfSome, option_map}
 use Rattle.std.specs.List.{Contains}
 use Rattle.fw_outside.specs.declared.failed.Failed.{Failed}
@@ -7,9 +7,6 @@ use Rattle.fw_disk.specs.Laws.{AreBytes}
 use Rattle.fw_disk.specs.Medium.{Medium, IsImage, written_at}
 use Rattle.fw_disk.specs.DiskView.{Tape, DiskView, Changes, Syncs, HasFailed, HasSetByte, FailsToSet, changed, length_told}
 use Rattle.fw_disk.specs.Moments.{Now, EachImage}
-use Rattle.slot_bytes.specs.Layout.{Mail}
-use Rattle.slot_bytes.specs.Reading.{reads}
-use Rattle.slot_bytes.specs.Reading.Reading.{Whole}
 use Rattle.spool_law.specs.World.{Letter, Use, OfLetter}
 use Rattle.spool_law.specs.World.Use.{Begun, Opened}
 use Rattle.spool_law.specs.Events.{IsBegun, added, opened, longer}
@@ -20,8 +17,8 @@ use Rattle.spool_slots.specs.Media.{IsVacant, IsSettled, IsStanding, IsFull, IsA
 use Rattle.spool_slots.specs.Started.{begun_in}
 use Rattle.spool_slots.specs.States.{SlotView}
 use Rattle.spool_slots.proofs.ShutLemmas.{now_weaker, vacant_free}
-use Rattle.spool_slots.proofs.StandingLemmas.{kept_bytes, standing_images, reads_closed, reads_whole}
 use Rattle.spool_slots.proofs.MarkLemmas.{whole_image}
+use Rattle.spool_slots.proofs.FinishingLemmas.{ready_image}
 
 -- whatever message is being written, its events lead from one disk to the other
 abbrev pub GoesOn : DiskView → DiskView → Type 0
@@ -88,14 +85,6 @@ runs_not_released k old new is (inr s) = runs_then k k k old s.middle new (runs_
 
 -- ---- the gate
 
-ready_at : (m : Mail) (medium : Medium) → IsStanding 0 0 m medium → EachImage (IsReady m) medium
-ready_at m medium s image is =
-    let e : image ≡ kept_bytes 0 0 m s.rest = standing_images 0 0 m medium s image is in
-    record {
-      free = ap reads e ∙ reads_closed 0 m s.rest;
-      behind = ap (λ (l : List ℕ). reads (set l 0 1)) e ∙ reads_whole 1 m s.rest (lit≤ tt) (omega arith) s.mail;
-    }
-
 of_begun : (P : Letter → Type 0) (u : Use) (l : Letter) → u ≡ Begun l → P l → OfLetter P u
 of_begun P u l e h = subst (OfLetter P) (sym e) h
 
@@ -103,7 +92,7 @@ opened_same : (k : Known) (l : Letter) → k.use_of ≡ Begun l → used_for (op
 opened_same k l e = ap (λ (u : Use). used_for (opened u) k) e
 
 ready_of : (k : Known) (l : Letter) (view : DiskView) → k.use_of ≡ Begun l → Now (IsStanding 0 0 l.mail) view → OfLetter (λ x. Now (EachImage (IsReady x.mail)) view) k.use_of
-ready_of k l view e h = of_begun (λ x. Now (EachImage (IsReady x.mail)) view) k.use_of l e (now_weaker (IsStanding 0 0 l.mail) (EachImage (IsReady l.mail)) (ready_at l.mail) view h)
+ready_of k l view e h = of_begun (λ x. Now (EachImage (IsReady x.mail)) view) k.use_of l e (now_weaker (IsStanding 0 0 l.mail) (EachImage (IsReady l.mail)) (ready_image l.mail) view h)
 
 pub runs_finished : (k : Known) (l : Letter) (a b c : DiskView) → k.use_of ≡ Begun l → GoesOn a b → Now (IsStanding 0 0 l.mail) b → HasSetByte 0 1 b c → Runs k a (used_for (Opened l) k) c
 runs_finished k l a b c e g h s =

@@ -1,7 +1,8 @@
 -- Finishing a message.
-use Rattle.std.proofs.Common.{◌≡◌, ℕ, ◌+◌, ◌<◌, ◌≤◌, lit≤, List, [], ◌∷◌, ◌++◌, length, get_or, drop, Option, Some, None, refl, sym, ap, subst, ◌∙◌, arith, append-nil, inl, inr}
-use Rattle.std.specs.Prelude.{IfSome}
+use Rattle.std.proofs.Common.{◌≡◌, ℕ, ◌+◌, ◌<◌, ◌≤◌, lit≤, List, [], ◌∷◌, ◌++◌, length, get_or, set, Option, Some, None, Result, Ok, Err, refl, sym, ap, subst, ◌∙◌, arith, append-nil, inl, inr}
+use Rattle.std.specs.Prelude.{IfSome, OnOk}
 use Rattle.std.specs.Int.{w64, to_be_bytes}
+use Rattle.fw_outside.specs.declared.failed.Failed.{Failed}
 use Rattle.fw_disk.specs.Medium.{Medium, IsImage, settled, synced_now, written_at, laid_over}
 use Rattle.fw_disk.specs.DiskView.{Tape, DiskView, HasSetByte, FailsToSet, length_told}
 use Rattle.fw_disk.specs.Moments.{Through, Now, EachImage}
@@ -10,13 +11,14 @@ use Rattle.fw_disk.proofs.MomentLemmas.{through_then}
 use Rattle.slot_bytes.specs.Layout.{Mail, IsMail, behind_marks, slot_bytes}
 use Rattle.slot_bytes.specs.Reading.{reads}
 use Rattle.slot_bytes.specs.Reading.Reading.{Free, Whole}
+use Rattle.spool_law.specs.Images.{IsReady}
 use Rattle.spool_slots.specs.Images.{IsFreeImage, IsFreeOrWhole}
 use Rattle.spool_slots.specs.Filled.{HasAdded, HasLaid}
-use Rattle.spool_slots.specs.Media.{IsShut, Pen, begun, longer, draft_head, IsDraft, IsFilling, IsReady, IsSettled, IsStanding, IsFull}
+use Rattle.spool_slots.specs.Media.{HasByte, IsShut, Pen, begun, longer, draft_head, IsDraft, IsFilling, IsSettled, IsStanding, IsFull}
 use Rattle.spool_slots.specs.States.{Opens, OpensOrNot}
 use Rattle.spool_slots.proofs.ShutLemmas.{now_weaker, shut_gate, shut_written, through_free}
 use Rattle.spool_slots.proofs.FillingLemmas.{longer_nothing, filling_shut}
-use Rattle.spool_slots.proofs.StandingLemmas.{zero_or, kept_bytes, standing_images, gate_images, reads_closed, reads_whole, settles, set_settles, set_moments, failed_moments}
+use Rattle.spool_slots.proofs.StandingLemmas.{zero_or, kept_bytes, standing_images, gate_images, reads_closed, reads_whole, settles, set_settles, set_shows, set_moments, failed_moments}
 
 -- ---- the message stands behind the closed gate
 
@@ -83,12 +85,12 @@ opened_image m medium s image is =
       | inr some ↦ inr (ap reads x.is ∙ reads_whole x.byte m s.rest some x.fits s.mail)
     ]
 
-ready_image : (m : Mail) (medium : Medium) → IsStanding 0 0 m medium → IsReady m medium
+pub ready_image : (m : Mail) (medium : Medium) → IsStanding 0 0 m medium → EachImage (IsReady m) medium
 ready_image m medium s image is =
     let e : image ≡ kept_bytes 0 0 m s.rest = standing_images 0 0 m medium s image is in
     record {
       free = ap reads e ∙ reads_closed 0 m s.rest;
-      whole = ap (λ (l : List ℕ). reads (1 ∷ drop 1 l)) e ∙ reads_whole 1 m s.rest (lit≤ tt) (omega arith) s.mail;
+      behind = ap (λ (l : List ℕ). reads (set l 0 1)) e ∙ reads_whole 1 m s.rest (lit≤ tt) (omega arith) s.mail;
     }
 
 opened_settled : (m : Mail) (medium : Medium) → IsStanding 0 0 m medium → IsImage (written_at 0 (1 ∷ []) medium) (written_at 0 (1 ∷ []) medium).seen → IsSettled (Whole m) (synced_now (written_at 0 (1 ∷ []) medium))
@@ -103,11 +105,20 @@ opened_settled m medium s sound =
 pub opened_whole : (m : Mail) (old new : DiskView) → HasSetByte 0 1 old new → Now (IsStanding 0 0 m) old → Now (IsSettled (Whole m)) new
 opened_whole m old new s h = set_settles (IsStanding 0 0 m) (IsSettled (Whole m)) 0 1 (opened_settled m) old new s h
 
+told_any : (told : Option Tape) → IfSome told (λ tape. 0 ≤ length tape.now.seen)
+told_any None = tt
+told_any (Some tape) = omega arith
+
+-- the gate was written
+pub opened_gate : (result : Result (Unit {0}) Failed) (old new : DiskView) → OnOk result (HasSetByte 0 1 old new) → OnOk result (Now (HasByte 0 1) new)
+opened_gate (Ok u) old new s = set_shows 0 1 old new s (told_any old.told)
+opened_gate (Err e) old new s = tt
+
 pub opens_ok : (m : Mail) (a b c : DiskView) → Through IsShut a b → Now (IsStanding 0 0 m) b → HasSetByte 0 1 b c → Opens m a c
 opens_ok m a b c t h s = record {
   middle = b;
   before = through_free a b t;
-  ready = now_weaker (IsStanding 0 0 m) (IsReady m) (ready_image m) b h;
+  ready = now_weaker (IsStanding 0 0 m) (EachImage (IsReady m)) (ready_image m) b h;
   after = set_moments (IsStanding 0 0 m) (IsFreeOrWhole m) 0 1 (closed_image m) (opened_image m) b c s h;
 }
 
@@ -115,7 +126,7 @@ pub opens_err : (m : Mail) (a b c : DiskView) → Through IsShut a b → Now (Is
 opens_err m a b c t h s = inr (record {
   middle = b;
   before = through_free a b t;
-  ready = now_weaker (IsStanding 0 0 m) (IsReady m) (ready_image m) b h;
+  ready = now_weaker (IsStanding 0 0 m) (EachImage (IsReady m)) (ready_image m) b h;
   after = failed_moments (IsStanding 0 0 m) (IsFreeOrWhole m) 0 1 (closed_image m) (opened_image m) b c s h;
 })
 

@@ -10,9 +10,9 @@ use Rattle.slot_bytes.specs.Layout.{Mail}
 use Rattle.slot_bytes.specs.Reading.{reads}
 use Rattle.slot_bytes.specs.Reading.Reading.{Free, Whole, Aside}
 use Rattle.spool_slots.specs.Images.{IsFreeImage, IsWholeImage, IsAsideImage, IsFreeOrWhole, IsFreeOrAside, IsWholeOrAside, HasMessageBehind}
-use Rattle.spool_slots.specs.Media.{IsVacant, IsSettled, IsStanding, IsFull, IsAside}
-use Rattle.spool_slots.proofs.ShutLemmas.{now_weaker}
-use Rattle.spool_slots.proofs.StandingLemmas.{zero_or, kept_bytes, IsOneByte, IsOpen, IsMarked, standing_images, standing_is, gate_images, mark_images, reads_closed, reads_whole, reads_aside, message_behind, whole_open, aside_marked, set_settles, set_moments, failed_moments}
+use Rattle.spool_slots.specs.Media.{HasByte, IsVacant, IsSettled, IsStanding, IsFull, IsAside}
+use Rattle.spool_slots.proofs.ShutLemmas.{now_weaker, vacant_free}
+use Rattle.spool_slots.proofs.StandingLemmas.{zero_or, kept_bytes, IsOneByte, IsOpen, IsMarked, standing_images, standing_is, gate_images, mark_images, reads_closed, reads_whole, reads_aside, message_behind, whole_open, aside_marked, set_settles, set_shows, set_moments, failed_moments}
 
 -- ---- the file has two bytes
 
@@ -106,6 +106,10 @@ set_aside_ok m old new s h = set_settles (IsSettled (Whole m)) (IsSettled (Aside
 pub set_aside_some : (old new : DiskView) → HasSetByte 1 1 old new → Now IsFull old → Now IsAside new
 set_aside_some old new s h = set_settles IsFull IsAside 1 1 (λ medium f sound. record { m = f.m; settled_as = marked_settled f.m medium f.settled_as sound }) old new s h
 
+-- the mark was written
+pub set_aside_mark : (old new : DiskView) → HasSetByte 1 1 old new → Now IsFull old → Now (HasByte 1 1) new
+set_aside_mark old new s h = set_shows 1 1 old new s (now_weaker IsFull (λ m. 1 ≤ length m.seen) (λ m f. omega (arith, full_at m f)) old h)
+
 pub set_aside_moments : (m : Mail) (old new : DiskView) → HasSetByte 1 1 old new → Now (IsSettled (Whole m)) old → Through (EachImage (IsWholeOrAside m)) old new
 set_aside_moments m old new s h = set_moments (IsSettled (Whole m)) (IsWholeOrAside m) 1 1 (whole_or_aside m) (marked_image m) old new s h
 
@@ -174,6 +178,12 @@ release_vacant old new s h = set_settles IsFull IsVacant 0 0 released_full old n
 
 pub release_aside_vacant : (old new : DiskView) → HasSetByte 0 0 old new → Now IsAside old → Now IsVacant new
 release_aside_vacant old new s h = set_settles IsAside IsVacant 0 0 released_aside old new s h
+
+pub release_free : (old new : DiskView) → HasSetByte 0 0 old new → Now IsFull old → Now (EachImage IsFreeImage) new
+release_free old new s h = vacant_free new (release_vacant old new s h)
+
+pub release_aside_free : (old new : DiskView) → HasSetByte 0 0 old new → Now IsAside old → Now (EachImage IsFreeImage) new
+release_aside_free old new s h = vacant_free new (release_aside_vacant old new s h)
 
 pub release_moments : (m : Mail) (old new : DiskView) → HasSetByte 0 0 old new → Now (IsSettled (Whole m)) old → Through (EachImage (IsFreeOrWhole m)) old new
 release_moments m old new s h = set_moments (IsSettled (Whole m)) (IsFreeOrWhole m) 0 0 (whole_or_free m) (released_image m) old new s h

@@ -21,7 +21,7 @@ use Rattle.spool_slots.specs.declared.slot_why.SlotWhy.{SlotWhy}
 use Rattle.spool_slots.specs.declared.slot_why.SlotWhy.TheVariants as whys
 use Rattle.spool_slots.specs.declared.looking.Look.{Look}
 use Rattle.spool_slots.specs.declared.looking.Look.TheVariants as looks
-use Rattle.spool_slots.specs.Found.{IsFoundIn, IsSettledAs, IsBad}
+use Rattle.spool_slots.specs.Found.{IsFoundIn, IsSettledAs, IsBad, CountsIn, IsSyncedFor}
 use Rattle.spool_slots.specs.Images.{IsGoodImage}
 use Rattle.spool_slots.specs.Looks.{IsHeadOf}
 use Rattle.spool_slots.specs.Messages.{IsBodyAt}
@@ -65,6 +65,19 @@ pub found_settled : (r : Result Found SlotWhy) (a b c : DiskView) → HasSynced 
 found_settled r a b c s e f =
     let there : IsSettledAs r (record { told = b.told; faults = c.faults }) = told_settled r b.told c.faults (clean_after a b s) f in
     subst (λ (t : Option Tape). IsSettledAs r (record { told = t; faults = c.faults })) (sym e) there
+
+view_same : (t u : Option Tape) (m n : ℕ) → t ≡ u → m ≡ n → (let a : DiskView = record { told = t; faults = m } in let b : DiskView = record { told = u; faults = n } in a ≡ b)
+view_same t u m n e f = ap (λ (x : Option Tape). let v : DiskView = record { told = x; faults = m } in v) e ∙ ap (λ (x : ℕ). let v : DiskView = record { told = u; faults = x } in v) f
+
+still_synced : (a b c : DiskView) → HasSynced a b → c.told ≡ b.told → c.faults ≡ b.faults → HasSynced a c
+still_synced a b c s e f = record { sound = s.sound; is = view_same c.told b.told c.faults b.faults e f ∙ s.is }
+
+-- a disk that is synced, and then read without a failure, is the synced one
+pub synced_for : (r : Result Found SlotWhy) (a b c : DiskView) → HasSynced a b → c.told ≡ b.told → CountsIn r b c → IsSyncedFor r a c
+synced_for (Ok x) a b c s e f = still_synced a b c s e f
+synced_for (Err (whys.BadSlot at)) a b c s e f = still_synced a b c s e f
+synced_for (Err whys.DiskFault) a b c s e f = tt
+synced_for (Err whys.NoMemory) a b c s e f = still_synced a b c s e f
 
 -- ---- images
 

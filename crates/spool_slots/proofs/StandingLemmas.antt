@@ -1,5 +1,5 @@
 -- Messages that stand on a clean disk, and one byte that is written there.
-use Rattle.std.proofs.Common.{◌≡◌, ℕ, ◌+◌, ◌<◌, ◌≤◌, lit≤, lit<, Bool, true, false, cond, ◌||◌, nat_eq, List, [], ◌∷◌, ◌++◌, length, get_or, set, drop, Option, Some, None, refl, sym, ap, subst, ◌∙◌, arith, append_assoc, ◌⊎◌, inl, inr}
+use Rattle.std.proofs.Common.{◌≡◌, ℕ, ◌+◌, ◌-◌, ◌<◌, ◌≤◌, lit≤, lit<, Bool, true, false, cond, ◌||◌, nat_eq, List, [], ◌∷◌, ◌++◌, length, get_or, set, drop, Option, Some, None, refl, sym, ap, subst, ◌∙◌, arith, append_assoc, ◌⊎◌, inl, inr}
 use Rattle.std.specs.Prelude.{IfSome, option_map}
 use Rattle.std.specs.List.{list_any}
 use Rattle.std.proofs.lemmas.Bool.Decides.{nat_tests}
@@ -9,7 +9,7 @@ use Rattle.fw_disk.specs.Laws.{AreBytes}
 use Rattle.fw_disk.specs.Medium.{Medium, IsImage, is_within, settled, synced_now, written_at, laid_over}
 use Rattle.fw_disk.specs.DiskView.{Tape, DiskView, HasSynced, HasSetByte, FailsToSet, changed}
 use Rattle.fw_disk.specs.Moments.{Through, Now, EachImage}
-use Rattle.fw_disk.proofs.MediumLemmas.{settled_image, settled_only}
+use Rattle.fw_disk.proofs.MediumLemmas.{settled_image, settled_only, laid_within}
 use Rattle.fw_disk.proofs.MomentLemmas.{through_set, through_fails_to_set}
 use Rattle.slot_bytes.specs.Layout.{Mail, IsMail, behind_marks, slot_bytes}
 use Rattle.slot_bytes.specs.Reading.{Reading, reads}
@@ -17,7 +17,7 @@ use Rattle.slot_bytes.specs.Reading.Reading.{Free, Whole, Aside, Bad}
 use Rattle.slot_bytes.specs.Files.{IsFreeFile, IsKeptFile}
 use Rattle.slot_bytes.proofs.SlotLemmas.{reads_free, reads_again, bad_some}
 use Rattle.spool_slots.specs.Images.{HasMessageBehind}
-use Rattle.spool_slots.specs.Media.{IsSettled, IsStanding}
+use Rattle.spool_slots.specs.Media.{HasByte, IsSettled, IsStanding}
 use Rattle.spool_slots.proofs.ShutLemmas.{now_weaker}
 
 pub less_or : (a b : ℕ) → (a < b) ⊎ (b ≤ a)
@@ -193,6 +193,18 @@ settles P Q change to old middle new wrote s h =
 pub set_settles : (P Q : Medium → Type 0) (at b : ℕ) → ((m : Medium) → P m → IsImage (written_at at (b ∷ []) m) (written_at at (b ∷ []) m).seen → Q (synced_now (written_at at (b ∷ []) m)))
     → (old new : DiskView) → HasSetByte at b old new → Now P old → Now Q new
 set_settles P Q at b to old new s h = settles P Q (written_at at (b ∷ [])) to old s.middle new s.wrote s.syncs h
+
+same_byte : (at byte : ℕ) → get_or (byte ∷ []) (at - at) 0 ≡ byte
+same_byte at byte =
+    let none : at - at ≡ 0 = omega arith in
+    ap (λ (i : ℕ). get_or (byte ∷ []) i 0) none
+
+laid_byte : (at byte : ℕ) (m : Medium) → at ≤ length m.seen → HasByte at byte (synced_now (written_at at (byte ∷ []) m))
+laid_byte at byte m within = laid_within at (byte ∷ []) m.seen at within (omega arith) (omega arith) ∙ same_byte at byte
+
+-- the byte that was written is read
+pub set_shows : (at byte : ℕ) (old new : DiskView) → HasSetByte at byte old new → Now (λ m. at ≤ length m.seen) old → Now (HasByte at byte) new
+set_shows at byte old new s h = set_settles (λ m. at ≤ length m.seen) (HasByte at byte) at byte (λ m within sound. laid_byte at byte m within) old new s h
 
 pub set_moments : (P : Medium → Type 0) (Q : List ℕ → Type 0) (at b : ℕ) → ((m : Medium) → P m → EachImage Q m) → ((m : Medium) → P m → EachImage Q (written_at at (b ∷ []) m))
     → (old new : DiskView) → HasSetByte at b old new → Now P old → Through (EachImage Q) old new

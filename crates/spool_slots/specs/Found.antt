@@ -1,7 +1,7 @@
 -- What is found of a slot's disk.
 use Rattle.std.specs.Prelude.{◌≡◌, ◌==◌, ℕ, Option, Some, None, Result, Ok, Err, if◌then◌else◌}
 use Rattle.fw_outside.specs.Counts.{Rose}
-use Rattle.fw_disk.specs.DiskView.{DiskView}
+use Rattle.fw_disk.specs.DiskView.{DiskView, HasSynced}
 use Rattle.fw_disk.specs.Moments.{Now}
 use Rattle.slot_bytes.specs.Layout.{Mail}
 use Rattle.slot_bytes.specs.Reading.{Reading}
@@ -50,6 +50,16 @@ IsBadSlot NoMemory = ⊥
 abbrev pub IsBad : Result Found SlotWhy → Type 0
 IsBad (Ok found) = ⊥
 IsBad (Err why) = IsBadSlot why
+
+-- the disk was synced, and nothing else was done to it; a fault says nothing
+abbrev pub IsSyncedBut : SlotWhy → DiskView → DiskView → Type 0
+IsSyncedBut (BadSlot at) old new = HasSynced old new
+IsSyncedBut DiskFault old new = Unit {0}
+IsSyncedBut NoMemory old new = HasSynced old new
+
+abbrev pub IsSyncedFor : Result Found SlotWhy → DiskView → DiskView → Type 0
+IsSyncedFor (Ok found) old new = HasSynced old new
+IsSyncedFor (Err why) old new = IsSyncedBut why old new
 
 -- what is found of a message by its mark, where its file ends early or doesn't
 abbrev pub found_of : ℕ → Option ℕ → Result Found SlotWhy

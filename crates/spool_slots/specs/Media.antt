@@ -1,10 +1,15 @@
 -- What the media of a slot's disk are while it is free, filled, and holds a message.
-use Rattle.std.specs.Prelude.{◌≡◌, ℕ, ◌≤◌, false, List, [], ◌∷◌, ◌++◌, length, drop, get_or}
+use Rattle.std.specs.Prelude.{◌≡◌, ℕ, ◌≤◌, false, List, [], ◌∷◌, ◌++◌, length, get_or}
 use Rattle.fw_disk.specs.Medium.{Medium, IsImage, is_written, settled}
-use Rattle.fw_disk.specs.Moments.{EachImage}
 use Rattle.slot_bytes.specs.Layout.{Mail, IsMail, behind_marks, slot_bytes}
 use Rattle.slot_bytes.specs.Reading.{Reading, reads}
-use Rattle.slot_bytes.specs.Reading.Reading.{Free, Whole, Aside}
+use Rattle.slot_bytes.specs.Reading.Reading.{Whole, Aside}
+
+-- ---- bytes as read
+
+-- the byte at this place, as read, is this
+abbrev pub HasByte : ℕ → ℕ → Medium → Type 0
+HasByte place byte m = get_or m.seen place 0 ≡ byte
 
 -- ---- a closed gate
 
@@ -72,14 +77,6 @@ pub record IsStanding (gate aside : ℕ) (m : Mail) (medium : Medium) : Type 0 w
   pub sound : IsImage medium medium.seen
   pub mail : IsMail m
   pub seen : medium.seen ≡ slot_bytes gate aside m ++ rest
-
--- every image is free, and would be this message if its gate were open
-pub record IsReadyImage (m : Mail) (image : List ℕ) : Type 0 where
-  pub free : reads image ≡ Free
-  pub whole : reads (1 ∷ drop 1 image) ≡ Whole m
-
-abbrev pub IsReady : Mail → Medium → Type 0
-IsReady m medium = EachImage (IsReadyImage m) medium
 
 -- some message, whole
 pub record IsFull (medium : Medium) : Type 0 where

@@ -6,8 +6,9 @@ use Rattle.fw_disk.specs.DiskView.{DiskView}
 use Rattle.fw_disk.specs.Moments.{Now, Through, EachImage}
 use Rattle.slot_bytes.specs.Layout.{Mail}
 use Rattle.slot_bytes.specs.Reading.Reading.{Free, Whole, Aside}
+use Rattle.spool_law.specs.Images.{IsReady}
 use Rattle.spool_slots.specs.Images.{IsFreeImage, IsFreeOrWhole}
-use Rattle.spool_slots.specs.Media.{Pen, IsDraft, IsReady, IsSettled}
+use Rattle.spool_slots.specs.Media.{Pen, IsDraft, IsSettled}
 
 -- a slot by its number, and its disk
 pub record SlotView : Type 0 where
@@ -26,7 +27,7 @@ pub record FullView : Type 0 where
   pub disk : DiskView
   pub unread : Bool
 
--- a broken slot, whether it held a message, and whether its disk failed
+-- a broken slot, whether it came from a `Full`, and whether its disk failed
 pub record BrokenView : Type 0 where
   pub number : ℕ
   pub disk : DiskView
@@ -49,14 +50,14 @@ KeepsAside m slot = Now (IsSettled (Aside m)) slot.disk
 
 -- ---- refusals
 
--- a slot that held nothing, and whose disk failed in this call
+-- a slot that didn't come from a `Full`, and whose disk failed in this call
 pub record IsBrokenIn (number : ℕ) (old : DiskView) (slot : BrokenView) : Type 0 where
   pub number_is : slot.number ≡ number
   pub rose : Rose old.faults slot.disk.faults
   pub empty : slot.from_full ≡ false
   pub fault : slot.from_fault ≡ true
 
--- a slot that held a message, and whose disk failed in this call
+-- a slot that came from a `Full`, and whose disk failed in this call
 pub record IsBrokenFull (number : ℕ) (old : DiskView) (slot : BrokenView) : Type 0 where
   pub number_is : slot.number ≡ number
   pub rose : Rose old.faults slot.disk.faults
@@ -64,6 +65,10 @@ pub record IsBrokenFull (number : ℕ) (old : DiskView) (slot : BrokenView) : Ty
   pub fault : slot.from_fault ≡ true
 
 -- ---- answers
+
+-- a disk that tells its media goes on telling them, and no other begins to
+abbrev pub StillTells : DiskView → DiskView → Type 0
+StillTells old new = Through (λ m. Unit {0}) old new
 
 -- two zeros, which are synced
 pub record HasCleared (old new : DiskView) : Type 0 where
@@ -85,7 +90,7 @@ pub record IsOnward (number : ℕ) (old : DiskView) (to : ℕ) (new : DiskView) 
 pub record Opens (m : Mail) (old new : DiskView) : Type 0 where
   pub middle : DiskView
   pub before : Through (EachImage IsFreeImage) old middle
-  pub ready : Now (IsReady m) middle
+  pub ready : Now (EachImage (IsReady m)) middle
   pub after : Through (EachImage (IsFreeOrWhole m)) middle new
 
 -- the gate wasn't written yet, or it was, but not before every image was ready

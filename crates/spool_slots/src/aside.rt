@@ -47,9 +47,10 @@ impl<D: Disk> Aside<D> {
     }
 
     /// Closes the gate: the slot is free for a message again.
-    #[tactic(auto, using(crate::proofs::MarkLemmas::aside_gate, crate::proofs::MarkLemmas::release_aside_vacant, crate::proofs::MarkLemmas::release_aside_moments, crate::proofs::MarkLemmas::failed_release_aside_moments, crate::proofs::MarkLemmas::failed_release_aside_behind, crate::proofs::EventLemmas::runs_released, crate::proofs::EventLemmas::runs_not_released))]
+    #[tactic(auto, using(crate::proofs::MarkLemmas::aside_gate, crate::proofs::MarkLemmas::release_aside_vacant, crate::proofs::MarkLemmas::release_aside_free, crate::proofs::MarkLemmas::release_aside_moments, crate::proofs::MarkLemmas::failed_release_aside_moments, crate::proofs::MarkLemmas::failed_release_aside_behind, crate::proofs::EventLemmas::runs_released, crate::proofs::EventLemmas::runs_not_released))]
     pub fn release(self) -> Result<Free<D>, Broken<D>>
         ensures ok { IfOk result (λ free. IsOnward self.number self.disk free.number free.disk) }
+        ensures free { IfOk result (λ free. Now (EachImage IsFreeImage) free.disk) }
         ensures events { (k : Known) → OfLetter (Contains k.accepted) k.use_of → MatchResult result
             (λ free. Runs k self.disk k free.disk)
             (λ broken. Runs k self.disk k broken.disk) }

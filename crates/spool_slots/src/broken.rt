@@ -3,7 +3,7 @@ ghost use Rattle.std.specs.Prelude.{◌≡◌, true, false};
 use fw_disk::Disk;
 use std::marker::Model;
 
-/// A slot whose disk failed, or which can't be read.
+/// A slot whose disk failed, or which wasn't opened.
 #[derive(Drop)]
 pub struct Broken<D: Disk> {
     number: u32,
@@ -26,7 +26,7 @@ impl<D: Disk> Model for Broken<D> {
 }
 
 impl<D: Disk> Broken<D> {
-    // A slot whose disk failed, and which held a message or not.
+    // A slot whose disk failed, and which came from a `Full` or not.
     pub(crate) fn by_fault(number: u32, disk: D, from_full: bool) -> Broken<D>
         ensures { result ≡ record {
           number = number;
@@ -67,14 +67,14 @@ impl<D: Disk> Broken<D> {
         self.number
     }
 
-    /// Whether the slot held a message when it broke: it is what the bytes behind the first two are read as.
+    /// Whether it came from a [`Full`](crate::Full).
     pub fn is_from_full(&self) -> bool
         ensures { result ≡ self.now.from_full }
     {
         self.from_full
     }
 
-    /// Whether its disk failed. Else it couldn't be read: its bytes are bad, or there was no memory.
+    /// Whether its disk failed. Else it wasn't opened: its bytes are bad, or there was no memory.
     pub fn is_from_fault(&self) -> bool
         ensures { result ≡ self.now.from_fault }
     {

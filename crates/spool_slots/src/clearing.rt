@@ -1,16 +1,17 @@
-ghost use Rattle.std.specs.Prelude.{◌≡◌, IfOk, IfErr, OnOk, OnErr};
+ghost use Rattle.std.specs.Prelude.{◌≡◌, IfOk, IfErr, MatchResult, OnOk, OnErr};
 ghost use Rattle.fw_outside.specs.Counts.{Rose};
 ghost use Rattle.fw_disk.specs.Moments.{EachImage, Now};
 ghost use Rattle.spool_slots.specs.Images.{IsFreeImage};
-ghost use Rattle.spool_slots.specs.States.{HasCleared, IsBrokenIn, IsFormatted};
+ghost use Rattle.spool_slots.specs.States.{HasCleared, IsBrokenIn, IsFormatted, StillTells};
 
 use crate::{Broken, Free};
 use fw_disk::{Disk, Failed};
 
 // Makes the disk two synced zeros.
-#[tactic(auto, using(crate::proofs::ClearingLemmas::from_the_start, crate::proofs::ClearingLemmas::has_cleared))]
+#[tactic(auto, using(crate::proofs::ClearingLemmas::from_the_start, crate::proofs::ClearingLemmas::has_cleared, crate::proofs::ClearingLemmas::cut_tells, crate::proofs::ClearingLemmas::write_tells, crate::proofs::ClearingLemmas::clear_tells))]
 fn clear<D: Disk>(disk: &mut D) -> Result<(), Failed>
     ensures ok { OnOk result (HasCleared (D.disk_view disk.old) (D.disk_view disk.new)) }
+    ensures tells { StillTells (D.disk_view disk.old) (D.disk_view disk.new) }
     ensures err { OnErr result (Rose (D.disk_view disk.old).faults (D.disk_view disk.new).faults) }
 {
     disk.cut(0)?;
@@ -23,6 +24,9 @@ fn clear<D: Disk>(disk: &mut D) -> Result<(), Failed>
 pub fn format<D: Disk>(number: u32, disk: D) -> Result<Free<D>, Broken<D>>
     ensures ok { IfOk result (λ free. IsFormatted number (D.disk_view disk) free) }
     ensures images { IfOk result (λ free. Now (EachImage IsFreeImage) free.disk) }
+    ensures tells { MatchResult result
+        (λ free. StillTells (D.disk_view disk) free.disk)
+        (λ broken. StillTells (D.disk_view disk) broken.disk) }
     ensures err { IfErr result (λ broken. IsBrokenIn number (D.disk_view disk) broken) }
 {
     let mut disk = disk;

@@ -6,7 +6,7 @@ ghost use Rattle.spool_law.specs.World.Use.{Begun, Opened};
 ghost use Rattle.spool_law.specs.Events.{longer as longer_letter};
 ghost use Rattle.spool_law.specs.Runs.{Known, Runs, used_for};
 ghost use Rattle.spool_slots.specs.Images.{IsFreeImage, IsFreeOrWhole};
-ghost use Rattle.spool_slots.specs.Media.{IsFilling, longer};
+ghost use Rattle.spool_slots.specs.Media.{HasByte, IsFilling, longer};
 ghost use Rattle.spool_slots.specs.States.{Drafts, IsBrokenIn, IsOnward, Keeps, Opens, OpensOrNot};
 
 use crate::adding::add_all;
@@ -86,6 +86,7 @@ impl<D: Disk> Filling<D> {
         ensures ok { IfOk result (λ full. IsOnward self.number self.disk full.number full.disk) }
         ensures read { IfOk result (λ full. full.unread ≡ false) }
         ensures whole { IfOk result (λ full. (m : Mail) → Drafts m self → Keeps m full) }
+        ensures gate { IfOk result (λ full. Now (HasByte 0 1) full.disk) }
         ensures images { (m : Mail) → Drafts m self → MatchResult result
             (λ full. Opens m self.disk full.disk)
             (λ broken. OpensOrNot m self.disk broken.disk) }
@@ -106,9 +107,10 @@ impl<D: Disk> Filling<D> {
     }
 
     /// Gives the message up; the disk isn't called.
-    #[tactic(auto, using(crate::proofs::FillingLemmas::filling_vacant))]
+    #[tactic(auto, using(crate::proofs::FillingLemmas::filling_vacant, crate::proofs::FillingLemmas::filling_free))]
     pub fn abandon(self) -> Free<D>
-        ensures { result ≡ record { number = self.number; disk = self.disk } }
+        ensures slot { result ≡ record { number = self.number; disk = self.disk } }
+        ensures free { Now (EachImage IsFreeImage) result.disk }
     {
         let Filling {
             number,

@@ -10,7 +10,7 @@ ghost use Rattle.spool_law.specs.World.Use.{Begun, Opened};
 ghost use Rattle.spool_law.specs.Events.{IsBegun};
 ghost use Rattle.spool_law.specs.Runs.{Known, Runs, used_for};
 ghost use Rattle.spool_slots.specs.Filled.{HasAdded, HasLaid};
-ghost use Rattle.spool_slots.specs.Media.{IsDraft, IsFilling, IsFull, IsSettled, IsShut, IsStanding};
+ghost use Rattle.spool_slots.specs.Media.{HasByte, IsDraft, IsFilling, IsFull, IsSettled, IsShut, IsStanding};
 ghost use Rattle.spool_slots.specs.States.{Opens, OpensOrNot};
 
 use crate::adding::{fill, write_held};
@@ -70,6 +70,7 @@ pub(crate) fn write_whole<D: Disk>(disk: &mut D, pen: &mut Pen) -> Result<(), Fa
     ensures full { OnOk result (Now IsFull (D.disk_view disk.new)) }
     ensures whole { OnOk result ((m : Mail) → Now (IsDraft m pen.old) (D.disk_view disk.old)
         → Now (IsSettled (Whole m)) (D.disk_view disk.new)) }
+    ensures gate { OnOk result (Now (HasByte 0 1) (D.disk_view disk.new)) }
     ensures faults { OnOk result ((D.disk_view disk.new).faults ≡ (D.disk_view disk.old).faults) }
     ensures images { (m : Mail) → Now (IsDraft m pen.old) (D.disk_view disk.old) → MatchResult result
         (λ _. Opens m (D.disk_view disk.old) (D.disk_view disk.new))

@@ -6,7 +6,7 @@ ghost use Rattle.std.specs.List.{Contains};
 ghost use Rattle.spool_law.specs.World.{OfLetter};
 ghost use Rattle.spool_law.specs.Runs.{Known, Runs};
 ghost use Rattle.spool_slots.specs.Images.{HasMessageBehind, IsFreeImage, IsFreeOrWhole, IsWholeImage, IsWholeOrAside};
-ghost use Rattle.spool_slots.specs.Media.{IsFull};
+ghost use Rattle.spool_slots.specs.Media.{HasByte, IsFull};
 ghost use Rattle.spool_slots.specs.Messages.{Leaves};
 ghost use Rattle.spool_slots.specs.States.{IsBrokenFull, IsOnward, Keeps, KeepsAside};
 
@@ -97,10 +97,11 @@ impl<D: Disk> Full<D> {
     }
 
     /// Sets the message aside.
-    #[tactic(auto, using(crate::proofs::MarkLemmas::full_mark, crate::proofs::MarkLemmas::set_aside_ok, crate::proofs::MarkLemmas::set_aside_some, crate::proofs::MarkLemmas::set_aside_moments, crate::proofs::MarkLemmas::failed_aside_moments, crate::proofs::MarkLemmas::failed_aside_behind, crate::proofs::EventLemmas::runs_set_aside, crate::proofs::EventLemmas::runs_not_set_aside))]
+    #[tactic(auto, using(crate::proofs::MarkLemmas::full_mark, crate::proofs::MarkLemmas::set_aside_ok, crate::proofs::MarkLemmas::set_aside_some, crate::proofs::MarkLemmas::set_aside_mark, crate::proofs::MarkLemmas::set_aside_moments, crate::proofs::MarkLemmas::failed_aside_moments, crate::proofs::MarkLemmas::failed_aside_behind, crate::proofs::EventLemmas::runs_set_aside, crate::proofs::EventLemmas::runs_not_set_aside))]
     pub fn set_aside(self) -> Result<Aside<D>, Broken<D>>
         ensures ok { IfOk result (λ aside. IsOnward self.number self.disk aside.number aside.disk) }
         ensures aside { IfOk result (λ aside. (m : Mail) → Keeps m self → KeepsAside m aside) }
+        ensures mark { IfOk result (λ aside. Now (HasByte 1 1) aside.disk) }
         ensures events { (k : Known) → MatchResult result
             (λ aside. Runs k self.disk k aside.disk)
             (λ broken. Runs k self.disk k broken.disk) }
@@ -123,9 +124,10 @@ impl<D: Disk> Full<D> {
     }
 
     /// Closes the gate: the slot is free for a message again.
-    #[tactic(auto, using(crate::proofs::MarkLemmas::full_gate, crate::proofs::MarkLemmas::release_vacant, crate::proofs::MarkLemmas::release_moments, crate::proofs::MarkLemmas::failed_release_moments, crate::proofs::MarkLemmas::failed_release_behind, crate::proofs::EventLemmas::runs_released, crate::proofs::EventLemmas::runs_not_released))]
+    #[tactic(auto, using(crate::proofs::MarkLemmas::full_gate, crate::proofs::MarkLemmas::release_vacant, crate::proofs::MarkLemmas::release_free, crate::proofs::MarkLemmas::release_moments, crate::proofs::MarkLemmas::failed_release_moments, crate::proofs::MarkLemmas::failed_release_behind, crate::proofs::EventLemmas::runs_released, crate::proofs::EventLemmas::runs_not_released))]
     pub fn release(self) -> Result<Free<D>, Broken<D>>
         ensures ok { IfOk result (λ free. IsOnward self.number self.disk free.number free.disk) }
+        ensures free { IfOk result (λ free. Now (EachImage IsFreeImage) free.disk) }
         ensures events { (k : Known) → OfLetter (Contains k.accepted) k.use_of → MatchResult result
             (λ free. Runs k self.disk k free.disk)
             (λ broken. Runs k self.disk k broken.disk) }

@@ -3,7 +3,7 @@
 //! Each state of a slot is a type that owns the slot's disk. [`format()`] makes a [`Free`] slot of any disk, and
 //! [`open`] says what stands on one. A message is begun by [`Free::start`], added to by [`Filling::add`], and stands
 //! once [`Filling::finish`] answers Ok; [`Full::message`] reads it. A [`Full`] slot is released or set [`Aside`], and a
-//! slot whose disk failed is [`Broken`]. What every image of the disk is read as, which is what a crash may leave, is
+//! slot whose disk failed, or which wasn't opened, is [`Broken`]. What every image of the disk is read as, which is what a crash may leave, is
 //! said by the definitions of `specs/Images.antt`.
 #![tactic(auto)]
 

@@ -2,11 +2,11 @@
 ghost use Rattle.std.specs.Prelude.{◌≡◌, ◌+◌, ◌≤◌, ◌<◌, ◌^◌, ℕ, nat_lt, None, Some, false, length, IfOk, OnOk, OnErr, IfErr, IfSome, MatchResult};
 ghost use Rattle.fw_outside.specs.Counts.{Rose};
 ghost use Rattle.fw_disk.specs.Medium.{IsImage};
-ghost use Rattle.fw_disk.specs.DiskView.{Tape};
+ghost use Rattle.fw_disk.specs.DiskView.{HasSynced, Tape};
 ghost use Rattle.fw_disk.specs.Moments.{EachImage, Through};
 ghost use Rattle.slot_bytes.specs.Reading.{reads};
 ghost use Rattle.spool_law.specs.Runs.{Known, Runs};
-ghost use Rattle.spool_slots.specs.Found.{CountsIn, IsBad, IsBadSlot, IsFoundIn, IsSettledAs, found_of};
+ghost use Rattle.spool_slots.specs.Found.{CountsIn, IsBad, IsBadSlot, IsFoundIn, IsSettledAs, IsSyncedBut, IsSyncedFor, found_of};
 ghost use Rattle.spool_slots.specs.Images.{IsGoodImage};
 ghost use Rattle.spool_slots.specs.Looks.{EndsAt, IsHeadOf};
 ghost use Rattle.spool_slots.specs.Opened.{IsBecause, IsReadAs, disk_of, number_of};
@@ -136,7 +136,7 @@ fn find<D: Disk>(alloc: Global, disk: &mut D) -> Result<Found, SlotWhy>
 }
 
 // Syncs the disk, and finds what stands there.
-#[tactic(auto, using(crate::proofs::OpenLemmas::found_settled, crate::proofs::OpenLemmas::images_kept, crate::proofs::OpenLemmas::never_bad, crate::proofs::EventLemmas::runs_synced_and_read, crate::proofs::EventLemmas::runs_unsynced))]
+#[tactic(auto, using(crate::proofs::OpenLemmas::found_settled, crate::proofs::OpenLemmas::synced_for, crate::proofs::OpenLemmas::images_kept, crate::proofs::OpenLemmas::never_bad, crate::proofs::EventLemmas::runs_synced_and_read, crate::proofs::EventLemmas::runs_unsynced))]
 fn sync_and_find<D: Disk>(alloc: Global, disk: &mut D) -> Result<Found, SlotWhy>
     ensures found { IsSettledAs result (D.disk_view disk.new) }
     ensures images { (tape : Tape) → (D.disk_view disk.old).told ≡ Some tape
@@ -145,12 +145,13 @@ fn sync_and_find<D: Disk>(alloc: Global, disk: &mut D) -> Result<Found, SlotWhy>
     ensures good { (tape : Tape) → (D.disk_view disk.old).told ≡ Some tape → EachImage IsGoodImage tape.now
         → IsBad result → ⊥ }
     ensures counts { CountsIn result (D.disk_view disk.old) (D.disk_view disk.new) }
+    ensures synced { IsSyncedFor result (D.disk_view disk.old) (D.disk_view disk.new) }
 {
     disk.sync()?;
     find(alloc, disk)
 }
 
-/// Opens the slot that stands on a disk. It begins with a sync, and reads no more of the file than it needs.
+/// Opens the slot that stands on a disk: syncs it, and says what stands there.
 #[tactic(auto, using(crate::proofs::OpenLemmas::free_vacant))]
 pub fn open<D: Disk>(alloc: Global, number: u32, disk: D) -> Result<Opened<D>, (Broken<D>, SlotWhy)>
     ensures ok { IfOk result (λ slot. IsOnward number (D.disk_view disk) (number_of slot) (disk_of slot)) }
@@ -161,6 +162,9 @@ pub fn open<D: Disk>(alloc: Global, number: u32, disk: D) -> Result<Opened<D>, (
     ensures events { (k : Known) → MatchResult result
         (λ slot. Runs k (D.disk_view disk) k (disk_of slot))
         (λ e. Runs k (D.disk_view disk) k e.0.disk) }
+    ensures synced { MatchResult result
+        (λ slot. HasSynced (D.disk_view disk) (disk_of slot))
+        (λ e. IsSyncedBut e.1 (D.disk_view disk) e.0.disk) }
     ensures err { IfErr result (λ e. IsBecause e.1 (D.disk_view disk) e.0) }
     ensures number { IfErr result (λ e. (e.0.number ≡ number) × (e.0.from_full ≡ false)) }
     ensures good { (tape : Tape) → (D.disk_view disk).told ≡ Some tape → EachImage IsGoodImage tape.now

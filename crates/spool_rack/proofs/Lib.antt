@@ -1,0 +1,6 @@
+mod LoanLemmas
+mod RackLemmas
+mod OpeningLemmas
+mod ShelfLemmas
+mod ClosingLemmas
+mod StoreLemmas

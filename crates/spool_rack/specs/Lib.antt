@@ -1,0 +1,4 @@
+pub mod Store
+pub mod Room
+pub mod Opening
+pub mod Shelving

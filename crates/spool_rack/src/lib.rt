@@ -1,0 +1,21 @@
+//! Stores of slots: slots are taken from them and put back.
+//!
+//! [`MailStore`] says what a store is. [`Rack`] is the store of one thread.
+#![tactic(auto)]
+
+mod bare;
+mod closing;
+pub mod laws;
+mod loans;
+mod mail_store;
+mod opening;
+mod queue;
+mod rack;
+mod shelving;
+
+pub use mail_store::MailStore;
+pub use opening::RackFault;
+pub use rack::Rack;
+pub use spool_slots::{
+    Aside, Broken, Filling, Free, Full, Opened, ReadBack, SlotWhy, StartFault, format, open,
+};
