@@ -1,5 +1,5 @@
 //! What the definitions of `specs/` come to. Each function states one law and does nothing.
-ghost use Rattle.std.specs.Prelude.{◌≡◌, ℕ, ◌<◌, ◌==◌, List, [], ◌∷◌, ◌++◌, length, false, All, Some, Ok, Err};
+ghost use Rattle.std.specs.Prelude.{◌≡◌, ℕ, ◌<◌, ◌==◌, List, [], ◌∷◌, ◌++◌, drop, length, false, All, Some, Ok, Err};
 ghost use Rattle.std.specs.List.{filter_map};
 ghost use Rattle.netperm_table.specs.declared.line.Line.{Line};
 ghost use Rattle.netperm_table.specs.declared.table_fault.TableFault.{TableFault};
@@ -7,12 +7,18 @@ ghost use Rattle.netperm_table.specs.declared.table_fault.TableFault.TheVariants
 ghost use Rattle.netperm_table.specs.Reading.{reading};
 ghost use Rattle.netperm_table.specs.Table.{fault_in, line_in, pieces, table_of, unless_any_fault};
 ghost use Rattle.netperm_table.specs.Taking.{Settles};
+ghost use Rattle.netperm_table.specs.Words.{words_after, words_of};
 
 /// A table has the lines of those pieces of the text that pass the tests and aren't skipped; or it is the fault of the
 /// first piece that fails one.
 pub fn the_lines_are_the_pieces_that_pass()
     ensures { (text : List ℕ) → table_of text
         ≡ unless_any_fault (filter_map fault_in (pieces text)) (filter_map line_in (pieces text)) }
+{}
+
+/// The words that begin after so many bytes are the words of the bytes that are left.
+pub fn the_words_after_bytes_are_those_of_the_rest()
+    ensures { (n : ℕ) (bytes : List ℕ) → words_after n bytes ≡ words_of (drop n bytes) }
 {}
 
 /// A line has the number of its piece.
