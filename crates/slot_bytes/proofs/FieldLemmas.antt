@@ -7,6 +7,7 @@ use Rattle.byte_reader.specs.Reading.{Read, ◌>>=◌, bytes_at, short_at}
 use Rattle.byte_reader.specs.Exact.{ReadsExactly, InRange, two, itself, IsBytesOf}
 use Rattle.byte_reader.proofs.ReaderLemmas.{ok_is, reads_same, through, reads_through, both, FitBoth, spell_both, reads_both, bind_both}
 use Rattle.byte_reader.proofs.FieldLemmas.{reads_bytes}
+use Rattle.byte_reader.proofs.FourPartLemmas.{LastTwo, four_parts, reads_four_parts}
 use Rattle.byte_reader.proofs.NumberLemmas.{reads_short}
 use Rattle.slot_bytes.specs.Layout.{IsTextFrom, counted, each_counted}
 use Rattle.slot_bytes.specs.Reading.{long_text_at, rcpts_at, low_most, body_len_at}
@@ -130,83 +131,37 @@ IsBodyLen n = n ≤ 67108864
 abbrev pub len_bytes : ℕ → List ℕ
 len_bytes n = to_be_bytes w64 n
 
-abbrev Two : Type 0
-Two = ℕ × ℕ
-
-abbrev Three : Type 0
-Three = Two × ℕ
-
-abbrev Four : Type 0
-Four = Three × ℕ
-
-abbrev zeros : List ℕ → Read Two
-zeros = both ℕ ℕ (short_at 0 0) (λ a. short_at 0 0)
-
-abbrev three : List ℕ → Read Three
-three = both Two ℕ zeros (λ p. short_at 0 1024)
-
-abbrev four : List ℕ → Read Four
-four = both Three ℕ three (λ q. short_at 0 (low_most q.1))
-
-abbrev FitsTwo : Two → Type 0
-FitsTwo = FitBoth ℕ ℕ (InRange 0 0) (λ a. InRange 0 0)
-
-abbrev FitsThree : Three → Type 0
-FitsThree = FitBoth Two ℕ FitsTwo (λ p. InRange 0 1024)
-
-abbrev FitsFour : Four → Type 0
-FitsFour = FitBoth Three ℕ FitsThree (λ q. InRange 0 (low_most q.1))
-
-abbrev spell_two : Two → List ℕ
-spell_two = spell_both ℕ ℕ two (λ a. two)
-
-abbrev spell_three : Three → List ℕ
-spell_three = spell_both Two ℕ spell_two (λ p. two)
-
-abbrev spell_four : Four → List ℕ
-spell_four = spell_both Three ℕ spell_three (λ q. two)
-
-reads_four : ReadsExactly Four four FitsFour spell_four
-reads_four =
-    let pair = reads_both ℕ ℕ (short_at 0 0) (λ a. short_at 0 0) (InRange 0 0) two (λ a. InRange 0 0) (λ a. two) (reads_short 0 0 (lit≤ tt)) (λ a h. reads_short 0 0 (lit≤ tt)) in
-    let triple = reads_both Two ℕ zeros (λ p. short_at 0 1024) FitsTwo spell_two (λ p. InRange 0 1024) (λ p. two) pair (λ p h. reads_short 0 1024 (lit≤ tt)) in
-    reads_both Three ℕ three (λ q. short_at 0 (low_most q.1)) FitsThree spell_three (λ q. InRange 0 (low_most q.1)) (λ q. two) triple (λ q h. reads_short 0 (low_most q.1) (omega arith))
-
-abbrev len_of : Four → ℕ
-len_of x = 65536 * x.0.1 + x.1
-
 low_fits : (high low : ℕ) → high ≤ 1024 → low ≤ low_most high → (low ≤ 65535) × (65536 * high + low ≤ 67108864)
 low_fits high low h k = (grind (arith, nat_tests), grind (arith, nat_tests))
 
 low_back : (high low : ℕ) → 65536 * high + low ≤ 67108864 → low ≤ 65535 → low ≤ low_most high
 low_back high low h k = grind (arith, nat_tests)
 
-cells : (a b c d e f g h i j k l m n o p : ℕ) → a ≡ i → b ≡ j → c ≡ k → d ≡ l → e ≡ m → f ≡ n → g ≡ o → h ≡ p
-    → a ∷ b ∷ c ∷ d ∷ e ∷ f ∷ g ∷ h ∷ [] ≡ i ∷ j ∷ k ∷ l ∷ m ∷ n ∷ o ∷ p ∷ []
-cells a b c d e f g h i j k l m n o p q r s t u v w x = cc
+cells : (a b c d e f g h m n o p : ℕ) → a ≡ 0 → b ≡ 0 → c ≡ 0 → d ≡ 0 → e ≡ m → f ≡ n → g ≡ o → h ≡ p
+    → a ∷ b ∷ c ∷ d ∷ e ∷ f ∷ g ∷ h ∷ [] ≡ 0 ∷ 0 ∷ 0 ∷ 0 ∷ m ∷ n ∷ o ∷ p ∷ []
+cells a b c d e f g h m n o p q r s t u v w x = cc
 
-len_cells : (a b c d : ℕ) → a ≤ 0 → b ≤ 0 → c ≤ 1024 → d ≤ 65535 → 65536 * c + d ≤ 67108864
-    → len_bytes (65536 * c + d) ≡ a / 256 ∷ a % 256 ∷ b / 256 ∷ b % 256 ∷ c / 256 ∷ c % 256 ∷ d / 256 ∷ d % 256 ∷ []
-len_cells a b c d p q r s t = cells _ _ _ _ _ _ _ _ _ _ _ _ _ _ _ _ (omega arith) (omega arith) (omega arith) (omega arith) (omega arith) (omega arith) (omega arith) (omega arith)
+to_bytes : (c d : ℕ) → c ≤ 1024 → d ≤ low_most c → IsBodyLen (65536 * c + d) × (len_bytes (65536 * c + d) ≡ 0 ∷ 0 ∷ 0 ∷ 0 ∷ c / 256 ∷ c % 256 ∷ d / 256 ∷ d % 256 ∷ [])
+to_bytes c d third fourth =
+    let last = low_fits c d third fourth in
+    let short = last.0 in
+    let small = last.1 in
+    (last.1, cells _ _ _ _ _ _ _ _ (c / 256) (c % 256) (d / 256) (d % 256) (omega arith) (omega arith) (omega arith) (omega arith) (omega arith) (omega arith) (omega arith) (omega arith))
 
-four_to : (x : Four) → FitsFour x → IsBodyLen (len_of x) × (len_bytes (len_of x) ≡ spell_four x)
-four_to x fits =
-    let last = low_fits x.0.1 x.1 fits.0.1.1 fits.1.1 in
-    (last.1, len_cells x.0.0.0 x.0.0.1 x.0.1 x.1 fits.0.0.0.1 fits.0.0.1.1 fits.0.1.1 last.0 last.1)
+from_bytes : (n : ℕ) → IsBodyLen n → LastTwo 65536 1024 low_most n
+from_bytes n small = record {
+  third = n / 65536;
+  fourth = n % 65536;
+  third_fits = omega (arith, small);
+  fourth_fits = let whole : 65536 * (n / 65536) + n % 65536 ≡ n = omega arith in low_back (n / 65536) (n % 65536) (omega (arith, small, whole)) (omega arith);
+  sum = omega arith;
+}
 
-four_from : (n : ℕ) → IsBodyLen n → (x : Four) × FitsFour x × (len_of x ≡ n)
-four_from n le =
-    let whole : 65536 * (n / 65536) + n % 65536 ≡ n = omega arith in
-    let low : n % 65536 ≤ 65535 = omega arith in
-    let last : n % 65536 ≤ low_most (n / 65536) = low_back (n / 65536) (n % 65536) (omega arith) low in
-    ((((0, 0), n / 65536), n % 65536), ((((omega arith, omega arith), (omega arith, omega arith)), (omega arith, omega arith)), (omega arith, last)), whole)
-
-len_same : (bytes : List ℕ) → body_len_at bytes ≡ through Four ℕ four len_of bytes
+len_same : (bytes : List ℕ) → body_len_at bytes ≡ four_parts short_at two reads_short 65536 1024 low_most bytes
 unfolding body_len_at
-len_same bytes =
-    bind_both ℕ ℕ (ℕ × List ℕ) (short_at 0 0) (λ a. short_at 0 0) (λ p rest. short_at 0 1024 rest >>= λ high. (short_at 0 (low_most high.0) high.1 >>= λ low. Ok (65536 * high.0 + low.0, low.1))) bytes
-    ∙ bind_both Two ℕ (ℕ × List ℕ) zeros (λ p. short_at 0 1024) (λ q rest. short_at 0 (low_most q.1) rest >>= λ low. Ok (65536 * q.1 + low.0, low.1)) bytes
-    ∙ bind_both Three ℕ (ℕ × List ℕ) three (λ q. short_at 0 (low_most q.1)) (λ x rest. Ok (len_of x, rest)) bytes
+len_same bytes = refl
 
 pub reads_body_len : ReadsExactly ℕ body_len_at IsBodyLen len_bytes
-reads_body_len = reads_same ℕ (through Four ℕ four len_of) body_len_at IsBodyLen len_bytes len_same (reads_through Four ℕ four FitsFour spell_four len_of IsBodyLen len_bytes reads_four (record { to = four_to; from = four_from }))
+reads_body_len =
+    reads_same ℕ (four_parts short_at two reads_short 65536 1024 low_most) body_len_at IsBodyLen len_bytes len_same
+    (reads_four_parts short_at two reads_short 65536 1024 low_most IsBodyLen len_bytes to_bytes from_bytes)
