@@ -28,9 +28,10 @@ pub record BookView : Type 0 where
   pub refused : Bool
   pub asks : ℕ
 
--- the records that were loaded are sound; the history is legal and fits, and is full where a request was refused for that; the state is that after it; the keeper
--- has the records, where it tells; and since it was so, at the opening, it failed at least as often as entries were not kept,
--- and was called for each that edits a record and at most for requests without an entry besides
+-- the records that were loaded are sound; the history is legal and fits, and is full where a request was refused for that; the
+-- state is that after it; the keeper has the records, where it tells; and since it was so, at the opening, it failed at least
+-- as often as entries were not kept, and was called as often as entries edit a record, or more, by at most as many as there
+-- were requests without an entry
 pub record Stands (history : List Entry) (limit : ℕ) (refused : Bool) (asks : ℕ) (origin : Origin) (opening keeper : KeeperView) (policy : PolicyView) (s : State) : Type 0 where
   pub sound : IsSound origin
   pub policy_is : policy ≡ origin.policy

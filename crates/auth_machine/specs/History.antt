@@ -80,9 +80,9 @@ unkept (entry ∷ entries) = (if entry.kept then 0 else 1) + unkept entries
 abbrev pub CountsUnkept : ℕ → List Entry → KeeperView → Type 0
 CountsUnkept before history keeper = min (before + unkept history) (2 ^ 64 - 1) ≤ keeper.faults
 
--- besides the calls that it had counted before, the keeper has counted one for each entry that changes, makes or deletes a
--- record, unless its count is at its last value; and further ones at most for requests of which there is no entry, one each.
--- So where each request has its entry, these are all its calls. Of 2 ^ 64 - 1 requests or more that isn't said.
+-- besides the calls that it had counted before, the keeper has counted as many as there are entries that change, make or
+-- delete a record, unless its count is at its last value; and at most as many more as there were requests without an entry.
+-- So where each request has its entry, the number is exact. Of 2 ^ 64 - 1 requests or more the second isn't said.
 pub record CountsCalls (before : ℕ) (origin : Origin) (history : List Entry) (asks : ℕ) (keeper : KeeperView) : Type 0 where
   pub least : min (before + edits origin history) (2 ^ 64 - 1) ≤ keeper.calls
   pub most : asks < 2 ^ 64 - 1 → keeper.calls + length history ≤ before + edits origin history + asks

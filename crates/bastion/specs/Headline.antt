@@ -111,10 +111,10 @@ talk_of deeds = answered (gives asked deeds)
 -- A session was held with a client whom the rules permit, or who is at the console, over the run's devices and a book of the
 -- records that the keeper had. What it asked and was answered, but for what was refused since the history was full, is the
 -- whole of the history, in order; that is legal by the policy and the records, which are sound, and the keeper has the records
--- after it and has counted a failure for each entry that was not kept. It was called once for each entry that changes, makes or
--- deletes a record, and else at most for requests without an entry, once each. The client was given what the session's deeds tell. Behind the
--- session the log was given the ending's line, and that of the limit, where there are such. And the status is the ending's,
--- but 6 where the session was done and a request had been refused.
+-- after it and has counted a failure for each entry that was not kept. It counted as many calls as there are entries that
+-- change, make or delete a record, and at most as many more as there were requests without an entry. The client was given what
+-- the session's deeds tell. Behind the session the log was given the ending's line, and that of the limit, where there are
+-- such. And the status is the ending's, but 6 where the session was done and a request had been refused.
 pub record OfHistory (client : Client) (inputs : Inputs) (status : ℕ) (old new : WorldView) : Type 0 where
   pub before : KeeperView
   pub keeper : old.inputs.keeper ≡ Some before
