@@ -8,18 +8,33 @@ use Rattle.auth_events.specs.declared.reply.Reply.TheVariants as replies
 use Rattle.auth_events.specs.declared.request.Request.{Request}
 use Rattle.auth_events.specs.declared.request.Request.TheVariants as requests
 
+abbrev pub is_response : Request → Bool
+is_response (requests.Response hash word) = true
+is_response _ = false
+
+abbrev pub is_ok : Reply → Bool
+is_ok replies.Ok = true
+is_ok _ = false
+
+-- what ends a login: to name a user, and to close the session
+abbrev pub is_end : Request → Bool
+is_end (requests.Authenticate name) = true
+is_end requests.Close = true
+is_end _ = false
+
+-- refused since no more entries fit
+abbrev pub is_full : Reply → Bool
+is_full (replies.Denied (denials.Full limit)) = true
+is_full _ = false
+
 -- a response that was right gives a login
 abbrev pub gives_login : Request × Reply → Bool
-gives_login (requests.Response hash word, replies.Ok) = true
-gives_login _ = false
+gives_login (request, reply) = is_response request && is_ok reply
 
 -- A name ends it, and so does the session's end, whatever they are answered. What was refused since no more entries fit is
 -- no entry, and ends none.
 abbrev pub ends_login : Request × Reply → Bool
-ends_login (request, replies.Denied (denials.Full limit)) = false
-ends_login (requests.Authenticate name, reply) = true
-ends_login (requests.Close, reply) = true
-ends_login _ = false
+ends_login (request, reply) = is_end request && not (is_full reply)
 
 -- nothing of this ends it
 abbrev pub lasts : List (Request × Reply) → Bool
