@@ -20,6 +20,7 @@ mod reading;
 mod running;
 mod server_rules;
 mod serving;
+mod starting;
 mod table_report;
 mod texts;
 mod words;

@@ -7,12 +7,13 @@ ghost use Rattle.bastion.specs.Reading.{Finds, ruling_in};
 ghost use Rattle.bastion.specs.Run.{DoesFor, DoesLine, Run, TellsIf};
 ghost use Rattle.bastion.specs.Status.{IsStatus, SomeRose, TakesIn};
 ghost use Rattle.bastion.specs.Words.{line_of};
-ghost use Rattle.bastion.specs.declared.words.Command.TheVariants.{Netacl, Table, Authsrv};
+ghost use Rattle.bastion.specs.declared.words.Command.TheVariants.{Netacl, NetaclRun, Table, Authsrv};
 ghost use Rattle.gate_rules.specs.Reading.{rules_of};
 
 use crate::authsrv::attend;
 use crate::deciding::{decide, show};
 use crate::reading::find_rules;
+use crate::starting::decide_run;
 use crate::{Command, CommandLine, Kit, Outcome, Query, World};
 use fw_types::Octets;
 use gate_rules::Rules;
@@ -43,6 +44,16 @@ fn netacl<T: Kit>(alloc: Global, name: &[u8], query: &Query, world: &mut World<T
     }
 }
 
+// Decides for one service and peer, and starts the program of the line that permits.
+fn netacl_run<T: Kit>(alloc: Global, name: &[u8], query: &Query, world: &mut World<T>) -> Outcome
+    ensures { DoesFor name.now (NetaclRun query.now) result world.old world.new }
+{
+    match rules_for(alloc, name, query, world) {
+        Ok(rules) => decide_run(alloc, &rules, query, world),
+        Err(outcome) => outcome,
+    }
+}
+
 // Shows what the table says to one service of a peer.
 fn table<T: Kit>(alloc: Global, name: &[u8], query: &Query, world: &mut World<T>) -> Outcome
     ensures { DoesFor name.now (Table query.now) result world.old world.new }
@@ -60,6 +71,7 @@ fn work<T: Kit>(alloc: Global, name: &[u8], command: &Command, world: &mut World
 {
     match command {
         Command::Netacl(query) => netacl(alloc, name, query, world),
+        Command::NetaclRun(query) => netacl_run(alloc, name, query, world),
         Command::Table(query) => table(alloc, name, query, world),
         Command::Authsrv(client) => attend(alloc, name, client, world),
     }
