@@ -1,4 +1,5 @@
 pub mod MemKeeperView
+pub mod MemLauncherView
 pub mod MemDialerView
 pub mod MemDiceView
 pub mod CallsView

@@ -9,8 +9,9 @@
 //! said by no clause. [`MemClock`] gives the moments that it was made with, then the last one again, and 0 if it has
 //! none. [`MemDice`] count up from the number that they were made with. [`MemDialer`] brings up the links that it was
 //! given, in order, and refuses exactly the calls that it is told, those past its room, and those for which no link is
-//! left. [`MemDisk`] fails at the calls that it is told, and if it has no memory for a change; a crash of it leaves an
-//! image of its medium, which a number picks.
+//! left. [`MemLauncher`] starts nothing: it fails at the calls that it is told, and if it has no memory to note a
+//! program, and answers as it is told at each other. [`MemDisk`] fails at the calls that it is told, and if it has no
+//! memory for a change; a crash of it leaves an image of its medium, which a number picks.
 #![tactic(auto)]
 
 mod call_counter;
@@ -22,6 +23,7 @@ mod mem_dice;
 mod mem_disk;
 mod mem_files;
 mod mem_keeper;
+mod mem_launcher;
 mod mem_sink;
 mod mem_source;
 mod past;
@@ -35,5 +37,6 @@ pub use mem_dice::MemDice;
 pub use mem_disk::MemDisk;
 pub use mem_files::MemFiles;
 pub use mem_keeper::MemKeeper;
+pub use mem_launcher::MemLauncher;
 pub use mem_sink::MemSink;
 pub use mem_source::MemSource;

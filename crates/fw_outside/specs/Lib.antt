@@ -9,4 +9,5 @@ pub mod ToldList
 pub mod DialerView
 pub mod DiceView
 pub mod KeeperView
+pub mod LauncherView
 pub mod LineReaderView

@@ -1,5 +1,5 @@
 //! What the firewall's programs meet outside themselves: bytes that come, bytes that go, files, a clock, dice, the
-//! keeper of the users' records, and the dialer that makes links to other hosts.
+//! keeper of the users' records, the dialer that makes links to other hosts, and the launcher that starts programs.
 //!
 //! Each kind of device is a trait with one ghost member, a plain record that says what the device means: what was taken
 //! from it and is left, what was given to it, and how often it failed. Each method has a clause that says what its
@@ -24,10 +24,12 @@ mod files;
 mod heard;
 mod keep_fault;
 mod keeper;
+mod launcher;
 mod line_reader;
 mod line_text;
 mod sink;
 mod source;
+mod started;
 
 pub use ask::Ask;
 pub use clock::Clock;
@@ -42,6 +44,8 @@ pub use fw_types::{
 pub use heard::{Heard, Stop};
 pub use keep_fault::KeepFault;
 pub use keeper::Keeper;
+pub use launcher::Launcher;
 pub use line_reader::LineReader;
 pub use sink::Sink;
 pub use source::{Got, Source};
+pub use started::Started;

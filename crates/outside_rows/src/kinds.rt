@@ -3,6 +3,7 @@
 use crate::devices::{tell_clock, tell_dice, tell_files, tell_sink, tell_source};
 use crate::dialing::tell_dialer;
 use crate::keeping::tell_keeper;
+use crate::launching::tell_launcher;
 use crate::lines::tell_lines;
 use crate::values::{
     tell_host, tell_name, tell_number, tell_octets, tell_order, tell_party, tell_peer, tell_port,
@@ -50,6 +51,7 @@ impl Rows for Kinds {
             "files" => tell_files(alloc, asked, out),
             "dialer" => tell_dialer(alloc, asked, out),
             "keeper" => tell_keeper(alloc, asked, out),
+            "launcher" => tell_launcher(alloc, asked, out),
             "lines" => tell_lines(alloc, asked, out),
             "way" => tell_way(alloc, asked, out),
             "dice" => {

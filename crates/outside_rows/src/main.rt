@@ -6,6 +6,7 @@ mod devices;
 mod dialing;
 mod keeping;
 mod kinds;
+mod launching;
 mod lines;
 mod signature;
 mod values;
