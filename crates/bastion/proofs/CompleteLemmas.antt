@@ -1,5 +1,5 @@
 -- In a run in which no count rose, all was done.
-use Rattle.std.proofs.Common.{arith, ◌≡◌, ◌≤◌, ℕ, List, [], ◌∷◌, ◌++◌, refl, sym, ◌∙◌, ap, subst, inl, inr, ◌⊎◌, true}
+use Rattle.std.proofs.Common.{arith, ◌≡◌, ◌≤◌, ℕ, List, [], ◌∷◌, ◌++◌, refl, sym, ◌∙◌, ap, subst, inl, inr, ◌⊎◌, true, false}
 use Rattle.std.specs.Prelude.{Option, Some, None, Result, Ok, Err, codes}
 use Rattle.fw_outside.specs.LauncherView.{LauncherView, Starts}
 use Rattle.fw_outside.specs.SinkView.{Gives, SinkView}
@@ -167,7 +167,7 @@ launched_low words decided outcome old new (inr l) = program_low l.launches.answ
 -- a log that failed ends the run
 unlogged : {A : Type 0} (words : List (List ℕ)) (decided outcome : Outcome) (old new : WorldView) → (status_of outcome ≡ 4 → ⊥) → decided ≡ Failed device.Log → StaysSo decided outcome old new ⊎ Launching words decided outcome old new → A
 unlogged words decided outcome old new never is (inl stays) = absurd (never (ap status_of (stays.is ∙ is)))
-unlogged words decided outcome old new never is (inr l) = absurd (cc l.decided_is is)
+unlogged words decided outcome old new never is (inr l) = let clash : Decided l.verdict ≡ Failed device.Log = sym l.decided_is ∙ is in absurd (cc)
 
 run_prints : (query : Query) (inputs : Inputs) (decided outcome : Outcome) (old middle between mid new : WorldView) → Quiet old new → (status_of outcome ≡ 4 → ⊥) → middle.logs ≡ old.logs → middle.output ≡ old.output → middle.inputs.launcher ≡ old.inputs.launcher
     → between.logs ≡ with_given middle.logs (decision_text (verdict_of inputs.rules query.peer) query.service query.peer) → between.inputs ≡ middle.inputs

@@ -138,7 +138,7 @@ ends_undenied line outcome (inr zero) is = omega (arith, zero, is)
 run_permitted : (query : Query) (inputs : Inputs) (verdict : Verdict) (name : List ℕ) (args : List (List ℕ)) (outcome : Outcome) → verdict_of inputs.rules query.peer ≡ verdict → program_of inputs.rules verdict ≡ name ∷ args → ByVerdict verdict outcome
     → IsPermitted (NetaclRun query) inputs (status_of outcome)
 run_permitted query inputs (Permit line) name args outcome is words by = record { permitted = λ outside. ap verdict_status is; undenied = ends_undenied line outcome by }
-run_permitted query inputs (Deny line) name args outcome is words by = absurd (cc words)
+run_permitted query inputs (Deny line) name args outcome is words by = let clash : [] ≡ name ∷ args = words in absurd (cc)
 
 netacl_run_so : (query : Query) (inputs : Inputs) (decided outcome : Outcome) (old middle mid new : WorldView) → (h : Announced query (verdict_of inputs.rules query.peer) (print_text inputs.rules (verdict_of inputs.rules query.peer)) decided old middle) → ByVerdict (verdict_of inputs.rules query.peer) outcome
     → TellsIf (fault_line_of outcome) mid new → StaysSo decided outcome middle mid ⊎ Launching (program_of inputs.rules (verdict_of inputs.rules query.peer)) decided outcome middle mid

@@ -23,7 +23,7 @@ use Rattle.bastion.specs.Outcome.{CountRose, DeviceRose, EndingRose, KeeperRose,
 use Rattle.bastion.specs.Run.{CallsIf, DoesLine, FilesFailed, ReadsOnly, Run, Stops, TellsIf, Worked}
 use Rattle.bastion.specs.Status.{IsFull, IsHeld, IsServed, IsStatus, IsStatusFor, SomeRose, TakesIn}
 use Rattle.bastion.specs.Words.{LineView}
-use Rattle.bastion.specs.Works.{AnnouncedRun, PrintsAfter, Works, announced, shown}
+use Rattle.bastion.specs.Works.{Works}
 use Rattle.bastion.specs.WorldView.{SessionInputs, WorldView}
 use Rattle.bastion.specs.declared.outcome.Device.{Device}
 use Rattle.bastion.specs.declared.outcome.Device.TheVariants as device

@@ -3,7 +3,7 @@ use Rattle.std.specs.Prelude.{◌≡◌, ℕ, ◌⊎◌, Bool, true, false, List
 use Rattle.std.specs.List.{list_any}
 use Rattle.fw_outside.specs.LauncherView.{LauncherView, Starts}
 use Rattle.fw_outside.specs.ToldList.{grown}
-use Rattle.fw_outside.specs.declared.started.Started.TheVariants.{Ended as ProgramEnded}
+use Rattle.fw_outside.specs.declared.started.Started.TheVariants as program
 use Rattle.fw_types.specs.declared.ending.Ending.{Ending}
 use Rattle.fw_types.specs.declared.ending.Ending.TheVariants.{Done, Spent}
 use Rattle.fw_types.specs.declared.peer.Peer.{Peer}
@@ -70,7 +70,7 @@ IsServedWhole false (Deny line) name client inputs status old new =
 -- what a program left, if there is one to start: it was started once and ended, and that was printed; or nothing
 pub record IsRunWhole (name : List ℕ) (args : List (List ℕ)) (printed : List ℕ) (old new : LauncherView) : Type 0 where
   pub status : ℕ
-  pub starts : Starts (ProgramEnded status) name args old new
+  pub starts : Starts (program.Ended status) name args old new
   pub text : printed ≡ ended_text status
 
 abbrev pub IsLaunchedWhole : List (List ℕ) → List ℕ → LauncherView → LauncherView → Type 0

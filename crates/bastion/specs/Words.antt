@@ -76,9 +76,8 @@ run_in [] = None
 
 -- `-run` is a label too, so both forms are tried; never do both fit, since no address is a name
 abbrev pub netacl_by : Option Query → Option Query → Option Command
-netacl_by (Some query) _ = Some (Netacl query)
-netacl_by None (Some query) = Some (NetaclRun query)
-netacl_by None None = None
+netacl_by (Some query) started = Some (Netacl query)
+netacl_by None started = option_map NetaclRun started
 
 -- `SERVICE ADDR [NAME]`
 abbrev pub table_in : List (List ℕ) → Option Query

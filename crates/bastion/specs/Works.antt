@@ -99,18 +99,10 @@ pub record Shown (verdict : Verdict) (text : List ℕ) (outcome : Outcome) (old 
   pub files : new.files ≡ old.files
   pub inputs : new.inputs ≡ old.inputs
 
-abbrev pub AnnouncedBy : Query → Verdict → Inputs → Outcome → WorldView → WorldView → Type 0
-AnnouncedBy query verdict inputs outcome old new = Announced query verdict (print_text inputs.rules verdict) outcome old new
-
-abbrev pub AnnouncedRunBy : Query → Verdict → Inputs → Outcome → WorldView → WorldView → Type 0
-AnnouncedRunBy query verdict inputs outcome old new = AnnouncedRun query verdict (print_text inputs.rules verdict) (program_of inputs.rules verdict) outcome old new
-
-abbrev pub ShownBy : Verdict → Inputs → Outcome → WorldView → WorldView → Type 0
-ShownBy verdict inputs outcome old new = Shown verdict (report_text inputs.rules verdict) outcome old new
-
 -- one row a command
 abbrev pub Works : Command → Inputs → Outcome → WorldView → WorldView → Type 0
-Works (Netacl query) inputs outcome old new = AnnouncedBy query (verdict_of inputs.rules query.peer) inputs outcome old new
-Works (NetaclRun query) inputs outcome old new = AnnouncedRunBy query (verdict_of inputs.rules query.peer) inputs outcome old new
-Works (Table query) inputs outcome old new = ShownBy (verdict_of inputs.rules query.peer) inputs outcome old new
+Works (Netacl query) inputs outcome old new = Announced query (verdict_of inputs.rules query.peer) (print_text inputs.rules (verdict_of inputs.rules query.peer)) outcome old new
+Works (NetaclRun query) inputs outcome old new =
+    AnnouncedRun query (verdict_of inputs.rules query.peer) (print_text inputs.rules (verdict_of inputs.rules query.peer)) (program_of inputs.rules (verdict_of inputs.rules query.peer)) outcome old new
+Works (Table query) inputs outcome old new = Shown (verdict_of inputs.rules query.peer) (report_text inputs.rules (verdict_of inputs.rules query.peer)) outcome old new
 Works (Authsrv client) inputs outcome old new = Attended client inputs outcome old new

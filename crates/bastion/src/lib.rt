@@ -14,6 +14,7 @@ mod authsrv;
 mod deciding;
 mod endings;
 mod kit;
+mod obeying;
 mod outcome;
 mod place_names;
 mod reading;

@@ -1,5 +1,5 @@
 //! What the rules of a service decide, logged and printed, and then the program of the line that permits.
-ghost use Rattle.std.specs.Prelude.{◌≡◌, [], ◌∷◌, IfOk, OnOk, ◌++◌};
+ghost use Rattle.std.specs.Prelude.{◌≡◌, [], ◌∷◌, IfOk};
 ghost use Rattle.gate_rules.specs.Verdict.{verdict_of};
 ghost use Rattle.gate_rules.specs.declared.verdict.Verdict.TheVariants.{Permit};
 ghost use Rattle.bastion.specs.Deciding.{DecidesRun, OrLacks, PermitsRun};
@@ -13,26 +13,17 @@ use fw_types::{NoMemory, Octets, OctetsList};
 use gate_rules::{Rules, Verdict};
 use std::alloc::Global;
 
-// Adds a copy of a word.
-fn push_copy(alloc: Global, list: &mut OctetsList, word: &Octets) -> Result<(), NoMemory>
-    ensures { OnOk result (list.new ≡ list.old ++ word.now ∷ []) }
-{
-    let one = Octets::copy(alloc, word.bytes())?;
-    match list.push(one) {
-        Ok(()) => Ok(()),
-        Err(_) => Err(NoMemory),
-    }
-}
-
 // A copy of these words.
 fn copy_words(alloc: Global, words: &[Octets]) -> Result<OctetsList, NoMemory>
-    ensures { IfOk result (λ list. list ≡ words.now) }
+    ensures { IfOk result (λ copy. copy ≡ words.now) }
 {
-    let mut list = OctetsList::new(alloc);
+    let mut copy = OctetsList::new(alloc);
     for word in words {
-        push_copy(alloc, &mut list, word)?;
+        if copy.push(Octets::copy(alloc, word.bytes())?).is_err() {
+            return Err(NoMemory);
+        }
     }
-    Ok(list)
+    Ok(copy)
 }
 
 // Starts a program with these arguments, and prints how it ended.
@@ -61,7 +52,11 @@ fn launch_if<T: Kit>(
 {
     match decided {
         Outcome::Decided(verdict) => launch(program, args, verdict, world),
-        _ => decided,
+        Outcome::Usage => Outcome::Usage,
+        Outcome::Unread(refusal) => Outcome::Unread(refusal),
+        Outcome::Failed(device) => Outcome::Failed(device),
+        Outcome::NoMemory(step) => Outcome::NoMemory(step),
+        Outcome::Ended { ending, refused } => Outcome::Ended { ending, refused },
     }
 }
 
@@ -92,8 +87,35 @@ fn announce_and_launch<T: Kit>(
     launch_if(program, args, decided, world)
 }
 
-// Logs a permission and then prints it, and then starts the program of these words, if there are any. What takes memory is
-// made before.
+// Logs a permission that starts no program, and then prints it.
+fn permit_alone<T: Kit>(line: u32, query: &Query, text: &[u8], world: &mut World<T>) -> Outcome
+    ensures { OrLacks result world.old world.new (AnnouncedRun query.now (Permit line) text.now [] result world.old
+        world.new) }
+{
+    announce_alone(world, Verdict::Permit { line }, query, text)
+}
+
+// Logs a permission and then prints it, and then starts the program. What takes memory is made before.
+fn permit_program<T: Kit>(
+    alloc: Global,
+    line: u32,
+    query: &Query,
+    text: &[u8],
+    program: &Octets,
+    args: &[Octets],
+    world: &mut World<T>,
+) -> Outcome
+    ensures { OrLacks result world.old world.new (AnnouncedRun query.now (Permit line) text.now (program.now ∷ args.now)
+        result world.old world.new) }
+{
+    let Ok(copy) = copy_words(alloc, args) else {
+        return Outcome::NoMemory(Step::Print);
+    };
+    let verdict = Verdict::Permit { line };
+    announce_and_launch(world, verdict, query, text, program.bytes(), &copy)
+}
+
+// Logs a permission and then prints it, and then starts the program of these words, if there are any.
 fn permit_words<T: Kit>(
     alloc: Global,
     line: u32,
@@ -106,20 +128,8 @@ fn permit_words<T: Kit>(
         world.new) }
 {
     match words {
-        [program, args @ ..] => {
-            let Ok(args) = copy_words(alloc, args) else {
-                return Outcome::NoMemory(Step::Print);
-            };
-            announce_and_launch(
-                world,
-                Verdict::Permit { line },
-                query,
-                text,
-                program.bytes(),
-                &args,
-            )
-        }
-        [] => announce_alone(world, Verdict::Permit { line }, query, text),
+        [program, args @ ..] => permit_program(alloc, line, query, text, program, args, world),
+        [] => permit_alone(line, query, text, world),
     }
 }
 
@@ -136,7 +146,14 @@ fn permit_run<T: Kit>(
     let Ok(text) = permit_print(alloc, rules, line) else {
         return Outcome::NoMemory(Step::Print);
     };
-    permit_words(alloc, line, query, text.bytes(), exec_at(rules, line), world)
+    permit_words(
+        alloc,
+        line,
+        query,
+        text.bytes(),
+        exec_at(rules, line),
+        world,
+    )
 }
 
 /// Takes the verdict of the rules, logs it and then prints it, and then starts the program of the line that permits. A

@@ -185,10 +185,9 @@ fn run_in(words: &[Octets]) -> Option<Query>
 fn netacl_by(decided: Option<Query>, started: Option<Query>) -> Option<Command>
     ensures { result ≡ netacl_by decided started }
 {
-    match (decided, started) {
-        (Some(query), _) => Some(Command::Netacl(query)),
-        (None, Some(query)) => Some(Command::NetaclRun(query)),
-        (None, None) => None,
+    match decided {
+        Some(query) => Some(Command::Netacl(query)),
+        None => started.map(Command::NetaclRun),
     }
 }
 

@@ -2,4 +2,4 @@ use Rattle.std.proofs.Common.{◌≡◌, take}
 use Rattle.bastion.proofs.starting.copy_words.Given as goal
 
 abbrev pub invariant-loop-word : goal.invariant-loop-word
-invariant-loop-word l = l.list ≡ take l.word-index l.words
+invariant-loop-word l = l.copy ≡ take l.word-index l.words
