@@ -3,7 +3,7 @@ use Rattle.std.proofs.Common.{◌≡◌, sym, ◌∙◌, ap, subst, refl, ℕ, B
 use Rattle.std.specs.Bool.{OnTrue}
 use Rattle.std.specs.Prelude.{Option, Some, None}
 use Rattle.auth_machine.specs.Book.{BookView}
-use Rattle.auth_machine.specs.History.{CountsUnkept, HasRecords, IsLegal, IsSound, Origin}
+use Rattle.auth_machine.specs.History.{CountsCalls, CountsUnkept, HasRecords, IsLegal, IsSound, Origin}
 use Rattle.auth_machine.specs.Port.{BookOrigin, book_origin}
 use Rattle.fw_outside.specs.DialerView.{DialerView}
 use Rattle.fw_outside.specs.KeeperView.{KeeperView}
@@ -51,6 +51,7 @@ held_over client rules first book dialer ending refused old mid new serves undia
   legal = back.legal;
   has = back.has;
   faults = back.faults;
+  called = back.called;
   full = λ was. on_true refused (length book.history ≡ book.limit) full (refused_is ∙ was);
   comes = ap (Ended ending) refused_is;
   kept = ap (λ (d : WorldView). d.inputs.keeper) back.is;
@@ -84,6 +85,7 @@ of_records client server_rules first outcome old mid new opened over =
     let origin : over.book.origin ≡ origin_of inputs = ap (λ (b : BookOrigin). b.origin) same ∙ stands in
     let limit : over.book.limit ≡ most_entries = ap (λ (b : BookOrigin). b.limit) same ∙ ap (λ (b : BookView). b.limit) opened.at_first in
     let failed : over.book.failed_before ≡ first.keeper.faults = ap (λ (b : BookOrigin). b.failed_before) same ∙ ap (λ (b : BookView). b.failed_before) opened.at_first in
+    let calls : over.book.called_before ≡ first.keeper.calls = ap (λ (b : BookOrigin). b.called_before) same ∙ ap (λ (b : BookView). b.called_before) opened.at_first in
     let begun : first ≡ book_at_first (origin_of inputs) most_entries first.keeper = opened.at_first ∙ ap (λ (o : Origin). book_at_first o most_entries first.keeper) stands in
     record {
       before = opened.before;
@@ -105,6 +107,8 @@ of_records client server_rules first outcome old mid new opened over =
         legal = subst (λ (o : Origin). IsLegal o over.book.history) origin over.legal;
         has = subst (λ (o : Origin). HasRecords o over.book.history over.book.keeper) origin over.has;
         faults = subst (λ (n : ℕ). CountsUnkept n over.book.history over.book.keeper) failed over.faults;
+        called = subst (λ (n : ℕ). CountsCalls n (origin_of inputs) over.book.history over.book.asks over.book.keeper) calls
+            (subst (λ (o : Origin). CountsCalls over.book.called_before o over.book.history over.book.asks over.book.keeper) origin over.called);
         full = λ was. over.full was ∙ limit;
         comes = refl;
         kept = over.kept;

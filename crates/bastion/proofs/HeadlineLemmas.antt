@@ -67,7 +67,7 @@ use Rattle.bastion.specs.declared.words.Query.{Query}
 use Rattle.bastion.proofs.AttendedLemmas.{attended_status}
 use Rattle.bastion.proofs.DecidedLemmas.{ByVerdict}
 use Rattle.bastion.proofs.LaunchLemmas.{Launching, launched, run_status_by}
-use Rattle.bastion.proofs.SessionLemmas.{OfDenial, OfSession, lent_outlet, lent_port, serves_so, tells_noted}
+use Rattle.bastion.proofs.SessionLemmas.{OfDenial, OfSession, called_in, lent_outlet, lent_port, serves_so, tells_noted}
 use Rattle.bastion.proofs.RunLemmas.{Later, only_left, stops_left, tells_later}
 
 -- ---- nothing was done
@@ -278,6 +278,7 @@ of_history client inputs out old mid new h tells s =
       talk = subst (λ (p : Port BookOrigin). map said_of p.seen ≡ filter is_entered (talk_of deeds)) port whole;
       has = h.has;
       faults = h.faults;
+      called = called_in rows row first (left_so new.inputs new.output h.book h.dialer s.logs) h.ending session h.before.calls (origin_of inputs) h.book.history h.book.keeper (ap (λ (p : Port BookOrigin). p.asks) fresh) h.called;
       kept = ap (λ (i : SessionInputs). i.keeper) later.inputs ∙ h.kept;
       told = session_gave rows row first (left_so new.inputs new.output h.book h.dialer s.logs) h.ending session ∙ ap (λ (o : SinkView). grown o.given (gives told deeds)) same;
       ended = mid.logs;
