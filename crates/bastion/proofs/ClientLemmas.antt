@@ -38,9 +38,9 @@ on_true false P h is = absurd (cc)
 
 -- the session was held, and then the keeper given back
 pub held_over : (client : Client) (rules : RuleBook) (first book : BookView) (dialer : DialerView) (ending : Ending) (refused : Bool) (old mid new : WorldView)
-    → Serves client.console rules client.peer (devices_at old first nowhere) (devices_at mid book dialer) ending → IsUndialed nowhere dialer → UntouchedAt client.console (verdict_of rules client.peer) first book → mid.files ≡ old.files
+    → Serves client.console rules client.peer (devices_at old first nowhere) (devices_at mid book dialer) ending → IsUndialed nowhere dialer → UntouchedAt client.console (verdict_of rules client.peer) first book → mid.files ≡ old.files → mid.inputs.launcher ≡ old.inputs.launcher
     → refused ≡ book.refused → OnTrue refused (length book.history ≡ book.limit) → GivesBack book mid new → HoldsOver client rules first (Ended ending refused) old new
-held_over client rules first book dialer ending refused old mid new serves undialed untouched files refused_is full back = record {
+held_over client rules first book dialer ending refused old mid new serves undialed untouched files launcher refused_is full back = record {
   book = book;
   ending = ending;
   dialer = dialer;
@@ -56,6 +56,7 @@ held_over client rules first book dialer ending refused old mid new serves undia
   comes = ap (Ended ending) refused_is;
   kept = ap (λ (d : WorldView). d.inputs.keeper) back.is;
   files = ap (λ (d : WorldView). d.files) back.is ∙ files;
+  launcher = ap (λ (d : WorldView). d.inputs.launcher) back.is ∙ launcher;
 }
 
 serves_origin : (console : Bool) (rules : RuleBook) (peer : Peer) (old new : WorldView) (first last : BookView) (before after : DialerView) (ending : Ending) → Serves console rules peer (devices_at old first before) (devices_at new last after) ending
@@ -112,6 +113,7 @@ of_records client server_rules first outcome old mid new opened over =
         comes = refl;
         kept = over.kept;
         files = over.files ∙ ap (λ (d : WorldView). d.files) opened.is;
+        launcher = over.launcher ∙ ap (λ (d : WorldView). d.inputs.launcher) opened.is;
       };
     }
 

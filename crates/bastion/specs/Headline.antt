@@ -46,7 +46,7 @@ use Rattle.bastion.specs.WorldView.{SessionInputs, WorldView}
 use Rattle.bastion.specs.declared.outcome.Outcome.TheVariants.{Ended}
 use Rattle.bastion.specs.declared.words.Client.{Client}
 use Rattle.bastion.specs.declared.words.Command.{Command}
-use Rattle.bastion.specs.declared.words.Command.TheVariants.{Netacl, Table, Authsrv}
+use Rattle.bastion.specs.declared.words.Command.TheVariants.{Netacl, NetaclRun, Table, Authsrv}
 
 -- ---- every denial logs its line
 
@@ -85,6 +85,7 @@ LogsDenial name command service peer status old new = IsSilent status old new �
 
 abbrev pub DenialLogged : List ℕ → Command → ℕ → WorldView → WorldView → Type 0
 DenialLogged name (Netacl query) status old new = LogsDenial name (Netacl query) query.service query.peer status old new
+DenialLogged name (NetaclRun query) status old new = LogsDenial name (NetaclRun query) query.service query.peer status old new
 DenialLogged name (Table query) status old new = Unit {0}
 DenialLogged name (Authsrv client) status old new = LogsDenial name (Authsrv client) services.Authsrv client.peer status old new
 
@@ -170,6 +171,7 @@ pub record IsReplied (name : List ℕ) (client : Client) (status : ℕ) (old new
 
 abbrev pub IsReplying : List ℕ → Command → ℕ → WorldView → WorldView → Type 0
 IsReplying name (Netacl query) status old new = Unit {0}
+IsReplying name (NetaclRun query) status old new = Unit {0}
 IsReplying name (Table query) status old new = Unit {0}
 IsReplying name (Authsrv client) status old new = IsUnserved status old new ⊎ IsReplied name client status old new
 

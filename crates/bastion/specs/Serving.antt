@@ -67,3 +67,4 @@ pub record Attended (client : Client) (inputs : Inputs) (out : outcomes.Outcome)
   pub comes : out ≡ outcome.Ended ending book.refused
   pub kept : new.inputs.keeper ≡ Some book.keeper
   pub files : new.files ≡ old.files
+  pub launcher : new.inputs.launcher ≡ old.inputs.launcher

@@ -102,6 +102,7 @@ pub record HoldsOver (client : Client) (rules : RuleBook) (first : BookView) (ou
   pub comes : out ≡ outcome.Ended ending book.refused
   pub kept : new.inputs.keeper ≡ Some book.keeper
   pub files : new.files ≡ old.files
+  pub launcher : new.inputs.launcher ≡ old.inputs.launcher
 
 -- the book was opened of these records, and the session held over it
 pub record OfRecords (client : Client) (server_rules : ServerRules) (out : Outcome) (old new : WorldView) : Type 0 where
