@@ -29,6 +29,28 @@ use Rattle.session_acts.proofs.DeedLemmas.{all_gain, held_deeds}
 use Rattle.session_acts.proofs.LinkedLemmas.{called_gains}
 use Rattle.session_acts.proofs.ToldLemmas.{logged_gains, told_gains}
 
+-- the last deed is this act, at which the session stopped
+record HaltsAs (act : Act) (deeds : List Deed) : Type 0 where
+  halt : Halt act
+  is : deeds ≡ record { act = act; outcome = Err halt } ∷ []
+
+-- what is owed tells nothing, logs nothing and dials nothing
+record GivesNone (deeds : List Deed) : Type 0 where
+  tells : gives told deeds ≡ []
+  logs : gives logged deeds ≡ []
+  calls : gives called deeds ≡ []
+
+-- what all deeds give is what those of the dialogue give
+with_owed : {A : Type 0} (of : (act : Act) → Outcome act → List A) (deeds these more : List Deed) → deeds ≡ these → gives of more ≡ [] → gives of (deeds ++ more) ≡ gives of these
+with_owed {A} of deeds these more are none =
+    flat_map-append (λ (d : Deed). of d.act d.outcome) deeds more ∙ ap (λ (z : List A). gives of deeds ++ z) none ∙ append-nil (gives of deeds) ∙ ap (λ (d : List Deed). gives of d) are
+
+owes_none : (link : Option Speaker) (opened : Option ℕ) (answer : Result Reply PortFault) → GivesNone (freeing link ++ closing opened answer)
+owes_none None None answer = record { tells = refl; logs = refl; calls = refl }
+owes_none None (Some sid) answer = record { tells = refl; logs = refl; calls = refl }
+owes_none (Some up) None answer = record { tells = refl; logs = refl; calls = refl }
+owes_none (Some up) (Some sid) answer = record { tells = refl; logs = refl; calls = refl }
+
 module _ {Origin : Type 0} where
   abbrev table : PlaceTable (acts Origin) NoPlace
   table = relayed no_rows
@@ -37,11 +59,6 @@ module _ {Origin : Type 0} where
   over done = Over
 
   -- ---- the deeds
-
-  -- the last deed is this act, at which the session stopped
-  record HaltsAs (act : Act) (deeds : List Deed) : Type 0 where
-    halt : Halt act
-    is : deeds ≡ record { act = act; outcome = Err halt } ∷ []
 
   halts_as : (act : Act) (go : (acts Origin).Answer act → Row (acts Origin) NoPlace) (left : Row (acts Origin) NoPlace) (cause : Cause) (before mid : World Origin) → Do act go ≡ left → (comes : StopsAt table left cause before mid)
       → HaltsAs act (deed_last table over (Err cause) mid left before comes)
@@ -88,23 +105,6 @@ module _ {Origin : Type 0} where
   held_plugs line dest old new ending held = plugs line dest held.ran.steps held.ran.left held.ran.mid held.mid held.dialogue held.ran.run held.ran.comes
 
   -- ---- what they come to
-
-  -- what is owed tells nothing, logs nothing and dials nothing
-  record GivesNone (deeds : List Deed) : Type 0 where
-    tells : gives told deeds ≡ []
-    logs : gives logged deeds ≡ []
-    calls : gives called deeds ≡ []
-
-  owes_none : (link : Option Speaker) (opened : Option ℕ) (answer : Result Reply PortFault) → GivesNone (freeing link ++ closing opened answer)
-  owes_none None None answer = record { tells = refl; logs = refl; calls = refl }
-  owes_none None (Some sid) answer = record { tells = refl; logs = refl; calls = refl }
-  owes_none (Some up) None answer = record { tells = refl; logs = refl; calls = refl }
-  owes_none (Some up) (Some sid) answer = record { tells = refl; logs = refl; calls = refl }
-
-  -- what all deeds give is what those of the dialogue give
-  with_owed : {A : Type 0} (of : (act : Act) → Outcome act → List A) (deeds these more : List Deed) → deeds ≡ these → gives of more ≡ [] → gives of (deeds ++ more) ≡ gives of these
-  with_owed {A} of deeds these more are none =
-      flat_map-append (λ (d : Deed). of d.act d.outcome) deeds more ∙ ap (λ (z : List A). gives of deeds ++ z) none ∙ append-nil (gives of deeds) ∙ ap (λ (d : List Deed). gives of d) are
 
   -- the devices after deeds that come to these
   record ComesTo (these : List Deed) (old new : World Origin) : Type 0 where

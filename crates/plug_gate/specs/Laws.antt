@@ -1,5 +1,5 @@
 -- What a session of the plug comes to.
-use Rattle.std.specs.Prelude.{◌≡◌, List, [], ◌∷◌, ◌⊎◌, Ok, Err}
+use Rattle.std.specs.Prelude.{◌≡◌, ℕ, List, [], ◌∷◌, ◌⊎◌, Ok, Err}
 use Rattle.fw_outside.specs.declared.ask.Ask.TheVariants.{Main}
 use Rattle.fw_types.specs.declared.dest.Dest.{Dest}
 use Rattle.session_acts.specs.Acts.{Front, Outcome}
