@@ -8,4 +8,4 @@ refused : RanOutOfMemory no_port no_port
 refused = record { others = []; full = None; asks = 2 ^ 64 - 1; counts = record { least = omega arith; most = omega arith; later = omega arith }; stays = tt; is = refl }
 
 pub returns : goal.returns
-returns = refused
+returns g = refused
