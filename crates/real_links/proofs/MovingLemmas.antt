@@ -1,5 +1,5 @@
 -- What is left in a reader, or held by a writer, after one call and then another.
-use Rattle.std.proofs.Common.{◌≡◌, ℕ, List, Option, Some, None, Result, Ok, Err, refl, sym, ◌∙◌, take}
+use Rattle.std.proofs.Common.{ℕ, List, Option, Some, None, Result, Ok, Err, refl, sym, ◌∙◌, take}
 use Rattle.std.specs.Io.KnownBytes.{Consumes, Keeps, ReadConsumes}
 
 pub keeps_here : (a : Option (List ℕ)) → Keeps a a
