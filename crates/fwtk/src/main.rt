@@ -8,13 +8,12 @@ use fw_memory::MemDice;
 use fw_outside::{Dice, Sink};
 use fw_real::{Paths, Reading, Records, Salts, StandardInput, SystemClock, Writing};
 use fw_types::Octets;
-use no_programs::NoPrograms;
 use process::Process;
+use real_links::Programs;
 use std::env;
 use std::io::{ErrorKind, Stdout};
 use std::process::ExitCode;
 
-mod no_programs;
 mod process;
 
 const HELP: &[u8] = b"\
@@ -104,7 +103,7 @@ fn run_with<D: Dice>(
         clock: SystemClock::new(rt),
         dice,
         keeper: Some(Records::new(rt, places(words).db)?),
-        launcher: NoPrograms::new(),
+        launcher: Programs::new(rt, rt.alloc()),
     };
     Ok(run(rt.alloc(), words, &mut world))
 }

@@ -1,9 +1,9 @@
 //! The devices of a process.
 
-use crate::no_programs::NoPrograms;
 use bastion::Kit;
 use fw_outside::Dice;
 use fw_real::{Paths, Reading, Records, StandardInput, SystemClock, Writing};
+use real_links::Programs;
 use std::io::{Stderr, Stdout};
 use std::marker::PhantomData;
 
@@ -28,5 +28,5 @@ impl<D: Dice> Kit for Process<D> {
 
     type Keeper = Records;
 
-    type Launch = NoPrograms;
+    type Launch = Programs<HostRuntime>;
 }
