@@ -1,1 +1,1 @@
-mod PlugLemmas
+pub mod PlugLemmas

@@ -12,7 +12,7 @@ use Rattle.fw_types.specs.declared.dest.Dest.{Dest}
 use Rattle.fw_types.specs.declared.ending.Ending.{Ending}
 use Rattle.plug_gate.specs.Dialogue.{plug_row}
 use Rattle.plug_gate.specs.Laws.{FailsAtLine, IsRefused, Links, Plugs, Relays, reached_at, refused_at, relayed_to}
-use Rattle.session_acts.specs.Acts.{Act, Halt, Outcome}
+use Rattle.session_acts.specs.Acts.{Act, Halt, Outcome, cause_by}
 use Rattle.session_acts.specs.Acts.Act.{Log, Reach, Relay}
 use Rattle.session_acts.specs.Client.{line_logged}
 use Rattle.session_acts.specs.Deeds.{Deed, deed_last, deeds_ran, done, gives}
@@ -21,7 +21,7 @@ use Rattle.session_acts.specs.Laws.{CallsDialer, TellsClient, TellsLog, called, 
 use Rattle.session_acts.specs.Met.{acts}
 use Rattle.session_acts.specs.Relayed.{relayed}
 use Rattle.session_acts.specs.Relaying.{flow_of, given_down}
-use Rattle.session_acts.specs.Session.{Held, closing, deeds_of, freeing, owed}
+use Rattle.session_acts.specs.Session.{Held, closing, deeds_of, ending_of, freeing, owed}
 use Rattle.session_acts.specs.World.{Speaker, World}
 use Rattle.session_acts.specs.declared.cause.Cause.{Cause}
 use Rattle.session_acts.specs.declared.denying.NoPlace.{NoPlace}
@@ -30,8 +30,9 @@ use Rattle.session_acts.proofs.LinkedLemmas.{called_gains}
 use Rattle.session_acts.proofs.ToldLemmas.{logged_gains, told_gains}
 
 -- the last deed is this act, at which the session stopped
-record HaltsAs (act : Act) (deeds : List Deed) : Type 0 where
+record HaltsAs (act : Act) (cause : Cause) (deeds : List Deed) : Type 0 where
   halt : Halt act
+  because : cause ≡ cause_by act halt
   is : deeds ≡ record { act = act; outcome = Err halt } ∷ []
 
 -- what is owed tells nothing, logs nothing and dials nothing
@@ -61,10 +62,10 @@ module _ {Origin : Type 0} where
   -- ---- the deeds
 
   halts_as : (act : Act) (go : (acts Origin).Answer act → Row (acts Origin) NoPlace) (left : Row (acts Origin) NoPlace) (cause : Cause) (before mid : World Origin) → Do act go ≡ left → (comes : StopsAt table left cause before mid)
-      → HaltsAs act (deed_last table over (Err cause) mid left before comes)
+      → HaltsAs act cause (deed_last table over (Err cause) mid left before comes)
   halts_as act go left cause before mid is comes =
-      let Halts : Row (acts Origin) NoPlace → Type 0 = λ r. (c : StopsAt table r cause before mid) → HaltsAs act (deed_last table over (Err cause) mid r before c) in
-      subst Halts is (λ c. record { halt = c.halt; is = refl }) comes
+      let Halts : Row (acts Origin) NoPlace → Type 0 = λ r. (c : StopsAt table r cause before mid) → HaltsAs act cause (deed_last table over (Err cause) mid r before c) in
+      subst Halts is (λ c. record { halt = c.halt; because = c.is_cause; is = refl }) comes
 
   -- a row that is not over isn't at its end
   not_over : {A : Type 0} (act : Act) (go : (acts Origin).Answer act → Row (acts Origin) NoPlace) (left : Row (acts Origin) NoPlace) → Do act go ≡ left → left ≡ Over → A
@@ -74,13 +75,14 @@ module _ {Origin : Type 0} where
   over_stops left cause before mid is stops = absurd (subst (λ (r : Row (acts Origin) NoPlace). StopsAt table r cause before mid) (sym is) stops)
 
   plugs : (line : List ℕ) (dest : Dest) (steps : List (Step (acts Origin))) (left : Row (acts Origin) NoPlace) (before mid : World Origin) (dialogue : Result (Unit {0}) Cause) → runs.Run table (plug_row line dest) steps left
-      → (comes : Comes table over dialogue mid left before) → Plugs line dest (map done steps ++ deed_last table over dialogue mid left before comes)
+      → (comes : Comes table over dialogue mid left before) → Plugs line dest dialogue (map done steps ++ deed_last table over dialogue mid left before comes)
   plugs line dest [] left before mid (Ok end) run comes = not_over (Log line) _ left run comes.0
-  plugs line dest [] left before mid (Err cause) run comes = let h = halts_as (Log line) _ left cause before mid run comes in inl (record { front = h.halt; are = h.is })
+  plugs line dest [] left before mid (Err cause) run comes = let h = halts_as (Log line) _ left cause before mid run comes in inl (record { front = h.halt; stops = ap (λ (z : Cause). Err z) h.because; are = h.is })
   plugs line dest (a ∷ []) left before mid (Ok end) run comes = not_over (Reach dest) _ left run.2 comes.0
   plugs line dest (a ∷ []) left before mid (Err cause) run comes =
       let h = halts_as (Reach dest) _ left cause before mid run.2 comes in
       inr (inl (record {
+        stops = ap (λ (z : Cause). Err z) h.because;
         are = ap (λ (d : List Deed). done a ∷ d) h.is ∙ ap (λ (s : Step (acts Origin)). done s ∷ refused_at dest ∷ []) run.1;
       }))
   plugs line dest (a ∷ b ∷ []) left before mid (Ok end) run comes = not_over Relay _ left run.2.2 comes.0
@@ -101,7 +103,7 @@ module _ {Origin : Type 0} where
   plugs line dest (a ∷ b ∷ c ∷ []) left before mid (Err cause) run comes = over_stops left cause before mid run.2.2.2 comes
   plugs line dest (a ∷ b ∷ c ∷ d ∷ steps) left before mid dialogue run comes = absurd run.2.2.2
 
-  pub held_plugs : (line : List ℕ) (dest : Dest) (old new : World Origin) (ending : Ending) (held : Held (relayed no_rows) (plug_row line dest) old new ending) → Plugs line dest (deeds_ran held.ran)
+  pub held_plugs : (line : List ℕ) (dest : Dest) (old new : World Origin) (ending : Ending) (held : Held (relayed no_rows) (plug_row line dest) old new ending) → Plugs line dest held.dialogue (deeds_ran held.ran)
   held_plugs line dest old new ending held = plugs line dest held.ran.steps held.ran.left held.ran.mid held.mid held.dialogue held.ran.run held.ran.comes
 
   -- ---- what they come to
@@ -129,10 +131,10 @@ module _ {Origin : Type 0} where
   told_alone : (bytes : List ℕ) (old new : World Origin) → TellsClient (bytes ++ []) old new → TellsClient bytes old new
   told_alone bytes old new h = subst (λ (b : List ℕ). TellsClient b old new) (append-nil bytes) h
 
-  links_by : (line : List ℕ) (dest : Dest) (old new : World Origin) (ending : Ending) (held : Held (relayed no_rows) (plug_row line dest) old new ending) → Plugs line dest (deeds_ran held.ran) → Links line dest old new
-  links_by line dest old new ending held (inl fails) = let so = comes_to line dest old new ending _ held fails.are in inl (record { front = fails.front; logs = logs_alone fails.front.part old new so.log; asked = so.dialer; told = so.client })
-  links_by line dest old new ending held (inr (inl refused)) = let so = comes_to line dest old new ending _ held refused.are in inr (inl (record { logs = logs_alone line old new so.log; asked = so.dialer; told = so.client }))
+  links_by : (line : List ℕ) (dest : Dest) (old new : World Origin) (ending : Ending) (held : Held (relayed no_rows) (plug_row line dest) old new ending) → Plugs line dest held.dialogue (deeds_ran held.ran) → Links line dest old new ending
+  links_by line dest old new ending held (inl fails) = let so = comes_to line dest old new ending _ held fails.are in inl (record { ends = held.ends ∙ ap (λ (d : Result (Unit {0}) Cause). ending_of d held.mid.office.opened held.answer) fails.stops; front = fails.front; logs = logs_alone fails.front.part old new so.log; asked = so.dialer; told = so.client })
+  links_by line dest old new ending held (inr (inl refused)) = let so = comes_to line dest old new ending _ held refused.are in inr (inl (record { ends = held.ends ∙ ap (λ (d : Result (Unit {0}) Cause). ending_of d held.mid.office.opened held.answer) refused.stops; logs = logs_alone line old new so.log; asked = so.dialer; told = so.client }))
   links_by line dest old new ending held (inr (inr relays)) = let so = comes_to line dest old new ending _ held relays.are in inr (inr (relays.outcome, record { logs = logs_alone line old new so.log; asked = so.dialer; told = told_alone (given_down (flow_of relays.outcome)) old new so.client }))
 
-  pub held_links : (line : List ℕ) (dest : Dest) (old new : World Origin) (ending : Ending) → Held (relayed no_rows) (plug_row line dest) old new ending → Links line dest old new
+  pub held_links : (line : List ℕ) (dest : Dest) (old new : World Origin) (ending : Ending) → Held (relayed no_rows) (plug_row line dest) old new ending → Links line dest old new ending
   held_links line dest old new ending held = links_by line dest old new ending held (held_plugs line dest old new ending held)
