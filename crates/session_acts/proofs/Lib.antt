@@ -18,6 +18,9 @@ pub mod ServerlessLemmas
 pub mod PassingLemmas
 pub mod SpentLemmas
 pub mod StageLemmas
+pub mod ShutLemmas
+pub mod RelayLemmas
+pub mod RelayLastLemmas
 pub mod TalkLemmas
 pub mod ToldLemmas
 pub mod StaysLemmas

@@ -3,12 +3,13 @@ use Rattle.fw_outside.specs.Counts.{Rose}
 use Rattle.auth_events.specs.Port.{session_at}
 use Rattle.auth_events.specs.declared.entry.Entry.{Entry}
 use Rattle.auth_events.specs.declared.reply.Reply.{Reply}
-use Rattle.auth_machine.proofs.BookLemmas.{asked_with, called_with, kept_with, same_session, stands_with, step_not_full, step_rose}
+use Rattle.auth_machine.proofs.BookLemmas.{asked_with, called_with, kept_with, same_session, stands_lacking, stands_with, step_not_full, step_rose}
 use Rattle.auth_machine.specs.Answers.{full_of, is_unkept}
 use Rattle.auth_machine.specs.Book.{Asked, BookView, CalledByReply, KeeperAfterReply, Stands, edits_records, refused_after}
 use Rattle.auth_machine.specs.MachineState.{state_of}
+use Rattle.auth_machine.specs.State.{State}
 use Rattle.auth_machine.specs.Stepping.{Steps}
-use Rattle.auth_machine.proofs.book.Book.enter.Goals as goal
+use Rattle.auth_machine.proofs.book.Book.ask.Goals as goal
 
 pub invariant_of-self-2 : goal.invariant_of-self-2
 invariant_of-self-2 g c =
@@ -19,9 +20,17 @@ invariant_of-self-2 g c =
     let own : session_at c.args.request c.len-place.result c.session_of-sid.result ≡ c.session_of-sid.result =
     ap (session_at c.args.request c.len-place.result) c.session_of-sid.ensures ∙ same_session c.args.request c.len-place.result c.args.sid ∙ sym c.session_of-sid.ensures in
     let items : c.push_reserved.new.self.items ≡ c.self.inside.history.items ++ record { sid = c.session_of-sid.result; at = c.args.at; request = c.args.request; kept = c.in_ok-stepped.stepped.kept; reply = c.in_ok-stepped.stepped.reply } ∷ [] = search rules in
-    subst (λ (entries : List Entry). Stands entries c.self.inside.limit c.self.inside.refused c.self.inside.origin.value (g.K.Keeper.keeper_view c.self.inside.at_opening.value).faults (g.K.Keeper.keeper_view c.step.new.keeper) c.self.inside.policy (state_of c.step.new.state)) (sym items)
-    (stands_with c.self.inside.origin.value c.self.inside.history.items c.self.inside.limit c.self.inside.refused (g.K.Keeper.keeper_view c.self.inside.at_opening.value).faults c.self.inside.policy (state_of c.self.inside.state) (state_of c.step.new.state) c.len-place.result c.session_of-sid.result c.args.at c.args.request
-    c.in_ok-stepped.stepped.reply c.in_ok-stepped.stepped.kept (g.K.Keeper.keeper_view c.self.inside.keeper) (g.K.Keeper.keeper_view c.step.new.keeper) c.self.invariant place fits own step)
+    subst (λ (entries : List Entry). Stands entries c.self.inside.limit c.self.inside.refused c.one_more-self-inside.result c.self.inside.origin.value (g.K.Keeper.keeper_view c.self.inside.at_opening.value) (g.K.Keeper.keeper_view c.step.new.keeper) c.self.inside.policy (state_of c.step.new.state)) (sym items)
+    (stands_with c.self.inside.origin.value c.self.inside.history.items c.self.inside.limit c.self.inside.refused c.self.inside.asks c.one_more-self-inside.result (g.K.Keeper.keeper_view c.self.inside.at_opening.value) c.self.inside.policy (state_of c.self.inside.state) (state_of c.step.new.state) c.len-place.result c.session_of-sid.result c.args.at c.args.request
+    c.in_ok-stepped.stepped.reply c.in_ok-stepped.stepped.kept (g.K.Keeper.keeper_view c.self.inside.keeper) (g.K.Keeper.keeper_view c.step.new.keeper) c.one_more-self-inside.ensures c.self.invariant place fits own step)
+
+pub invariant_of-self-in_err-stepped : goal.invariant_of-self-in_err-stepped
+invariant_of-self-in_err-stepped g c =
+    let same : state_of c.step.new.state ≡ state_of c.self.inside.state = c.in_err-stepped.ensures.state in
+    let items : c.make_room.new.items.items ≡ c.self.inside.history.items = search rules in
+    subst (λ (entries : List Entry). Stands entries c.self.inside.limit c.self.inside.refused c.one_more-self-inside.result c.self.inside.origin.value (g.K.Keeper.keeper_view c.self.inside.at_opening.value) (g.K.Keeper.keeper_view c.step.new.keeper) c.self.inside.policy (state_of c.step.new.state)) (sym items)
+    (subst (λ (s : State). Stands c.self.inside.history.items c.self.inside.limit c.self.inside.refused c.one_more-self-inside.result c.self.inside.origin.value (g.K.Keeper.keeper_view c.self.inside.at_opening.value) (g.K.Keeper.keeper_view c.step.new.keeper) c.self.inside.policy s) (sym same)
+    (stands_lacking c.self.inside.history.items c.self.inside.limit c.self.inside.refused c.self.inside.asks c.one_more-self-inside.result c.self.inside.origin.value (g.K.Keeper.keeper_view c.self.inside.at_opening.value) c.self.inside.policy (state_of c.self.inside.state) _ (g.K.Keeper.keeper_view c.self.inside.keeper) (g.K.Keeper.keeper_view c.step.new.keeper) c.one_more-self-inside.ensures c.self.invariant c.in_err-stepped.ensures.keeper))
 
 pub returns-clause-asked : goal.returns-clause-asked
 returns-clause-asked g c =
@@ -33,7 +42,7 @@ returns-clause-asked g c =
     subst (λ (b : BookView). Asked c.args.sid c.args.at c.args.request b.limit b.origin b.history (Ok c.twin-reply.result) c.push_reserved.new.self.items) c.self.view_is
     (subst (λ (r : Reply). Asked c.args.sid c.args.at c.args.request c.self.inside.limit c.self.inside.origin.value c.self.inside.history.items (Ok r) c.push_reserved.new.self.items) (sym c.twin-reply.ensures)
     (subst (λ (entries : List Entry). Asked c.args.sid c.args.at c.args.request c.self.inside.limit c.self.inside.origin.value c.self.inside.history.items (Ok c.in_ok-stepped.stepped.reply) entries) (sym items)
-    (asked_with c.self.inside.origin.value c.self.inside.history.items c.self.inside.limit c.self.inside.refused (g.K.Keeper.keeper_view c.self.inside.at_opening.value).faults c.self.inside.policy (state_of c.self.inside.state) (state_of c.step.new.state) c.len-place.result c.args.sid c.session_of-sid.result c.args.at c.args.request
+    (asked_with c.self.inside.origin.value c.self.inside.history.items c.self.inside.limit c.self.inside.refused c.self.inside.asks (g.K.Keeper.keeper_view c.self.inside.at_opening.value) c.self.inside.policy (state_of c.self.inside.state) (state_of c.step.new.state) c.len-place.result c.args.sid c.session_of-sid.result c.args.at c.args.request
     c.in_ok-stepped.stepped.reply c.in_ok-stepped.stepped.kept (g.K.Keeper.keeper_view c.self.inside.keeper) (g.K.Keeper.keeper_view c.step.new.keeper) c.self.invariant place fits c.session_of-sid.ensures step)))
 
 pub returns-clause-keeper_follows : goal.returns-clause-keeper_follows
@@ -46,7 +55,7 @@ returns-clause-keeper_follows g c =
     subst (λ (b : BookView). KeeperAfterReply (full_of c.twin-reply.result) b.origin b.history c.push_reserved.new.self.items b.keeper (g.K.Keeper.keeper_view c.step.new.keeper)) c.self.view_is
     (subst (λ (r : Reply). KeeperAfterReply (full_of r) c.self.inside.origin.value c.self.inside.history.items c.push_reserved.new.self.items (g.K.Keeper.keeper_view c.self.inside.keeper) (g.K.Keeper.keeper_view c.step.new.keeper)) (sym c.twin-reply.ensures)
     (subst (λ (entries : List Entry). KeeperAfterReply (full_of c.in_ok-stepped.stepped.reply) c.self.inside.origin.value c.self.inside.history.items entries (g.K.Keeper.keeper_view c.self.inside.keeper) (g.K.Keeper.keeper_view c.step.new.keeper)) (sym items)
-    (kept_with c.self.inside.origin.value c.self.inside.history.items c.self.inside.limit c.self.inside.refused (g.K.Keeper.keeper_view c.self.inside.at_opening.value).faults c.self.inside.policy (state_of c.self.inside.state) (state_of c.step.new.state) c.len-place.result c.session_of-sid.result c.args.at c.args.request
+    (kept_with c.self.inside.origin.value c.self.inside.history.items c.self.inside.limit c.self.inside.refused c.self.inside.asks (g.K.Keeper.keeper_view c.self.inside.at_opening.value) c.self.inside.policy (state_of c.self.inside.state) (state_of c.step.new.state) c.len-place.result c.session_of-sid.result c.args.at c.args.request
     c.in_ok-stepped.stepped.reply c.in_ok-stepped.stepped.kept (g.K.Keeper.keeper_view c.self.inside.keeper) (g.K.Keeper.keeper_view c.step.new.keeper) c.self.invariant place step)))
 
 pub returns-clause-keeper_called : goal.returns-clause-keeper_called
@@ -56,7 +65,7 @@ returns-clause-keeper_called g c =
     let place : c.len-place.result ≡ length c.self.inside.history.items = search rules in
     subst (λ (b : BookView). CalledByReply (full_of c.twin-reply.result) (edits_records c.args.sid c.args.at c.args.request b.origin b.history) b.keeper (g.K.Keeper.keeper_view c.step.new.keeper)) c.self.view_is
     (subst (λ (r : Reply). CalledByReply (full_of r) (edits_records c.args.sid c.args.at c.args.request c.self.inside.origin.value c.self.inside.history.items) (g.K.Keeper.keeper_view c.self.inside.keeper) (g.K.Keeper.keeper_view c.step.new.keeper)) (sym c.twin-reply.ensures)
-    (called_with c.self.inside.origin.value c.self.inside.history.items c.self.inside.limit c.self.inside.refused (g.K.Keeper.keeper_view c.self.inside.at_opening.value).faults c.self.inside.policy (state_of c.self.inside.state) (state_of c.step.new.state) c.len-place.result c.args.sid c.session_of-sid.result c.args.at c.args.request
+    (called_with c.self.inside.origin.value c.self.inside.history.items c.self.inside.limit c.self.inside.refused c.self.inside.asks (g.K.Keeper.keeper_view c.self.inside.at_opening.value) c.self.inside.policy (state_of c.self.inside.state) (state_of c.step.new.state) c.len-place.result c.args.sid c.session_of-sid.result c.args.at c.args.request
     c.in_ok-stepped.stepped.reply c.in_ok-stepped.stepped.kept (g.K.Keeper.keeper_view c.self.inside.keeper) (g.K.Keeper.keeper_view c.step.new.keeper) c.self.invariant place c.session_of-sid.ensures step))
 
 pub returns-clause-keeper_failed : goal.returns-clause-keeper_failed

@@ -1,6 +1,6 @@
 use Rattle.bastion.proofs.DoesLemmas.{needs_netacl, netacl_does, stops_rules}
 use Rattle.bastion.specs.declared.words.Command.TheVariants as commands
-use Rattle.bastion.proofs.running.netacl.Goals as goal
+use Rattle.bastion.proofs.obeying.netacl.Goals as goal
 
 pub returns-in-Ok : goal.returns-in-Ok
 returns-in-Ok g c = netacl_does c.args.name.now c.args.query.now c.in-Ok.rules c.decide.result c.args.world.now c.rules_for.new.world c.decide.new.world c.in-Ok.ensures.found

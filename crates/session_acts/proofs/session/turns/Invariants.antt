@@ -1,5 +1,5 @@
 use Rattle.session_acts.proofs.TurnLemmas.{Talks, still}
-use Rattle.session_acts.proofs.session.dialogue.Given as goal
+use Rattle.session_acts.proofs.session.turns.Given as goal
 
 abbrev pub invariant-loop-next : goal.invariant-loop-next
 invariant-loop-next g l =

@@ -1,6 +1,6 @@
 use Rattle.bastion.proofs.DoesLemmas.{needs_table, stops_rules, table_does}
 use Rattle.bastion.specs.declared.words.Command.TheVariants as commands
-use Rattle.bastion.proofs.running.table.Goals as goal
+use Rattle.bastion.proofs.obeying.table.Goals as goal
 
 pub returns-in-Ok : goal.returns-in-Ok
 returns-in-Ok g c = table_does c.args.name.now c.args.query.now c.in-Ok.rules c.show.result c.args.world.now c.rules_for.new.world c.show.new.world c.in-Ok.ensures.found
