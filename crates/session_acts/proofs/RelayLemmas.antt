@@ -185,12 +185,12 @@ module _ {Origin P : Type 0} (rows : PlaceTable (acts Origin) P) where
 
   -- ---- the course
 
-  leaves_relayed : (watch : Watch (acts Origin) P) → ((noted : watch.Noted) → watch.over noted → Leaves watch (Do Relay (λ flow. Over)) noted) → (r : Row (acts Origin) P) (noted : watch.Noted) → Leaves watch r noted → Leaves watch (then_relay r) noted
+  pub leaves_relayed : (watch : Watch (acts Origin) P) → ((noted : watch.Noted) → watch.over noted → Leaves watch (Do Relay (λ flow. Over)) noted) → (r : Row (acts Origin) P) (noted : watch.Noted) → Leaves watch r noted → Leaves watch (then_relay r) noted
   leaves_relayed watch ends (Do act go) noted leaves = (leaves.0, λ answer. leaves_relayed watch ends (go answer) (watch.note noted act answer) (leaves.1 answer))
   leaves_relayed watch ends (At place) noted leaves = leaves
   leaves_relayed watch ends Over noted leaves = ends noted leaves
 
-  keeps_relayed : (watch : Watch (acts Origin) P) → ((noted : watch.Noted) → watch.over noted → Leaves watch (Do Relay (λ flow. Over)) noted) → Keeps rows watch → Keeps (relayed rows) watch
+  pub keeps_relayed : (watch : Watch (acts Origin) P) → ((noted : watch.Noted) → watch.over noted → Leaves watch (Do Relay (λ flow. Over)) noted) → Keeps rows watch → Keeps (relayed rows) watch
   keeps_relayed watch ends keeps = λ place noted holds.
       let here = keeps place noted holds in
       (here.0, λ answer. leaves_relayed watch ends (rows.go place answer) (watch.note noted (rows.act place) answer) (here.1 answer))
