@@ -8,15 +8,17 @@ use fw_memory::MemDice;
 use fw_outside::{Dice, Sink};
 use fw_real::{Paths, Reading, Records, Salts, StandardInput, SystemClock, Writing};
 use fw_types::Octets;
+use no_programs::NoPrograms;
 use process::Process;
 use std::env;
 use std::io::{ErrorKind, Stdout};
 use std::process::ExitCode;
 
+mod no_programs;
 mod process;
 
 const HELP: &[u8] = b"\
-usage: fwtk [-t FILE] netacl DAEMON ADDRESS [NAME]
+usage: fwtk [-t FILE] netacl [-run] DAEMON ADDRESS [NAME]
        fwtk [-t FILE] table SERVICE ADDRESS [NAME]
        fwtk [-t FILE] [-r FILE] authsrv [-console] ADDRESS [NAME]
        fwtk --help | --version
@@ -102,6 +104,7 @@ fn run_with<D: Dice>(
         clock: SystemClock::new(rt),
         dice,
         keeper: Some(Records::new(rt, places(words).db)?),
+        launcher: NoPrograms::new(),
     };
     Ok(run(rt.alloc(), words, &mut world))
 }

@@ -1,5 +1,6 @@
 //! The devices of a process.
 
+use crate::no_programs::NoPrograms;
 use bastion::Kit;
 use fw_outside::Dice;
 use fw_real::{Paths, Reading, Records, StandardInput, SystemClock, Writing};
@@ -26,4 +27,6 @@ impl<D: Dice> Kit for Process<D> {
     type Dice = D;
 
     type Keeper = Records;
+
+    type Launch = NoPrograms;
 }
