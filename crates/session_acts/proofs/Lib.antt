@@ -25,6 +25,7 @@ pub mod TalkLemmas
 pub mod ToldLemmas
 pub mod StaysLemmas
 pub mod TurnLemmas
+pub mod UsedUpLemmas
 pub mod WaitedLemmas
 mod Rows
 pub mod LastStopLemmas

@@ -15,11 +15,11 @@ use Rattle.fw_outside.specs.declared.heard.Heard.TheVariants.{Line, TooLong, Sto
 use Rattle.fw_outside.specs.declared.heard.Stop.TheVariants as stops
 use Rattle.fw_types.specs.declared.ending.Ending.{Ending}
 use Rattle.fw_types.specs.declared.ending.Ending.TheVariants as endings
-use Rattle.relay_ways.specs.Carried.{LeavesSource}
+use Rattle.relay_ways.specs.Carried.{LeavesSource, Way}
 use Rattle.relay_ways.specs.Ending as two_ways
 use Rattle.relay_ways.specs.declared.way_end.WayEnd.{WayEnd}
 use Rattle.relay_ways.specs.declared.way_end.WayEnd.TheVariants as ways
-use Rattle.session_acts.specs.Relaying.{Stuck, Through, stops_by}
+use Rattle.session_acts.specs.Relaying.{Stuck, stops_by}
 use Rattle.session_acts.specs.Acts.{Act, Answer, Front, Halt, cause_by, silence_cause}
 use Rattle.session_acts.specs.Acts.Act.{Hear, Say, Try, Log, Note, Ask, Renew, Dial, Reach, Take, Pass, HangUp, Relay}
 use Rattle.session_acts.specs.Causes.{TakesAs, is_spent_ending, is_spent_or}
@@ -37,7 +37,7 @@ use Rattle.session_acts.proofs.DeedLemmas.{all_last, deeds_done, deeds_parted}
 use Rattle.session_acts.proofs.KeptLemmas.{names_last}
 
 -- whether no more bytes may be taken of the client
-abbrev none_left : Speaker → Bool
+abbrev pub none_left : Speaker → Bool
 none_left speaker = speaker.reader.room == 0
 
 same_left : (old new : Speaker) → new ≡ old → none_left old ≡ false → none_left new ≡ false
@@ -46,7 +46,7 @@ same_left old new is more = ap none_left is ∙ more
 heeds_left : (form : Form) (heard : Heard) (old new : Speaker) (h : Heeds form heard old new) → none_left new ≡ (h.reader.room == 0)
 heeds_left form heard old new h = ap none_left h.is
 
-line_left : (form : Form) (heard : Heard) (old new : Speaker) → HeedsLine form heard old new → none_left new ≡ false
+pub line_left : (form : Form) (heard : Heard) (old new : Speaker) → HeedsLine form heard old new → none_left new ≡ false
 line_left form (Line line) old new h = heeds_left form (Line line) old new h ∙ sym h.listens.spent
 line_left form TooLong old new h = heeds_left form TooLong old new h ∙ sym h.listens.spent
 line_left form (Stopped stops.End) old new h = heeds_left form (Stopped stops.End) old new h ∙ sym h.listens.spent
@@ -54,13 +54,13 @@ line_left form (Stopped stops.Idle) old new h = absurd h
 line_left form (Stopped stops.Failed) old new h = absurd h
 line_left form (Stopped stops.Spent) old new h = absurd h
 
-told_left : (text : List ℕ) (outcome : Result (Unit {0}) (Front text)) (old new : Speaker) → IsTold text outcome old new → none_left old ≡ false → none_left new ≡ false
+pub told_left : (text : List ℕ) (outcome : Result (Unit {0}) (Front text)) (old new : Speaker) → IsTold text outcome old new → none_left old ≡ false → none_left new ≡ false
 told_left text outcome old new h more = ap none_left h.is ∙ more
 
--- a relay whose ways are done
-through_left : (through : Through) (old new : Speaker) → Carrying through.flow.up through.flow.down old new → none_left new ≡ false
-through_left through old new h =
-    let leaves : LeavesSource ways.Done through.flow.up.lost h.room h.drains.middle h.inlet = subst (λ (e : WayEnd). LeavesSource e through.flow.up.lost h.room h.drains.middle h.inlet) through.up h.drains.leaves in
+-- a way that is done leaves some
+pub done_left : (off on : Way) (old new : Speaker) → off.end ≡ ways.Done → Carrying off on old new → none_left new ≡ false
+done_left off on old new is h =
+    let leaves : LeavesSource ways.Done off.lost h.room h.drains.middle h.inlet = subst (λ (e : WayEnd). LeavesSource e off.lost h.room h.drains.middle h.inlet) is h.drains.leaves in
     ap none_left h.is ∙ ne_eqb h.room 0 leaves.0
 
 -- no act that is done takes all
@@ -78,13 +78,13 @@ act_left Take done old new met more = same_left old.client new.client met.client
 act_left (Pass text) done old new met more = same_left old.client new.client met.client more
 act_left HangUp done old new met more = same_left old.client new.client met.client more
 act_left Relay None old new met more = same_left old.client new.client met.client more
-act_left Relay (Some through) old new met more = through_left through old.client new.client met.client
+act_left Relay (Some through) old new met more = done_left through.flow.up through.flow.down old.client new.client through.up met.client
 
 -- a stop that takes all is one at the limit, or one of a relay
-abbrev IsSpentBy : Cause → Speaker → Type 0
+abbrev pub IsSpentBy : Cause → Speaker → Type 0
 IsSpentBy cause speaker = none_left speaker ≡ true → is_spent_ending (ending_by cause) ≡ true
 
-spent_or : (relays : Bool) (ending : Ending) → is_spent_ending ending ≡ true → is_spent_or relays ending ≡ true
+pub spent_or : (relays : Bool) (ending : Ending) → is_spent_ending ending ≡ true → is_spent_or relays ending ≡ true
 spent_or false ending is = is
 spent_or true endings.Done is = is
 spent_or true (endings.Denied line) is = is
@@ -125,20 +125,20 @@ ways_spent ways.Spent ways.WriteFault = refl
 ways_spent ways.Spent ways.Idle = refl
 ways_spent ways.Spent ways.Spent = refl
 
-relay_spent : (halt : Stuck) (relays : Bool) → relays ≡ true → is_spent_or relays (ending_by halt.cause) ≡ true
+pub relay_spent : (halt : Stuck) (relays : Bool) → relays ≡ true → is_spent_or relays (ending_by halt.cause) ≡ true
 relay_spent halt relays may =
     ap (λ (b : Bool). is_spent_or b (ending_by halt.cause)) may ∙ ap of_relay (sym halt.is) ∙ ways_spent halt.flow.up.end halt.flow.down.end
 
 more_spent : (cause : Cause) (speaker : Speaker) → none_left speaker ≡ false → IsSpentBy cause speaker
 more_spent cause speaker more none = absurd (true≢false (sym none ∙ more))
 
-hear_left : (form : Form) (silence : Silence) (old new : Speaker) → Hears form (Err silence) old new → IsSpentBy (silence_cause ClientFault silence) new
-hear_left form Quiet old new h = more_spent Idle new (heeds_left form (Stopped stops.Idle) old new h ∙ sym h.listens.spent)
-hear_left form Broken old new h = more_spent ClientFault new (heeds_left form (Stopped stops.Failed) old new h ∙ sym h.listens.spent)
-hear_left form Limit old new h = λ none. refl
+pub silence_left : (fault : Cause) (form : Form) (silence : Silence) (old new : Speaker) → Hears form (Err silence) old new → IsSpentBy (silence_cause fault silence) new
+silence_left fault form Quiet old new h = more_spent Idle new (heeds_left form (Stopped stops.Idle) old new h ∙ sym h.listens.spent)
+silence_left fault form Broken old new h = more_spent fault new (heeds_left form (Stopped stops.Failed) old new h ∙ sym h.listens.spent)
+silence_left fault form Limit old new h = λ none. refl
 
 stop_left : {Origin : Type 0} (relays : Bool) (act : Act) (halt : Halt act) (old new : World Origin) → Met act (Err halt) old new → old.names.relays ≡ relays → none_left old.client ≡ false → none_left new.client ≡ true → is_spent_or relays (ending_by (cause_by act halt)) ≡ true
-stop_left relays (Hear form) halt old new met lent more none = spent_or relays (ending_by (cause_by (Hear form) halt)) ((hear_left form halt old.client new.client met.client) none)
+stop_left relays (Hear form) halt old new met lent more none = spent_or relays (ending_by (cause_by (Hear form) halt)) ((silence_left ClientFault form halt old.client new.client met.client) none)
 stop_left relays (Say text) halt old new met lent more none = spent_or relays (ending_by (cause_by (Say text) halt)) ((more_spent ClientFault new.client (told_left text (Err halt) old.client new.client met.client more)) none)
 stop_left relays (Try text) halt old new met lent more none = absurd halt
 stop_left relays (Log text) halt old new met lent more none = spent_or relays (ending_by (cause_by (Log text) halt)) ((more_spent (cause_by (Log text) halt) new.client (same_left old.client new.client met.client more)) none)

@@ -9,6 +9,7 @@ ghost use Rattle.fw_acts.specs.Acts.Row.{Do};
 ghost use Rattle.fw_types.specs.declared.ending.Ending.{Ending};
 ghost use Rattle.fw_types.specs.declared.ending.Ending.TheVariants.{NoMemory};
 ghost use Rattle.session_acts.specs.Acts.Act.{Ask, Log, Relay};
+ghost use Rattle.session_acts.specs.Causes.{is_spent_or};
 ghost use Rattle.session_acts.specs.Client.{Denies, LogsFirst};
 ghost use Rattle.session_acts.specs.Course.{AreOfOne, Course, CourseState, KeepsCourse};
 ghost use Rattle.session_acts.specs.Deeds.{gives};
@@ -25,7 +26,7 @@ ghost use Rattle.session_acts.specs.Relaying.{Through};
 ghost use Rattle.session_acts.specs.Serverless.{CausedAlone, KeepsServerless, TakesExactly};
 ghost use Rattle.session_acts.specs.Session.{Held, Session, SessionAs, deeds_of};
 ghost use Rattle.session_acts.specs.Talk.{CountsAsks, Entered, ThrowsSalts, answered, asked, is_entered, is_refused_as_full, said_of, thrown};
-ghost use Rattle.session_acts.specs.World.{Devices, World};
+ghost use Rattle.session_acts.specs.World.{Devices, Speaker, World, most_taken};
 ghost use Rattle.session_acts.specs.declared.cause.Cause.{Cause};
 
 /// What a client was given by a session is what its deeds say and try to say, one after another: of a text at which the
@@ -214,4 +215,12 @@ pub fn a_relay_keeps_the_course<Origin, P>()
     ensures { (console : Bool) (may_be : P → CourseState → Bool) (rows : PlaceTable (acts Origin) P)
         (first : Row (acts Origin) P) → KeepsCourse console may_be rows first →
         KeepsCourse console may_be (relayed rows) (then_relay first) }
+{}
+
+/// If of the link that was up behind a dialogue, or its relay, as many bytes were taken as may be, 2^40, the session ends as
+/// spent; or, if it may relay, by a failure or by idleness, which come before that.
+pub fn a_used_up_link_ends_it<Origin, P>()
+    ensures { (relays : Bool) (rows : PlaceTable (acts Origin) P) (first : Row (acts Origin) P) (old new : Devices Origin)
+        (ending : Ending) (session : SessionAs relays rows first old new ending) (link : Speaker) →
+        session.held.mid.server.link ≡ Some link → link.inlet.amount ≡ most_taken → is_spent_or relays ending ≡ true }
 {}
