@@ -1,4 +1,5 @@
 //! A file in memory that does little at a time.
+ghost use Rattle.std.specs.Prelude.{None};
 
 use fw_real::{Place, RawFile};
 use std::io::{self, ErrorKind};
@@ -25,6 +26,8 @@ impl Halting {
 }
 
 impl RawFile for Halting {
+    ghost file_view = { λ file. None };
+
     fn read_some(&mut self, at: u64, buf: &mut [u8]) -> io::Result<usize> {
         if self.interrupts() {
             return Err(io::Error::from(ErrorKind::Interrupted));
