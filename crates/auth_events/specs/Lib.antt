@@ -1,3 +1,4 @@
 pub mod OtpNumber
 pub mod Fits
+pub mod Login
 pub mod Port

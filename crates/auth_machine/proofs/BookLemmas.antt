@@ -1,7 +1,7 @@
 -- A book with one entry more.
-use Rattle.std.proofs.Common.{arith, ◌≡◌, refl, sym, ap, subst, ◌∙◌, ℕ, ◌<◌, ◌≤◌, ◌+◌, Bool, true, false, not, ◌&&◌, cond, List, [], ◌∷◌, ◌++◌, length, Option, None, IfSome, Ok}
+use Rattle.std.proofs.Common.{arith, ◌≡◌, refl, sym, ap, subst, ◌∙◌, ℕ, ◌<◌, ◌≤◌, ◌+◌, ◌-◌, ◌^◌, min, Bool, true, false, not, ◌&&◌, cond, List, [], ◌∷◌, ◌++◌, length, Option, None, IfSome, Ok}
 use Rattle.std.proofs.lemmas.List.{length_push}
-use Rattle.fw_outside.specs.Counts.{Rose}
+use Rattle.fw_outside.specs.Counts.{Grew, Rose}
 use Rattle.fw_outside.specs.KeeperView.{AreSame, KeeperView, NamedBytes}
 use Rattle.auth_records.specs.Spelling.{Fields}
 use Rattle.auth_events.specs.Fits.{Fits}
@@ -12,12 +12,12 @@ use Rattle.auth_events.specs.declared.reply.Reply.TheVariants as replies
 use Rattle.auth_events.specs.declared.request.Request.{Request}
 use Rattle.auth_events.specs.declared.request.Request.TheVariants as requests
 use Rattle.auth_machine.proofs.FitLemmas.{IsOwn, own_answer}
-use Rattle.auth_machine.proofs.HistoryLemmas.{after_one_more, legal_one_more, unkept_one_more}
-use Rattle.auth_machine.proofs.TableLemmas.{called_if, lacking_faults, lacking_table, clash, count_after, kept_unless, table_after, unkept_rose}
+use Rattle.auth_machine.proofs.HistoryLemmas.{after_one_more, edits_one_more, legal_one_more, unkept_one_more}
+use Rattle.auth_machine.proofs.TableLemmas.{called_if, calls_grew, lacking_calls, lacking_faults, lacking_table, clash, count_after, kept_unless, table_after, unkept_rose}
 use Rattle.auth_machine.specs.Answer.{Answer, answer_of}
 use Rattle.auth_machine.specs.Answers.{full_answer, full_of, is_unkept, is_unkept_answer}
 use Rattle.auth_machine.specs.Book.{Asked, AddsEntry, CalledByReply, EntersReply, KeeperAfterReply, Stands, edits_records}
-use Rattle.auth_machine.specs.History.{CountsUnkept, HasRecords, IsStep, Origin, after, entries_of, unkept}
+use Rattle.auth_machine.specs.History.{CountsCalls, CountsUnkept, HasRecords, IsStep, Origin, after, edits, entries_of, unkept}
 use Rattle.auth_machine.specs.Policy.{PolicyView}
 use Rattle.auth_machine.specs.State.{State, Change, at_moment, changed, records_after}
 use Rattle.auth_machine.specs.Step.{answer, is_refused, keeps, proposed}
@@ -159,25 +159,70 @@ next_faults origin failed h sid at request reply kept new before now step most =
     count_after (keeps origin.policy (after origin h) (length h) sid at request) (proposed origin.policy (after origin h) (length h) sid at request).records kept before now
     (failed + unkept h) _ (omega (arith, more)) step.keeping most
 
+one_grown : (n : ℕ) → Grew 1 n (n + 1)
+one_grown n = record { least = omega (arith); most = omega (arith); later = omega (arith) }
+
+calls_more : (before edits more n asks also old new : ℕ) → min (before + edits) (2 ^ 64 - 1) ≤ old → Grew more old new → min (before + (edits + more)) (2 ^ 64 - 1) ≤ new
+calls_more before edits more n asks also old new least grew =
+    let a = grew.least in
+    omega (arith, least, a)
+
+few_calls : (before edits more n asks also old new : ℕ) → (asks < 2 ^ 64 - 1 → old + n ≤ before + edits + asks) → Grew more old new → Grew 1 asks also
+    → also < 2 ^ 64 - 1 → new + (n + 1) ≤ before + (edits + more) + also
+few_calls before edits more n asks also old new few grew counted below =
+    let later = counted.later in
+    let one = counted.least in
+    let most = grew.most in
+    let was : old + n ≤ before + edits + asks = few (omega (arith, later, below)) in
+    omega (arith, was, one, most, below)
+
+next_calls : (origin : Origin) (called : ℕ) (h : List Entry) (sid at : ℕ) (request : Request) (reply : Reply) (kept : Bool) (new : State) (asks also : ℕ) (before now : KeeperView)
+    → Next origin h sid at request reply kept new before now → Grew 1 asks also → CountsCalls called origin h asks before
+    → CountsCalls called origin (h ++ entry_of sid at request kept reply ∷ []) also now
+next_calls origin called h sid at request reply kept new asks also before now step counted calls =
+    let one : ℕ = cond (keeps origin.policy (after origin h) (length h) sid at request) 1 0 in
+    let more : edits origin (h ++ entry_of sid at request kept reply ∷ []) ≡ edits origin h + one = edits_one_more origin h (entry_of sid at request kept reply) in
+    let long : length (h ++ entry_of sid at request kept reply ∷ []) ≡ length h + 1 = omega (arith, length_push h (entry_of sid at request kept reply)) in
+    let grew : Grew one before.calls now.calls =
+    calls_grew (keeps origin.policy (after origin h) (length h) sid at request) (proposed origin.policy (after origin h) (length h) sid at request).records kept before now step.keeping in
+    record {
+      least = rw more (calls_more called (edits origin h) one (length h) asks also before.calls now.calls calls.least grew);
+      most = λ below. rw (more, long) (few_calls called (edits origin h) one (length h) asks also before.calls now.calls calls.most grew counted below);
+    }
+
+-- what is called without an entry is called for the request
+pub lacking_counted : (called : ℕ) (origin : Origin) (h : List Entry) (asks also : ℕ) (before now : KeeperView) → (before.calls ≤ now.calls) × (now.calls ≤ before.calls + 1) → Grew 1 asks also
+    → CountsCalls called origin h asks before → CountsCalls called origin h also now
+lacking_counted called origin h asks also before now lacks counted calls =
+    let later = lacks.0 in
+    let most = lacks.1 in
+    let least = calls.least in
+    let one = counted.least in
+    let asked = counted.later in
+    record {
+      least = omega (arith, least, later);
+      most = λ below. let was = calls.most (omega (arith, asked, below)) in omega (arith, was, one, most, below);
+    }
+
 one_longer : (h : List Entry) (entry : Entry) (limit : ℕ) → length h < limit → length (h ++ entry ∷ []) ≤ limit
 one_longer h entry limit fits = omega (arith, length_push h entry, fits)
 
 -- the step of a book's policy and state is that of its origin and history
-rebased : (origin : Origin) (h : List Entry) (limit : ℕ) (refused : Bool) (failed : ℕ) (policy : PolicyView) (s new : State) (place sid at : ℕ) (request : Request) (reply : Reply) (kept : Bool) (before now : KeeperView)
-    → Stands h limit refused origin failed before policy s → place ≡ length h
+rebased : (origin : Origin) (h : List Entry) (limit : ℕ) (refused : Bool) (asks : ℕ) (first : KeeperView) (policy : PolicyView) (s new : State) (place sid at : ℕ) (request : Request) (reply : Reply) (kept : Bool) (before now : KeeperView)
+    → Stands h limit refused asks origin first before policy s → place ≡ length h
     → Steps policy place sid at request reply kept s new before now → Next origin h sid at request reply kept new before now
-rebased origin h limit refused failed policy s new place sid at request reply kept before now book is step =
+rebased origin h limit refused asks first policy s new place sid at request reply kept before now book is step =
     subst (λ (n : ℕ). Steps origin.policy n sid at request reply kept (after origin h) new before now) is
     (subst (λ (p : PolicyView). Steps p place sid at request reply kept (after origin h) new before now) book.policy_is
     (subst (λ (z : State). Steps policy place sid at request reply kept z new before now) book.state_is step))
 
 -- the book stands with the entry
-pub stands_with : (origin : Origin) (h : List Entry) (limit : ℕ) (refused : Bool) (failed : ℕ) (policy : PolicyView) (s new : State) (place sid at : ℕ) (request : Request) (reply : Reply) (kept : Bool) (before now : KeeperView)
-    → Stands h limit refused origin failed before policy s → place ≡ length h → length h < limit → session_at request place sid ≡ sid
+pub stands_with : (origin : Origin) (h : List Entry) (limit : ℕ) (refused : Bool) (asks also : ℕ) (first : KeeperView) (policy : PolicyView) (s new : State) (place sid at : ℕ) (request : Request) (reply : Reply) (kept : Bool) (before now : KeeperView)
+    → Grew 1 asks also → Stands h limit refused asks origin first before policy s → place ≡ length h → length h < limit → session_at request place sid ≡ sid
     → Steps policy place sid at request reply kept s new before now
-    → Stands (h ++ entry_of sid at request kept reply ∷ []) limit refused origin failed now policy new
-stands_with origin h limit refused failed policy s new place sid at request reply kept before now book is fits own step =
-    let next : Next origin h sid at request reply kept new before now = rebased origin h limit refused failed policy s new place sid at request reply kept before now book is step in
+    → Stands (h ++ entry_of sid at request kept reply ∷ []) limit refused also origin first now policy new
+stands_with origin h limit refused asks also first policy s new place sid at request reply kept before now counted book is fits own step =
+    let next : Next origin h sid at request reply kept new before now = rebased origin h limit refused asks first policy s new place sid at request reply kept before now book is step in
     record {
       sound = book.sound;
       policy_is = book.policy_is;
@@ -187,18 +232,19 @@ stands_with origin h limit refused failed policy s new place sid at request repl
       within = one_longer h (entry_of sid at request kept reply) limit fits;
       full = λ was. let full = book.full was in absurd (omega (arith, full, fits));
       records = next_records origin h sid at request reply kept new before now next book.records;
-      faults = next_faults origin failed h sid at request reply kept new before now next book.faults;
+      faults = next_faults origin first.faults h sid at request reply kept new before now next book.faults;
+      calls = next_calls origin first.calls h sid at request reply kept new asks also before now next counted book.calls;
     }
 
 -- what asking does, where an entry is made
-pub asked_with : (origin : Origin) (h : List Entry) (limit : ℕ) (refused : Bool) (failed : ℕ) (policy : PolicyView) (s new : State) (place told sid at : ℕ) (request : Request) (reply : Reply) (kept : Bool) (before now : KeeperView)
-    → Stands h limit refused origin failed before policy s → place ≡ length h → length h < limit → sid ≡ session_at request place told
+pub asked_with : (origin : Origin) (h : List Entry) (limit : ℕ) (refused : Bool) (asks : ℕ) (first : KeeperView) (policy : PolicyView) (s new : State) (place told sid at : ℕ) (request : Request) (reply : Reply) (kept : Bool) (before now : KeeperView)
+    → Stands h limit refused asks origin first before policy s → place ≡ length h → length h < limit → sid ≡ session_at request place told
     → Steps policy place sid at request reply kept s new before now
     → Asked told at request limit origin h (Ok reply) (h ++ entry_of sid at request kept reply ∷ [])
-asked_with origin h limit refused failed policy s new place told sid at request reply kept before now book is fits sid_is step =
+asked_with origin h limit refused asks first policy s new place told sid at request reply kept before now book is fits sid_is step =
     let own : session_at request place sid ≡ sid = ap (session_at request place) sid_is ∙ same_session request place told ∙ sym sid_is in
-    let stands : Stands (h ++ entry_of sid at request kept reply ∷ []) limit refused origin failed now policy new =
-    stands_with origin h limit refused failed policy s new place sid at request reply kept before now book is fits own step in
+    let stands : Stands (h ++ entry_of sid at request kept reply ∷ []) limit refused (asks + 1) origin first now policy new =
+    stands_with origin h limit refused asks (asks + 1) first policy s new place sid at request reply kept before now (one_grown asks) book is fits own step in
     let entered : AddsEntry told at request reply limit h (h ++ entry_of sid at request kept reply ∷ []) = record {
       kept = kept;
       fits = fits;
@@ -214,26 +260,26 @@ asked_with origin h limit refused failed policy s new place told sid at request 
     }
 
 -- and what it does to the keeper
-pub kept_with : (origin : Origin) (h : List Entry) (limit : ℕ) (refused : Bool) (failed : ℕ) (policy : PolicyView) (s new : State) (place sid at : ℕ) (request : Request) (reply : Reply) (kept : Bool) (before now : KeeperView)
-    → Stands h limit refused origin failed before policy s → place ≡ length h
+pub kept_with : (origin : Origin) (h : List Entry) (limit : ℕ) (refused : Bool) (asks : ℕ) (first : KeeperView) (policy : PolicyView) (s new : State) (place sid at : ℕ) (request : Request) (reply : Reply) (kept : Bool) (before now : KeeperView)
+    → Stands h limit refused asks origin first before policy s → place ≡ length h
     → Steps policy place sid at request reply kept s new before now
     → KeeperAfterReply (full_of reply) origin h (h ++ entry_of sid at request kept reply ∷ []) before now
-kept_with origin h limit refused failed policy s new place sid at request reply kept before now book is step =
+kept_with origin h limit refused asks first policy s new place sid at request reply kept before now book is step =
     subst (λ (full : Option ℕ). KeeperAfterReply full origin h (h ++ entry_of sid at request kept reply ∷ []) before now)
     (sym (step_not_full policy s place sid at request kept reply step.reply_is))
     (record {
       entry = entry_of sid at request kept reply;
       is = refl;
-      keeping = (rebased origin h limit refused failed policy s new place sid at request reply kept before now book is step).keeping;
+      keeping = (rebased origin h limit refused asks first policy s new place sid at request reply kept before now book is step).keeping;
     })
 
 -- and how often it calls it
-pub called_with : (origin : Origin) (h : List Entry) (limit : ℕ) (refused : Bool) (failed : ℕ) (policy : PolicyView) (s new : State) (place told sid at : ℕ) (request : Request) (reply : Reply) (kept : Bool) (before now : KeeperView)
-    → Stands h limit refused origin failed before policy s → place ≡ length h → sid ≡ session_at request place told
+pub called_with : (origin : Origin) (h : List Entry) (limit : ℕ) (refused : Bool) (asks : ℕ) (first : KeeperView) (policy : PolicyView) (s new : State) (place told sid at : ℕ) (request : Request) (reply : Reply) (kept : Bool) (before now : KeeperView)
+    → Stands h limit refused asks origin first before policy s → place ≡ length h → sid ≡ session_at request place told
     → Steps policy place sid at request reply kept s new before now
     → CalledByReply (full_of reply) (edits_records told at request origin h) before now
-called_with origin h limit refused failed policy s new place told sid at request reply kept before now book is sid_is step =
-    let next : Next origin h sid at request reply kept new before now = rebased origin h limit refused failed policy s new place sid at request reply kept before now book is step in
+called_with origin h limit refused asks first policy s new place told sid at request reply kept before now book is sid_is step =
+    let next : Next origin h sid at request reply kept new before now = rebased origin h limit refused asks first policy s new place sid at request reply kept before now book is step in
     let called : IsCalledIf (keeps origin.policy (after origin h) (length h) sid at request) before now =
     called_if (keeps origin.policy (after origin h) (length h) sid at request) (proposed origin.policy (after origin h) (length h) sid at request).records kept before now next.keeping in
     let own : sid ≡ session_at request (length h) told = sid_is ∙ ap (λ (n : ℕ). session_at request n told) is in
@@ -241,10 +287,10 @@ called_with origin h limit refused failed policy s new place told sid at request
     (sym (step_not_full policy s place sid at request kept reply step.reply_is))
     (subst (λ (n : ℕ). IsCalledIf (keeps origin.policy (after origin h) (length h) n at request) before now) own called)
 
--- a book stands where its keeper had no memory
-pub stands_lacking : (h : List Entry) (limit : ℕ) (refused : Bool) (origin : Origin) (failed : ℕ) (policy : PolicyView) (s : State) (b : Bool) (before now : KeeperView)
-    → Stands h limit refused origin failed before policy s → MayBeCalled b before now → Stands h limit refused origin failed now policy s
-stands_lacking h limit refused origin failed policy s b before now book lacks = record {
+-- a book stands where there was no memory
+pub stands_lacking : (h : List Entry) (limit : ℕ) (refused : Bool) (asks also : ℕ) (origin : Origin) (first : KeeperView) (policy : PolicyView) (s : State) (b : Bool) (before now : KeeperView)
+    → Grew 1 asks also → Stands h limit refused asks origin first before policy s → MayBeCalled b before now → Stands h limit refused also origin first now policy s
+stands_lacking h limit refused asks also origin first policy s b before now counted book lacks = record {
   sound = book.sound;
   policy_is = book.policy_is;
   state_is = book.state_is;
@@ -253,4 +299,20 @@ stands_lacking h limit refused origin failed policy s b before now book lacks = 
   full = book.full;
   records = subst (λ (table : Option NamedBytes). IfSome table (λ t. AreSame t (entries_of (after origin h).records))) (sym (lacking_table b before now lacks)) book.records;
   faults = let same = lacking_faults b before now lacks in rw same book.faults;
+  calls = lacking_counted first.calls origin h asks also before now (lacking_calls b before now lacks) counted book.calls;
+}
+
+-- a book stands where a request was refused since it is full
+pub stands_full : (h : List Entry) (limit : ℕ) (refused : Bool) (asks also : ℕ) (origin : Origin) (first keeper : KeeperView) (policy : PolicyView) (s : State)
+    → Grew 1 asks also → length h ≡ limit → Stands h limit refused asks origin first keeper policy s → Stands h limit true also origin first keeper policy s
+stands_full h limit refused asks also origin first keeper policy s counted full book = record {
+  sound = book.sound;
+  policy_is = book.policy_is;
+  state_is = book.state_is;
+  legal = book.legal;
+  within = book.within;
+  full = λ was. full;
+  records = book.records;
+  faults = book.faults;
+  calls = lacking_counted first.calls origin h asks also keeper keeper (omega (arith), omega (arith)) counted book.calls;
 }

@@ -1,9 +1,11 @@
 -- One entry more.
-use Rattle.std.proofs.Common.{arith, ◌≡◌, ap, ◌∙◌, subst, ℕ, suc, ◌+◌, List, [], ◌∷◌, ◌++◌, length, cond}
+use Rattle.std.proofs.Common.{arith, ◌≡◌, ap, ◌∙◌, subst, ℕ, suc, ◌+◌, ◌≤◌, List, [], ◌∷◌, ◌++◌, length, cond}
+use Rattle.fw_outside.specs.KeeperView.{KeeperView}
 use Rattle.auth_events.specs.declared.entry.Entry.{Entry}
-use Rattle.auth_machine.specs.History.{AreSteps, IsLegal, IsStep, Origin, after, after_entries, after_entry, unkept}
+use Rattle.auth_machine.specs.History.{AreSteps, IsLegal, IsStep, Origin, after, after_entries, after_entry, edits, edits_from, unkept, CountsCalls}
 use Rattle.auth_machine.specs.Policy.{PolicyView}
 use Rattle.auth_machine.specs.State.{State, first_state}
+use Rattle.auth_machine.specs.Step.{keeps}
 
 after_more : (policy : PolicyView) (s : State) (place : ℕ) (h : List Entry) (entry : Entry)
     → after_entries policy s place (h ++ entry ∷ []) ≡ after_entry policy (after_entries policy s place h) (place + length h) entry
@@ -38,6 +40,33 @@ unkept_one_more [] entry = omega (arith)
 unkept_one_more (e ∷ h) entry =
     let more : unkept (h ++ entry ∷ []) ≡ unkept h + (cond entry.kept 0 1) = unkept_one_more h entry in
     omega (arith, more)
+
+edits_more : (policy : PolicyView) (s : State) (place : ℕ) (h : List Entry) (entry : Entry)
+    → edits_from policy s place (h ++ entry ∷ []) ≡ edits_from policy s place h + cond (keeps policy (after_entries policy s place h) (place + length h) entry.sid entry.at entry.request) 1 0
+edits_more policy s place [] entry =
+    let none : place ≡ place + 0 = omega (arith) in
+    let same : cond (keeps policy s place entry.sid entry.at entry.request) 1 0 + 0 ≡ 0 + cond (keeps policy s place entry.sid entry.at entry.request) 1 0 = omega (arith) in
+    subst (λ (n : ℕ). cond (keeps policy s place entry.sid entry.at entry.request) 1 0 + 0 ≡ 0 + cond (keeps policy s n entry.sid entry.at entry.request) 1 0) none same
+edits_more policy s place (e ∷ h) entry =
+    let rest = edits_more policy (after_entry policy s place e) (suc place) h entry in
+    let here : suc place + length h ≡ place + suc (length h) = omega (arith) in
+    let more : edits_from policy (after_entry policy s place e) (suc place) (h ++ entry ∷ [])
+    ≡ edits_from policy (after_entry policy s place e) (suc place) h + cond (keeps policy (after_entries policy (after_entry policy s place e) (suc place) h) (place + suc (length h)) entry.sid entry.at entry.request) 1 0 =
+    subst (λ (n : ℕ). edits_from policy (after_entry policy s place e) (suc place) (h ++ entry ∷ []) ≡ edits_from policy (after_entry policy s place e) (suc place) h + cond (keeps policy (after_entries policy (after_entry policy s place e) (suc place) h) n entry.sid entry.at entry.request) 1 0) here rest in
+    omega (arith, more)
+
+-- and one edit more, where the entry edits a record
+pub edits_one_more : (origin : Origin) (h : List Entry) (entry : Entry) → edits origin (h ++ entry ∷ []) ≡ edits origin h + cond (keeps origin.policy (after origin h) (length h) entry.sid entry.at entry.request) 1 0
+edits_one_more origin h entry =
+    let first : 0 + length h ≡ length h = omega (arith) in
+    subst (λ (n : ℕ). edits origin (h ++ entry ∷ []) ≡ edits origin h + cond (keeps origin.policy (after origin h) n entry.sid entry.at entry.request) 1 0) first (edits_more origin.policy (first_state origin.records) 0 h entry)
+
+-- calls for so many requests are calls for more
+pub calls_for : (called : ℕ) (origin : Origin) (h : List Entry) (asks others : ℕ) (keeper : KeeperView) → asks ≤ others → CountsCalls called origin h asks keeper → CountsCalls called origin h others keeper
+calls_for called origin h asks others keeper more calls = record {
+  least = calls.least;
+  most = λ below. let was = calls.most (omega (arith, more, below)) in omega (arith, was, more);
+}
 
 last_of : (policy : PolicyView) (s : State) (place : ℕ) (h : List Entry) (entry : Entry)
     → AreSteps policy s place (h ++ entry ∷ []) → IsStep policy (after_entries policy s place h) (place + length h) entry

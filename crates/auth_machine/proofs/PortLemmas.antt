@@ -102,8 +102,8 @@ same_port seen more mine others full told refused known asks origin other a b c 
     ap (λ (x : List Entry). made x mine full refused asks origin) a ∙ ap (λ (x : List ℕ). made more x full refused asks origin) b ∙ ap (λ (x : Option ℕ). made more others x refused asks origin) c
     ∙ ap (λ (x : Bool). made more others told x asks origin) d ∙ ap (λ (x : BookOrigin). made more others told known asks x) e
 
-same_book_origin : (new old : BookView) → new.limit ≡ old.limit → new.origin ≡ old.origin → new.failed_before ≡ old.failed_before → book_origin new ≡ book_origin old
-same_book_origin new old limit origin failed = cc
+same_book_origin : (new old : BookView) → new.limit ≡ old.limit → new.origin ≡ old.origin → new.failed_before ≡ old.failed_before → new.called_before ≡ old.called_before → book_origin new ≡ book_origin old
+same_book_origin new old limit origin failed called = cc
 
 nothing_more : (h : List Entry) → h ++ [] ≡ h
 nothing_more h = search rules
@@ -133,9 +133,9 @@ next_place h entry =
     let more : length (h ++ entry ∷ []) ≡ suc (length h) = omega (arith, length_push h entry) in
     ap places more
 
-port_entered : (sid at : ℕ) (request : Request) (reply : Reply) (old new : BookView) → new.limit ≡ old.limit → new.origin ≡ old.origin → new.failed_before ≡ old.failed_before → Grew 1 old.asks new.asks → new.refused ≡ old.refused
+port_entered : (sid at : ℕ) (request : Request) (reply : Reply) (old new : BookView) → new.limit ≡ old.limit → new.origin ≡ old.origin → new.failed_before ≡ old.failed_before → new.called_before ≡ old.called_before → Grew 1 old.asks new.asks → new.refused ≡ old.refused
     → AddsEntry sid at request reply old.limit old.history new.history → IsLegal old.origin new.history → ports.Enters sid at request reply (book_port old) (book_port new)
-port_entered sid at request reply old new limit origin failed counted refused enters legal =
+port_entered sid at request reply old new limit origin failed called counted refused enters legal =
     let entry : Entry = record { sid = session_at request (length old.history) sid; at = at; request = request; kept = enters.kept; reply = reply } in
     let same : old.history ++ [] ≡ old.history = nothing_more old.history in
     record {
@@ -151,11 +151,11 @@ port_entered sid at request reply old new limit origin failed counted refused en
       is = same_port _ _ _ _ _ _ _ _ _ _ _
           (enters.is ∙ ap (λ (h : List Entry). h ++ entry ∷ []) (sym same))
           (ap (λ (h : List Entry). places (length h)) enters.is ∙ next_place old.history entry)
-          refl refused (same_book_origin new old limit origin failed);
+          refl refused (same_book_origin new old limit origin failed called);
     }
 
-port_full : (told : ℕ) (old new : BookView) → new.limit ≡ old.limit → new.origin ≡ old.origin → new.failed_before ≡ old.failed_before → Grew 1 old.asks new.asks → new.refused ≡ true → IsFullAt told old.limit old.history new.history → ports.IsFull told (book_port old) (book_port new)
-port_full told old new limit origin failed counted refused full =
+port_full : (told : ℕ) (old new : BookView) → new.limit ≡ old.limit → new.origin ≡ old.origin → new.failed_before ≡ old.failed_before → new.called_before ≡ old.called_before → Grew 1 old.asks new.asks → new.refused ≡ true → IsFullAt told old.limit old.history new.history → ports.IsFull told (book_port old) (book_port new)
+port_full told old new limit origin failed called counted refused full =
     let at_limit : full_at old.limit old.history ≡ Some told = is_full old.limit old.history full.full ∙ ap (λ (n : ℕ). Some n) (sym full.limit_is) in
     record {
       others = [];
@@ -165,11 +165,11 @@ port_full told old new limit origin failed counted refused full =
       is = same_port _ _ _ _ _ _ _ _ _ _ _
           (full.is ∙ sym (nothing_more old.history))
           (ap (λ (h : List Entry). places (length h)) full.is)
-          (ap (λ (n : ℕ). full_at n new.history) limit ∙ ap (full_at old.limit) full.is ∙ at_limit) refused (same_book_origin new old limit origin failed);
+          (ap (λ (n : ℕ). full_at n new.history) limit ∙ ap (full_at old.limit) full.is ∙ at_limit) refused (same_book_origin new old limit origin failed called);
     }
 
-pub port_lacks : (old new : BookView) → new.limit ≡ old.limit → new.origin ≡ old.origin → new.failed_before ≡ old.failed_before → Grew 1 old.asks new.asks → new.refused ≡ old.refused → new.history ≡ old.history → ports.RanOutOfMemory (book_port old) (book_port new)
-port_lacks old new limit origin failed counted refused same = record {
+pub port_lacks : (old new : BookView) → new.limit ≡ old.limit → new.origin ≡ old.origin → new.failed_before ≡ old.failed_before → new.called_before ≡ old.called_before → Grew 1 old.asks new.asks → new.refused ≡ old.refused → new.history ≡ old.history → ports.RanOutOfMemory (book_port old) (book_port new)
+port_lacks old new limit origin failed called counted refused same = record {
   others = [];
   full = full_at old.limit old.history;
   asks = new.asks;
@@ -178,14 +178,14 @@ port_lacks old new limit origin failed counted refused same = record {
   is = same_port _ _ _ _ _ _ _ _ _ _ _
       (same ∙ sym (nothing_more old.history))
       (ap (λ (h : List Entry). places (length h)) same)
-      (ap (λ (n : ℕ). full_at n new.history) limit ∙ ap (full_at old.limit) same) refused (same_book_origin new old limit origin failed);
+      (ap (λ (n : ℕ). full_at n new.history) limit ∙ ap (full_at old.limit) same) refused (same_book_origin new old limit origin failed called);
 }
 
-replied : (sid at : ℕ) (request : Request) (reply : Reply) (full : Option ℕ) (old new : BookView) → full_of reply ≡ full → new.limit ≡ old.limit → new.origin ≡ old.origin → new.failed_before ≡ old.failed_before → Grew 1 old.asks new.asks → new.refused ≡ refused_after full old.refused
+replied : (sid at : ℕ) (request : Request) (reply : Reply) (full : Option ℕ) (old new : BookView) → full_of reply ≡ full → new.limit ≡ old.limit → new.origin ≡ old.origin → new.failed_before ≡ old.failed_before → new.called_before ≡ old.called_before → Grew 1 old.asks new.asks → new.refused ≡ refused_after full old.refused
     → EntersReply full sid at request reply old.limit old.history new.history → IsLegal old.origin new.history → ports.Replies sid at request reply (book_port old) (book_port new)
-replied sid at request reply None old new is limit origin failed counted same enters legal = entered reply is (port_entered sid at request reply old new limit origin failed counted same enters legal)
-replied sid at request reply (Some told) old new is limit origin failed counted noted full legal = refused sid at request reply is (port_full told old new limit origin failed counted noted full)
+replied sid at request reply None old new is limit origin failed called counted same enters legal = entered reply is (port_entered sid at request reply old new limit origin failed called counted same enters legal)
+replied sid at request reply (Some told) old new is limit origin failed called counted noted full legal = refused sid at request reply is (port_full told old new limit origin failed called counted noted full)
 
-pub port_replies : (sid at : ℕ) (request : Request) (reply : Reply) (old new : BookView) → new.limit ≡ old.limit → new.origin ≡ old.origin → new.failed_before ≡ old.failed_before → Grew 1 old.asks new.asks → new.refused ≡ refused_by (Ok reply) old.refused
+pub port_replies : (sid at : ℕ) (request : Request) (reply : Reply) (old new : BookView) → new.limit ≡ old.limit → new.origin ≡ old.origin → new.failed_before ≡ old.failed_before → new.called_before ≡ old.called_before → Grew 1 old.asks new.asks → new.refused ≡ refused_by (Ok reply) old.refused
     → Asked sid at request old.limit old.origin old.history (Ok reply) new.history → ports.Replies sid at request reply (book_port old) (book_port new)
-port_replies sid at request reply old new limit origin failed counted refused asked = replied sid at request reply (full_of reply) old new refl limit origin failed counted refused asked.answers asked.legal
+port_replies sid at request reply old new limit origin failed called counted refused asked = replied sid at request reply (full_of reply) old new refl limit origin failed called counted refused asked.answers asked.legal

@@ -163,6 +163,24 @@ pub called_if : (b : Bool) (edit : RecordChange) (kept : Bool) (old new : Keeper
 called_if true edit kept old new keeps = calls_called edit kept old new keeps
 called_if false edit kept old new keeps = ap (λ (keeper : KeeperView). keeper.calls) keeps.1
 
+same_calls : (old new : KeeperView) → new ≡ old → (old.calls ≤ new.calls) × (new.calls ≤ old.calls + 1)
+same_calls old new same = let is : new.calls ≡ old.calls = ap (λ (keeper : KeeperView). keeper.calls) same in (omega (arith, is), omega (arith, is))
+
+-- and so often
+pub calls_grew : (b : Bool) (edit : RecordChange) (kept : Bool) (old new : KeeperView) → KeepsChange b edit kept old new → Grew (cond b 1 0) old.calls new.calls
+calls_grew true edit kept old new keeps = calls_called edit kept old new keeps
+calls_grew false edit kept old new keeps = let same : new.calls ≡ old.calls = ap (λ (keeper : KeeperView). keeper.calls) keeps.1 in record { least = omega (arith, same); most = omega (arith, same); later = omega (arith, same) }
+
+-- a keeper that may have been called was called once at most
+pub lacking_calls : (b : Bool) (old new : KeeperView) → MayBeCalled b old new → (old.calls ≤ new.calls) × (new.calls ≤ old.calls + 1)
+lacking_calls true old new (inl same) = same_calls old new same
+lacking_calls true old new (inr called) =
+    let is : new.calls ≡ called.calls = ap (λ (keeper : KeeperView). keeper.calls) called.is in
+    let later = called.called.later in
+    let most = called.called.most in
+    (omega (arith, is, later), omega (arith, is, most))
+lacking_calls false old new same = same_calls old new same
+
 -- a keeper that may have been called has the table and the failures that it had
 pub lacking_table : (b : Bool) (old new : KeeperView) → MayBeCalled b old new → new.table ≡ old.table
 lacking_table true old new (inl same) = ap (λ (keeper : KeeperView). keeper.table) same

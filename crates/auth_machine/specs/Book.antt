@@ -10,26 +10,29 @@ use Rattle.auth_events.specs.declared.reply.Reply.{Reply}
 use Rattle.auth_events.specs.declared.reply.Reply.TheVariants.{Denied}
 use Rattle.auth_events.specs.declared.request.Request.{Request}
 use Rattle.auth_machine.specs.Answers.{full_of, is_unkept}
-use Rattle.auth_machine.specs.History.{CountsUnkept, HasRecords, IsLegal, IsSound, Origin, after}
+use Rattle.auth_machine.specs.History.{CountsCalls, CountsUnkept, HasRecords, IsLegal, IsSound, Origin, after}
 use Rattle.auth_machine.specs.Keeping.{IsCalledIf, KeepsChange, MayBeCalled}
 use Rattle.auth_machine.specs.Policy.{PolicyView}
 use Rattle.auth_machine.specs.State.{State}
 use Rattle.auth_machine.specs.Step.{keeps, proposed}
 
--- the entries so far, how many fit, the policy and the loaded records, the keeper, how often it had failed when the book was
--- opened, whether a request was answered that the history is full, and how many requests were asked
+-- the entries so far, how many fit, the policy and the loaded records, the keeper, how often it had failed and been called when
+-- the book was opened, whether a request was answered that the history is full, and how many requests were asked
 pub record BookView : Type 0 where
   pub history : List Entry
   pub limit : ℕ
   pub origin : Origin
   pub keeper : KeeperView
   pub failed_before : ℕ
+  pub called_before : ℕ
   pub refused : Bool
   pub asks : ℕ
 
--- the records that were loaded are sound; the history is legal and fits, and is full where a request was refused for that; the state is that after it; the keeper
--- has the records, where it tells; and since the opening it failed at least as often as entries were not kept
-pub record Stands (history : List Entry) (limit : ℕ) (refused : Bool) (origin : Origin) (failed_before : ℕ) (keeper : KeeperView) (policy : PolicyView) (s : State) : Type 0 where
+-- the records that were loaded are sound; the history is legal and fits, and is full where a request was refused for that; the
+-- state is that after it; the keeper has the records, where it tells; and since it was so, at the opening, it failed at least
+-- as often as entries were not kept, and was called as often as entries edit a record, or more, by at most as many as there
+-- were requests without an entry
+pub record Stands (history : List Entry) (limit : ℕ) (refused : Bool) (asks : ℕ) (origin : Origin) (opening keeper : KeeperView) (policy : PolicyView) (s : State) : Type 0 where
   pub sound : IsSound origin
   pub policy_is : policy ≡ origin.policy
   pub state_is : s ≡ after origin history
@@ -37,7 +40,8 @@ pub record Stands (history : List Entry) (limit : ℕ) (refused : Bool) (origin 
   pub within : length history ≤ limit
   pub full : refused ≡ true → length history ≡ limit
   pub records : HasRecords origin history keeper
-  pub faults : CountsUnkept failed_before history keeper
+  pub faults : CountsUnkept opening.faults history keeper
+  pub calls : CountsCalls opening.calls origin history asks keeper
 
 -- ---- what asking does
 

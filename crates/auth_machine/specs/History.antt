@@ -1,5 +1,5 @@
 -- Histories: which are legal, and what they leave.
-use Rattle.std.specs.Prelude.{◌≡◌, ℕ, suc, ◌+◌, ◌-◌, ◌^◌, ◌≤◌, min, true, false, All, List, [], ◌∷◌, map, IfSome, if◌then◌else◌}
+use Rattle.std.specs.Prelude.{◌≡◌, ℕ, suc, ◌+◌, ◌-◌, ◌^◌, ◌<◌, ◌≤◌, min, true, false, All, List, [], ◌∷◌, length, map, IfSome, if◌then◌else◌}
 use Rattle.fw_outside.specs.KeeperView.{AreSame, NamedBytes, KeeperView}
 use Rattle.fw_types.specs.Keyed.{Ascends}
 use Rattle.auth_records.specs.Spelling.{Fields, HasForm, spelling}
@@ -47,6 +47,16 @@ AreSteps policy s place (entry ∷ entries) = IsStep policy s place entry × Are
 abbrev pub IsLegal : Origin → List Entry → Type 0
 IsLegal origin history = AreSteps origin.policy (first_state origin.records) 0 history
 
+-- how many of these entries change, make or delete a record; the first of them has this place
+abbrev pub edits_from : PolicyView → State → ℕ → List Entry → ℕ
+edits_from policy s place [] = 0
+edits_from policy s place (entry ∷ entries) =
+    (if keeps policy s place entry.sid entry.at entry.request then 1 else 0) + edits_from policy (after_entry policy s place entry) (suc place) entries
+
+-- the same of a history
+abbrev pub edits : Origin → List Entry → ℕ
+edits origin history = edits_from origin.policy (first_state origin.records) 0 history
+
 -- ---- what is kept
 
 -- the names of records with their bytes
@@ -69,3 +79,10 @@ unkept (entry ∷ entries) = (if entry.kept then 0 else 1) + unkept entries
 -- its count is at its last value
 abbrev pub CountsUnkept : ℕ → List Entry → KeeperView → Type 0
 CountsUnkept before history keeper = min (before + unkept history) (2 ^ 64 - 1) ≤ keeper.faults
+
+-- besides the calls that it had counted before, the keeper has counted as many as there are entries that change, make or
+-- delete a record, unless its count is at its last value; and at most as many more as there were requests without an entry.
+-- So where each request has its entry, the number is exact. Of 2 ^ 64 - 1 requests or more the second isn't said.
+pub record CountsCalls (before : ℕ) (origin : Origin) (history : List Entry) (asks : ℕ) (keeper : KeeperView) : Type 0 where
+  pub least : min (before + edits origin history) (2 ^ 64 - 1) ≤ keeper.calls
+  pub most : asks < 2 ^ 64 - 1 → keeper.calls + length history ≤ before + edits origin history + asks

@@ -17,9 +17,11 @@ pub record BookOrigin : Type 0 where
   pub limit : ℕ
   -- how often the keeper had failed
   pub failed_before : ℕ
+  -- how often it had been called
+  pub called_before : ℕ
 
 abbrev pub book_origin : BookView → BookOrigin
-book_origin book = record { origin = book.origin; limit = book.limit; failed_before = book.failed_before }
+book_origin book = record { origin = book.origin; limit = book.limit; failed_before = book.failed_before; called_before = book.called_before }
 
 -- all entries are its own, it doesn't fail, and its history is its own
 abbrev pub book_port : BookView → Port BookOrigin

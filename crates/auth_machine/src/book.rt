@@ -1,11 +1,11 @@
 ghost use Rattle.std.specs.Prelude.{◌≡◌, ◌≤◌, All, [], IfErr, IfOk, IfSome, Ok, false, length};
 ghost use Rattle.std.specs.Bool.{OnTrue};
 ghost use Rattle.fw_types.specs.Keyed.{Ascends};
-ghost use Rattle.fw_outside.specs.Counts.{Grew, counted};
+ghost use Rattle.fw_outside.specs.Counts.{Grew};
 ghost use Rattle.fw_outside.specs.KeeperView.{AreSame, IsCalled};
 ghost use Rattle.auth_records.specs.Spelling.{HasForm};
 ghost use Rattle.auth_machine.specs.Book.{Asked, CalledBy, KeeperAfter, RoseIfUnkept, Stands, edits_records, refused_by};
-ghost use Rattle.auth_machine.specs.History.{CountsUnkept, HasRecords, IsLegal, IsSound, entries_of};
+ghost use Rattle.auth_machine.specs.History.{CountsCalls, CountsUnkept, HasRecords, IsLegal, IsSound, entries_of};
 ghost use Rattle.auth_machine.specs.Opening.{ReadsAs, RefusesBook};
 ghost use Rattle.auth_machine.specs.MachineState.{state_of};
 ghost use Rattle.auth_machine.specs.State.{record_name};
@@ -52,12 +52,20 @@ impl<K: Keeper> Model for Book<K> {
       keeper =
           K.keeper_view b.keeper;
       failed_before = (K.keeper_view b.at_opening.value).faults;
+      called_before = (K.keeper_view b.at_opening.value).calls;
       refused = b.refused;
       asks = b.asks;
     } };
 
-    ghost invariant = { λ b. Stands b.history.items b.limit b.refused b.origin.value (K.keeper_view
-        b.at_opening.value).faults (K.keeper_view b.keeper) b.policy (state_of b.state) };
+    ghost invariant = { λ b. Stands b.history.items b.limit b.refused b.asks b.origin.value (K.keeper_view
+        b.at_opening.value) (K.keeper_view b.keeper) b.policy (state_of b.state) };
+}
+
+// The count after one more.
+fn one_more(count: u64) -> u64
+    ensures { Grew 1 count result }
+{
+    count.saturating_add(1)
 }
 
 impl<K: Keeper> Book<K> {
@@ -82,6 +90,7 @@ impl<K: Keeper> Book<K> {
           };
           keeper = K.keeper_view keeper;
           failed_before = (K.keeper_view keeper).faults;
+          called_before = (K.keeper_view keeper).calls;
           refused = false;
           asks = 0;
         } }
@@ -126,6 +135,7 @@ impl<K: Keeper> Book<K> {
         ensures refused { IfOk result (λ book. book.refused ≡ false) }
         ensures asks { IfOk result (λ book. book.asks ≡ 0) }
         ensures failed_before { IfOk result (λ book. book.failed_before ≡ (K.keeper_view keeper).faults) }
+        ensures called_before { IfOk result (λ book. book.called_before ≡ book.keeper.calls) }
         ensures fault { IfErr result (λ e. RefusesBook e.1 (K.keeper_view keeper) (K.keeper_view e.0)) }
     {
         let mut keeper = keeper;
@@ -135,16 +145,9 @@ impl<K: Keeper> Book<K> {
         }
     }
 
-    // Counts one more request.
-    fn count(&mut self)
-        ensures is { self.new ≡ record self.old { asks = counted self.old.asks } }
-        ensures counted { Grew 1 self.old.asks self.new.asks }
-    {
-        self.asks = self.asks.saturating_add(1);
-    }
-
-    // Enters this request with its reply, unless as many entries are there as fit.
-    fn enter(&mut self, sid: u64, at: u64, request: Request) -> Result<Reply, NoMemory>
+    /// Asks this request for the session of this number, at this moment in seconds. Where as many entries are there as
+    /// fit it is answered that the history is full, which takes no memory.
+    pub fn ask(&mut self, sid: u64, at: u64, request: Request) -> Result<Reply, NoMemory>
         ensures asked { Asked sid at request self.old.limit self.old.origin self.old.history result self.new.history }
         ensures keeper_follows { KeeperAfter result sid at request self.old.origin self.old.history self.new.history
             self.old.keeper self.new.keeper }
@@ -155,8 +158,10 @@ impl<K: Keeper> Book<K> {
         ensures limit { self.new.limit ≡ self.old.limit }
         ensures origin { self.new.origin ≡ self.old.origin }
         ensures failed_before { self.new.failed_before ≡ self.old.failed_before }
-        ensures asks { self.new.asks ≡ self.old.asks }
+        ensures called_before { self.new.called_before ≡ self.old.called_before }
+        ensures counted { Grew 1 self.old.asks self.new.asks }
     {
+        self.asks = one_more(self.asks);
         if self.history.len() as u64 == self.limit {
             self.refused = true;
             return Ok(Reply::Denied(Denial::Full { limit: self.limit }));
@@ -185,25 +190,6 @@ impl<K: Keeper> Book<K> {
         Ok(reply)
     }
 
-    /// Asks this request for the session of this number, at this moment in seconds. Where as many entries are there as
-    /// fit it is answered that the history is full, which takes no memory.
-    pub fn ask(&mut self, sid: u64, at: u64, request: Request) -> Result<Reply, NoMemory>
-        ensures asked { Asked sid at request self.old.limit self.old.origin self.old.history result self.new.history }
-        ensures keeper_follows { KeeperAfter result sid at request self.old.origin self.old.history self.new.history
-            self.old.keeper self.new.keeper }
-        ensures keeper_called { CalledBy result (edits_records sid at request self.old.origin self.old.history)
-            self.old.keeper self.new.keeper }
-        ensures keeper_failed { RoseIfUnkept result self.old.keeper self.new.keeper }
-        ensures refused { self.new.refused ≡ refused_by result self.old.refused }
-        ensures limit { self.new.limit ≡ self.old.limit }
-        ensures origin { self.new.origin ≡ self.old.origin }
-        ensures failed_before { self.new.failed_before ≡ self.old.failed_before }
-        ensures counted { Grew 1 self.old.asks self.new.asks }
-    {
-        self.count();
-        self.enter(sid, at, request)
-    }
-
     /// All entries so far.
     pub fn history(&self) -> &[Entry]
         ensures is { result.now ≡ self.now.history }
@@ -212,6 +198,7 @@ impl<K: Keeper> Book<K> {
         ensures within { length result.now ≤ self.now.limit }
         ensures records { HasRecords self.now.origin self.now.history self.now.keeper }
         ensures faults { CountsUnkept self.now.failed_before self.now.history self.now.keeper }
+        ensures calls { CountsCalls self.now.called_before self.now.origin self.now.history self.now.asks self.now.keeper }
     {
         &self.history
     }
@@ -232,6 +219,7 @@ impl<K: Keeper> Book<K> {
         ensures legal { IsLegal self.origin self.history }
         ensures records { HasRecords self.origin self.history self.keeper }
         ensures faults { CountsUnkept self.failed_before self.history self.keeper }
+        ensures calls { CountsCalls self.called_before self.origin self.history self.asks self.keeper }
     {
         let Book {
             keeper,

@@ -10,12 +10,13 @@ use fw_types::NoMemory;
 use std::marker::Model;
 
 /// What stays as it was when a book was opened: the policy and the records that were loaded, how many entries fit, and
-/// how often the keeper had failed. Contracts alone name it: no value of it is made.
+/// how often the keeper had failed and been called. Contracts alone name it: no value of it is made.
 #[derive(Drop)]
 pub struct BookOrigin {
     origin: Loaded,
     limit: u64,
     failed_before: u64,
+    called_before: u64,
 }
 
 impl Model for BookOrigin {
@@ -23,7 +24,12 @@ impl Model for BookOrigin {
 
     ghost Value = { BookOrigin };
 
-    ghost view = { λ b. record { origin = b.origin; limit = b.limit; failed_before = b.failed_before } };
+    ghost view = { λ b. record {
+      origin = b.origin;
+      limit = b.limit;
+      failed_before = b.failed_before;
+      called_before = b.called_before;
+    } };
 }
 
 impl<K: Keeper> AuthPort for Book<K> {

@@ -1,7 +1,7 @@
 -- The rows speak with no server.
 use Rattle.std.proofs.Common.{refl, Bool, true, false, List, ℕ, Option, Some, None, Result, Ok, Err, codes, if◌then◌else◌}
 use Rattle.auth_events.specs.declared.reply.Reply.{Reply}
-use Rattle.fw_acts.specs.Acts.Row.{Do, At}
+use Rattle.fw_acts.specs.Acts.Row.{At}
 use Rattle.fw_acts.specs.Histories.{Keeps, Leaves, Watch}
 use Rattle.fw_outside.specs.declared.heard.Heard.{Heard}
 use Rattle.fw_outside.specs.declared.heard.Heard.TheVariants.{Line, TooLong, Stopped}

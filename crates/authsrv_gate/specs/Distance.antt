@@ -1,6 +1,6 @@
 -- How far a session is from its end, at most: by the bytes that it may still hear, and in a list by the names that may still
 -- follow.
-use Rattle.std.specs.Prelude.{◌≡◌, ℕ, zero, suc, ◌+◌, ◌-◌, List, [], ◌∷◌, length, Option, Some, None, IsTrue}
+use Rattle.std.specs.Prelude.{◌≡◌, ℕ, zero, suc, ◌+◌, ◌-◌, List, [], ◌∷◌, Option, Some, None, IsTrue}
 use Rattle.auth_events.specs.declared.reply.Reply.{Reply}
 use Rattle.fw_types.specs.Name.{is_name}
 use Rattle.fw_outside.specs.declared.heard.Heard.{Heard}

@@ -5,6 +5,7 @@ ghost use Rattle.auth_events.specs.Port.{places};
 ghost use Rattle.fw_types.specs.declared.ending.Ending.{Ending};
 ghost use Rattle.authsrv_gate.specs.Course.{may_be};
 ghost use Rattle.authsrv_gate.specs.Dialogue.{rows, session_row};
+ghost use Rattle.authsrv_gate.specs.Telling.{ToldInOrder};
 ghost use Rattle.session_acts.specs.Course.{AreOfOne, Course, KeepsCourse};
 ghost use Rattle.session_acts.specs.Deeds.{gives};
 ghost use Rattle.session_acts.specs.Laws.{TellsClient, told};
@@ -24,6 +25,15 @@ pub fn the_client_is_told<Origin>()
 {
     laws::the_client_is_told::<Origin, Place>()
 }
+
+/// Each reply that a client is told is told once, in the order of the requests that were answered: what it was given is the
+/// greeting, a line for each reply of its talk, and one for each line that asked for nothing, as they came; or a front of
+/// that, where the dialogue stopped. In a list the reply that no further record is there is told as `ok`, and what a client
+/// asks by going away isn't answered to it.
+pub fn each_reply_is_told<Origin>()
+    ensures { (console : Bool) (old new : World Origin) (ending : Ending)
+        (held : Held rows (session_row console) old new ending) → ToldInOrder held }
+{}
 
 /// A session asked each request for the session that was open, at a moment of the clock. What was answered stands in
 /// the port's history as it was asked and answered, behind all that was seen before, but for what was refused because

@@ -3,7 +3,7 @@ use Rattle.std.proofs.Common.{◌≡◌, sym, ◌∙◌, ap, subst, refl, ℕ, B
 use Rattle.std.specs.Bool.{OnTrue}
 use Rattle.std.specs.Prelude.{Option, Some, None}
 use Rattle.auth_machine.specs.Book.{BookView}
-use Rattle.auth_machine.specs.History.{CountsUnkept, HasRecords, IsLegal, IsSound, Origin}
+use Rattle.auth_machine.specs.History.{CountsCalls, CountsUnkept, HasRecords, IsLegal, IsSound, Origin}
 use Rattle.auth_machine.specs.Port.{BookOrigin, book_origin}
 use Rattle.fw_outside.specs.DialerView.{DialerView}
 use Rattle.fw_outside.specs.KeeperView.{KeeperView}
@@ -38,9 +38,9 @@ on_true false P h is = absurd (cc)
 
 -- the session was held, and then the keeper given back
 pub held_over : (client : Client) (rules : RuleBook) (first book : BookView) (dialer : DialerView) (ending : Ending) (refused : Bool) (old mid new : WorldView)
-    → Serves client.console rules client.peer (devices_at old first nowhere) (devices_at mid book dialer) ending → IsUndialed nowhere dialer → UntouchedAt client.console (verdict_of rules client.peer) first book → mid.files ≡ old.files
+    → Serves client.console rules client.peer (devices_at old first nowhere) (devices_at mid book dialer) ending → IsUndialed nowhere dialer → UntouchedAt client.console (verdict_of rules client.peer) first book → mid.files ≡ old.files → mid.inputs.launcher ≡ old.inputs.launcher
     → refused ≡ book.refused → OnTrue refused (length book.history ≡ book.limit) → GivesBack book mid new → HoldsOver client rules first (Ended ending refused) old new
-held_over client rules first book dialer ending refused old mid new serves undialed untouched files refused_is full back = record {
+held_over client rules first book dialer ending refused old mid new serves undialed untouched files launcher refused_is full back = record {
   book = book;
   ending = ending;
   dialer = dialer;
@@ -51,10 +51,12 @@ held_over client rules first book dialer ending refused old mid new serves undia
   legal = back.legal;
   has = back.has;
   faults = back.faults;
+  called = back.called;
   full = λ was. on_true refused (length book.history ≡ book.limit) full (refused_is ∙ was);
   comes = ap (Ended ending) refused_is;
   kept = ap (λ (d : WorldView). d.inputs.keeper) back.is;
   files = ap (λ (d : WorldView). d.files) back.is ∙ files;
+  launcher = ap (λ (d : WorldView). d.inputs.launcher) back.is ∙ launcher;
 }
 
 serves_origin : (console : Bool) (rules : RuleBook) (peer : Peer) (old new : WorldView) (first last : BookView) (before after : DialerView) (ending : Ending) → Serves console rules peer (devices_at old first before) (devices_at new last after) ending
@@ -83,6 +85,7 @@ of_records client server_rules first outcome old mid new opened over =
     let origin : over.book.origin ≡ origin_of inputs = ap (λ (b : BookOrigin). b.origin) same ∙ stands in
     let limit : over.book.limit ≡ most_entries = ap (λ (b : BookOrigin). b.limit) same ∙ ap (λ (b : BookView). b.limit) opened.at_first in
     let failed : over.book.failed_before ≡ first.keeper.faults = ap (λ (b : BookOrigin). b.failed_before) same ∙ ap (λ (b : BookView). b.failed_before) opened.at_first in
+    let calls : over.book.called_before ≡ first.keeper.calls = ap (λ (b : BookOrigin). b.called_before) same ∙ ap (λ (b : BookView). b.called_before) opened.at_first in
     let begun : first ≡ book_at_first (origin_of inputs) most_entries first.keeper = opened.at_first ∙ ap (λ (o : Origin). book_at_first o most_entries first.keeper) stands in
     record {
       before = opened.before;
@@ -104,10 +107,13 @@ of_records client server_rules first outcome old mid new opened over =
         legal = subst (λ (o : Origin). IsLegal o over.book.history) origin over.legal;
         has = subst (λ (o : Origin). HasRecords o over.book.history over.book.keeper) origin over.has;
         faults = subst (λ (n : ℕ). CountsUnkept n over.book.history over.book.keeper) failed over.faults;
+        called = subst (λ (n : ℕ). CountsCalls n (origin_of inputs) over.book.history over.book.asks over.book.keeper) calls
+            (subst (λ (o : Origin). CountsCalls over.book.called_before o over.book.history over.book.asks over.book.keeper) origin over.called);
         full = λ was. over.full was ∙ limit;
         comes = refl;
         kept = over.kept;
         files = over.files ∙ ap (λ (d : WorldView). d.files) opened.is;
+        launcher = over.launcher ∙ ap (λ (d : WorldView). d.inputs.launcher) opened.is;
       };
     }
 

@@ -1,29 +1,37 @@
 -- In a run in which no count rose, all was done.
-use Rattle.std.proofs.Common.{◌≡◌, ◌≤◌, ℕ, List, [], ◌++◌, refl, sym, ◌∙◌, ap, subst, inl, inr, ◌⊎◌, true}
+use Rattle.std.proofs.Common.{arith, ◌≡◌, ◌≤◌, ℕ, List, [], ◌∷◌, ◌++◌, refl, sym, ◌∙◌, ap, subst, inl, inr, ◌⊎◌, true, false}
 use Rattle.std.specs.Prelude.{Option, Some, None, Result, Ok, Err, codes}
+use Rattle.fw_outside.specs.LauncherView.{LauncherView, Starts}
 use Rattle.fw_outside.specs.SinkView.{Gives, SinkView}
 use Rattle.fw_outside.specs.ToldList.{grown}
 use Rattle.fw_outside.specs.declared.failed.Failed as sink
+use Rattle.fw_outside.specs.declared.started.Started.{Started}
+use Rattle.fw_outside.specs.declared.started.Started.TheVariants as program
 use Rattle.gate_rules.specs.Verdict.{verdict_of}
 use Rattle.gate_rules.specs.declared.verdict.Verdict.{Verdict}
-use Rattle.session_acts.proofs.ToldLemmas.{by_nothing}
-use Rattle.bastion.specs.Complete.{AllDone, IsComplete, IsWhole}
+use Rattle.session_acts.proofs.ToldLemmas.{by_both, by_nothing}
+use Rattle.bastion.specs.Complete.{AllDone, IsComplete, IsLaunchedWhole, IsStartedWhole, IsWhole}
+use Rattle.bastion.specs.Inputs.{Inputs}
 use Rattle.bastion.specs.Outcome.{fault_line_of, refusal_text, status_of, verdict_status}
 use Rattle.bastion.specs.Run.{DoesLine, Run, Stops, TellsIf, Worked}
 use Rattle.bastion.specs.Status.{IsServed, SomeRose}
+use Rattle.bastion.specs.Texts.{decision_text, ended_text, print_text, program_of}
 use Rattle.bastion.specs.Words.{LineView}
-use Rattle.bastion.specs.Works.{PrintsAfter, announced, shown, with_given}
-use Rattle.bastion.specs.WorldView.{WorldView}
+use Rattle.bastion.specs.Works.{LaunchesIf, PrintsAfter, PrintsEnd, StaysSo, announced, shown, with_given}
+use Rattle.bastion.specs.WorldView.{SessionInputs, WorldView}
+use Rattle.bastion.specs.declared.outcome.Device.TheVariants as device
 use Rattle.bastion.specs.declared.outcome.Outcome.{Outcome}
 use Rattle.bastion.specs.declared.outcome.Outcome.TheVariants.{Usage, Unread, Failed, NoMemory, Decided, Ended}
 use Rattle.bastion.specs.declared.words.Command.{Command}
-use Rattle.bastion.specs.declared.words.Command.TheVariants.{Netacl, Table, Authsrv}
+use Rattle.bastion.specs.declared.words.Command.TheVariants.{Netacl, NetaclRun, Table, Authsrv}
 use Rattle.bastion.specs.declared.words.Client.{Client}
+use Rattle.bastion.specs.declared.words.Query.{Query}
 use Rattle.bastion.proofs.AttendedLemmas.{attended_status}
-use Rattle.bastion.proofs.RunLemmas.{count_some, only_left, served_then, some_later, stops_left, stops_rose, tells_later, worked_rose}
+use Rattle.bastion.proofs.LaunchLemmas.{Launching, launched}
+use Rattle.bastion.proofs.RunLemmas.{calls_launcher, count_some, only_left, served_then, some_later, stops_left, stops_rose, tells_later, worked_rose}
 use Rattle.bastion.proofs.QuietLemmas.{Quiet, gave_whole, quiet, same_from, same_to}
 use Rattle.bastion.proofs.ServedLemmas.{attended_whole}
-use Rattle.bastion.proofs.SinkLemmas.{cut_rose}
+use Rattle.bastion.proofs.SinkLemmas.{cut_rose, gives_most, same_low}
 
 grown_from : (text : List ℕ) (a b c : SinkView) → b ≡ a → c ≡ with_given b text → c.given ≡ grown a.given text
 grown_from text a b c same is = ap (λ (s : SinkView). s.given) is ∙ ap (λ (s : SinkView). grown s.given text) same
@@ -89,6 +97,100 @@ table_whole verdict text outcome old middle mid new q logs output unlogged (Ok d
 table_whole verdict text outcome old middle mid new q logs output unlogged (Err failed) is gives tells =
     absurd (q.output middle.output.faults mid.output.faults (same_from old.output middle.output output) (same_from mid.output new.output (tells_later (fault_line_of outcome) mid new tells).output) (cut_rose text middle.output mid.output gives))
 
+-- ---- netacl -run
+
+-- the program of a permission was started, and its end printed; or there was none
+record LaunchedWhole (words : List (List ℕ)) (verdict : Verdict) (outcome : Outcome) (old new : WorldView) : Type 0 where
+  printed : List ℕ
+  launched : IsLaunchedWhole words printed old.inputs.launcher new.inputs.launcher
+  output : new.output.given ≡ grown old.output.given printed
+  logs : new.logs ≡ old.logs
+  comes : outcome ≡ Decided verdict
+
+ended_whole : (name : List ℕ) (args : List (List ℕ)) (verdict : Verdict) (outcome : Outcome) (old new : WorldView) → (status_of outcome ≡ 4 → ⊥) → (status : ℕ) → Starts (program.Ended status) name args old.inputs.launcher new.inputs.launcher
+    → (printing : Result (Unit {0}) sink.Failed) → outcome ≡ shown verdict printing → Gives printing (ended_text status) old.output new.output → new.logs ≡ old.logs → LaunchedWhole (name ∷ args) verdict outcome old new
+ended_whole name args verdict outcome old new never status starts (Ok done) is gives logs = record {
+  printed = ended_text status;
+  launched = record { status = status; starts = starts; text = refl };
+  output = ap (λ (s : SinkView). s.given) gives;
+  logs = logs;
+  comes = is;
+}
+ended_whole name args verdict outcome old new never status starts (Err failed) is gives logs = absurd (never (ap status_of is))
+
+launches_whole : (name : List ℕ) (args : List (List ℕ)) (verdict : Verdict) (outcome : Outcome) (old new : WorldView) → (status_of outcome ≡ 4 → ⊥) → (answer : Started) (after : LauncherView) → Starts answer name args old.inputs.launcher after → new.inputs.launcher ≡ after
+    → PrintsEnd answer verdict outcome old.output new.output → new.logs ≡ old.logs → LaunchedWhole (name ∷ args) verdict outcome old new
+launches_whole name args verdict outcome old new never (program.Ended status) after starts is h logs =
+    ended_whole name args verdict outcome old new never status (subst (λ (l : LauncherView). Starts (program.Ended status) name args old.inputs.launcher l) (sym is) starts) h.printing h.is h.gives logs
+launches_whole name args verdict outcome old new never program.Failed after starts is h logs = absurd (never (ap status_of h.0))
+
+launched_whole : (words : List (List ℕ)) (verdict : Verdict) (outcome : Outcome) (old new : WorldView) → (status_of outcome ≡ 4 → ⊥) → LaunchesIf words (Decided verdict) outcome old new → LaunchedWhole words verdict outcome old new
+launched_whole [] verdict outcome old new never h = record {
+  printed = [];
+  launched = (refl, ap (λ (w : WorldView). w.inputs.launcher) h.same);
+  output = grown_none old.output new.output (ap (λ (w : WorldView). w.output) h.same);
+  logs = ap (λ (w : WorldView). w.logs) h.same;
+  comes = h.is;
+}
+launched_whole (name ∷ args) verdict outcome old new never h = launches_whole name args verdict outcome old new never h.answer h.after h.starts (ap (λ (i : SessionInputs). i.launcher) h.inputs) h.printed h.logs
+
+-- how an ended run is told: the log has the decision, and the output the decision and the program's end
+started_whole : (query : Query) (inputs : Inputs) (outcome : Outcome) (old middle between mid new : WorldView) → middle.logs ≡ old.logs → middle.output ≡ old.output → middle.inputs.launcher ≡ old.inputs.launcher
+    → between.logs ≡ with_given middle.logs (decision_text (verdict_of inputs.rules query.peer) query.service query.peer) → between.output ≡ with_given middle.output (print_text inputs.rules (verdict_of inputs.rules query.peer)) → between.inputs ≡ middle.inputs
+    → LaunchedWhole (program_of inputs.rules (verdict_of inputs.rules query.peer)) (verdict_of inputs.rules query.peer) outcome between mid → TellsIf (fault_line_of outcome) mid new → IsStartedWhole query inputs (status_of outcome) old new
+started_whole query inputs outcome old middle between mid new logs output launcher logged printed same h tells =
+    let verdict : Verdict = verdict_of inputs.rules query.peer in
+    let text : List ℕ = print_text inputs.rules verdict in
+    let ends : new ≡ mid = undecided outcome verdict mid new h.comes tells in
+    let was : between.inputs.launcher ≡ old.inputs.launcher = ap (λ (i : SessionInputs). i.launcher) same ∙ launcher in
+    let Launched : LauncherView → LauncherView → Type 0 = λ a b. IsLaunchedWhole (program_of inputs.rules verdict) h.printed a b in
+    record {
+      printed = h.printed;
+      launched = subst (λ (l : LauncherView). Launched l new.inputs.launcher) was (subst (λ (w : WorldView). Launched between.inputs.launcher w.inputs.launcher) (sym ends) h.launched);
+      whole = record {
+        logs = grown_by (decision_text verdict query.service query.peer) old.logs middle.logs between.logs new.logs logs logged (ap (λ (w : WorldView). w.logs) ends ∙ h.logs);
+        output =
+            ap (λ (w : WorldView). w.output.given) ends ∙ h.output ∙ ap (λ (s : SinkView). grown s.given h.printed) printed ∙ by_both middle.output.given text h.printed
+            ∙ ap (λ (s : SinkView). grown s.given (text ++ h.printed)) output;
+        status_is = ap status_of h.comes;
+      };
+    }
+
+program_low : (answer : Started) (verdict : Verdict) (outcome : Outcome) (old new : SinkView) → PrintsEnd answer verdict outcome old new → old.faults ≤ new.faults
+program_low (program.Ended status) verdict outcome old new h = gives_most h.printing _ old new h.gives
+program_low program.Failed verdict outcome old new h = same_low old.faults new.faults (ap (λ (s : SinkView). s.faults) h.1)
+
+launched_low : (words : List (List ℕ)) (decided outcome : Outcome) (old new : WorldView) → StaysSo decided outcome old new ⊎ Launching words decided outcome old new → old.output.faults ≤ new.output.faults
+launched_low words decided outcome old new (inl stays) = same_low old.output.faults new.output.faults (ap (λ (w : WorldView). w.output.faults) stays.same)
+launched_low words decided outcome old new (inr l) = program_low l.launches.answer l.verdict outcome old.output new.output l.launches.printed
+
+-- a log that failed ends the run
+unlogged : {A : Type 0} (words : List (List ℕ)) (decided outcome : Outcome) (old new : WorldView) → (status_of outcome ≡ 4 → ⊥) → decided ≡ Failed device.Log → StaysSo decided outcome old new ⊎ Launching words decided outcome old new → A
+unlogged words decided outcome old new never is (inl stays) = absurd (never (ap status_of (stays.is ∙ is)))
+unlogged words decided outcome old new never is (inr l) = let clash : Decided l.verdict ≡ Failed device.Log = sym l.decided_is ∙ is in absurd (cc)
+
+run_prints : (query : Query) (inputs : Inputs) (decided outcome : Outcome) (old middle between mid new : WorldView) → Quiet old new → (status_of outcome ≡ 4 → ⊥) → middle.logs ≡ old.logs → middle.output ≡ old.output → middle.inputs.launcher ≡ old.inputs.launcher
+    → between.logs ≡ with_given middle.logs (decision_text (verdict_of inputs.rules query.peer) query.service query.peer) → between.inputs ≡ middle.inputs
+    → (printing : Result (Unit {0}) sink.Failed) → decided ≡ announced (verdict_of inputs.rules query.peer) printing → Gives printing (print_text inputs.rules (verdict_of inputs.rules query.peer)) middle.output between.output
+    → LaunchesIf (program_of inputs.rules (verdict_of inputs.rules query.peer)) decided outcome between mid → TellsIf (fault_line_of outcome) mid new → IsStartedWhole query inputs (status_of outcome) old new
+run_prints query inputs decided outcome old middle between mid new q never logs output launcher logged same (Ok done) is gives h tells =
+    let Launches : Outcome → Type 0 = λ o. LaunchesIf (program_of inputs.rules (verdict_of inputs.rules query.peer)) o outcome between mid in
+    started_whole query inputs outcome old middle between mid new logs output launcher logged gives same
+    (launched_whole (program_of inputs.rules (verdict_of inputs.rules query.peer)) (verdict_of inputs.rules query.peer) outcome between mid never (subst Launches is h)) tells
+run_prints query inputs decided outcome old middle between mid new q never logs output launcher logged same (Err failed) is gives h tells =
+    let low : between.output.faults ≤ mid.output.faults = launched_low (program_of inputs.rules (verdict_of inputs.rules query.peer)) decided outcome between mid (launched (program_of inputs.rules (verdict_of inputs.rules query.peer)) decided outcome between mid h) in
+    let later : mid.output.faults ≤ new.output.faults = same_from mid.output new.output (tells_later (fault_line_of outcome) mid new tells).output in
+    absurd (q.output middle.output.faults between.output.faults (same_from old.output middle.output output) (omega (arith, low, later)) (cut_rose (print_text inputs.rules (verdict_of inputs.rules query.peer)) middle.output between.output gives))
+
+run_whole : (query : Query) (inputs : Inputs) (decided outcome : Outcome) (old middle between mid new : WorldView) → Quiet old new → (status_of outcome ≡ 4 → ⊥) → middle.logs ≡ old.logs → middle.output ≡ old.output → middle.inputs.launcher ≡ old.inputs.launcher → between.inputs ≡ middle.inputs
+    → (logging : Result (Unit {0}) sink.Failed) → Gives logging (decision_text (verdict_of inputs.rules query.peer) query.service query.peer) middle.logs between.logs
+    → PrintsAfter logging (verdict_of inputs.rules query.peer) (print_text inputs.rules (verdict_of inputs.rules query.peer)) decided middle.output between.output
+    → LaunchesIf (program_of inputs.rules (verdict_of inputs.rules query.peer)) decided outcome between mid → TellsIf (fault_line_of outcome) mid new → IsStartedWhole query inputs (status_of outcome) old new
+run_whole query inputs decided outcome old middle between mid new q never logs output launcher same (Ok done) logged printed h tells =
+    run_prints query inputs decided outcome old middle between mid new q never logs output launcher logged same printed.printing printed.is printed.gives h tells
+run_whole query inputs decided outcome old middle between mid new q never logs output launcher same (Err failed) logged printed h tells =
+    unlogged (program_of inputs.rules (verdict_of inputs.rules query.peer)) decided outcome between mid never printed.is (launched (program_of inputs.rules (verdict_of inputs.rules query.peer)) decided outcome between mid h)
+
 -- ---- all commands
 
 served_whole : (name : List ℕ) (client : Client) (outcome : Outcome) (old mid new : WorldView) → (SomeRose old new → ⊥) → (h : Worked name (Authsrv client) outcome old mid) → TellsIf (fault_line_of outcome) mid new
@@ -116,6 +218,16 @@ worked_complete name (Netacl query) outcome old mid new none h tells =
       inputs = h.read;
       does =
           netacl_whole (verdict_of h.inputs.rules query.peer) _ _ outcome old h.middle mid new (quiet old new none) h.only.logs h.only.output h.works.logging h.works.logged h.works.printed tells;
+    })
+worked_complete name (NetaclRun query) outcome old mid new none h tells =
+    let later = tells_later (fault_line_of outcome) mid new tells in
+    let never : status_of outcome ≡ 4 → ⊥ = λ four. none (some_later old mid new later (count_some outcome old mid (worked_rose name (NetaclRun query) outcome old mid h) four)) in
+    inr (record {
+      read = Ok h.inputs;
+      inputs = h.read;
+      does =
+          run_whole query h.inputs h.works.decided outcome old h.middle h.works.middle mid new (quiet old new none) never h.only.logs h.only.output (calls_launcher false old.inputs h.middle.inputs h.only.inputs) h.works.announced.inputs
+          h.works.announced.logging h.works.announced.logged h.works.announced.printed h.works.launched tells;
     })
 worked_complete name (Table query) outcome old mid new none h tells =
     inr (record {

@@ -232,10 +232,12 @@ module _ {Origin : Type 0} where
       record {
         faults = h.faults;
         idles = h.idles;
+        amount = h.amount;
         drops = h.drops;
         log_drops = omega (arith, before, later);
         breaks = h.breaks;
         strays = h.strays;
+        asks = h.asks;
         refusals = h.refusals;
         link_faults = h.link_faults;
         link_idles = h.link_idles;

@@ -1,5 +1,5 @@
 -- Turning a client away is the session of a denial: its log was given the line, and its sink the words.
-use Rattle.std.proofs.Common.{◌≡◌, refl, sym, subst, ℕ, List, [], ◌∷◌, inl, inr}
+use Rattle.std.proofs.Common.{◌≡◌, refl, sym, subst, ℕ, false, List, [], ◌∷◌, inl, inr}
 use Rattle.std.specs.Prelude.{Ok, Err}
 use Rattle.auth_events.specs.declared.port.PortFault.TheVariants as faults
 use Rattle.fw_acts.specs.Acts.Row.{Over}
@@ -10,18 +10,23 @@ use Rattle.fw_types.specs.declared.ending.Ending.TheVariants as endings
 use Rattle.session_acts.specs.Acts.Act.{Log, Try}
 use Rattle.session_acts.specs.Denying.{denying_row, no_rows}
 use Rattle.session_acts.specs.Session.{Session}
-use Rattle.session_acts.specs.World.{Devices, World, at_first}
+use Rattle.session_acts.specs.World.{Devices, Names, World, at_first}
 use Rattle.session_acts.specs.declared.cause.Cause.TheVariants as causes
 use Rattle.session_acts.proofs.StageLemmas.{Gift, cut_at, front_of, gift}
 use Rattle.bastion.specs.TurningAway.{TurnedAway}
+
+-- the client is lent no threads
+abbrev nobody : Names
+nobody = record { devices = []; relays = false }
 
 module _ {Origin : Type 0} where
   -- the log failed within the line
   untold_session : (line words : List ℕ) (old : Devices Origin) (logs : SinkView) → Cut line old.logs logs → Session no_rows (denying_row line words) old (record old { logs = logs }) endings.LogFault
   untold_session line words old logs cut =
-      let last : World Origin = record (at_first old []) { logs = logs } in
+      let last : World Origin = record (at_first old nobody) { logs = logs } in
       record {
-        names = [];
+        names = nobody;
+        lent = refl;
         last = last;
         held = record {
           dialogue = Err causes.LogFault;
@@ -29,13 +34,13 @@ module _ {Origin : Type 0} where
           ran = record {
             steps = [];
             left = denying_row line words;
-            mid = at_first old [];
+            mid = at_first old nobody;
             run = refl;
             does = refl;
             comes = record {
               halt = front_of cut;
               is_cause = refl;
-              met = record { client = refl; logs = cut_at cut; office = refl; server = refl; names = refl };
+              met = record { client = refl; logs = cut_at cut; office = refl; server = refl; names = refl; may = tt };
             };
           };
           answer = Err faults.Link;
@@ -49,11 +54,12 @@ module _ {Origin : Type 0} where
   told_session : (line words : List ℕ) (old : Devices Origin) (told logs : SinkView) → logs ≡ record (old.logs) { given = grown old.logs.given line } → Gift words old.outlet told
       → Session no_rows (denying_row line words) old (record old { outlet = told; logs = logs }) endings.Done
   told_session line words old told logs logged h =
-      let start : World Origin = at_first old [] in
+      let start : World Origin = at_first old nobody in
       let noted : World Origin = record start { logs = logs } in
       let last : World Origin = record noted { client = record (start.client) { outlet = told } } in
       record {
-        names = [];
+        names = nobody;
+        lent = refl;
         last = last;
         held = record {
           dialogue = Ok tt;
@@ -65,10 +71,10 @@ module _ {Origin : Type 0} where
             run = (tt, refl, (h.tried, refl, refl));
             does = (
               noted,
-              record { client = refl; logs = logged; office = refl; server = refl; names = refl },
+              record { client = refl; logs = logged; office = refl; server = refl; names = refl; may = tt },
               (
                 last,
-                record { client = record { outlet = told; gets = h.gets; is = refl }; logs = refl; office = refl; server = refl; names = refl },
+                record { client = record { outlet = told; gets = h.gets; is = refl }; logs = refl; office = refl; server = refl; names = refl; may = tt },
                 refl,
               ),
             );

@@ -8,7 +8,7 @@ use Rattle.gate_rules.specs.Verdict.{verdict_of}
 use Rattle.gate_rules.specs.declared.service.Service.{Service}
 use Rattle.gate_rules.specs.declared.verdict.Verdict.{Verdict}
 use Rattle.gate_rules.specs.declared.verdict.Verdict.TheVariants.{Permit, Deny}
-use Rattle.bastion.specs.Deciding.{Decides, Reports}
+use Rattle.bastion.specs.Deciding.{Decides, DecidesRun, Reports, RunsBy}
 use Rattle.bastion.specs.Inputs.{HasInputs, Inputs, needs_records}
 use Rattle.bastion.specs.Outcome.{verdict_status}
 use Rattle.bastion.specs.Reading.{Unfound, Finds, is_early, ruling_in, server_rules_of}
@@ -86,6 +86,16 @@ decided_does name query inputs (Deny line) outcome old mid new read only is h =
     let Done : Verdict → Type 0 = λ v. Announced query v (print_text inputs.rules v) outcome mid new in
     inr (record { inputs = inputs; read = read; middle = mid; only = only; works = subst Done is h })
 
+started_does : (name : List ℕ) (query : Query) (inputs : Inputs) (verdict : Verdict) (outcome : Outcome) (old mid new : WorldView) → HasInputs name (commands.NetaclRun query) (Ok inputs) old → ReadsOnly name false old mid → verdict ≡ verdict_of inputs.rules query.peer
+    → DecidesRun query verdict inputs.rules outcome mid new → DoesFor name (commands.NetaclRun query) outcome old new
+started_does name query inputs (Permit line) outcome old mid new read only is h =
+    let Done : Verdict → Type 0 = λ v. ((outcome ≡ NoMemory steps.Print) × (new ≡ mid)) ⊎ RunsBy query v inputs.rules outcome mid new in
+    permitted_does name (commands.NetaclRun query) inputs outcome old mid new read only (ap verdict_status (sym is))
+    (subst Done is h)
+started_does name query inputs (Deny line) outcome old mid new read only is h =
+    let Done : Verdict → Type 0 = λ v. RunsBy query v inputs.rules outcome mid new in
+    inr (record { inputs = inputs; read = read; middle = mid; only = only; works = subst Done is h })
+
 reported_does : (name : List ℕ) (query : Query) (inputs : Inputs) (verdict : Verdict) (outcome : Outcome) (old mid new : WorldView) → HasInputs name (commands.Table query) (Ok inputs) old → ReadsOnly name false old mid → verdict ≡ verdict_of inputs.rules query.peer
     → Reports verdict inputs.rules outcome mid new → DoesFor name (commands.Table query) outcome old new
 reported_does name query inputs (Permit line) outcome old mid new read only is h =
@@ -99,6 +109,9 @@ reported_does name query inputs (Deny line) outcome old mid new read only is h =
 pub needs_netacl : (query : Query) → NeedsRules (commands.Netacl query) query.service
 needs_netacl query = record { only = refl; no_records = refl }
 
+pub needs_netacl_run : (query : Query) → NeedsRules (commands.NetaclRun query) query.service
+needs_netacl_run query = record { only = refl; no_records = refl }
+
 pub needs_table : (query : Query) → NeedsRules (commands.Table query) query.service
 needs_table query = record { only = refl; no_records = refl }
 
@@ -106,6 +119,11 @@ pub netacl_does : (name : List ℕ) (query : Query) (rules : RuleBook) (outcome 
     → Decides query (verdict_of rules query.peer) rules outcome mid new → DoesFor name (commands.Netacl query) outcome old new
 netacl_does name query rules outcome old mid new found asked decides =
     decided_does name query _ (verdict_of rules query.peer) outcome old mid new (inputs_rules (commands.Netacl query) query.service (needs_netacl query) name rules old found.of_text) (only_files name old mid found.asks asked) refl decides
+
+pub netacl_run_does : (name : List ℕ) (query : Query) (rules : RuleBook) (outcome : Outcome) (old mid new : WorldView) → Finds (ruling_in (rules_of query.service)) name (Ok rules) old.files mid.files → AskedFiles old mid
+    → DecidesRun query (verdict_of rules query.peer) rules outcome mid new → DoesFor name (commands.NetaclRun query) outcome old new
+netacl_run_does name query rules outcome old mid new found asked decides =
+    started_does name query _ (verdict_of rules query.peer) outcome old mid new (inputs_rules (commands.NetaclRun query) query.service (needs_netacl_run query) name rules old found.of_text) (only_files name old mid found.asks asked) refl decides
 
 pub table_does : (name : List ℕ) (query : Query) (rules : RuleBook) (outcome : Outcome) (old mid new : WorldView) → Finds (ruling_in (rules_of query.service)) name (Ok rules) old.files mid.files → AskedFiles old mid
     → Reports (verdict_of rules query.peer) rules outcome mid new → DoesFor name (commands.Table query) outcome old new

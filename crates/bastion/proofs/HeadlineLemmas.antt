@@ -53,19 +53,21 @@ use Rattle.bastion.specs.Outcome.{fault_line_of, status_of, verdict_status}
 use Rattle.bastion.specs.Run.{DoesLine, ReadsOnly, Run, Stops, TellsIf, Worked, verdict_for}
 use Rattle.bastion.specs.Serving.{Attended, UntouchedAt, book_at_first, devices_at, most_entries, origin_of}
 use Rattle.bastion.specs.Status.{IsHeld, IsServed}
-use Rattle.bastion.specs.Texts.{decision_text}
 use Rattle.bastion.specs.Words.{LineView}
-use Rattle.bastion.specs.Works.{PrintsAfter, announced, with_given}
+use Rattle.bastion.specs.Texts.{decision_text, print_text, program_of}
+use Rattle.bastion.specs.Works.{Announced, AnnouncedRun, PrintsAfter, StaysSo, announced, with_given}
 use Rattle.bastion.specs.WorldView.{SessionInputs, WorldView}
 use Rattle.bastion.specs.declared.outcome.Device.TheVariants as device
 use Rattle.bastion.specs.declared.outcome.Outcome.{Outcome}
 use Rattle.bastion.specs.declared.outcome.Outcome.TheVariants.{Usage, Unread, Failed, NoMemory, Decided, Ended}
 use Rattle.bastion.specs.declared.words.Client.{Client}
 use Rattle.bastion.specs.declared.words.Command.{Command}
-use Rattle.bastion.specs.declared.words.Command.TheVariants.{Netacl, Table, Authsrv}
+use Rattle.bastion.specs.declared.words.Command.TheVariants.{Netacl, NetaclRun, Table, Authsrv}
 use Rattle.bastion.specs.declared.words.Query.{Query}
 use Rattle.bastion.proofs.AttendedLemmas.{attended_status}
-use Rattle.bastion.proofs.SessionLemmas.{OfDenial, OfSession, lent_outlet, lent_port, serves_so, tells_noted}
+use Rattle.bastion.proofs.DecidedLemmas.{ByVerdict}
+use Rattle.bastion.proofs.LaunchLemmas.{Launching, launched, run_status_by}
+use Rattle.bastion.proofs.SessionLemmas.{OfDenial, OfSession, called_in, lent_outlet, lent_port, serves_so, tells_noted}
 use Rattle.bastion.proofs.RunLemmas.{Later, only_left, stops_left, tells_later}
 
 -- ---- nothing was done
@@ -83,6 +85,7 @@ stops_silent name command outcome old mid new h later = record { output = later.
 
 silent_headline : (name : List ℕ) (command : Command) (status : ℕ) (old new : WorldView) → IsUnserved status old new → HeadlineFor name command status old new
 silent_headline name (Netacl query) status old new h = record { replies_legal = tt; denials_logged = inl h.silent }
+silent_headline name (NetaclRun query) status old new h = record { replies_legal = tt; denials_logged = inl h.silent }
 silent_headline name (Table query) status old new h = record { replies_legal = tt; denials_logged = tt }
 silent_headline name (Authsrv client) status old new h = record { replies_legal = inl h; denials_logged = inl h.silent }
 
@@ -108,17 +111,17 @@ failed_four which outcome ends is = let four = ap status_of ends in omega (arith
 no_line : (outcome : Outcome) (verdict : Verdict) (mid new : WorldView) → outcome ≡ Decided verdict → TellsIf (fault_line_of outcome) mid new → new ≡ mid
 no_line outcome verdict mid new is h = let P : Outcome → Type 0 = λ o. TellsIf (fault_line_of o) mid new in subst P is h
 
-netacl_by : (query : Query) (inputs : Inputs) (verdict : Verdict) (text : List ℕ) (outcome : Outcome) (old mid new : WorldView) → verdict_of inputs.rules query.peer ≡ verdict → (logging : Result (Unit {0}) sink.Failed)
+netacl_by : (command : Command) (query : Query) (inputs : Inputs) (verdict : Verdict) (text : List ℕ) (outcome : Outcome) (old mid new : WorldView) → verdict_for command inputs ≡ verdict → (logging : Result (Unit {0}) sink.Failed)
     → Gives logging (decision_text verdict query.service query.peer) old.logs mid.logs → PrintsAfter logging verdict text outcome old.output mid.output → TellsIf (fault_line_of outcome) mid new
-    → IsSilent (status_of outcome) old new ⊎ (IsPermitted (Netacl query) inputs (status_of outcome) ⊎ IsDenied (Netacl query) query.service query.peer inputs (status_of outcome) old new)
-netacl_by query inputs verdict text outcome old mid new is (Err failed) logged h tells =
+    → IsSilent (status_of outcome) old new ⊎ (IsPermitted command inputs (status_of outcome) ⊎ IsDenied command query.service query.peer inputs (status_of outcome) old new)
+netacl_by command query inputs verdict text outcome old mid new is (Err failed) logged h tells =
     inl (record { output = (tells_later (fault_line_of outcome) mid new tells).output ∙ h.output; undenied = failed_four device.Log outcome h.is })
-netacl_by query inputs (Permit line) text outcome old mid new is (Ok done) logged h tells =
+netacl_by command query inputs (Permit line) text outcome old mid new is (Ok done) logged h tells =
     inr (inl (record {
       permitted = λ outside. ap verdict_status is;
       undenied = subst (λ (o : Outcome). status_of o ≢ 1) (sym h.is) (announced_undenied line h.printing);
     }))
-netacl_by query inputs (Deny line) text outcome old mid new is (Ok done) logged h tells =
+netacl_by command query inputs (Deny line) text outcome old mid new is (Ok done) logged h tells =
     let decided : outcome ≡ Decided (Deny line) = h.is ∙ announced_deny line h.printing in
     inr (inr (record {
       line = line;
@@ -126,6 +129,32 @@ netacl_by query inputs (Deny line) text outcome old mid new is (Ok done) logged 
       logged = ap (λ (w : WorldView). w.logs) (no_line outcome (Deny line) mid new decided tells) ∙ logged;
       status_is = ap status_of decided;
     }))
+
+-- a program was started, or not: only after a permission
+ends_undenied : (line : ℕ) (outcome : Outcome) → ByVerdict (Permit line) outcome → status_of outcome ≢ 1
+ends_undenied line outcome (inl four) is = omega (arith, four, is)
+ends_undenied line outcome (inr zero) is = omega (arith, zero, is)
+
+run_permitted : (query : Query) (inputs : Inputs) (verdict : Verdict) (name : List ℕ) (args : List (List ℕ)) (outcome : Outcome) → verdict_of inputs.rules query.peer ≡ verdict → program_of inputs.rules verdict ≡ name ∷ args → ByVerdict verdict outcome
+    → IsPermitted (NetaclRun query) inputs (status_of outcome)
+run_permitted query inputs (Permit line) name args outcome is words by = record { permitted = λ outside. ap verdict_status is; undenied = ends_undenied line outcome by }
+run_permitted query inputs (Deny line) name args outcome is words by = let clash : [] ≡ name ∷ args = words in absurd (cc)
+
+netacl_run_so : (query : Query) (inputs : Inputs) (decided outcome : Outcome) (old middle mid new : WorldView) → (h : Announced query (verdict_of inputs.rules query.peer) (print_text inputs.rules (verdict_of inputs.rules query.peer)) decided old middle) → ByVerdict (verdict_of inputs.rules query.peer) outcome
+    → TellsIf (fault_line_of outcome) mid new → StaysSo decided outcome middle mid ⊎ Launching (program_of inputs.rules (verdict_of inputs.rules query.peer)) decided outcome middle mid
+    → IsSilent (status_of outcome) old new ⊎ (IsPermitted (NetaclRun query) inputs (status_of outcome) ⊎ IsDenied (NetaclRun query) query.service query.peer inputs (status_of outcome) old new)
+netacl_run_so query inputs decided outcome old middle mid new h by tells (inl stays) =
+    let So : Outcome → Type 0 = λ o. IsSilent (status_of o) old new ⊎ (IsPermitted (NetaclRun query) inputs (status_of o) ⊎ IsDenied (NetaclRun query) query.service query.peer inputs (status_of o) old new) in
+    let told : TellsIf (fault_line_of decided) middle new = subst (λ (w : WorldView). TellsIf (fault_line_of decided) w new) stays.same (subst (λ (o : Outcome). TellsIf (fault_line_of o) mid new) stays.is tells) in
+    subst So (sym stays.is) (netacl_by (NetaclRun query) query inputs (verdict_of inputs.rules query.peer) _ decided old middle new refl h.logging h.logged h.printed told)
+netacl_run_so query inputs decided outcome old middle mid new h by tells (inr l) = inr (inl (run_permitted query inputs (verdict_of inputs.rules query.peer) l.name l.args outcome refl l.words_are by))
+
+netacl_run_by : (query : Query) (inputs : Inputs) (outcome : Outcome) (old mid new : WorldView) → AnnouncedRun query (verdict_of inputs.rules query.peer) (print_text inputs.rules (verdict_of inputs.rules query.peer)) (program_of inputs.rules (verdict_of inputs.rules query.peer)) outcome old mid
+    → TellsIf (fault_line_of outcome) mid new
+    → IsSilent (status_of outcome) old new ⊎ (IsPermitted (NetaclRun query) inputs (status_of outcome) ⊎ IsDenied (NetaclRun query) query.service query.peer inputs (status_of outcome) old new)
+netacl_run_by query inputs outcome old mid new h tells =
+    netacl_run_so query inputs h.decided outcome old h.middle mid new h.announced (run_status_by query (verdict_of inputs.rules query.peer) _ _ outcome old mid h) tells
+    (launched (program_of inputs.rules (verdict_of inputs.rules query.peer)) h.decided outcome h.middle mid h.launched)
 
 -- ---- a session
 
@@ -249,6 +278,7 @@ of_history client inputs out old mid new h tells s =
       talk = subst (λ (p : Port BookOrigin). map said_of p.seen ≡ filter is_entered (talk_of deeds)) port whole;
       has = h.has;
       faults = h.faults;
+      called = called_in rows row first (left_so new.inputs new.output h.book h.dialer s.logs) h.ending session h.before.calls (origin_of inputs) h.book.history h.book.keeper (ap (λ (p : Port BookOrigin). p.asks) fresh) h.called;
       kept = ap (λ (i : SessionInputs). i.keeper) later.inputs ∙ h.kept;
       told = session_gave rows row first (left_so new.inputs new.output h.book h.dialer s.logs) h.ending session ∙ ap (λ (o : SinkView). grown o.given (gives told deeds)) same;
       ended = mid.logs;
@@ -372,6 +402,11 @@ netacl_headline : (name : List ℕ) (query : Query) (outcome : Outcome) (status 
 netacl_headline name query outcome status old mid new h (inl silent) = record { replies_legal = tt; denials_logged = inl (silent_from status old h.middle new h.only.output silent) }
 netacl_headline name query outcome status old mid new h (inr so) = record { replies_legal = tt; denials_logged = inr (record { inputs = h.inputs; read = h.read; middle = h.middle; only = h.only; so = so }) }
 
+netacl_run_headline : (name : List ℕ) (query : Query) (outcome : Outcome) (status : ℕ) (old mid new : WorldView) (h : Worked name (NetaclRun query) outcome old mid)
+    → IsSilent status h.middle new ⊎ (IsPermitted (NetaclRun query) h.inputs status ⊎ IsDenied (NetaclRun query) query.service query.peer h.inputs status h.middle new) → HeadlineFor name (NetaclRun query) status old new
+netacl_run_headline name query outcome status old mid new h (inl silent) = record { replies_legal = tt; denials_logged = inl (silent_from status old h.middle new h.only.output silent) }
+netacl_run_headline name query outcome status old mid new h (inr so) = record { replies_legal = tt; denials_logged = inr (record { inputs = h.inputs; read = h.read; middle = h.middle; only = h.only; so = so }) }
+
 client_headline : (name : List ℕ) (client : Client) (outcome : Outcome) (status : ℕ) (old mid new : WorldView) (h : Worked name (Authsrv client) outcome old mid) → ClientHeadline client h.inputs status h.middle new → HeadlineFor name (Authsrv client) status old new
 client_headline name client outcome status old mid new h (inl unserved) =
     let so = unserved_from name status old h.middle new h.only unserved in record { replies_legal = inl so; denials_logged = inl so.silent }
@@ -383,7 +418,9 @@ client_headline name client outcome status old mid new h (inr so) = record {
 worked_headline : (name : List ℕ) (command : Command) (outcome : Outcome) (old mid new : WorldView) → Worked name command outcome old mid → TellsIf (fault_line_of outcome) mid new → HeadlineFor name command (status_of outcome) old new
 worked_headline name (Netacl query) outcome old mid new h tells =
     netacl_headline name query outcome (status_of outcome) old mid new h
-    (netacl_by query h.inputs (verdict_of h.inputs.rules query.peer) _ outcome h.middle mid new refl h.works.logging h.works.logged h.works.printed tells)
+    (netacl_by (Netacl query) query h.inputs (verdict_of h.inputs.rules query.peer) _ outcome h.middle mid new refl h.works.logging h.works.logged h.works.printed tells)
+worked_headline name (NetaclRun query) outcome old mid new h tells =
+    netacl_run_headline name query outcome (status_of outcome) old mid new h (netacl_run_by query h.inputs outcome h.middle mid new h.works tells)
 worked_headline name (Table query) outcome old mid new h tells = record { replies_legal = tt; denials_logged = tt }
 worked_headline name (Authsrv client) outcome old mid new h tells =
     client_headline name client outcome (status_of outcome) old mid new h (attended_headline client h.inputs outcome h.middle mid new h.works tells)

@@ -2,10 +2,12 @@ pub mod AttendedLemmas
 pub mod ClientLemmas
 pub mod CompleteLemmas
 pub mod ConnLemmas
+pub mod DecidedLemmas
 pub mod DenialLemmas
 pub mod DoesLemmas
 pub mod HeadlineLemmas
 pub mod InputLemmas
+pub mod LaunchLemmas
 pub mod LoglessLemmas
 pub mod QuietLemmas
 pub mod ReadingLemmas

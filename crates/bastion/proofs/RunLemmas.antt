@@ -6,6 +6,7 @@ use Rattle.fw_outside.specs.ClockView.{ClockView}
 use Rattle.fw_outside.specs.Counts.{Rose}
 use Rattle.fw_outside.specs.FilesView.{FilesView}
 use Rattle.fw_outside.specs.KeeperView.{KeeperFailed, KeeperView, NamedBytes}
+use Rattle.fw_outside.specs.LauncherView.{LauncherView}
 use Rattle.fw_outside.specs.SinkView.{Gives, SinkView}
 use Rattle.fw_outside.specs.SourceView.{SourceView}
 use Rattle.session_acts.specs.Causes.{TookMost}
@@ -22,7 +23,7 @@ use Rattle.bastion.specs.Outcome.{CountRose, DeviceRose, EndingRose, KeeperRose,
 use Rattle.bastion.specs.Run.{CallsIf, DoesLine, FilesFailed, ReadsOnly, Run, Stops, TellsIf, Worked}
 use Rattle.bastion.specs.Status.{IsFull, IsHeld, IsServed, IsStatus, IsStatusFor, SomeRose, TakesIn}
 use Rattle.bastion.specs.Words.{LineView}
-use Rattle.bastion.specs.Works.{PrintsAfter, Works, announced, shown}
+use Rattle.bastion.specs.Works.{Works}
 use Rattle.bastion.specs.WorldView.{SessionInputs, WorldView}
 use Rattle.bastion.specs.declared.outcome.Device.{Device}
 use Rattle.bastion.specs.declared.outcome.Device.TheVariants as device
@@ -31,8 +32,10 @@ use Rattle.bastion.specs.declared.outcome.Outcome.TheVariants.{Usage, Unread, Fa
 use Rattle.bastion.specs.declared.outcome.Step.{Step}
 use Rattle.bastion.specs.declared.outcome.Step.TheVariants as steps
 use Rattle.bastion.specs.declared.words.Command.{Command}
-use Rattle.bastion.specs.declared.words.Command.TheVariants.{Netacl, Table, Authsrv}
+use Rattle.bastion.specs.declared.words.Command.TheVariants.{Netacl, NetaclRun, Table, Authsrv}
 use Rattle.bastion.proofs.AttendedLemmas.{attended_rose, attended_status, attended_takes, takes_same}
+use Rattle.bastion.proofs.DecidedLemmas.{ByVerdict, after_rose, after_status, shown_rose, shown_status}
+use Rattle.bastion.proofs.LaunchLemmas.{run_left, run_rose, run_status_by}
 use Rattle.bastion.proofs.SinkLemmas.{cut_rose, gives_most, rose_later, same_low}
 
 -- ---- what reading leaves
@@ -137,24 +140,13 @@ stops_rose name command (Failed device.Records) old new h =
     both_keepers old.inputs.keeper new.inputs.keeper h.before h.after h.keeper (ap (λ (i : SessionInputs). i.keeper) h.inputs) (missed_rose h.before h.after h.failed)
 stops_rose name command (Failed device.Output) old new h = absurd h
 stops_rose name command (Failed device.Log) old new h = absurd h
+stops_rose name command (Failed device.Program) old new h = absurd h
 stops_rose name command (Ended ending refused) old new h = absurd h
 stops_rose name command outcome old new h = tt
 
-announced_rose : (verdict : Verdict) (printing : Result (Unit {0}) sink.Failed) (text : List ℕ) (old new : WorldView) → Gives printing text old.output new.output → CountRose (announced verdict printing) old new
-announced_rose verdict (Ok done) text old new gives = tt
-announced_rose (Permit line) (Err failed) text old new gives = cut_rose text old.output new.output gives
-announced_rose (Deny line) (Err failed) text old new gives = tt
-
-shown_rose : (verdict : Verdict) (printing : Result (Unit {0}) sink.Failed) (text : List ℕ) (old new : WorldView) → Gives printing text old.output new.output → CountRose (shown verdict printing) old new
-shown_rose verdict (Ok done) text old new gives = tt
-shown_rose verdict (Err failed) text old new gives = cut_rose text old.output new.output gives
-
-after_rose : (logging : Result (Unit {0}) sink.Failed) (verdict : Verdict) (line text : List ℕ) (outcome : Outcome) (old new : WorldView) → Gives logging line old.logs new.logs → PrintsAfter logging verdict text outcome old.output new.output → CountRose outcome old new
-after_rose (Err failed) verdict line text outcome old new logged h = subst (λ (o : Outcome). CountRose o old new) (sym h.is) (cut_rose line old.logs new.logs logged)
-after_rose (Ok done) verdict line text outcome old new logged h = subst (λ (o : Outcome). CountRose o old new) (sym h.is) (announced_rose verdict h.printing text old new h.gives)
-
 works_rose : (command : Command) (inputs : Inputs) (outcome : Outcome) (old new : WorldView) → Works command inputs outcome old new → CountRose outcome old new
 works_rose (Netacl query) inputs outcome old new h = after_rose h.logging (verdict_of inputs.rules query.peer) _ _ outcome old new h.logged h.printed
+works_rose (NetaclRun query) inputs outcome old new h = run_rose query (verdict_of inputs.rules query.peer) _ _ outcome old new h
 works_rose (Table query) inputs outcome old new h =
     subst (λ (o : Outcome). CountRose o old new) (sym h.printed.is) (shown_rose (verdict_of inputs.rules query.peer) h.printed.printing _ old new h.printed.gives)
 works_rose (Authsrv client) inputs outcome old new h = attended_rose client inputs outcome old new h
@@ -171,12 +163,18 @@ keeper_from true old mid new calls h =
     let after : KeeperRose (Some calls.after) new = subst (λ (i : SessionInputs). KeeperRose i.keeper new) calls.is h in
     subst (λ (k : Option KeeperView). KeeperRose k new) (sym calls.keeper) (same_faults calls.after calls.before new (ap (λ (v : KeeperView). v.faults) calls.called.is) after)
 
+pub calls_launcher : (records : Bool) (old new : SessionInputs) → CallsIf records old new → new.launcher ≡ old.launcher
+calls_launcher true old new h = ap (λ (i : SessionInputs). i.launcher) h.is
+calls_launcher false old new h = ap (λ (i : SessionInputs). i.launcher) h
+
 device_from : (name : List ℕ) (records : Bool) (which : Device) (old mid new : WorldView) → ReadsOnly name records old mid → DeviceRose which mid new → DeviceRose which old new
 device_from name records device.Table old mid new only h =
     subst (λ (f : FilesView). Rose f.missing new.files.missing ⊎ Rose f.read_faults new.files.read_faults) only.files.is h
 device_from name records device.Output old mid new only h = subst (λ (s : SinkView). Rose s.faults new.output.faults) only.output h
 device_from name records device.Log old mid new only h = subst (λ (s : SinkView). Rose s.faults new.logs.faults) only.logs h
 device_from name records device.Records old mid new only h = keeper_from records old.inputs mid.inputs new.inputs.keeper only.inputs h
+device_from name records device.Program old mid new only h =
+    subst (λ (l : LauncherView). Rose l.faults new.inputs.launcher.faults) (calls_launcher records old.inputs mid.inputs only.inputs) h
 
 client_from : (old mid : WorldView) (new : WorldView) → mid.inputs.input ≡ old.inputs.input → mid.output ≡ old.output
     → Rose mid.inputs.input.faults new.inputs.input.faults ⊎ Rose mid.output.faults new.output.faults → Rose old.inputs.input.faults new.inputs.input.faults ⊎ Rose old.output.faults new.output.faults
@@ -231,7 +229,7 @@ some_later old mid new h (inl files) = inl (subst (λ (f : FilesView). Rose old.
 some_later old mid new h (inr (inl (inl output))) = inr (inl (inl (subst (λ (s : SinkView). Rose old.output.faults s.faults) (sym h.output) output)))
 some_later old mid new h (inr (inl (inr logs))) = inr (inl (inr (rose_later old.logs.faults mid.logs.faults new.logs.faults logs h.logs)))
 some_later old mid new h (inr (inr inputs)) =
-    inr (inr (subst (λ (i : SessionInputs). (Rose old.inputs.input.faults i.input.faults ⊎ Rose old.inputs.input.idles i.input.idles) ⊎ KeeperRose old.inputs.keeper i.keeper) (sym h.inputs) inputs))
+    inr (inr (subst (λ (i : SessionInputs). (Rose old.inputs.input.faults i.input.faults ⊎ Rose old.inputs.input.idles i.input.idles) ⊎ (KeeperRose old.inputs.keeper i.keeper ⊎ Rose old.inputs.launcher.faults i.launcher.faults)) (sym h.inputs) inputs))
 
 -- ---- 4 is for a count that rose
 
@@ -259,7 +257,8 @@ device_some : (which : Device) (old new : WorldView) → DeviceRose which old ne
 device_some device.Table old new h = inl h
 device_some device.Output old new h = inr (inl (inl h))
 device_some device.Log old new h = inr (inl (inr h))
-device_some device.Records old new h = inr (inr (inr h))
+device_some device.Records old new h = inr (inr (inr (inl h)))
+device_some device.Program old new h = inr (inr (inr (inr h)))
 
 verdict_four : {A : Type 0} (verdict : Verdict) → verdict_status verdict ≡ 4 → A
 verdict_four (Permit line) is = absurd (omega (arith, is))
@@ -285,22 +284,6 @@ stops_status name command (NoMemory step) old mid new h later = inl (inr refl)
 stops_status name command Usage old mid new h later = absurd h
 stops_status name command (Decided verdict) old mid new h later = absurd h
 stops_status name command (Ended ending refused) old mid new h later = absurd h
-
-announced_status : (verdict : Verdict) (printing : Result (Unit {0}) sink.Failed) → (status_of (announced verdict printing) ≡ 4) ⊎ (status_of (announced verdict printing) ≡ verdict_status verdict)
-announced_status verdict (Ok done) = inr refl
-announced_status (Permit line) (Err failed) = inl refl
-announced_status (Deny line) (Err failed) = inr refl
-
-shown_status : (verdict : Verdict) (printing : Result (Unit {0}) sink.Failed) → (status_of (shown verdict printing) ≡ 4) ⊎ (status_of (shown verdict printing) ≡ verdict_status verdict)
-shown_status verdict (Ok done) = inr refl
-shown_status verdict (Err failed) = inl refl
-
-abbrev ByVerdict : Verdict → Outcome → Type 0
-ByVerdict verdict outcome = (status_of outcome ≡ 4) ⊎ (status_of outcome ≡ verdict_status verdict)
-
-after_status : (logging : Result (Unit {0}) sink.Failed) (verdict : Verdict) (text : List ℕ) (outcome : Outcome) (old new : SinkView) → PrintsAfter logging verdict text outcome old new → ByVerdict verdict outcome
-after_status (Err failed) verdict text outcome old new h = inl (ap status_of h.is)
-after_status (Ok done) verdict text outcome old new h = subst (ByVerdict verdict) (sym h.is) (announced_status verdict h.printing)
 
 by_verdict : (name : List ℕ) (command : Command) (verdict : Verdict) (outcome : Outcome) (old mid new : WorldView) → CountRose outcome old mid → Later mid new → (status_of outcome ≡ verdict_status verdict → IsStatusFor name command (status_of outcome) old new)
     → ByVerdict verdict outcome → IsStatusFor name command (status_of outcome) old new
@@ -339,6 +322,10 @@ worked_status name (Netacl query) outcome old mid new h later =
     by_verdict name (Netacl query) (verdict_of h.inputs.rules query.peer) outcome old mid new (worked_rose name (Netacl query) outcome old mid h) later
     (λ is. inr (record { read = Ok h.inputs; inputs = h.read; is = is }))
     (after_status h.works.logging (verdict_of h.inputs.rules query.peer) _ outcome h.middle.output mid.output h.works.printed)
+worked_status name (NetaclRun query) outcome old mid new h later =
+    by_verdict name (NetaclRun query) (verdict_of h.inputs.rules query.peer) outcome old mid new (worked_rose name (NetaclRun query) outcome old mid h) later
+    (λ is. inr (record { read = Ok h.inputs; inputs = h.read; is = is }))
+    (run_status_by query (verdict_of h.inputs.rules query.peer) _ _ outcome h.middle mid h.works)
 worked_status name (Table query) outcome old mid new h later =
     by_verdict name (Table query) (verdict_of h.inputs.rules query.peer) outcome old mid new (worked_rose name (Table query) outcome old mid h) later
     (λ is. inr (record { read = Ok h.inputs; inputs = h.read; is = is }))
@@ -363,6 +350,7 @@ run_status line status old new ran =
 
 works_left : (command : Command) (inputs : Inputs) (outcome : Outcome) (old new : WorldView) → Works command inputs outcome old new → (new.files ≡ old.files) × (IsSome old.inputs.keeper → IsSome new.inputs.keeper)
 works_left (Netacl query) inputs outcome old new h = (h.files, λ there. subst (λ (i : SessionInputs). IsSome i.keeper) (sym h.inputs) there)
+works_left (NetaclRun query) inputs outcome old new h = let left = run_left query (verdict_of inputs.rules query.peer) _ _ outcome old new h in (left.files, λ there. subst (λ (k : Option KeeperView). IsSome k) (sym left.keeper) there)
 works_left (Table query) inputs outcome old new h = (h.files, λ there. subst (λ (i : SessionInputs). IsSome i.keeper) (sym h.inputs) there)
 works_left (Authsrv client) inputs outcome old new h = (h.files, λ there. some_there new.inputs.keeper h.book.keeper h.kept)
 
@@ -389,6 +377,7 @@ run_back line status old new ran =
 
 works_takes : (command : Command) (inputs : Inputs) (outcome : Outcome) (old new : WorldView) → Works command inputs outcome old new → TakesIn (status_of outcome) old.inputs.input new.inputs.input
 works_takes (Netacl query) inputs outcome old new h = takes_same (status_of outcome) old.inputs.input new.inputs.input (ap (λ (i : SessionInputs). i.input) h.inputs)
+works_takes (NetaclRun query) inputs outcome old new h = takes_same (status_of outcome) old.inputs.input new.inputs.input (run_left query (verdict_of inputs.rules query.peer) _ _ outcome old new h).input
 works_takes (Table query) inputs outcome old new h = takes_same (status_of outcome) old.inputs.input new.inputs.input (ap (λ (i : SessionInputs). i.input) h.inputs)
 works_takes (Authsrv client) inputs outcome old new h = attended_takes client inputs outcome old new h
 

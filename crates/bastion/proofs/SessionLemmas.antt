@@ -5,10 +5,12 @@ use Rattle.std.specs.Prelude.{Option, Some, None}
 use Rattle.std.proofs.lemmas.List.{length-map}
 use Rattle.std.proofs.lemmas.List.Filters.{length-filter_both}
 use Rattle.auth_events.specs.Port.{Port, places}
+use Rattle.auth_events.specs.declared.entry.Entry.{Entry}
 use Rattle.auth_events.specs.declared.reply.Reply.{Reply}
 use Rattle.auth_events.specs.declared.request.Request.{Request}
 use Rattle.auth_machine.specs.Book.{BookView}
-use Rattle.auth_machine.specs.History.{Origin}
+use Rattle.auth_machine.proofs.HistoryLemmas.{calls_for}
+use Rattle.auth_machine.specs.History.{CountsCalls, Origin}
 use Rattle.auth_machine.specs.Port.{BookOrigin}
 use Rattle.authsrv_gate.specs.Dialogue.{rows}
 use Rattle.fw_acts.specs.Acts.{PlaceTable, Row}
@@ -32,6 +34,7 @@ use Rattle.session_acts.specs.Met.{acts}
 use Rattle.session_acts.specs.Session.{Session, deeds_of}
 use Rattle.session_acts.specs.Talk.{answered, asked, is_entered, is_refused_as_full, numbers_told, replied, said_of}
 use Rattle.session_acts.specs.World.{Devices, World, at_first}
+use Rattle.session_acts.proofs.AskCountLemmas.{count_gains}
 use Rattle.session_acts.proofs.ClientLemmas.{denies}
 use Rattle.session_acts.proofs.DeedLemmas.{all_gain, held_deeds}
 use Rattle.session_acts.proofs.EntryLemmas.{whole_talk}
@@ -114,6 +117,16 @@ some_or (Some one) more n few = omega (arith, few)
 few_answered : (asks : List (Request × Option Reply)) → length (answered asks) ≤ length asks
 few_answered [] = omega (arith)
 few_answered (ask ∷ asks) = some_or (replied ask.0 ask.1) (answered asks) (length asks) (few_answered asks)
+
+-- the calls of a keeper for the requests that a port counted are calls for those that the session asked
+pub called_in : {P : Type 0} (table : PlaceTable (acts BookOrigin) P) (first : Row (acts BookOrigin) P) (old new : Devices BookOrigin) (ending : Ending) (session : Session table first old new ending)
+    → (called : ℕ) (origin : Origin) (history : List Entry) (keeper : KeeperView) → old.port.asks ≡ 0 → CountsCalls called origin history new.port.asks keeper
+    → CountsCalls called origin history (length (gives asked (deeds_of session.held))) keeper
+called_in table first old new ending session called origin history keeper none calls =
+    let counted = all_gain count_gains (deeds_of session.held) (at_first old session.names) session.last (held_deeds session.held) in
+    let port : session.last.office.port.asks ≡ new.port.asks = ap (λ (d : Devices BookOrigin). d.port.asks) session.leaves in
+    let most = counted.most in
+    calls_for called origin history new.port.asks (length (gives asked (deeds_of session.held))) keeper (omega (arith, port, most, none)) calls
 
 -- a session in which a request was refused took more moments than there are entries
 session_takes : {P : Type 0} (table : PlaceTable (acts BookOrigin) P) (first : Row (acts BookOrigin) P) (old new : Devices BookOrigin) (ending : Ending) → Session table first old new ending

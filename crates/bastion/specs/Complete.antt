@@ -1,10 +1,13 @@
 -- What is done in a run in which no count rose: all that is called for, whole.
-use Rattle.std.specs.Prelude.{◌≡◌, ℕ, ◌⊎◌, Bool, true, false, List, [], ◌++◌, codes, Option, Some, None, Result, Ok, Err, unwrap_or}
+use Rattle.std.specs.Prelude.{◌≡◌, ℕ, ◌⊎◌, Bool, true, false, List, [], ◌∷◌, ◌++◌, codes, Option, Some, None, Result, Ok, Err, unwrap_or}
 use Rattle.std.specs.List.{list_any}
+use Rattle.fw_outside.specs.LauncherView.{LauncherView, Starts}
 use Rattle.fw_outside.specs.ToldList.{grown}
+use Rattle.fw_outside.specs.declared.started.Started.TheVariants as program
 use Rattle.fw_types.specs.declared.ending.Ending.{Ending}
 use Rattle.fw_types.specs.declared.ending.Ending.TheVariants.{Done, Spent}
 use Rattle.fw_types.specs.declared.peer.Peer.{Peer}
+use Rattle.gate_rules.specs.Verdict.{verdict_of}
 use Rattle.gate_rules.specs.declared.service.Service.TheVariants as services
 use Rattle.gate_rules.specs.declared.verdict.Verdict.{Verdict}
 use Rattle.gate_rules.specs.declared.verdict.Verdict.TheVariants.{Permit, Deny}
@@ -17,14 +20,15 @@ use Rattle.bastion.specs.Outcome.{fault_line_of, refusal_text, verdict_status}
 use Rattle.bastion.specs.Run.{ReadsOnly, verdict_for}
 use Rattle.bastion.specs.Status.{IsHeld}
 use Rattle.bastion.specs.TableReport.{report_text}
-use Rattle.bastion.specs.Texts.{decision_text, print_text}
+use Rattle.bastion.specs.Texts.{decision_text, ended_text, print_text, program_of}
 use Rattle.bastion.specs.Words.{LineView}
 use Rattle.bastion.specs.WorldView.{WorldView}
 use Rattle.bastion.specs.declared.outcome.Outcome.TheVariants.{Ended}
 use Rattle.bastion.specs.declared.outcome.Refusal.{Refusal}
 use Rattle.bastion.specs.declared.words.Client.{Client}
 use Rattle.bastion.specs.declared.words.Command.{Command}
-use Rattle.bastion.specs.declared.words.Command.TheVariants.{Netacl, Table, Authsrv}
+use Rattle.bastion.specs.declared.words.Query.{Query}
+use Rattle.bastion.specs.declared.words.Command.TheVariants.{Netacl, NetaclRun, Table, Authsrv}
 
 -- the log and the output have taken these texts whole, and nothing else; and the status is this
 pub record IsWhole (logged printed : List ℕ) (comes status : ℕ) (old new : WorldView) : Type 0 where
@@ -61,6 +65,24 @@ IsServedWhole false (Permit line) name client inputs status old new = IsHeldWhol
 IsServedWhole false (Deny line) name client inputs status old new =
     IsWhole (decision_text (Deny line) services.Authsrv client.peer) (denied_text line) 1 status old new
 
+-- ---- a program
+
+-- what a program left, if there is one to start: it was started once and ended, and that was printed; or nothing
+pub record IsRunWhole (name : List ℕ) (args : List (List ℕ)) (printed : List ℕ) (old new : LauncherView) : Type 0 where
+  pub status : ℕ
+  pub starts : Starts (program.Ended status) name args old new
+  pub text : printed ≡ ended_text status
+
+abbrev pub IsLaunchedWhole : List (List ℕ) → List ℕ → LauncherView → LauncherView → Type 0
+IsLaunchedWhole [] printed old new = (printed ≡ []) × (new ≡ old)
+IsLaunchedWhole (name ∷ args) printed old new = IsRunWhole name args printed old new
+
+-- the decision was told whole, and then the program of the line that permits was started and its end told, where it has one
+pub record IsStartedWhole (query : Query) (inputs : Inputs) (status : ℕ) (old new : WorldView) : Type 0 where
+  pub printed : List ℕ
+  pub launched : IsLaunchedWhole (program_of inputs.rules (verdict_of inputs.rules query.peer)) printed old.inputs.launcher new.inputs.launcher
+  pub whole : IsWhole (decision_text (verdict_of inputs.rules query.peer) query.service query.peer) (print_text inputs.rules (verdict_of inputs.rules query.peer) ++ printed) (verdict_status (verdict_of inputs.rules query.peer)) status old new
+
 -- ---- all commands
 
 -- what can't be read is told to the log; the verdict's line is logged, and its text printed; a client is denied, or its session
@@ -69,6 +91,7 @@ abbrev pub IsAllDone : List ℕ → Command → Result Inputs Refusal → ℕ �
 IsAllDone name command (Err refusal) status old new = IsWhole (codes "fault " ++ refusal_text refusal ++ codes "\n") [] 3 status old new
 IsAllDone name (Netacl query) (Ok inputs) status old new =
     IsWhole (decision_text (verdict_for (Netacl query) inputs) query.service query.peer) (print_text inputs.rules (verdict_for (Netacl query) inputs)) (verdict_status (verdict_for (Netacl query) inputs)) status old new
+IsAllDone name (NetaclRun query) (Ok inputs) status old new = IsStartedWhole query inputs status old new
 IsAllDone name (Table query) (Ok inputs) status old new =
     IsWhole [] (report_text inputs.rules (verdict_for (Table query) inputs)) (verdict_status (verdict_for (Table query) inputs)) status old new
 IsAllDone name (Authsrv client) (Ok inputs) status old new = IsServedWhole client.console (verdict_for (Authsrv client) inputs) name client inputs status old new

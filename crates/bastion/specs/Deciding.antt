@@ -5,8 +5,8 @@ use Rattle.gate_rules.specs.Reading.{RuleBook}
 use Rattle.gate_rules.specs.declared.verdict.Verdict.{Verdict}
 use Rattle.gate_rules.specs.declared.verdict.Verdict.TheVariants.{Permit, Deny}
 use Rattle.bastion.specs.TableReport.{report_text}
-use Rattle.bastion.specs.Texts.{print_text}
-use Rattle.bastion.specs.Works.{Announced, Shown}
+use Rattle.bastion.specs.Texts.{print_text, program_of}
+use Rattle.bastion.specs.Works.{Announced, AnnouncedRun, Shown}
 use Rattle.bastion.specs.WorldView.{WorldView}
 use Rattle.bastion.specs.declared.outcome.Outcome.{Outcome}
 use Rattle.bastion.specs.declared.outcome.Outcome.TheVariants.{NoMemory}
@@ -24,6 +24,17 @@ Permits query verdict rules outcome old new = OrLacks outcome old new (Announced
 abbrev pub Decides : Query → Verdict → RuleBook → Outcome → WorldView → WorldView → Type 0
 Decides query (Permit line) rules outcome old new = Permits query (Permit line) rules outcome old new
 Decides query (Deny line) rules outcome old new = Announced query (Deny line) (print_text rules (Deny line)) outcome old new
+
+-- the same, and then the program is started that the line names
+abbrev pub RunsBy : Query → Verdict → RuleBook → Outcome → WorldView → WorldView → Type 0
+RunsBy query verdict rules outcome old new = AnnouncedRun query verdict (print_text rules verdict) (program_of rules verdict) outcome old new
+
+abbrev pub PermitsRun : Query → Verdict → RuleBook → Outcome → WorldView → WorldView → Type 0
+PermitsRun query verdict rules outcome old new = OrLacks outcome old new (RunsBy query verdict rules outcome old new)
+
+abbrev pub DecidesRun : Query → Verdict → RuleBook → Outcome → WorldView → WorldView → Type 0
+DecidesRun query (Permit line) rules outcome old new = PermitsRun query (Permit line) rules outcome old new
+DecidesRun query (Deny line) rules outcome old new = RunsBy query (Deny line) rules outcome old new
 
 abbrev pub Reveals : Verdict → RuleBook → Outcome → WorldView → WorldView → Type 0
 Reveals verdict rules outcome old new = OrLacks outcome old new (Shown verdict (report_text rules verdict) outcome old new)

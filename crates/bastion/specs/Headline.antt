@@ -6,7 +6,7 @@ use Rattle.std.specs.Option.{option_map}
 use Rattle.auth_events.specs.declared.reply.Reply.{Reply}
 use Rattle.auth_events.specs.declared.request.Request.{Request}
 use Rattle.auth_machine.specs.Book.{BookView}
-use Rattle.auth_machine.specs.History.{CountsUnkept, HasRecords, IsLegal, IsSound}
+use Rattle.auth_machine.specs.History.{CountsCalls, CountsUnkept, HasRecords, IsLegal, IsSound}
 use Rattle.auth_machine.specs.Port.{BookOrigin}
 use Rattle.authsrv_gate.specs.Dialogue.{rows, session_row}
 use Rattle.authsrv_gate.specs.declared.place.Place.{Place}
@@ -46,7 +46,7 @@ use Rattle.bastion.specs.WorldView.{SessionInputs, WorldView}
 use Rattle.bastion.specs.declared.outcome.Outcome.TheVariants.{Ended}
 use Rattle.bastion.specs.declared.words.Client.{Client}
 use Rattle.bastion.specs.declared.words.Command.{Command}
-use Rattle.bastion.specs.declared.words.Command.TheVariants.{Netacl, Table, Authsrv}
+use Rattle.bastion.specs.declared.words.Command.TheVariants.{Netacl, NetaclRun, Table, Authsrv}
 
 -- ---- every denial logs its line
 
@@ -85,6 +85,7 @@ LogsDenial name command service peer status old new = IsSilent status old new �
 
 abbrev pub DenialLogged : List ℕ → Command → ℕ → WorldView → WorldView → Type 0
 DenialLogged name (Netacl query) status old new = LogsDenial name (Netacl query) query.service query.peer status old new
+DenialLogged name (NetaclRun query) status old new = LogsDenial name (NetaclRun query) query.service query.peer status old new
 DenialLogged name (Table query) status old new = Unit {0}
 DenialLogged name (Authsrv client) status old new = LogsDenial name (Authsrv client) services.Authsrv client.peer status old new
 
@@ -111,9 +112,10 @@ talk_of deeds = answered (gives asked deeds)
 -- A session was held with a client whom the rules permit, or who is at the console, over the run's devices and a book of the
 -- records that the keeper had. What it asked and was answered, but for what was refused since the history was full, is the
 -- whole of the history, in order; that is legal by the policy and the records, which are sound, and the keeper has the records
--- after it and has counted a failure for each entry that was not kept. The client was given what the session's deeds tell. Behind the
--- session the log was given the ending's line, and that of the limit, where there are such. And the status is the ending's,
--- but 6 where the session was done and a request had been refused.
+-- after it and has counted a failure for each entry that was not kept. It counted as many calls as there are entries that
+-- change, make or delete a record, and at most as many more as there were requests without an entry. The client was given what
+-- the session's deeds tell. Behind the session the log was given the ending's line, and that of the limit, where there are
+-- such. And the status is the ending's, but 6 where the session was done and a request had been refused.
 pub record OfHistory (client : Client) (inputs : Inputs) (status : ℕ) (old new : WorldView) : Type 0 where
   pub before : KeeperView
   pub keeper : old.inputs.keeper ≡ Some before
@@ -129,6 +131,7 @@ pub record OfHistory (client : Client) (inputs : Inputs) (status : ℕ) (old new
   pub talk : map said_of book.history ≡ filter is_entered (talk_of (deeds_of session.held))
   pub has : HasRecords (origin_of inputs) book.history book.keeper
   pub faults : CountsUnkept before.faults book.history book.keeper
+  pub called : CountsCalls before.calls (origin_of inputs) book.history (length (gives asked (deeds_of session.held))) book.keeper
   pub kept : new.inputs.keeper ≡ Some book.keeper
   pub told : new.output.given ≡ grown old.output.given (gives told (deeds_of session.held))
   pub ended : SinkView
@@ -168,6 +171,7 @@ pub record IsReplied (name : List ℕ) (client : Client) (status : ℕ) (old new
 
 abbrev pub IsReplying : List ℕ → Command → ℕ → WorldView → WorldView → Type 0
 IsReplying name (Netacl query) status old new = Unit {0}
+IsReplying name (NetaclRun query) status old new = Unit {0}
 IsReplying name (Table query) status old new = Unit {0}
 IsReplying name (Authsrv client) status old new = IsUnserved status old new ⊎ IsReplied name client status old new
 

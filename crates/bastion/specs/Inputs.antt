@@ -31,6 +31,7 @@ pub data Need : Type 0 where
 -- in the order in which it is read
 abbrev pub needs : Command → List Need
 needs (commands.Netacl query) = RulesOf query.service ∷ []
+needs (commands.NetaclRun query) = RulesOf query.service ∷ []
 needs (commands.Table query) = RulesOf query.service ∷ []
 needs (commands.Authsrv client) = RulesOf services.Authsrv ∷ ThePolicy ∷ TheRecords ∷ []
 

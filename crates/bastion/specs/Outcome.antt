@@ -56,6 +56,7 @@ device_text device.Table = codes "table"
 device_text device.Output = codes "output"
 device_text device.Log = codes "log"
 device_text device.Records = codes "records"
+device_text device.Program = codes "program"
 
 -- a line, by its number, and what is wrong with it
 abbrev pub line_text : ℕ → List ℕ → List ℕ
@@ -92,6 +93,7 @@ DeviceRose device.Table old new = Rose old.files.missing new.files.missing ⊎ R
 DeviceRose device.Output old new = Rose old.output.faults new.output.faults
 DeviceRose device.Log old new = Rose old.logs.faults new.logs.faults
 DeviceRose device.Records old new = KeeperRose old.inputs.keeper new.inputs.keeper
+DeviceRose device.Program old new = Rose old.inputs.launcher.faults new.inputs.launcher.faults
 
 -- what a session that ended with status 4 has counted: of the client, its source failed, or nothing came of it in time, or
 -- its sink failed

@@ -21,7 +21,7 @@ use Rattle.bastion.specs.declared.outcome.Refusal.{Refusal}
 use Rattle.bastion.specs.declared.outcome.Step.{Step}
 use Rattle.bastion.specs.declared.outcome.Step.TheVariants as steps
 use Rattle.bastion.specs.declared.words.Command.{Command}
-use Rattle.bastion.specs.declared.words.Command.TheVariants.{Netacl, Table, Authsrv}
+use Rattle.bastion.specs.declared.words.Command.TheVariants.{Netacl, NetaclRun, Table, Authsrv}
 
 -- ---- nothing was done: what the command needs couldn't be had
 
@@ -90,6 +90,7 @@ pub record RecordsUnread (name : List ℕ) (command : Command) (old new : WorldV
 -- whom a command is about
 abbrev pub peer_of : Command → Peer
 peer_of (Netacl query) = query.peer
+peer_of (NetaclRun query) = query.peer
 peer_of (Table query) = query.peer
 peer_of (Authsrv client) = client.peer
 

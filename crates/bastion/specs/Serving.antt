@@ -1,7 +1,7 @@
 -- The work of `authsrv`: a client is served over a book of the records, and the keeper is given back.
 use Rattle.std.specs.Prelude.{◌≡◌, ℕ, Bool, true, false, [], length, Some}
 use Rattle.auth_machine.specs.Book.{BookView}
-use Rattle.auth_machine.specs.History.{CountsUnkept, HasRecords, IsLegal, IsSound, Origin}
+use Rattle.auth_machine.specs.History.{CountsCalls, CountsUnkept, HasRecords, IsLegal, IsSound, Origin}
 use Rattle.auth_machine.specs.Port.{BookOrigin, book_port}
 use Rattle.fw_outside.specs.DialerView.{DialerView}
 use Rattle.fw_outside.specs.KeeperView.{KeeperView}
@@ -36,7 +36,7 @@ UntouchedAt false verdict old new = Untouched verdict old new
 
 -- a book of these records, of which nothing was asked yet
 abbrev pub book_at_first : Origin → ℕ → KeeperView → BookView
-book_at_first origin limit view = record { history = []; limit = limit; origin = origin; keeper = view; failed_before = view.faults; refused = false; asks = 0 }
+book_at_first origin limit view = record { history = []; limit = limit; origin = origin; keeper = view; failed_before = view.faults; called_before = view.calls; refused = false; asks = 0 }
 
 -- so many requests fit in a history
 abbrev pub most_entries : ℕ
@@ -48,7 +48,7 @@ origin_of inputs = record { policy = inputs.policy; records = inputs.records }
 
 -- The session was held over the records that the keeper had. These are sound; the history of its requests is legal, and full
 -- where one was refused for that; the keeper has the records after it, and has counted a failure for each entry that was not
--- kept. After a client whom the rules deny, the keeper is as the load left it, its count of calls too.
+-- kept, and its calls as the history has it. After a client whom the rules deny, the keeper is as the load left it, its count of calls too.
 pub record Attended (client : Client) (inputs : Inputs) (out : outcomes.Outcome) (old new : WorldView) : Type 0 where
   pub before : KeeperView
   pub keeper : old.inputs.keeper ≡ Some before
@@ -62,7 +62,9 @@ pub record Attended (client : Client) (inputs : Inputs) (out : outcomes.Outcome)
   pub legal : IsLegal (origin_of inputs) book.history
   pub has : HasRecords (origin_of inputs) book.history book.keeper
   pub faults : CountsUnkept before.faults book.history book.keeper
+  pub called : CountsCalls before.calls (origin_of inputs) book.history book.asks book.keeper
   pub full : book.refused ≡ true → length book.history ≡ most_entries
   pub comes : out ≡ outcome.Ended ending book.refused
   pub kept : new.inputs.keeper ≡ Some book.keeper
   pub files : new.files ≡ old.files
+  pub launcher : new.inputs.launcher ≡ old.inputs.launcher

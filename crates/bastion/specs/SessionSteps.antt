@@ -6,7 +6,7 @@ use Rattle.fw_outside.specs.DialerView.{DialerView}
 use Rattle.fw_outside.specs.KeeperView.{IsCalled, KeeperFailed, KeeperView}
 use Rattle.session_acts.specs.Dummies.{nowhere}
 use Rattle.auth_machine.specs.Book.{BookView}
-use Rattle.auth_machine.specs.History.{CountsUnkept, HasRecords, IsLegal, IsSound}
+use Rattle.auth_machine.specs.History.{CountsCalls, CountsUnkept, HasRecords, IsLegal, IsSound}
 use Rattle.auth_machine.specs.Opening.{ReadsAs}
 use Rattle.auth_machine.specs.Policy.{PolicyView}
 use Rattle.auth_machine.specs.declared.open_fault.OpenFault.{OpenFault}
@@ -79,6 +79,7 @@ pub record GivesBack (book : BookView) (old new : WorldView) : Type 0 where
   pub legal : IsLegal book.origin book.history
   pub has : HasRecords book.origin book.history book.keeper
   pub faults : CountsUnkept book.failed_before book.history book.keeper
+  pub called : CountsCalls book.called_before book.origin book.history book.asks book.keeper
 
 -- the dialer is as before, but for how long its links wait
 abbrev pub IsUndialed : DialerView → DialerView → Type 0
@@ -96,10 +97,12 @@ pub record HoldsOver (client : Client) (rules : RuleBook) (first : BookView) (ou
   pub legal : IsLegal book.origin book.history
   pub has : HasRecords book.origin book.history book.keeper
   pub faults : CountsUnkept book.failed_before book.history book.keeper
+  pub called : CountsCalls book.called_before book.origin book.history book.asks book.keeper
   pub full : book.refused ≡ true → length book.history ≡ book.limit
   pub comes : out ≡ outcome.Ended ending book.refused
   pub kept : new.inputs.keeper ≡ Some book.keeper
   pub files : new.files ≡ old.files
+  pub launcher : new.inputs.launcher ≡ old.inputs.launcher
 
 -- the book was opened of these records, and the session held over it
 pub record OfRecords (client : Client) (server_rules : ServerRules) (out : Outcome) (old new : WorldView) : Type 0 where

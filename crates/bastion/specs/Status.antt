@@ -15,7 +15,7 @@ use Rattle.bastion.specs.Words.{LineView}
 use Rattle.bastion.specs.WorldView.{SessionInputs, WorldView}
 use Rattle.bastion.specs.declared.outcome.Refusal.{Refusal}
 use Rattle.bastion.specs.declared.words.Command.{Command}
-use Rattle.bastion.specs.declared.words.Command.TheVariants.{Netacl, Table, Authsrv}
+use Rattle.bastion.specs.declared.words.Command.TheVariants.{Netacl, NetaclRun, Table, Authsrv}
 
 -- a device's own count rose
 abbrev pub SomeRose : WorldView → WorldView → Type 0
@@ -23,7 +23,7 @@ SomeRose old new =
     (Rose old.files.missing new.files.missing ⊎ Rose old.files.read_faults new.files.read_faults)
     ⊎ (Rose old.output.faults new.output.faults ⊎ Rose old.logs.faults new.logs.faults)
     ⊎ (Rose old.inputs.input.faults new.inputs.input.faults ⊎ Rose old.inputs.input.idles new.inputs.input.idles)
-    ⊎ KeeperRose old.inputs.keeper new.inputs.keeper
+    ⊎ (KeeperRose old.inputs.keeper new.inputs.keeper ⊎ Rose old.inputs.launcher.faults new.inputs.launcher.faults)
 
 -- more requests were asked than fit in a history: each took a moment of the clock
 pub record IsFull (old new : SessionInputs) : Type 0 where
@@ -49,6 +49,7 @@ IsServed false (Deny line) status old new = status ≡ 1
 abbrev pub IsBy : Command → Result Inputs Refusal → ℕ → SessionInputs → SessionInputs → Type 0
 IsBy command (Err refusal) status old new = status ≡ 3
 IsBy (Netacl query) (Ok inputs) status old new = status ≡ verdict_status (verdict_for (Netacl query) inputs)
+IsBy (NetaclRun query) (Ok inputs) status old new = status ≡ verdict_status (verdict_for (NetaclRun query) inputs)
 IsBy (Table query) (Ok inputs) status old new = status ≡ verdict_status (verdict_for (Table query) inputs)
 IsBy (Authsrv client) (Ok inputs) status old new = IsServed client.console (verdict_for (Authsrv client) inputs) status old new
 

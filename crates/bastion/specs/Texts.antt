@@ -41,6 +41,15 @@ abbrev pub exec_in : Option Options → List (List ℕ)
 exec_in None = []
 exec_in (Some options) = options.exec
 
+-- the words of the program that a verdict starts: those of the permit line that decided, where it has some
+abbrev pub program_of : RuleBook → Verdict → List (List ℕ)
+program_of rules (Permit line) = exec_in (options_at rules line)
+program_of rules (Deny line) = []
+
+-- how a program ended: `ended N`
+abbrev pub ended_text : ℕ → List ℕ
+ended_text status = codes "ended " ++ decimal status ++ codes "\n"
+
 -- what `netacl` prints: the verdict, and the program with its words, where the permit line that decided has one
 abbrev pub print_text : RuleBook → Verdict → List ℕ
 print_text rules (Permit line) = verdict_text (Permit line) ++ some_line (codes "exec") (exec_in (options_at rules line))

@@ -10,7 +10,7 @@ use Rattle.gate_rules.specs.Service.{service_of}
 use Rattle.gate_rules.specs.declared.service.Service.{Service}
 use Rattle.gate_rules.specs.declared.service.Service.TheVariants as service
 use Rattle.bastion.specs.declared.words.Command.{Command}
-use Rattle.bastion.specs.declared.words.Command.TheVariants.{Netacl, Table, Authsrv}
+use Rattle.bastion.specs.declared.words.Command.TheVariants.{Netacl, NetaclRun, Table, Authsrv}
 use Rattle.bastion.specs.declared.words.Query.{Query}
 use Rattle.bastion.specs.declared.words.Client.{Client}
 
@@ -69,6 +69,16 @@ abbrev pub netacl_in : List (List ℕ) → Option Query
 netacl_in (daemon ∷ words) = query_of (option_map service.Netacl (label_of daemon)) (peer_in words)
 netacl_in [] = None
 
+-- `-run DAEMON ADDR [NAME]`
+abbrev pub run_in : List (List ℕ) → Option Query
+run_in (word ∷ words) = if bytes_eq word (codes "-run") then netacl_in words else None
+run_in [] = None
+
+-- `-run` is a label too, so both forms are tried; never do both fit, since no address is a name
+abbrev pub netacl_by : Option Query → Option Query → Option Command
+netacl_by (Some query) started = Some (Netacl query)
+netacl_by None started = option_map NetaclRun started
+
 -- `SERVICE ADDR [NAME]`
 abbrev pub table_in : List (List ℕ) → Option Query
 table_in (asked ∷ words) = query_of (service_of asked) (peer_in words)
@@ -83,10 +93,10 @@ abbrev pub client_in : List (List ℕ) → Option Client
 client_in (word ∷ words) = if bytes_eq word (codes "-console") then client_of true (peer_in words) else client_of false (peer_in (word ∷ words))
 client_in [] = None
 
--- `netacl DAEMON ADDR [NAME]`, `table SERVICE ADDR [NAME]` and `authsrv [-console] ADDR [NAME]`
+-- `netacl [-run] DAEMON ADDR [NAME]`, `table SERVICE ADDR [NAME]` and `authsrv [-console] ADDR [NAME]`
 abbrev pub command_in : List (List ℕ) → Option Command
 command_in (name ∷ words) =
-    if bytes_eq name (codes "netacl") then option_map Netacl (netacl_in words)
+    if bytes_eq name (codes "netacl") then netacl_by (netacl_in words) (run_in words)
     else if bytes_eq name (codes "table") then option_map Table (table_in words)
     else if bytes_eq name (codes "authsrv") then option_map Authsrv (client_in words)
     else None

@@ -1,21 +1,24 @@
 -- The work of each command, once its inputs are read: what it gives to the log and to the output, and what it comes to.
-use Rattle.std.specs.Prelude.{◌≡◌, ℕ, List, Result, Ok, Err}
+use Rattle.std.specs.Prelude.{◌≡◌, ℕ, List, [], ◌∷◌, Result, Ok, Err}
+use Rattle.fw_outside.specs.LauncherView.{LauncherView, Starts}
 use Rattle.fw_outside.specs.SinkView.{Gives, SinkView}
 use Rattle.fw_outside.specs.ToldList.{grown}
 use Rattle.fw_outside.specs.declared.failed.Failed as sink
+use Rattle.fw_outside.specs.declared.started.Started.{Started}
+use Rattle.fw_outside.specs.declared.started.Started.TheVariants as program
 use Rattle.gate_rules.specs.Verdict.{verdict_of}
 use Rattle.gate_rules.specs.declared.verdict.Verdict.{Verdict}
 use Rattle.gate_rules.specs.declared.verdict.Verdict.TheVariants.{Permit, Deny}
 use Rattle.bastion.specs.Inputs.{Inputs}
 use Rattle.bastion.specs.Serving.{Attended}
 use Rattle.bastion.specs.TableReport.{report_text}
-use Rattle.bastion.specs.Texts.{decision_text, print_text}
+use Rattle.bastion.specs.Texts.{decision_text, ended_text, print_text, program_of}
 use Rattle.bastion.specs.WorldView.{WorldView}
 use Rattle.bastion.specs.declared.outcome.Device.TheVariants as device
 use Rattle.bastion.specs.declared.outcome.Outcome.{Outcome}
 use Rattle.bastion.specs.declared.outcome.Outcome.TheVariants.{Failed, Decided}
 use Rattle.bastion.specs.declared.words.Command.{Command}
-use Rattle.bastion.specs.declared.words.Command.TheVariants.{Netacl, Table, Authsrv}
+use Rattle.bastion.specs.declared.words.Command.TheVariants.{Netacl, NetaclRun, Table, Authsrv}
 use Rattle.bastion.specs.declared.words.Query.{Query}
 
 -- the sink has taken these bytes whole
@@ -57,6 +60,38 @@ pub record Announced (query : Query) (verdict : Verdict) (text : List ℕ) (outc
   pub files : new.files ≡ old.files
   pub inputs : new.inputs ≡ old.inputs
 
+-- a program's end is printed; one that couldn't be started, or whose end isn't known, is a failure
+abbrev pub PrintsEnd : Started → Verdict → Outcome → SinkView → SinkView → Type 0
+PrintsEnd (program.Ended status) verdict outcome old new = Prints (shown verdict) (ended_text status) outcome old new
+PrintsEnd program.Failed verdict outcome old new = (outcome ≡ Failed device.Program) × (new ≡ old)
+
+-- a program was started once, with these arguments, and how it ended was printed
+pub record Launches (name : List ℕ) (args : List (List ℕ)) (verdict : Verdict) (outcome : Outcome) (old new : WorldView) : Type 0 where
+  pub answer : Started
+  pub after : LauncherView
+  pub starts : Starts answer name args old.inputs.launcher after
+  pub inputs : new.inputs ≡ record (old.inputs) { launcher = after }
+  pub printed : PrintsEnd answer verdict outcome old.output new.output
+  pub logs : new.logs ≡ old.logs
+  pub files : new.files ≡ old.files
+
+-- nothing more was done
+pub record StaysSo (decided outcome : Outcome) (old new : WorldView) : Type 0 where
+  pub is : outcome ≡ decided
+  pub same : new ≡ old
+
+-- a program is started where there is one, and the decision was told whole
+abbrev pub LaunchesIf : List (List ℕ) → Outcome → Outcome → WorldView → WorldView → Type 0
+LaunchesIf (name ∷ args) (Decided verdict) outcome old new = Launches name args verdict outcome old new
+LaunchesIf _ decided outcome old new = StaysSo decided outcome old new
+
+-- `netacl -run`: what `netacl` does, and then the program of the line that permits is started, where that has one
+pub record AnnouncedRun (query : Query) (verdict : Verdict) (text : List ℕ) (words : List (List ℕ)) (outcome : Outcome) (old new : WorldView) : Type 0 where
+  pub decided : Outcome
+  pub middle : WorldView
+  pub announced : Announced query verdict text decided old middle
+  pub launched : LaunchesIf words decided outcome middle new
+
 -- `table`: what the rules say of the peer is printed
 pub record Shown (verdict : Verdict) (text : List ℕ) (outcome : Outcome) (old new : WorldView) : Type 0 where
   pub printed : Prints (shown verdict) text outcome old.output new.output
@@ -64,14 +99,10 @@ pub record Shown (verdict : Verdict) (text : List ℕ) (outcome : Outcome) (old 
   pub files : new.files ≡ old.files
   pub inputs : new.inputs ≡ old.inputs
 
-abbrev pub AnnouncedBy : Query → Verdict → Inputs → Outcome → WorldView → WorldView → Type 0
-AnnouncedBy query verdict inputs outcome old new = Announced query verdict (print_text inputs.rules verdict) outcome old new
-
-abbrev pub ShownBy : Verdict → Inputs → Outcome → WorldView → WorldView → Type 0
-ShownBy verdict inputs outcome old new = Shown verdict (report_text inputs.rules verdict) outcome old new
-
 -- one row a command
 abbrev pub Works : Command → Inputs → Outcome → WorldView → WorldView → Type 0
-Works (Netacl query) inputs outcome old new = AnnouncedBy query (verdict_of inputs.rules query.peer) inputs outcome old new
-Works (Table query) inputs outcome old new = ShownBy (verdict_of inputs.rules query.peer) inputs outcome old new
+Works (Netacl query) inputs outcome old new = Announced query (verdict_of inputs.rules query.peer) (print_text inputs.rules (verdict_of inputs.rules query.peer)) outcome old new
+Works (NetaclRun query) inputs outcome old new =
+    AnnouncedRun query (verdict_of inputs.rules query.peer) (print_text inputs.rules (verdict_of inputs.rules query.peer)) (program_of inputs.rules (verdict_of inputs.rules query.peer)) outcome old new
+Works (Table query) inputs outcome old new = Shown (verdict_of inputs.rules query.peer) (report_text inputs.rules (verdict_of inputs.rules query.peer)) outcome old new
 Works (Authsrv client) inputs outcome old new = Attended client inputs outcome old new

@@ -6,16 +6,18 @@ use Rattle.fw_outside.specs.ClockView.{ClockView}
 use Rattle.fw_outside.specs.SourceView.{SourceView}
 use Rattle.fw_outside.specs.DiceView.{DiceView}
 use Rattle.fw_outside.specs.KeeperView.{KeeperView}
+use Rattle.fw_outside.specs.LauncherView.{LauncherView}
 
--- what a session meets besides the output and the log: what the client says, the clock, the dice, and the keeper of the
--- users' records, where one is there
+-- what a run meets besides the files, the output and the log: what the client says, the clock, the dice, the keeper of the
+-- users' records, where one is there, and who starts programs
 pub record SessionInputs : Type 0 where
   pub input : SourceView
   pub clock : ClockView
   pub dice : DiceView
   pub keeper : Option KeeperView
+  pub launcher : LauncherView
 
--- the files that the table is read from, standard output, the log, and what a session meets
+-- the files that the table is read from, standard output, the log, and what else a run meets
 pub record WorldView : Type 0 where
   pub files : FilesView
   pub output : SinkView

@@ -80,6 +80,7 @@ fn hold_at_console<T: Kit>(
         (devices_at world.new book.new dialer.new) result }
     ensures files { world.new.files ≡ world.old.files }
     ensures keeper { world.new.inputs.keeper ≡ world.old.inputs.keeper }
+    ensures launcher { world.new.inputs.launcher ≡ world.old.inputs.launcher }
 {
     console(
         &Service::Authsrv,
@@ -107,6 +108,7 @@ fn hold_by_rules<T: Kit>(
     ensures untouched { Untouched (verdict_of rules.now peer.now) book.old book.new }
     ensures files { world.new.files ≡ world.old.files }
     ensures keeper { world.new.inputs.keeper ≡ world.old.inputs.keeper }
+    ensures launcher { world.new.inputs.launcher ≡ world.old.inputs.launcher }
 {
     conn(
         &Service::Authsrv,
@@ -135,6 +137,7 @@ fn hold<T: Kit>(
     ensures untouched { UntouchedAt client.now.console (verdict_of rules.now client.now.peer) book.old book.new }
     ensures files { world.new.files ≡ world.old.files }
     ensures keeper { world.new.inputs.keeper ≡ world.old.inputs.keeper }
+    ensures launcher { world.new.inputs.launcher ≡ world.old.inputs.launcher }
 {
     if client.console {
         return hold_at_console(&client.peer, book, world, dialer);

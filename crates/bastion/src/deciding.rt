@@ -45,7 +45,7 @@ fn announced(verdict: Verdict, printing: Result<(), Failed>) -> Outcome
     }
 }
 
-fn shown(verdict: Verdict, printing: Result<(), Failed>) -> Outcome
+pub(crate) fn shown(verdict: Verdict, printing: Result<(), Failed>) -> Outcome
     ensures { result ≡ shown verdict printing }
 {
     match printing {
@@ -55,7 +55,12 @@ fn shown(verdict: Verdict, printing: Result<(), Failed>) -> Outcome
 }
 
 // Logs a verdict and then prints this text of it.
-fn announce<T: Kit>(world: &mut World<T>, verdict: Verdict, query: &Query, text: &[u8]) -> Outcome
+pub(crate) fn announce<T: Kit>(
+    world: &mut World<T>,
+    verdict: Verdict,
+    query: &Query,
+    text: &[u8],
+) -> Outcome
     ensures { Announced query.now verdict text.now result world.old world.new }
 {
     let line = decision_line(verdict, &query.service, &query.peer);

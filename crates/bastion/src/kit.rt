@@ -1,7 +1,9 @@
 ghost use Rattle.std.specs.Prelude.{◌≡◌};
+ghost use Rattle.fw_outside.specs.LauncherView.{Starts};
 ghost use Rattle.fw_outside.specs.SinkView.{Gives};
 
-use fw_outside::{Clock, Dice, Failed, Files, Keeper, Sink, Source};
+use fw_outside::{Clock, Dice, Failed, Files, Keeper, Launcher, Sink, Source, Started};
+use fw_types::OctetsList;
 use std::marker::Model;
 
 /// The kinds of device that a run is given.
@@ -19,6 +21,8 @@ pub trait Kit {
     type Dice: Dice;
 
     type Keeper: Keeper;
+
+    type Launch: Launcher;
 }
 
 /// The devices that a run is given.
@@ -38,6 +42,8 @@ pub struct World<T: Kit> {
     pub dice: T::Dice,
     /// Who keeps the users' records. It is there whenever a run begins or ends.
     pub keeper: Option<T::Keeper>,
+    /// Who starts programs.
+    pub launcher: T::Launch,
 }
 
 impl<T: Kit> Model for World<T> {
@@ -55,6 +61,7 @@ impl<T: Kit> Model for World<T> {
         clock = T.Tick.clock_view w.clock;
         dice = T.Dice.dice_view w.dice;
         keeper = option_map T.Keeper.keeper_view w.keeper;
+        launcher = T.Launch.launcher_view w.launcher;
       };
     } };
 }
@@ -68,6 +75,17 @@ impl<T: Kit> World<T> {
         ensures inputs { self.new.inputs ≡ self.old.inputs }
     {
         self.output.give(text)
+    }
+
+    // Starts a program, and waits for its end.
+    pub(crate) fn start(&mut self, program: &[u8], args: &OctetsList) -> Started
+        ensures starts { Starts result program.now args.now self.old.inputs.launcher self.new.inputs.launcher }
+        ensures inputs { self.new.inputs ≡ record (self.old.inputs) { launcher = self.new.inputs.launcher } }
+        ensures output { self.new.output ≡ self.old.output }
+        ensures logs { self.new.logs ≡ self.old.logs }
+        ensures files { self.new.files ≡ self.old.files }
+    {
+        self.launcher.start(program, args)
     }
 
     // Gives a line to the log.

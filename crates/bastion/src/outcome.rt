@@ -24,6 +24,8 @@ pub enum Device {
     Log,
     /// The keeper of the records.
     Records,
+    /// Who starts programs.
+    Program,
 }
 
 /// At what memory was wanting.
@@ -39,7 +41,7 @@ pub enum Step {
     Policy,
     /// Reading the records.
     Records,
-    /// Making the text that is printed of a permission.
+    /// Making the text that is printed of a permission, and the words of the program to be started.
     Print,
 }
 
@@ -80,6 +82,7 @@ fn device_text(device: Device) -> &'static [u8]
         Device::Output => b"output",
         Device::Log => b"log",
         Device::Records => b"records",
+        Device::Program => b"program",
     }
 }
 

@@ -2,88 +2,14 @@
 ghost use Rattle.std.specs.Prelude.{◌≡◌, ◌↔◌, IsSome, None, Some};
 ghost use Rattle.bastion.specs.Complete.{IsComplete};
 ghost use Rattle.bastion.specs.Headline.{Headline};
-ghost use Rattle.bastion.specs.Outcome.{fault_line_of};
-ghost use Rattle.bastion.specs.Reading.{Finds, ruling_in};
-ghost use Rattle.bastion.specs.Run.{DoesFor, DoesLine, Run, TellsIf};
+ghost use Rattle.bastion.specs.Run.{Run};
 ghost use Rattle.bastion.specs.Status.{IsStatus, SomeRose, TakesIn};
 ghost use Rattle.bastion.specs.Words.{line_of};
-ghost use Rattle.bastion.specs.declared.words.Command.TheVariants.{Netacl, Table, Authsrv};
-ghost use Rattle.gate_rules.specs.Reading.{rules_of};
 
-use crate::authsrv::attend;
-use crate::deciding::{decide, show};
-use crate::reading::find_rules;
-use crate::{Command, CommandLine, Kit, Outcome, Query, World};
+use crate::obeying::{obey, tell};
+use crate::{Kit, World};
 use fw_types::Octets;
-use gate_rules::Rules;
 use std::alloc::Global;
-
-// The rules of the query's service, which only the files are asked for.
-fn rules_for<T: Kit>(
-    alloc: Global,
-    name: &[u8],
-    query: &Query,
-    world: &mut World<T>,
-) -> Result<Rules, Outcome>
-    ensures found { Finds (ruling_in (rules_of query.now.service)) name.now result world.old.files world.new.files }
-    ensures output { world.new.output ≡ world.old.output }
-    ensures logs { world.new.logs ≡ world.old.logs }
-    ensures inputs { world.new.inputs ≡ world.old.inputs }
-{
-    find_rules(alloc, &mut world.files, name, &query.service)
-}
-
-// Decides for one service and peer.
-fn netacl<T: Kit>(alloc: Global, name: &[u8], query: &Query, world: &mut World<T>) -> Outcome
-    ensures { DoesFor name.now (Netacl query.now) result world.old world.new }
-{
-    match rules_for(alloc, name, query, world) {
-        Ok(rules) => decide(alloc, &rules, query, world),
-        Err(outcome) => outcome,
-    }
-}
-
-// Shows what the table says to one service of a peer.
-fn table<T: Kit>(alloc: Global, name: &[u8], query: &Query, world: &mut World<T>) -> Outcome
-    ensures { DoesFor name.now (Table query.now) result world.old world.new }
-{
-    match rules_for(alloc, name, query, world) {
-        Ok(rules) => show(alloc, &rules, query, world),
-        Err(outcome) => outcome,
-    }
-}
-
-// Does the work of a command, by the table with this name.
-fn work<T: Kit>(alloc: Global, name: &[u8], command: &Command, world: &mut World<T>) -> Outcome
-    requires keeper { IsSome world.old.inputs.keeper }
-    ensures { DoesFor name.now command.now result world.old world.new }
-{
-    match command {
-        Command::Netacl(query) => netacl(alloc, name, query, world),
-        Command::Table(query) => table(alloc, name, query, world),
-        Command::Authsrv(client) => attend(alloc, name, client, world),
-    }
-}
-
-// Does what the words ask for.
-fn obey<T: Kit>(alloc: Global, words: &[Octets], world: &mut World<T>) -> Outcome
-    requires keeper { IsSome world.old.inputs.keeper }
-    ensures { DoesLine (line_of words.now) result world.old world.new }
-{
-    match CommandLine::read(words) {
-        Some(line) => work(alloc, line.table, &line.command, world),
-        None => Outcome::Usage,
-    }
-}
-
-// Gives the log the outcome's line, if it has one. A line that can't be written changes nothing.
-fn tell<T: Kit>(world: &mut World<T>, outcome: &Outcome)
-    ensures { TellsIf (fault_line_of outcome.now) world.old world.new }
-{
-    if let Some(line) = outcome.fault_line() {
-        let _ = world.log(line.as_slice());
-    }
-}
 
 /// Runs a command line over the devices of a world, and answers the exit status:
 ///

@@ -5,7 +5,7 @@ ghost use Rattle.fw_types.specs.Peer.{peer_text};
 ghost use Rattle.gate_rules.specs.Service.{service_text};
 ghost use Rattle.gate_rules.specs.Verdict.{options_at};
 ghost use Rattle.gate_rules.specs.declared.verdict.Verdict.TheVariants.{Permit};
-ghost use Rattle.bastion.specs.Texts.{decision_text, exec_in, print_text, some_line, verdict_line, verdict_text, verdict_word};
+ghost use Rattle.bastion.specs.Texts.{decision_text, ended_text, exec_in, print_text, some_line, verdict_line, verdict_text, verdict_word};
 
 use arrayvec::ArrayVec;
 use fw_types::{NoMemory, Octets, Peer, append, append_u32};
@@ -106,8 +106,19 @@ pub(crate) fn verdict_text(verdict: Verdict) -> LogLine
     out
 }
 
+/// How a program ended.
+pub(crate) fn ended_line(status: u8) -> LogLine
+    ensures { result.items ≡ ended_text status }
+{
+    let mut out = ArrayVec::new();
+    append(&mut out, b"ended ");
+    append_u32(&mut out, u32::from(status));
+    append(&mut out, b"\n");
+    out
+}
+
 // The program's words on the permit line with this number.
-fn exec_at(rules: &Rules, line: u32) -> &[Octets]
+pub(crate) fn exec_at(rules: &Rules, line: u32) -> &[Octets]
     ensures { result.now ≡ exec_in (options_at rules.entry.now line) }
 {
     match rules.options(line) {

@@ -3,7 +3,7 @@ ghost use Rattle.std.specs.Option.{option_copied, option_map};
 ghost use Rattle.std.specs.Str.{bytes_eq};
 ghost use Rattle.gate_rules.specs.Label.{label_of};
 ghost use Rattle.bastion.specs.Places.{places_of};
-ghost use Rattle.bastion.specs.Words.{after_options, any_twice, command_in, command_of, is_option_pair, is_option_name, line_of, name_in, netacl_in, peer_by, peer_in, query_of, stands, table_in, table_named, client_in, client_of, word_after, word_or};
+ghost use Rattle.bastion.specs.Words.{after_options, any_twice, command_in, command_of, is_option_pair, is_option_name, line_of, name_in, netacl_by, netacl_in, peer_by, peer_in, query_of, run_in, stands, table_in, table_named, client_in, client_of, word_after, word_or};
 
 use crate::Places;
 use fw_types::{HostName, Octets, Peer, read_quad};
@@ -30,6 +30,8 @@ pub struct Client {
 pub enum Command {
     /// `netacl DAEMON ADDR [NAME]`: log and print what the table decides.
     Netacl(Query),
+    /// `netacl -run DAEMON ADDR [NAME]`: the same, and then start the program of the line that permits.
+    NetaclRun(Query),
     /// `table SERVICE ADDR [NAME]`: print what the table decides and sets.
     Table(Query),
     /// `authsrv [-console] ADDR [NAME]`: answer a peer's questions about users.
@@ -166,6 +168,29 @@ fn netacl_in(words: &[Octets]) -> Option<Query>
     }
 }
 
+fn run_in(words: &[Octets]) -> Option<Query>
+    ensures { result ≡ run_in words.now }
+{
+    match words {
+        [word, words @ ..] => {
+            if is_word(word, b"-run") {
+                return netacl_in(words);
+            }
+            None
+        }
+        [] => None,
+    }
+}
+
+fn netacl_by(decided: Option<Query>, started: Option<Query>) -> Option<Command>
+    ensures { result ≡ netacl_by decided started }
+{
+    match decided {
+        Some(query) => Some(Command::Netacl(query)),
+        None => started.map(Command::NetaclRun),
+    }
+}
+
 fn table_in(words: &[Octets]) -> Option<Query>
     ensures { result ≡ table_in words.now }
 {
@@ -202,7 +227,7 @@ fn command_in(words: &[Octets]) -> Option<Command>
     match words {
         [name, words @ ..] => {
             if is_word(name, b"netacl") {
-                return netacl_in(words).map(Command::Netacl);
+                return netacl_by(netacl_in(words), run_in(words));
             }
             if is_word(name, b"table") {
                 return table_in(words).map(Command::Table);

@@ -40,12 +40,19 @@ impl LineReader {
         }
     }
 
-    // The bytes that were taken and not heard yet.
-    fn pending(&self) -> &[u8]
+    /// The bytes that were taken and not heard yet.
+    pub fn pending(&self) -> &[u8]
         ensures bytes { result.now ≡ self.now.pending }
         ensures near { length self.now.pending ≤ 4096 }
     {
         &self.taken[self.at..]
+    }
+
+    /// How many more bytes may be taken.
+    pub fn room(&self) -> u64
+        ensures { result ≡ self.now.room }
+    {
+        self.room
     }
 
     // Whether no more bytes may be taken.

@@ -1,3 +1,4 @@
 pub mod EntryLemmas
+pub mod FileLemmas
 pub mod MovingLemmas
 pub mod RecordLemmas

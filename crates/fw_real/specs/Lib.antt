@@ -1,5 +1,6 @@
 pub mod Disks
 pub mod Entries
+pub mod FileView
 pub mod Moving
 pub mod Private
 pub mod Records

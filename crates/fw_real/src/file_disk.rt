@@ -1,8 +1,9 @@
-ghost use Rattle.std.specs.Prelude.{◌≡◌, ◌≤◌, false, true, length, IfOk, IsErr};
+ghost use Rattle.std.specs.Prelude.{◌≡◌, ◌≤◌, false, true, length, option_map, IfOk, IsErr, OnOk};
 ghost use Rattle.fw_outside.specs.Counts.{Rose, counted};
 ghost use Rattle.fw_disk.specs.DiskView.{Changes, Doubts, Reads, Syncs};
 ghost use Rattle.fw_disk.specs.Medium.{cut_at, written_at};
 ghost use Rattle.fw_real.specs.Disks.{is_lost_after, untold_disk};
+ghost use Rattle.fw_real.specs.FileView.{Cuts, IsDone, IsKept, IsReadFrom, Lays, Settles};
 
 use crate::RawFile;
 use crate::through::{read_through, write_through};
@@ -18,8 +19,9 @@ pub trait Place<F>: Drop {
 
 /// A file as a disk, which is opened at the first call, and stays open.
 ///
-/// A file that is missing is read as an empty one; any other call of it fails. After a sync that failed each call
-/// fails: the system may answer the next one as done though the bytes are lost.
+/// A file that is missing is read as an empty one; any other call of it fails. After a sync of the open file that failed
+/// each call fails: the system may answer the next one as done though the bytes are lost. Before the file is open nothing
+/// was written to it, so what fails then can be tried again.
 #[derive(Drop)]
 pub struct FileDisk<P, F> {
     place: P,
@@ -43,9 +45,12 @@ impl<P: Place<F>, F: RawFile> FileDisk<P, F> {
         }
     }
 
-    // Opens the file, unless it is open or missing.
+    // Opens the file, unless it is open or missing. Where that fails it isn't open, or the disk is lost.
+    #[tactic(auto, using(crate::proofs::FileLemmas::kept_here, crate::proofs::FileLemmas::still_lost))]
     fn make_ready(&mut self) -> io::Result<()>
+        ensures kept { IsKept (option_map F.file_view self.old.file) (option_map F.file_view self.new.file) }
         ensures for_good { self.old.is_lost ≡ true → IsErr result }
+        ensures closed { is_lost_after self.old.is_lost self.new.file result ≡ self.old.is_lost }
         ensures lost { self.new.is_lost ≡ self.old.is_lost }
         ensures place { self.new.place ≡ self.old.place }
         ensures faults { self.new.faults ≡ self.old.faults }
@@ -53,14 +58,21 @@ impl<P: Place<F>, F: RawFile> FileDisk<P, F> {
         if self.is_lost {
             return Err(io::Error::from(ErrorKind::Other));
         }
-        if self.file.is_none() {
-            self.file = self.place.open()?;
+        match &self.file {
+            Some(_) => Ok(()),
+            None => {
+                self.file = self.place.open()?;
+                Ok(())
+            }
         }
-        Ok(())
     }
 
+    #[tactic(auto, using(crate::proofs::FileLemmas::is_done, crate::proofs::FileLemmas::kept_then))]
     fn read_file(&mut self, at: u64, buf: &mut [u8]) -> io::Result<usize>
         ensures fits { IfOk result (λ n. n ≤ length buf.old) }
+        ensures bytes { IfOk result (λ n.
+            IsReadFrom n at (length buf.old) buf.new (option_map F.file_view self.new.file)) }
+        ensures kept { IsKept (option_map F.file_view self.old.file) (option_map F.file_view self.new.file) }
         ensures for_good { self.old.is_lost ≡ true → IsErr result }
         ensures lost { self.new.is_lost ≡ self.old.is_lost }
         ensures place { self.new.place ≡ self.old.place }
@@ -73,7 +85,10 @@ impl<P: Place<F>, F: RawFile> FileDisk<P, F> {
         }
     }
 
+    #[tactic(auto, using(crate::proofs::FileLemmas::is_done, crate::proofs::FileLemmas::kept_then))]
     fn write_file(&mut self, at: u64, bytes: &[u8]) -> io::Result<()>
+        ensures bytes { OnOk result (IsDone (Lays at bytes.now)
+            (option_map F.file_view self.old.file) (option_map F.file_view self.new.file)) }
         ensures for_good { self.old.is_lost ≡ true → IsErr result }
         ensures lost { self.new.is_lost ≡ self.old.is_lost }
         ensures place { self.new.place ≡ self.old.place }
@@ -86,7 +101,10 @@ impl<P: Place<F>, F: RawFile> FileDisk<P, F> {
         }
     }
 
+    #[tactic(auto, using(crate::proofs::FileLemmas::is_done, crate::proofs::FileLemmas::kept_then))]
     fn cut_file(&mut self, len: u64) -> io::Result<()>
+        ensures bytes { OnOk result (IsDone (Cuts len)
+            (option_map F.file_view self.old.file) (option_map F.file_view self.new.file)) }
         ensures for_good { self.old.is_lost ≡ true → IsErr result }
         ensures lost { self.new.is_lost ≡ self.old.is_lost }
         ensures place { self.new.place ≡ self.old.place }
@@ -99,15 +117,25 @@ impl<P: Place<F>, F: RawFile> FileDisk<P, F> {
         }
     }
 
+    // Syncs the file; where that fails, the disk is lost.
+    #[tactic(auto, using(crate::proofs::FileLemmas::is_done, crate::proofs::FileLemmas::kept_then))]
     fn sync_file(&mut self) -> io::Result<()>
+        ensures bytes { OnOk result (IsDone Settles
+            (option_map F.file_view self.old.file) (option_map F.file_view self.new.file)) }
         ensures for_good { self.old.is_lost ≡ true → IsErr result }
-        ensures lost { self.new.is_lost ≡ self.old.is_lost }
+        ensures lost { self.new.is_lost ≡ is_lost_after self.old.is_lost self.new.file result }
         ensures place { self.new.place ≡ self.old.place }
         ensures faults { self.new.faults ≡ self.old.faults }
     {
         self.make_ready()?;
         match &mut self.file {
-            Some(file) => file.sync(),
+            Some(file) => match file.sync() {
+                Ok(()) => Ok(()),
+                Err(fault) => {
+                    self.is_lost = true;
+                    Err(fault)
+                }
+            },
             None => Err(io::Error::from(ErrorKind::NotFound)),
         }
     }
@@ -128,6 +156,9 @@ impl<P: Place<F>, F: RawFile> Disk for FileDisk<P, F> {
     fn read(&mut self, at: u64, buf: &mut [u8]) -> Result<usize, Failed>
         ensures reads { Reads result at (length buf.old) buf.new (untold_disk self.old.faults)
             (untold_disk self.new.faults) }
+        ensures bytes { IfOk result (λ n.
+            IsReadFrom n at (length buf.old) buf.new (option_map F.file_view self.new.file)) }
+        ensures kept { IsKept (option_map F.file_view self.old.file) (option_map F.file_view self.new.file) }
         ensures for_good { self.old.is_lost ≡ true → IsErr result }
         ensures lost { self.new.is_lost ≡ self.old.is_lost }
         ensures place { self.new.place ≡ self.old.place }
@@ -141,6 +172,8 @@ impl<P: Place<F>, F: RawFile> Disk for FileDisk<P, F> {
     fn write_at(&mut self, at: u64, bytes: &[u8]) -> Result<(), Failed>
         ensures changes { Changes result (written_at at bytes.now) (untold_disk self.old.faults)
             (untold_disk self.new.faults) }
+        ensures bytes { OnOk result (IsDone (Lays at bytes.now)
+            (option_map F.file_view self.old.file) (option_map F.file_view self.new.file)) }
         ensures for_good { self.old.is_lost ≡ true → IsErr result }
         ensures lost { self.new.is_lost ≡ self.old.is_lost }
         ensures place { self.new.place ≡ self.old.place }
@@ -153,6 +186,8 @@ impl<P: Place<F>, F: RawFile> Disk for FileDisk<P, F> {
 
     fn cut(&mut self, len: u64) -> Result<(), Failed>
         ensures changes { Changes result (cut_at len) (untold_disk self.old.faults) (untold_disk self.new.faults) }
+        ensures bytes { OnOk result (IsDone (Cuts len)
+            (option_map F.file_view self.old.file) (option_map F.file_view self.new.file)) }
         ensures for_good { self.old.is_lost ≡ true → IsErr result }
         ensures lost { self.new.is_lost ≡ self.old.is_lost }
         ensures place { self.new.place ≡ self.old.place }
@@ -165,16 +200,15 @@ impl<P: Place<F>, F: RawFile> Disk for FileDisk<P, F> {
 
     fn sync(&mut self) -> Result<(), Failed>
         ensures syncs { Syncs result (untold_disk self.old.faults) (untold_disk self.new.faults) }
+        ensures bytes { OnOk result (IsDone Settles
+            (option_map F.file_view self.old.file) (option_map F.file_view self.new.file)) }
         ensures for_good { self.old.is_lost ≡ true → IsErr result }
-        ensures lost { self.new.is_lost ≡ is_lost_after self.old.is_lost result }
+        ensures lost { self.new.is_lost ≡ is_lost_after self.old.is_lost self.new.file result }
         ensures place { self.new.place ≡ self.old.place }
     {
         match self.sync_file() {
             Ok(()) => Ok(()),
-            Err(_) => {
-                self.is_lost = true;
-                Err(self.fail())
-            }
+            Err(_) => Err(self.fail()),
         }
     }
 

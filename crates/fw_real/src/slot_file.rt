@@ -1,15 +1,15 @@
 ghost use Rattle.std.specs.Prelude.{◌≡◌, ◌++◌, codes, false, true, IfOk};
 ghost use Rattle.std.specs.Prelude.{string_bytes};
 ghost use Rattle.std.specs.Fmt.{decimal};
-ghost use Rattle.fw_real.specs.Slots.{slot_path};
+ghost use Rattle.fw_real.specs.Slots.{path_above, slot_path};
 
 use crate::Place;
-use crate::private::make_private;
+use crate::private::{make_private, remove_unused};
 use fw_types::{NoMemory, Octets};
 use std::alloc::{AllocError, Global};
 use std::fs::{self, DirBuilder, File, OpenOptions};
 use std::io::{self, ErrorKind};
-use std::os::unix::fs::DirBuilderExt;
+use std::os::unix::fs::{DirBuilderExt, MetadataExt};
 use std::str;
 
 /// The file of a slot, `slotS` in the folder of the spool, where S is the slot's number in decimal.
@@ -36,6 +36,16 @@ fn path_of(alloc: Global, folder: &str, number: u32) -> Result<String, AllocErro
     Ok(path)
 }
 
+// The path of the folder above, which needn't be named in the folder's own.
+fn above(alloc: Global, folder: &str) -> Result<String, AllocError>
+    ensures { IfOk result (λ path. string_bytes path ≡ path_above folder.now) }
+{
+    let mut path = String::new(alloc);
+    path.push_str(folder)?;
+    path.push_str("/..")?;
+    Ok(path)
+}
+
 // The answer, or none where the file isn't there.
 fn if_there<F>(answer: io::Result<F>) -> io::Result<Option<F>> {
     match answer {
@@ -45,17 +55,24 @@ fn if_there<F>(answer: io::Result<F>) -> io::Result<Option<F>> {
     }
 }
 
-// Opens a file that is there, for this process alone.
+// The file, if it is a plain one that still has a name.
+fn if_named(file: File) -> io::Result<File> {
+    let found = file.metadata()?;
+    if found.is_file() && found.nlink() > 0 {
+        Ok(file)
+    } else {
+        Err(io::Error::from(ErrorKind::InvalidInput))
+    }
+}
+
+// Opens a file that is there, for this process alone. One that was removed before it was locked is none.
 fn open_locked(system: &HostRuntime, path: &str) -> io::Result<File> {
     let file = OpenOptions::new()
         .read(true)
         .write(true)
         .open(system, path)?;
-    if !file.metadata()?.is_file() {
-        return Err(io::Error::from(ErrorKind::InvalidInput));
-    }
     match file.try_lock() {
-        Ok(()) => Ok(file),
+        Ok(()) => if_named(file),
         Err(refusal) => Err(io::Error::from(refusal)),
     }
 }
@@ -68,12 +85,31 @@ fn or_there(answer: io::Result<()>) -> io::Result<()> {
     }
 }
 
-// Makes the folder and the file where they are missing, for their owner alone, and sees to it that a crash leaves them
-// in their folders.
-fn make(system: &HostRuntime, folder: &str, path: &str) -> io::Result<()> {
-    or_there(DirBuilder::new().mode(0o700).create(system, folder))?;
-    make_private(system, path)?;
+// Sees to it that a crash leaves what stands in this folder.
+fn sync_folder(system: &HostRuntime, folder: &str) -> io::Result<()> {
     fs::open(system, folder)?.sync_all()
+}
+
+// Makes the folder where it is missing, for its owner alone.
+fn make_folder(system: &HostRuntime, folder: &str) -> io::Result<()> {
+    or_there(DirBuilder::new().mode(0o700).create(system, folder))?;
+    sync_folder(system, &above(system.alloc(), folder)?)
+}
+
+// Makes the folder and the file where they are missing, for their owner alone, and sees to it that a crash leaves them
+// in their folders. A new file that can't be kept so is removed.
+fn make(system: &HostRuntime, folder: &str, path: &str) -> io::Result<()> {
+    make_folder(system, folder)?;
+    let made = make_private(system, path)?;
+    match sync_folder(system, folder) {
+        Err(fault) if made.is_some() => {
+            if let Ok(file) = OpenOptions::new().write(true).open(system, path) {
+                remove_unused(system, path, &file);
+            }
+            Err(fault)
+        }
+        answer => answer,
+    }
 }
 
 impl SlotFile {

@@ -9,6 +9,7 @@ use fw_outside::{Dice, Sink};
 use fw_real::{Paths, Reading, Records, Salts, StandardInput, SystemClock, Writing};
 use fw_types::Octets;
 use process::Process;
+use real_links::Programs;
 use std::env;
 use std::io::{ErrorKind, Stdout};
 use std::process::ExitCode;
@@ -16,7 +17,7 @@ use std::process::ExitCode;
 mod process;
 
 const HELP: &[u8] = b"\
-usage: fwtk [-t FILE] netacl DAEMON ADDRESS [NAME]
+usage: fwtk [-t FILE] netacl [-run] DAEMON ADDRESS [NAME]
        fwtk [-t FILE] table SERVICE ADDRESS [NAME]
        fwtk [-t FILE] [-r FILE] authsrv [-console] ADDRESS [NAME]
        fwtk --help | --version
@@ -102,6 +103,7 @@ fn run_with<D: Dice>(
         clock: SystemClock::new(rt),
         dice,
         keeper: Some(Records::new(rt, places(words).db)?),
+        launcher: Programs::new(rt, rt.alloc()),
     };
     Ok(run(rt.alloc(), words, &mut world))
 }

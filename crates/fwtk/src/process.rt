@@ -3,6 +3,7 @@
 use bastion::Kit;
 use fw_outside::Dice;
 use fw_real::{Paths, Reading, Records, StandardInput, SystemClock, Writing};
+use real_links::Programs;
 use std::io::{Stderr, Stdout};
 use std::marker::PhantomData;
 
@@ -26,4 +27,6 @@ impl<D: Dice> Kit for Process<D> {
     type Dice = D;
 
     type Keeper = Records;
+
+    type Launch = Programs<HostRuntime>;
 }

@@ -43,6 +43,7 @@ fn told_of(alloc: Global, words: &[Octets]) -> Result<Vec<u8>, NoMemory> {
     match read_command(words) {
         None => out.extend_from_slice(b"none")?,
         Some(Command::Netacl(query)) => add_query(&mut out, b"netacl ", &query)?,
+        Some(Command::NetaclRun(query)) => add_query(&mut out, b"netacl -run ", &query)?,
         Some(Command::Table(query)) => add_query(&mut out, b"table ", &query)?,
         Some(Command::Authsrv(client)) if client.console => {
             add_client(&mut out, b"console ", &client.peer)?;

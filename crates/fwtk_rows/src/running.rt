@@ -1,7 +1,7 @@
 //! The one call of `run`.
 
 use bastion::{Kit, World, run};
-use fw_memory::{MemClock, MemDice, MemFiles, MemKeeper, MemSink, MemSource};
+use fw_memory::{MemClock, MemDice, MemFiles, MemKeeper, MemLauncher, MemSink, MemSource};
 use fw_types::Octets;
 use row_runs::{Devices, Ended};
 use std::alloc::Global;
@@ -24,6 +24,8 @@ impl Kit for Memory {
     type Dice = MemDice;
 
     type Keeper = MemKeeper;
+
+    type Launch = MemLauncher;
 }
 
 /// Runs the command line over the devices.
@@ -36,6 +38,7 @@ pub(crate) fn run_over(alloc: Global, words: &[Octets], devices: Devices) -> End
         clock,
         dice,
         keeper,
+        launcher,
     } = devices;
     let mut world: World<Memory> = World {
         files,
@@ -45,6 +48,7 @@ pub(crate) fn run_over(alloc: Global, words: &[Octets], devices: Devices) -> End
         clock,
         dice,
         keeper: Some(keeper),
+        launcher,
     };
     let status = run(alloc, words, &mut world);
     let World {
@@ -55,6 +59,7 @@ pub(crate) fn run_over(alloc: Global, words: &[Octets], devices: Devices) -> End
         clock,
         dice: _dice,
         keeper,
+        launcher,
     } = world;
     Ended {
         status,
@@ -63,5 +68,6 @@ pub(crate) fn run_over(alloc: Global, words: &[Octets], devices: Devices) -> End
         logs,
         clock,
         keeper,
+        launcher,
     }
 }

@@ -92,6 +92,7 @@ pub(crate) fn serve_over(alloc: Global, words: &[Octets], limit: u64, devices: D
         clock,
         mut dice,
         keeper,
+        launcher,
     } = devices;
     let mut ended = Ended {
         status: UNSERVED,
@@ -100,6 +101,7 @@ pub(crate) fn serve_over(alloc: Global, words: &[Octets], limit: u64, devices: D
         logs,
         clock,
         keeper: None,
+        launcher,
     };
     let Some(server) = server_in(alloc, words, files) else {
         return ended;

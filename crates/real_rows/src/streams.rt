@@ -1,89 +1,129 @@
-//! Streams that are interrupted or come late.
+//! Files that are read and written.
 
-use fw_outside::{Failed, Got, Sink, Source};
-use fw_real::{Reading, Timed, Writing};
-use std::io::{self, ErrorKind, Read, Write};
-use std::test::Fail;
+use crate::system::{System, path_of};
+use crate::telling::{tell_bytes, tell_done, tell_unknown};
+use fw_outside::{Files, Got, Sink, Source};
+use fw_real::{Paths, Reading, Writing};
+use row_lines::{Told, add_word, cut_word, number_of};
+use std::fs::{self, File};
 
-fn error(kind: ErrorKind) -> io::Error {
-    io::Error::from(kind)
+fn take<S: Source>(source: &mut S, out: &mut Told) {
+    let mut buf = [0; 5];
+    match source.take(&mut buf) {
+        Ok(Got::Bytes(count)) => tell_bytes(buf.get(..count).unwrap_or(&[]), out),
+        Ok(Got::End) => add_word(out, b"end"),
+        Ok(Got::Idle) => add_word(out, b"idle"),
+        Err(_) => add_word(out, b"failed"),
+    }
 }
 
-// A stream whose first read and flush are interrupted. Then it gives a byte, is late, fails, and ends; the second flush
-// fails. It can't be told to wait 7 seconds.
+/// `take`, into five bytes, or `patience SECONDS`.
+pub(crate) fn source_step<S: Source>(source: &mut S, word: &[u8], rest: &[u8], out: &mut Told) {
+    match word {
+        b"take" => take(source, out),
+        b"patience" => source.patience(u32::try_from(number_of(rest)).unwrap_or(0)),
+        _ => tell_unknown(out),
+    }
+}
+
+/// `give TEXT` or `end`.
+pub(crate) fn sink_step<K: Sink>(sink: &mut K, word: &[u8], rest: &[u8], out: &mut Told) {
+    match word {
+        b"give" => tell_done(sink.give(rest).is_ok(), out),
+        b"end" => tell_done(sink.end().is_ok(), out),
+        _ => tell_unknown(out),
+    }
+}
+
+// A source, a sink, and files by their paths.
 #[derive(Drop)]
-struct Uneven {
-    calls: u32,
+struct Streams {
+    rt: HostRuntime,
+    system: System,
+    paths: Paths<HostRuntime>,
+    source: Option<Reading<File>>,
+    sink: Option<Writing<File>>,
 }
 
-impl Uneven {
-    fn call(&mut self) -> u32 {
-        self.calls = self.calls.saturating_add(1);
-        self.calls
+impl Streams {
+    fn new(rt: HostRuntime) -> Streams {
+        Streams {
+            rt,
+            system: System::new(rt),
+            paths: Paths::new(rt),
+            source: None,
+            sink: None,
+        }
     }
-}
 
-impl Read for Uneven {
-    fn read(&mut self, buf: &mut [u8]) -> io::Result<usize> {
-        match (self.call(), buf.first_mut()) {
-            (1, _) => Err(error(ErrorKind::Interrupted)),
-            (2, Some(first)) => {
-                *first = b'x';
-                Ok(1)
-            }
-            (3, _) => Err(error(ErrorKind::WouldBlock)),
-            (4, _) => Err(error(ErrorKind::Other)),
-            _ => Ok(0),
+    // The source at this path is asked for.
+    fn find(&mut self, path: &[u8], out: &mut Told) {
+        self.source = self.paths.source(path);
+        if self.source.is_none() {
+            add_word(out, b"missing");
+        }
+    }
+
+    // The source is given back.
+    fn back(&mut self) {
+        if let Some(source) = self.source.take() {
+            self.paths.back(source);
+        }
+    }
+
+    fn open(&mut self, path: &str) {
+        if let Ok(file) = fs::open(&self.rt, path) {
+            self.source = Some(Reading::new(file));
+        }
+    }
+
+    // A sink that makes the file.
+    fn create(&mut self, path: &str) {
+        if let Ok(file) = fs::create(&self.rt, path) {
+            self.sink = Some(Writing::new(file));
+        }
+    }
+
+    // A sink over a file that is open to be read alone.
+    fn misuse(&mut self, path: &str) {
+        if let Ok(file) = fs::open(&self.rt, path) {
+            self.sink = Some(Writing::new(file));
+        }
+    }
+
+    fn source(&mut self, word: &[u8], rest: &[u8], out: &mut Told) {
+        match &mut self.source {
+            Some(source) => source_step(source, word, rest, out),
+            None => add_word(out, b"no source"),
+        }
+    }
+
+    fn sink(&mut self, word: &[u8], rest: &[u8], out: &mut Told) {
+        match &mut self.sink {
+            Some(sink) => sink_step(sink, word, rest, out),
+            None => add_word(out, b"no sink"),
+        }
+    }
+
+    fn step(&mut self, step: &[u8], out: &mut Told) {
+        let (word, rest) = cut_word(step);
+        match word {
+            b"find" => self.find(rest, out),
+            b"back" => self.back(),
+            b"open" => self.open(path_of(rest)),
+            b"create" => self.create(path_of(rest)),
+            b"misuse" => self.misuse(path_of(rest)),
+            b"take" | b"patience" => self.source(word, rest, out),
+            b"give" | b"end" => self.sink(word, rest, out),
+            _ => self.system.step(word, rest, out),
         }
     }
 }
 
-impl Write for Uneven {
-    fn write(&mut self, _: &[u8]) -> io::Result<usize> {
-        Ok(0)
+/// `streams STEP|STEP|.. => ANSWERS`.
+pub(crate) fn tell_streams(rt: HostRuntime, asked: &[u8], out: &mut Told) {
+    let mut streams = Streams::new(rt);
+    for step in asked.split(|byte| *byte == b'|') {
+        streams.step(step, out);
     }
-
-    fn flush(&mut self) -> io::Result<()> {
-        match self.call() {
-            1 => Err(error(ErrorKind::Interrupted)),
-            3 => Err(error(ErrorKind::Other)),
-            _ => Ok(()),
-        }
-    }
-}
-
-impl Timed for Uneven {
-    fn set_wait(&self, seconds: u32) -> io::Result<()> {
-        if seconds == 7 {
-            return Err(error(ErrorKind::InvalidInput));
-        }
-        Ok(())
-    }
-
-    fn is_late(&self, fault: &io::Error) -> bool {
-        fault.kind() == ErrorKind::WouldBlock
-    }
-}
-
-#[test]
-fn late_and_failed_reads_are_told_apart(rt: HostRuntime) -> Result<(), Fail> {
-    let mut source = Reading::new(Uneven { calls: 0 });
-    let mut buf = [0; 2];
-    assert_eq!(rt; source.take(&mut buf), Ok(Got::Bytes(1)));
-    assert_eq!(rt; source.take(&mut buf), Ok(Got::Idle));
-    assert_eq!(rt; source.take(&mut buf), Err(Failed));
-    source.patience(7);
-    assert_eq!(rt; source.take(&mut buf), Err(Failed));
-    source.patience(8);
-    assert_eq!(rt; source.take(&mut buf), Ok(Got::End));
-    Ok(())
-}
-
-#[test]
-fn a_flush_goes_on_or_fails(rt: HostRuntime) -> Result<(), Fail> {
-    let mut sink = Writing::new(Uneven { calls: 0 });
-    assert_eq!(rt; sink.end(), Ok(()));
-    assert_eq!(rt; sink.end(), Err(Failed));
-    assert_eq!(rt; sink.give(b"x"), Err(Failed));
-    Ok(())
 }

@@ -1,5 +1,5 @@
 -- What a way does: bytes are taken from a source, a front of them is given to a sink, and then it ends.
-use Rattle.std.specs.Prelude.{◌≡◌, ℕ, ◌==◌, ◌≤◌, Bool, true, false, List, [], ◌++◌, length, Ok}
+use Rattle.std.specs.Prelude.{◌≡◌, ℕ, ◌+◌, ◌<◌, ◌==◌, ◌≤◌, Bool, true, false, List, [], ◌++◌, length, Ok}
 use Rattle.fw_outside.specs.Counts.{Rose}
 use Rattle.fw_outside.specs.LineReaderView.{TookBytes}
 use Rattle.fw_outside.specs.SinkView.{SinkView, TellsEnd}
@@ -57,3 +57,15 @@ pub record Copies (limit : ℕ) (how : WayEnd) (before after : SourceView) (old 
   pub within : length bytes ≤ limit
   pub spent : is_spent how ≡ (length part == limit)
   pub ends : Ends how rest middle after (holding part old) new
+
+-- some bytes were moved, and so many may still be taken
+pub record MovesSome (limit left : ℕ) (before after : SourceView) (old new : SinkView) : Type 0 where
+  pub count : ℕ
+  pub some : 0 < count
+  pub room : limit ≡ count + left
+  pub moves : Moves count before after old new
+
+-- the way ended so, and so many bytes may still be taken
+pub record CopiesTo (limit left : ℕ) (how : WayEnd) (before after : SourceView) (old new : SinkView) : Type 0 where
+  pub copies : Copies limit how before after old new
+  pub room : limit ≡ length copies.bytes + left

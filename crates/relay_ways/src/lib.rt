@@ -6,11 +6,13 @@
 #![tactic(auto)]
 
 mod both;
+mod carrying;
 mod copying;
 mod ending;
 mod way_end;
 
 pub use both::both_ways;
+pub use carrying::{carry_both, carry_way};
 pub use copying::copy_way;
 pub use ending::way_ending;
 pub use way_end::WayEnd;

@@ -16,6 +16,7 @@ pub(crate) enum Keyword {
     Client,
     ClientPart,
     Limit,
+    Ends,
     Fails,
     Idle,
     Room,
@@ -26,6 +27,8 @@ pub(crate) enum Keyword {
     OutputPart,
     Log,
     LogPart,
+    Started,
+    NoneStarted,
     Status,
     Untaken,
     Unchanged,
@@ -51,6 +54,7 @@ const KEYWORDS: &[(&str, Keyword)] = &[
     ("client", Keyword::Client),
     ("client-part", Keyword::ClientPart),
     ("limit", Keyword::Limit),
+    ("ends", Keyword::Ends),
     ("fails", Keyword::Fails),
     ("idle", Keyword::Idle),
     ("room", Keyword::Room),
@@ -61,6 +65,8 @@ const KEYWORDS: &[(&str, Keyword)] = &[
     ("output-part", Keyword::OutputPart),
     ("log", Keyword::Log),
     ("log-part", Keyword::LogPart),
+    ("started", Keyword::Started),
+    ("started-none", Keyword::NoneStarted),
     ("status", Keyword::Status),
     ("untaken", Keyword::Untaken),
     ("unchanged", Keyword::Unchanged),
@@ -89,6 +95,7 @@ impl Keyword {
             Keyword::ClientPart => Keyword::Client,
             Keyword::OutputPart => Keyword::Output,
             Keyword::LogPart => Keyword::Log,
+            Keyword::NoneStarted => Keyword::Started,
             other => other,
         }
     }
@@ -108,6 +115,7 @@ impl Keyword {
             Keyword::NoTable
                 | Keyword::ConsoleRun
                 | Keyword::Paced
+                | Keyword::NoneStarted
                 | Keyword::Untaken
                 | Keyword::Unchanged
         )

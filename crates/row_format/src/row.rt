@@ -54,6 +54,8 @@ impl Row {
             | Keyword::OutputPart
             | Keyword::Log
             | Keyword::LogPart
+            | Keyword::Started
+            | Keyword::NoneStarted
             | Keyword::Status
             | Keyword::Untaken
             | Keyword::Unchanged

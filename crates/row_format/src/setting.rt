@@ -4,7 +4,7 @@ use crate::Why;
 use crate::escapes::{add_unescaped, unescaped};
 use crate::keyword::Keyword;
 use crate::line::Line;
-use crate::values::{add_numbers, number_of, record_of, words_of};
+use crate::values::{add_numbers, add_statuses, number_of, record_of, words_of};
 use fw_types::{Name, Octets};
 use std::alloc::Global;
 
@@ -37,6 +37,8 @@ pub struct Setting {
     pub client: Vec<u8>,
     /// So many requests fit in the history, where not as many as ever fit.
     pub limit: Option<u64>,
+    /// The statuses with which programs end, in the order in which they are started; 0 past these.
+    pub ends: Vec<u8>,
 }
 
 // The file that there is unless the row says otherwise.
@@ -60,6 +62,7 @@ impl Setting {
             moments: Vec::new(alloc),
             client: Vec::new(alloc),
             limit: None,
+            ends: Vec::new(alloc),
         })
     }
 
@@ -136,6 +139,7 @@ impl Setting {
                 self.limit = Some(number_of(line.text)?);
                 Ok(())
             }
+            Keyword::Ends => add_statuses(&mut self.ends, line.text),
             _ => self.add_record_line(alloc, line),
         }
     }

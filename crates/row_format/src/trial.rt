@@ -27,6 +27,8 @@ pub enum Part {
     LogRoom,
     /// The keeper of the records fails.
     Keeper,
+    /// A program can't be started.
+    Program,
 }
 
 const PARTS: &[(Keyword, &str, Part)] = &[
@@ -35,6 +37,7 @@ const PARTS: &[(Keyword, &str, Part)] = &[
     (Keyword::Fails, "output", Part::Output),
     (Keyword::Fails, "log", Part::Log),
     (Keyword::Fails, "keeper", Part::Keeper),
+    (Keyword::Fails, "program", Part::Program),
     (Keyword::Idle, "table", Part::TableIdle),
     (Keyword::Idle, "client", Part::ClientIdle),
     (Keyword::Room, "output", Part::OutputRoom),

@@ -38,6 +38,14 @@ pub(crate) fn add_numbers(out: &mut Vec<u64>, text: &[u8]) -> Result<(), Why> {
     Ok(())
 }
 
+/// Exit statuses with a blank between any two.
+pub(crate) fn add_statuses(out: &mut Vec<u8>, text: &[u8]) -> Result<(), Why> {
+    for word in text.split(|byte| *byte == b' ') {
+        out.push(status_of(word)?)?;
+    }
+    Ok(())
+}
+
 // A word, which is empty where it is written as two quotes.
 fn word_of(alloc: Global, text: &[u8]) -> Result<Octets, Why> {
     if text == b"\"\"".as_slice() {

@@ -26,6 +26,8 @@ pub struct Wanted {
     pub output: Vec<u8>,
     /// The whole log.
     pub log: Vec<u8>,
+    /// The programs that are started, each with its arguments in a line.
+    pub started: Vec<u8>,
     pub status: Option<u8>,
     /// Whether nothing is taken from the client.
     pub untaken: bool,
@@ -41,6 +43,7 @@ impl Wanted {
         Wanted {
             output: Vec::new(alloc),
             log: Vec::new(alloc),
+            started: Vec::new(alloc),
             status: None,
             untaken: false,
             unchanged: false,
@@ -101,6 +104,8 @@ impl Wanted {
             Keyword::OutputPart => add_unescaped(alloc, &mut self.output, line.text, b""),
             Keyword::Log => add_unescaped(alloc, &mut self.log, line.text, b"\n"),
             Keyword::LogPart => add_unescaped(alloc, &mut self.log, line.text, b""),
+            Keyword::NoneStarted => Ok(()),
+            Keyword::Started => add_unescaped(alloc, &mut self.started, line.text, b"\n"),
             _ => self.add_rest(alloc, line),
         }
     }

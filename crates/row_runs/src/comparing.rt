@@ -17,6 +17,8 @@ pub(crate) struct Expected<'a> {
     pub(crate) left: Option<&'a [u8]>,
     /// What the keeper has.
     pub(crate) records: Option<&'a [(Name, Octets)]>,
+    /// The programs that were started, each with its arguments in a line.
+    pub(crate) started: &'a [u8],
 }
 
 /// The first thing that differs, in words; empty where nothing does.
@@ -151,6 +153,7 @@ pub(crate) fn compare(
     )?;
     difference.text_of(b"the output", expected.output, &outcome.output)?;
     difference.text_of(b"the log", expected.log, &outcome.log)?;
+    difference.text_of(b"what was started", expected.started, &outcome.started)?;
     difference.rest_of(expected, outcome)?;
     Ok(difference)
 }

@@ -1,7 +1,7 @@
 //! The devices that a row's run is given.
 
 use crate::calls::{Broken, ROOM, calls_of, no_calls, room_of};
-use fw_memory::{MemClock, MemDice, MemFiles, MemKeeper, MemSink, MemSource};
+use fw_memory::{MemClock, MemDice, MemFiles, MemKeeper, MemLauncher, MemSink, MemSource};
 use fw_types::{Name, NoMemory, Octets};
 use row_format::{File, Part, Row};
 use std::alloc::Global;
@@ -25,6 +25,7 @@ pub struct Devices {
     pub clock: MemClock,
     pub dice: MemDice,
     pub keeper: MemKeeper,
+    pub launcher: MemLauncher,
 }
 
 /// A copy of the records.
@@ -87,6 +88,12 @@ fn keeper_of(
     Ok(MemKeeper::new(alloc, copy_of(alloc, records)?, fails))
 }
 
+fn launcher_of(alloc: Global, row: &Row, broken: Broken) -> Result<MemLauncher, NoMemory> {
+    let ends = Vec::from_slice(alloc, &row.setting.ends)?;
+    let fails = calls_of(alloc, row, Part::Program, broken)?;
+    Ok(MemLauncher::new(alloc, ends, fails))
+}
+
 /// What a row's run meets over a copy of these records, where bytes come in pieces of this length and something fails.
 pub(crate) fn devices_of(
     alloc: Global,
@@ -103,6 +110,7 @@ pub(crate) fn devices_of(
         clock: clock_of(alloc, &row.setting.moments)?,
         dice: MemDice::new(0x0102_0304_0506_0708),
         keeper: keeper_of(alloc, row, records, broken)?,
+        launcher: launcher_of(alloc, row, broken)?,
     })
 }
 
@@ -124,5 +132,6 @@ pub(crate) fn console_devices(
         clock: clock_of(alloc, &[])?,
         dice: MemDice::new(0x0102_0304_0506_0708),
         keeper: MemKeeper::new(alloc, records, no_calls()),
+        launcher: MemLauncher::new(alloc, Vec::new(alloc), no_calls()),
     })
 }

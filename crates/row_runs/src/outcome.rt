@@ -3,7 +3,7 @@
 use crate::calls::Broken;
 use crate::devices::{Devices, Records, console_devices, copy_of, devices_of};
 use crate::runner::{Ended, Runner};
-use fw_memory::{MemKeeper, MemSource};
+use fw_memory::{MemKeeper, MemLauncher, MemSource};
 use fw_outside::{Clock, Got, Source};
 use fw_types::{Name, NoMemory, Octets};
 use row_format::Row;
@@ -22,6 +22,8 @@ pub(crate) struct Outcome {
     pub(crate) left: Vec<u8>,
     /// What the keeper has.
     pub(crate) records: Records,
+    /// The programs that were started, each with its arguments in a line.
+    pub(crate) started: Vec<u8>,
 }
 
 /// More calls than it takes to hear a client to its end.
@@ -48,6 +50,19 @@ fn records_of(alloc: Global, keeper: &Option<MemKeeper>) -> Result<Records, NoMe
     }
 }
 
+fn started_by(alloc: Global, launcher: &MemLauncher) -> Result<Vec<u8>, NoMemory> {
+    let mut out = Vec::new(alloc);
+    for (program, args, _) in launcher.started() {
+        out.extend_from_slice(program.bytes())?;
+        for arg in args.as_slice() {
+            out.push(b' ')?;
+            out.extend_from_slice(arg.bytes())?;
+        }
+        out.push(b'\n')?;
+    }
+    Ok(out)
+}
+
 fn outcome_of(alloc: Global, mut ended: Ended) -> Result<Outcome, NoMemory> {
     Ok(Outcome {
         status: ended.status,
@@ -56,6 +71,7 @@ fn outcome_of(alloc: Global, mut ended: Ended) -> Result<Outcome, NoMemory> {
         next: ended.clock.now(),
         left: left_of(alloc, &mut ended.input)?,
         records: records_of(alloc, &ended.keeper)?,
+        started: started_by(alloc, &ended.launcher)?,
     })
 }
 

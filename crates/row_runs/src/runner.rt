@@ -2,7 +2,7 @@
 
 use crate::comparing::Difference;
 use crate::devices::Devices;
-use fw_memory::{MemClock, MemKeeper, MemSink, MemSource};
+use fw_memory::{MemClock, MemKeeper, MemLauncher, MemSink, MemSource};
 use fw_types::{NoMemory, Octets};
 use row_format::{Row, Setting};
 use std::alloc::Global;
@@ -16,6 +16,7 @@ pub struct Ended {
     pub logs: MemSink,
     pub clock: MemClock,
     pub keeper: Option<MemKeeper>,
+    pub launcher: MemLauncher,
 }
 
 /// What the program under test does with a row.

@@ -44,6 +44,7 @@ fn stopped<'a>(output: &'a [u8], log: &'a [u8], next: Option<u64>) -> Expected<'
         next,
         left: None,
         records: None,
+        started: &[],
     }
 }
 
@@ -138,6 +139,7 @@ fn lasting<'a>(row: &'a Row, output: &'a [u8]) -> Expected<'a> {
         next: None,
         left: Some(&[]),
         records: None,
+        started: &[],
     }
 }
 
@@ -155,6 +157,22 @@ fn keeper_differs(cut: &Cut, call: u64, was: &Outcome) -> Result<Difference, NoM
         difference.say(b"nothing is denied as not kept")?;
     }
     Ok(difference)
+}
+
+// Where the program of this number can't be started: all lines but that of its end are printed.
+fn program_differs(cut: &Cut, program: u64, was: &Outcome) -> Result<Difference, NoMemory> {
+    let row = cut.row;
+    let mut log = Vec::from_slice(cut.alloc, &row.wanted.log)?;
+    log.extend_from_slice(b"fault outside program\n")?;
+    let lines = count_lines(&row.wanted.output).saturating_sub(1);
+    let expected = Expected {
+        status: 4,
+        output: first_lines(&row.wanted.output, lines),
+        log: &log,
+        started: first_lines(&row.wanted.started, program),
+        ..usual(row, cut.records)
+    };
+    compare(cut.alloc, &expected, was)
 }
 
 // What differs where the part fails at a call that is made.
@@ -178,6 +196,7 @@ fn broken_differs<'a>(
         Some(Part::Log) => log_differs(cut, broken.at, was),
         Some(Part::LogRoom) => log_room_differs(cut, broken.at, was),
         Some(Part::Keeper) => keeper_differs(cut, broken.at, was),
+        Some(Part::Program) => program_differs(cut, broken.at, was),
         _ => {
             let log = b"fault outside table\n";
             compare(cut.alloc, &untouched(cut.row, cut.records, log), was)
@@ -196,6 +215,7 @@ fn name_of(part: Option<Part>) -> &'static [u8] {
         Some(Part::Log) => b"the log fails at call ",
         Some(Part::LogRoom) => b"the log has bytes of room, ",
         Some(Part::Keeper) => b"the keeper fails at call ",
+        Some(Part::Program) => b"a program can't be started at call ",
         None => b"nothing fails ",
     }
 }
@@ -340,6 +360,7 @@ fn sweep_whole<R: Runner>(
             sweep_room(runner, cut, Part::LogRoom, &wanted.log, swept)
         }
         Part::Keeper => sweep_part(runner, cut, Part::Keeper, tried.calls, swept),
+        Part::Program => sweep_part(runner, cut, Part::Program, tried.calls, swept),
         _ => Ok(()),
     }
 }

@@ -38,6 +38,7 @@ fn say_at_console<R: Runner>(
         next: None,
         left: None,
         records: None,
+        started: &[],
     };
     let difference = compare(alloc, &expected, &was)?;
     *records = was.records;

@@ -25,6 +25,7 @@ pub(crate) fn usual<'a>(row: &'a Row, records: &'a [(Name, Octets)]) -> Expected
             None if wanted.unchanged => Some(records),
             None => None,
         },
+        started: &wanted.started,
     }
 }
 
@@ -41,6 +42,7 @@ pub(crate) fn untouched<'a>(
         next: Some(moment_after(row, 0)),
         left: Some(&row.setting.client),
         records: Some(records),
+        started: &[],
     }
 }
 

@@ -1,5 +1,5 @@
 -- No deed brings more bytes of the client, and a line that is heard takes some.
-use Rattle.std.proofs.Common.{arith, ◌≡◌, sym, ap, subst, ◌∙◌, ℕ, ◌+◌, ◌<◌, ◌≤◌, List, [], ◌∷◌, ◌++◌, length, Some, Result, Ok, Err}
+use Rattle.std.proofs.Common.{arith, ◌≡◌, sym, ap, subst, ◌∙◌, ℕ, ◌+◌, ◌<◌, ◌≤◌, List, [], ◌∷◌, ◌++◌, length, Option, Some, None, Result, Ok, Err}
 use Rattle.std.proofs.lemmas.List.{length-append}
 use Rattle.fw_acts.specs.Acts.{Row, PlaceTable}
 use Rattle.fw_acts.specs.Ran.{Ran}
@@ -7,11 +7,13 @@ use Rattle.fw_outside.specs.Lines.{first_line}
 use Rattle.fw_outside.specs.declared.heard.Heard.{Heard}
 use Rattle.fw_outside.specs.declared.heard.Heard.TheVariants.{Line, TooLong, Stopped}
 use Rattle.fw_outside.specs.declared.heard.Stop.TheVariants as stops
+use Rattle.relay_ways.specs.Carried.{Way}
+use Rattle.session_acts.specs.Relaying.{Flow, flow_of}
 use Rattle.session_acts.specs.Acts.{Act, Front, Outcome}
-use Rattle.session_acts.specs.Acts.Act.{Hear, Say, Try, Log, Note, Ask, Renew, Dial, Reach, Take, Pass, HangUp}
+use Rattle.session_acts.specs.Acts.Act.{Hear, Say, Try, Log, Note, Ask, Renew, Dial, Reach, Take, Pass, HangUp, Relay}
 use Rattle.session_acts.specs.Deeds.{Lasts}
 use Rattle.session_acts.specs.Distance.{ahead, ahead_of_client}
-use Rattle.session_acts.specs.Met.{AtClient, Hears, Heeds, HeedsLine, IsTold, Met, acts, stop_of}
+use Rattle.session_acts.specs.Met.{AtClient, Carrying, ClientRelays, Hears, Heeds, HeedsLine, IsTold, Met, acts, stop_of}
 use Rattle.session_acts.specs.World.{Speaker, World}
 use Rattle.session_acts.specs.declared.cause.Cause.{Cause}
 use Rattle.session_acts.specs.declared.form.Form.{Form}
@@ -47,6 +49,15 @@ hears_nearer form (Err silence) old new h = heeds_nearer form (Stopped (stop_of 
 same_nearer : (old new : Speaker) → new ≡ old → ahead new ≤ ahead old
 same_nearer old new is = subst (λ (s : Speaker). ahead s ≤ ahead old) (sym is) (omega (arith))
 
+carrying_nearer : (off on : Way) (old new : Speaker) → Carrying off on old new → ahead new ≤ ahead old
+carrying_nearer off on old new h =
+    let room = h.drains.room in
+    subst (λ (s : Speaker). ahead s ≤ ahead old) (sym h.is) (omega (arith, room))
+
+relays_nearer : (flow : Option Flow) (old new : Speaker) → ClientRelays flow old new → ahead new ≤ ahead old
+relays_nearer None old new h = same_nearer old new h
+relays_nearer (Some flow) old new h = carrying_nearer flow.up flow.down old new h
+
 told_nearer : (text : List ℕ) (outcome : Result (Unit {0}) (Front text)) (old new : Speaker) → IsTold text outcome old new → ahead new ≤ ahead old
 told_nearer text outcome old new h = subst (λ (s : Speaker). ahead s ≤ ahead old) (sym h.is) (omega (arith))
 
@@ -64,6 +75,7 @@ client_nearer (Reach dest) outcome old new h = same_nearer old new h
 client_nearer Take outcome old new h = same_nearer old new h
 client_nearer (Pass text) outcome old new h = same_nearer old new h
 client_nearer HangUp outcome old new h = same_nearer old new h
+client_nearer Relay outcome old new h = relays_nearer (flow_of outcome) old new h
 
 pub met_ahead : {Origin : Type 0} (act : Act) (outcome : Outcome act) (old new : World Origin) → Met act outcome old new → ahead_of_client new ≤ ahead_of_client old
 met_ahead act outcome old new met = client_nearer act outcome old.client new.client met.client

@@ -17,7 +17,7 @@ use Rattle.fw_outside.specs.SourceView.{SourceView}
 use Rattle.fw_types.specs.declared.ending.Ending.{Ending}
 use Rattle.fw_types.specs.declared.ending.Ending.TheVariants as endings
 use Rattle.session_acts.specs.Acts.{Act, Halt, cause_by, fault_cause, silence_cause}
-use Rattle.session_acts.specs.Acts.Act.{Hear, Say, Try, Log, Note, Ask, Renew, Dial, Reach, Take, Pass, HangUp}
+use Rattle.session_acts.specs.Acts.Act.{Hear, Say, Try, Log, Note, Ask, Renew, Dial, Reach, Take, Pass, HangUp, Relay}
 use Rattle.session_acts.specs.Causes.{Caused, TookMost, is_spent_ending}
 use Rattle.session_acts.specs.Deeds.{done}
 use Rattle.session_acts.specs.Met.{Hears, Met, acts}
@@ -66,6 +66,7 @@ stop_alone (Reach dest) halt old new is met = absurd (cc)
 stop_alone Take halt old new is met = absurd (cc)
 stop_alone (Pass text) halt old new is met = absurd (cc)
 stop_alone HangUp halt old new is met = absurd (cc)
+stop_alone Relay halt old new is met = absurd (cc)
 
 spent_room : (ending : Ending) (old new : Speaker) → EndsAlone ending old new → is_spent_ending ending ≡ true → new.reader.room ≡ 0
 spent_room endings.Done old new h is = absurd (cc)

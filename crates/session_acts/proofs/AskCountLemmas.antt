@@ -9,7 +9,7 @@ use Rattle.auth_events.specs.declared.request.Request.TheVariants as requests
 use Rattle.fw_outside.proofs.CountLemmas.{grew_by, grew_none}
 use Rattle.fw_outside.specs.Counts.{Grew}
 use Rattle.session_acts.specs.Acts.{Act, Outcome}
-use Rattle.session_acts.specs.Acts.Act.{Hear, Say, Try, Log, Note, Ask, Renew, Dial, Reach, Take, Pass, HangUp}
+use Rattle.session_acts.specs.Acts.Act.{Hear, Say, Try, Log, Note, Ask, Renew, Dial, Reach, Take, Pass, HangUp, Relay}
 use Rattle.session_acts.specs.Deeds.{Gains}
 use Rattle.session_acts.specs.Met.{Asking, AtOffice, number_told}
 use Rattle.session_acts.specs.Talk.{CountsAsks, asked}
@@ -37,6 +37,7 @@ module _ {Origin : Type 0} where
   one_counts Take outcome old new h = same_counts old new h
   one_counts (Pass text) outcome old new h = same_counts old new h
   one_counts HangUp outcome old new h = same_counts old new h
+  one_counts Relay outcome old new h = same_counts old new h
 
   pub count_gains : Gains Origin asked CountsAsks
   count_gains = record {

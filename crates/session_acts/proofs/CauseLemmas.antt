@@ -20,13 +20,19 @@ use Rattle.fw_outside.specs.declared.heard.Heard.TheVariants.{Stopped}
 use Rattle.fw_outside.specs.declared.heard.Stop.TheVariants as stops
 use Rattle.fw_types.specs.declared.dest.Dest.{Dest}
 use Rattle.fw_types.specs.declared.ending.Ending.{Ending}
+use Rattle.relay_ways.specs.Carried.{LeavesSink, LeavesSource, Way}
+use Rattle.relay_ways.specs.Ending as two_ways
+use Rattle.relay_ways.specs.Way.{holding}
+use Rattle.relay_ways.specs.declared.way_end.WayEnd.{WayEnd}
+use Rattle.relay_ways.specs.declared.way_end.WayEnd.TheVariants as ways
+use Rattle.session_acts.specs.Relaying.{Flow, Stuck, stops_by}
 use Rattle.session_acts.specs.Acts.{Act, Front, Halt, cause_by, fault_cause, silence_cause}
-use Rattle.session_acts.specs.Acts.Act.{Hear, Say, Try, Log, Note, Ask, Renew, Dial, Reach, Take, Pass, HangUp}
-use Rattle.session_acts.specs.Causes.{Caused, IsLast, LinkTookMost, SessionKeeps, TookMost}
+use Rattle.session_acts.specs.Acts.Act.{Hear, Say, Try, Log, Note, Ask, Renew, Dial, Reach, Take, Pass, HangUp, Relay}
+use Rattle.session_acts.specs.Causes.{Caused, IsLast, KeepsAs, LinkTookMost, RelayKeeps, SessionKeeps, StaysShut, TookMost}
 use Rattle.session_acts.specs.Deeds.{DeedsAll, deeds_ran, done}
-use Rattle.session_acts.specs.Met.{Asking, Clears, Hanging, Hears, Heeds, IsTold, Met, Passes, Takes, acts}
-use Rattle.session_acts.specs.Session.{Session, closing, deeds_of, ending_by, ending_closed, ending_of, freeing, owed}
-use Rattle.session_acts.specs.World.{Devices, Office, Server, Speaker, World, at_first, devices_of, most_taken}
+use Rattle.session_acts.specs.Met.{Asking, Carrying, Clears, Hanging, Hears, Heeds, IsTold, Met, Passes, ServerRelays, Takes, acts}
+use Rattle.session_acts.specs.Session.{RelaySession, Session, SessionAs, closing, deeds_of, ending_by, ending_closed, ending_of, freeing, owed}
+use Rattle.session_acts.specs.World.{Devices, Names, Office, Server, Speaker, World, at_first, devices_of, most_taken}
 use Rattle.session_acts.specs.declared.cause.Cause.{Cause}
 use Rattle.session_acts.specs.declared.cause.Cause.TheVariants.{ClientFault, ServerFault, LogFault, AuthFault, Idle, NoRoute, Spent, NoMemory}
 use Rattle.session_acts.specs.declared.form.Form.{Form}
@@ -36,6 +42,7 @@ use Rattle.session_acts.specs.declared.silence.Silence.TheVariants.{Quiet, Broke
 use Rattle.session_acts.proofs.DeedLemmas.{all_last, deeds_done, deeds_parted, held_deeds, ran_deeds}
 use Rattle.session_acts.proofs.DeviceLemmas.{halted_faults, halted_idles, halted_waited, rose_within}
 use Rattle.session_acts.proofs.OwedLemmas.{closing_server}
+use Rattle.session_acts.proofs.ShutLemmas.{unshut_last}
 use Rattle.session_acts.proofs.StaysLemmas.{IsSound, LinkSound, Stays, clears_keeps, stays_both, stays_last, stays_same}
 
 -- ---- what a stop counts, as the session stands then
@@ -101,6 +108,33 @@ dropped : (text : List ℕ) (front : Front text) (old new : Speaker) → IsTold 
 dropped text front old new h =
     subst (λ (s : Speaker). Rose old.outlet.faults s.outlet.faults) (sym h.is) (subst (λ (s : SinkView). Rose old.outlet.faults s.faults) (sym h.gets.is) h.gets.rose)
 
+abbrev failed : Cause → Result (Unit {0}) Cause
+failed cause = Err cause
+
+same_cause : (one cause : Cause) → failed one ≡ failed cause → one ≡ cause
+same_cause one cause is = cc
+
+-- a speaker one of whose ways ended so
+faulted_by : (off on : Way) (old new : Speaker) → off.end ≡ ways.ReadFault → Carrying off on old new → Rose old.inlet.faults new.inlet.faults
+faulted_by off on old new is c =
+    let leaves : LeavesSource ways.ReadFault off.lost c.room c.drains.middle c.inlet = subst (λ (e : WayEnd). LeavesSource e off.lost c.room c.drains.middle c.inlet) is c.drains.leaves in
+    subst (λ (s : Speaker). Rose old.inlet.faults s.inlet.faults) (sym c.is) (halted_faults c.drains.bytes old.inlet c.drains.middle c.inlet c.drains.takes leaves.1)
+
+idled_by : (off on : Way) (old new : Speaker) → off.end ≡ ways.Idle → Carrying off on old new → WasIdle old.inlet new.inlet
+idled_by off on old new is c =
+    let leaves : LeavesSource ways.Idle off.lost c.room c.drains.middle c.inlet = subst (λ (e : WayEnd). LeavesSource e off.lost c.room c.drains.middle c.inlet) is c.drains.leaves in
+    subst (λ (s : Speaker). WasIdle old.inlet s.inlet) (sym c.is) (record { rose = halted_idles c.drains.bytes old.inlet c.drains.middle c.inlet c.drains.takes leaves.1; waited = halted_waited c.drains.middle c.inlet leaves.1 })
+
+spent_by : (off on : Way) (old new : Speaker) → off.end ≡ ways.Spent → Carrying off on old new → new.reader.room ≡ 0
+spent_by off on old new is c =
+    let leaves : LeavesSource ways.Spent off.lost c.room c.drains.middle c.inlet = subst (λ (e : WayEnd). LeavesSource e off.lost c.room c.drains.middle c.inlet) is c.drains.leaves in
+    ap (λ (s : Speaker). s.reader.room) c.is ∙ leaves.0
+
+dropped_by : (off on : Way) (old new : Speaker) → on.end ≡ ways.WriteFault → Carrying off on old new → Rose old.outlet.faults new.outlet.faults
+dropped_by off on old new is c =
+    let leaves : LeavesSink ways.WriteFault (holding on.given old.outlet) c.outlet = subst (λ (e : WayEnd). LeavesSink e (holding on.given old.outlet) c.outlet) is c.supplies in
+    subst (λ (s : Speaker). Rose old.outlet.faults s.outlet.faults) (sym c.is) (subst (λ (s : SinkView). Rose old.outlet.faults s.faults) (sym leaves.is) leaves.rose)
+
 module _ {Origin : Type 0} where
   hear_counted : (form : Form) (silence : Silence) (old new : World Origin) → Hears form (Err silence) old.client new.client → Counted (silence_cause ClientFault silence) old new
   hear_counted form Quiet old new h = inl (record { rose = idled form old.client new.client h; waited = waited_so form old.client new.client h })
@@ -137,6 +171,61 @@ module _ {Origin : Type 0} where
       let before = clears_keeps old.server.link old.server.dialer dialing.cleared dialing.clears in
       rose_within old.server.dialer.refusals dialing.cleared.refusals new.server.dialer.refusals new.server.dialer.refusals before.refusals since (omega (arith))
 
+  -- a relay that stopped
+
+  -- what is counted where the ways of a relay ended so
+  record Ways (up down : WayEnd) (old new : World Origin) : Type 0 where
+    read_up : up ≡ ways.ReadFault → Rose old.client.inlet.faults new.client.inlet.faults
+    write_down : down ≡ ways.WriteFault → Rose old.client.outlet.faults new.client.outlet.faults
+    write_up : up ≡ ways.WriteFault → HasBroken new.server.link
+    read_down : down ≡ ways.ReadFault → HasBroken new.server.link
+    idle_up : up ≡ ways.Idle → WasIdle old.client.inlet new.client.inlet
+    idle_down : down ≡ ways.Idle → HasIdled new.server.link
+    spent_up : up ≡ ways.Spent → new.client.reader.room ≡ 0
+    spent_down : down ≡ ways.Spent → IsUsedUp new.server.link
+
+  for_cause : (one cause : Cause) (old new : World Origin) → failed one ≡ failed cause → Counted one old new → Counted cause old new
+  for_cause one cause old new is counted = subst (λ (c : Cause). Counted c old new) (same_cause one cause is) counted
+
+  ways_counted : (up down : WayEnd) (cause : Cause) (old new : World Origin) → stops_by (two_ways.ending_of up down) ≡ Err cause → Ways up down old new → Counted cause old new
+  ways_counted ways.ReadFault down cause old new is w = for_cause ClientFault cause old new is (inl (w.read_up refl))
+  ways_counted ways.Done ways.Done cause old new is w = absurd (cc)
+  ways_counted ways.Done ways.ReadFault cause old new is w = for_cause ServerFault cause old new is (w.read_down refl)
+  ways_counted ways.Done ways.WriteFault cause old new is w = for_cause ClientFault cause old new is (inr (w.write_down refl))
+  ways_counted ways.Done ways.Idle cause old new is w = for_cause Idle cause old new is (inr (w.idle_down refl))
+  ways_counted ways.Done ways.Spent cause old new is w = for_cause Spent cause old new is (inr (w.spent_down refl))
+  ways_counted ways.WriteFault ways.Done cause old new is w = for_cause ServerFault cause old new is (w.write_up refl)
+  ways_counted ways.WriteFault ways.ReadFault cause old new is w = for_cause ServerFault cause old new is (w.write_up refl)
+  ways_counted ways.WriteFault ways.WriteFault cause old new is w = for_cause ClientFault cause old new is (inr (w.write_down refl))
+  ways_counted ways.WriteFault ways.Idle cause old new is w = for_cause ServerFault cause old new is (w.write_up refl)
+  ways_counted ways.WriteFault ways.Spent cause old new is w = for_cause ServerFault cause old new is (w.write_up refl)
+  ways_counted ways.Idle ways.Done cause old new is w = for_cause Idle cause old new is (inl (w.idle_up refl))
+  ways_counted ways.Idle ways.ReadFault cause old new is w = for_cause ServerFault cause old new is (w.read_down refl)
+  ways_counted ways.Idle ways.WriteFault cause old new is w = for_cause ClientFault cause old new is (inr (w.write_down refl))
+  ways_counted ways.Idle ways.Idle cause old new is w = for_cause Idle cause old new is (inl (w.idle_up refl))
+  ways_counted ways.Idle ways.Spent cause old new is w = for_cause Idle cause old new is (inl (w.idle_up refl))
+  ways_counted ways.Spent ways.Done cause old new is w = for_cause Spent cause old new is (inl (w.spent_up refl))
+  ways_counted ways.Spent ways.ReadFault cause old new is w = for_cause ServerFault cause old new is (w.read_down refl)
+  ways_counted ways.Spent ways.WriteFault cause old new is w = for_cause ClientFault cause old new is (inr (w.write_down refl))
+  ways_counted ways.Spent ways.Idle cause old new is w = for_cause Idle cause old new is (inr (w.idle_down refl))
+  ways_counted ways.Spent ways.Spent cause old new is w = for_cause Spent cause old new is (inl (w.spent_up refl))
+
+  flow_counts : (flow : Flow) (link : Option Speaker) (old new : World Origin) → Carrying flow.up flow.down old.client new.client → ServerRelays (Some flow) link old.server new.server → Ways flow.up.end flow.down.end old new
+  flow_counts flow None old new c s = absurd s
+  flow_counts flow (Some link) old new c s = record {
+    read_up = λ is. faulted_by flow.up flow.down old.client new.client is c;
+    write_down = λ is. dropped_by flow.up flow.down old.client new.client is c;
+    write_up = λ is. subst (λ (z : Server). HasBroken z.link) (sym s.is) (or_right (nat_lt 0 s.speaker.inlet.faults) (nat_lt 0 s.speaker.outlet.faults) (positive link.outlet.faults s.speaker.outlet.faults (dropped_by flow.down flow.up link s.speaker is s.carries)));
+    read_down = λ is. subst (λ (z : Server). HasBroken z.link) (sym s.is) (or_left (nat_lt 0 s.speaker.inlet.faults) (nat_lt 0 s.speaker.outlet.faults) (positive link.inlet.faults s.speaker.inlet.faults (faulted_by flow.down flow.up link s.speaker is s.carries)));
+    idle_up = λ is. idled_by flow.up flow.down old.client new.client is c;
+    idle_down = λ is. let was = idled_by flow.down flow.up link s.speaker is s.carries in subst (λ (z : Server). HasIdled z.link) (sym s.is) (positive link.inlet.idles s.speaker.inlet.idles was.rose, was.waited);
+    spent_up = λ is. spent_by flow.up flow.down old.client new.client is c;
+    spent_down = λ is. subst (λ (z : Server). IsUsedUp z.link) (sym s.is) (spent_by flow.down flow.up link s.speaker is s.carries);
+  }
+
+  relay_counted : (halt : Stuck) (old new : World Origin) → Met Relay (Err halt) old new → Counted halt.cause old new
+  relay_counted halt old new met = ways_counted halt.flow.up.end halt.flow.down.end halt.cause old new halt.is (flow_counts halt.flow old.server.link old new met.client met.server)
+
   pub stop_counted : (act : Act) (halt : Halt act) (old new : World Origin) → Met act (Err halt) old new → Counted (cause_by act halt) old new
   stop_counted (Hear form) halt old new met = hear_counted form halt old new met.client
   stop_counted (Say text) halt old new met = inr (dropped text halt old.client new.client met.client)
@@ -151,6 +240,7 @@ module _ {Origin : Type 0} where
   stop_counted Take halt old new met = take_counted halt old.server.link old new met.server
   stop_counted (Pass text) halt old new met = pass_counted text halt old.server.link old new met.server
   stop_counted HangUp halt old new met = absurd halt
+  stop_counted Relay halt old new met = relay_counted halt old new met
 
   -- what was counted before is counted over a longer time
   pub counted_since : (cause : Cause) (old mid new : World Origin) → Stays old mid → Counted cause mid new → Counted cause old new
@@ -229,7 +319,7 @@ module _ {Origin : Type 0} where
         server = closing_server mid.office.opened answer parted.mid new parted.after;
       }
 
-  all_taken : (devices : Devices Origin) (names : List ℕ) (last : World Origin) → Stays (at_first devices names) last → last.client.reader.room ≡ 0 → TookMost devices.inlet last.client.inlet
+  all_taken : (devices : Devices Origin) (names : Names) (last : World Origin) → Stays (at_first devices names) last → last.client.reader.room ≡ 0 → TookMost devices.inlet last.client.inlet
   all_taken devices names last stays none =
       let source = stays.client.source in
       let room = source.room in
@@ -245,7 +335,7 @@ module _ {Origin : Type 0} where
     all = whole_link link sound none;
   }
 
-  caused_by : (cause : Cause) (devices : Devices Origin) (names : List ℕ) (mid new : World Origin) → Owed (at_first devices names) mid new → Counted cause (at_first devices names) mid → Caused (ending_by cause) devices (devices_of new)
+  caused_by : (cause : Cause) (devices : Devices Origin) (names : Names) (mid new : World Origin) → Owed (at_first devices names) mid new → Counted cause (at_first devices names) mid → Caused (ending_by cause) devices (devices_of new)
   caused_by ClientFault devices names mid new owes (inl rose) =
       let later = stays_both mid owes.between new owes.freed.others owes.after in
       inl (rose_within devices.inlet.faults devices.inlet.faults mid.client.inlet.faults new.client.inlet.faults (omega (arith)) rose later.client.source.faults)
@@ -280,12 +370,12 @@ module _ {Origin : Type 0} where
   caused_by NoMemory devices names mid new owes counted = tt
 
   -- a fault of the close that was owed
-  caused_closing : (fault : PortFault) (devices : Devices Origin) (names : List ℕ) (new : World Origin) → Counted (fault_cause fault) (at_first devices names) new → Caused (ending_by (fault_cause fault)) devices (devices_of new)
+  caused_closing : (fault : PortFault) (devices : Devices Origin) (names : Names) (new : World Origin) → Counted (fault_cause fault) (at_first devices names) new → Caused (ending_by (fault_cause fault)) devices (devices_of new)
   caused_closing faults.NoMemory devices names new counted = tt
   caused_closing faults.Link devices names new counted = counted
   caused_closing faults.Strange devices names new counted = counted
 
-  caused_done : (opened : Option ℕ) (answer : Result Reply PortFault) (devices : Devices Origin) (names : List ℕ) (between new : World Origin) → Stays (at_first devices names) between → DeedsAll (closing opened answer) between new → Caused (ending_closed opened answer) devices (devices_of new)
+  caused_done : (opened : Option ℕ) (answer : Result Reply PortFault) (devices : Devices Origin) (names : Names) (between new : World Origin) → Stays (at_first devices names) between → DeedsAll (closing opened answer) between new → Caused (ending_closed opened answer) devices (devices_of new)
   caused_done None answer devices names between new before all = tt
   caused_done (Some sid) (Ok reply) devices names between new before all = tt
   caused_done (Some sid) (Err fault) devices names between new before all =
@@ -293,7 +383,7 @@ module _ {Origin : Type 0} where
       let since : Counted (fault_cause fault) (at_first devices names) all.0 = counted_since (fault_cause fault) (at_first devices names) between all.0 before counted in
       caused_closing fault devices names new (subst (λ (w : World Origin). Counted (fault_cause fault) (at_first devices names) w) all.2 since)
 
-  caused_dialogue : {P : Type 0} (rows : PlaceTable (acts Origin) P) (dialogue : Result (Unit {0}) Cause) (left : Row (acts Origin) P) (devices : Devices Origin) (names : List ℕ) (before mid new : World Origin) (answer : Result Reply PortFault)
+  caused_dialogue : {P : Type 0} (rows : PlaceTable (acts Origin) P) (dialogue : Result (Unit {0}) Cause) (left : Row (acts Origin) P) (devices : Devices Origin) (names : Names) (before mid new : World Origin) (answer : Result Reply PortFault)
       → Stays (at_first devices names) before → Comes rows (λ (done : Unit {0}). Over) dialogue mid left before → Stays (at_first devices names) mid → DeedsAll (owed mid answer) mid new → Caused (ending_of dialogue mid.office.opened answer) devices (devices_of new)
   caused_dialogue rows (Ok over) left devices names before mid new answer first comes stays after =
       let parted = deeds_parted (freeing mid.server.link) (closing mid.office.opened answer) mid new after in
@@ -305,33 +395,43 @@ module _ {Origin : Type 0} where
       let since : Counted cause (at_first devices names) mid = counted_since cause (at_first devices names) before mid first (subst (λ (c : Cause). Counted c before mid) (sym here.why.is_cause) counted) in
       caused_by cause devices names mid new (owed_done (at_first devices names) mid new answer stays after) since
 
-  pub session_stays : {P : Type 0} {rows : PlaceTable (acts Origin) P} {first : Row (acts Origin) P} {old new : Devices Origin} {ending : Ending} (session : Session rows first old new ending) → Stays (at_first old session.names) session.last
+  pub session_stays : {relays : Bool} {P : Type 0} {rows : PlaceTable (acts Origin) P} {first : Row (acts Origin) P} {old new : Devices Origin} {ending : Ending} (session : SessionAs relays rows first old new ending) → Stays (at_first old session.names) session.last
   session_stays {old = old} session = all_last stays_last (deeds_of session.held) (at_first old session.names) session.last (held_deeds session.held)
+
+  keeps_so : (relays : Bool) (old : Devices Origin) (names : Names) (last : World Origin) → Stays (at_first old names) last → StaysShut relays old.outlet.shut last.client.outlet.shut → KeepsAs relays old (devices_of last)
+  keeps_so relays old names last stays shut = record {
+    faults = stays.client.source.faults;
+    idles = stays.client.source.idles;
+    amount = stays.client.source.grew.later;
+    drops = stays.client.sink.drops;
+    log_drops = stays.logs.drops;
+    breaks = stays.port.breaks;
+    strays = stays.port.strays;
+    asks = stays.port.asks;
+    refusals = stays.server.dialer.refusals;
+    link_faults = stays.server.dialer.link_faults;
+    link_idles = stays.server.dialer.link_idles;
+    waits = stays.client.source.waits;
+    link_waits = stays.server.dialer.waits;
+    shut = shut;
+    log_shut = stays.logs.shut;
+    origin = stays.port.origin;
+    home = stays.port.home;
+  }
 
   -- a session keeps its devices
   pub session_keeps : {P : Type 0} {rows : PlaceTable (acts Origin) P} {first : Row (acts Origin) P} {old new : Devices Origin} {ending : Ending} → Session rows first old new ending → SessionKeeps old new
   session_keeps {old = old} session =
+      let unshut = all_last unshut_last (deeds_of session.held) (at_first old session.names) session.last (held_deeds session.held) in
+      subst (λ (d : Devices Origin). SessionKeeps old d) session.leaves (keeps_so false old session.names session.last (session_stays session) (unshut.shut session.lent))
+
+  pub relay_keeps : {P : Type 0} {rows : PlaceTable (acts Origin) P} {first : Row (acts Origin) P} {old new : Devices Origin} {ending : Ending} → RelaySession rows first old new ending → RelayKeeps old new
+  relay_keeps {old = old} session =
       let stays = session_stays session in
-      subst (λ (d : Devices Origin). SessionKeeps old d) session.leaves (record {
-        faults = stays.client.source.faults;
-        idles = stays.client.source.idles;
-        drops = stays.client.sink.drops;
-        log_drops = stays.logs.drops;
-        breaks = stays.port.breaks;
-        strays = stays.port.strays;
-        refusals = stays.server.dialer.refusals;
-        link_faults = stays.server.dialer.link_faults;
-        link_idles = stays.server.dialer.link_idles;
-        waits = stays.client.source.waits;
-        link_waits = stays.server.dialer.waits;
-        shut = stays.client.sink.shut;
-        log_shut = stays.logs.shut;
-        origin = stays.port.origin;
-        home = stays.port.home;
-      })
+      subst (λ (d : Devices Origin). RelayKeeps old d) session.leaves (keeps_so true old session.names session.last stays stays.client.sink.shut)
 
   -- and its ending has its cause
-  pub session_caused : {P : Type 0} {rows : PlaceTable (acts Origin) P} {first : Row (acts Origin) P} {old new : Devices Origin} {ending : Ending} → Session rows first old new ending → Caused ending old new
+  pub session_caused : {relays : Bool} {P : Type 0} {rows : PlaceTable (acts Origin) P} {first : Row (acts Origin) P} {old new : Devices Origin} {ending : Ending} → SessionAs relays rows first old new ending → Caused ending old new
   session_caused {rows = rows} {old = old} {ending = ending} session =
       let held = session.held in
       let start = at_first old session.names in

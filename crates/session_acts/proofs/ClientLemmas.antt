@@ -1,5 +1,5 @@
 -- A session before which a line is logged: the log fails, and nothing else is done, or the session goes on.
-use Rattle.std.proofs.Common.{◌≡◌, refl, sym, ap, subst, ◌∙◌, ℕ, List, [], ◌∷◌, ◌++◌, map, ◌⊎◌, inl, inr, Option, None, Result, Ok, Err}
+use Rattle.std.proofs.Common.{◌≡◌, refl, sym, ap, subst, ◌∙◌, ℕ, Bool, List, [], ◌∷◌, ◌++◌, map, ◌⊎◌, inl, inr, Option, None, Result, Ok, Err}
 use Rattle.auth_events.specs.declared.port.PortFault.{PortFault}
 use Rattle.auth_events.specs.declared.reply.Reply.{Reply}
 use Rattle.fw_acts.specs.Acts.{Row, Step, PlaceTable}
@@ -16,8 +16,8 @@ use Rattle.session_acts.specs.Deeds.{Deed, DeedsAll, deed_last, deeds_ran, done,
 use Rattle.session_acts.specs.Denying.{denying_row, no_rows}
 use Rattle.session_acts.specs.Laws.{logged}
 use Rattle.session_acts.specs.Met.{Does, Gets, IsTold, Met, Stops, acts}
-use Rattle.session_acts.specs.Session.{Held, Session, closing, deeds_of, ending_by, ending_of, freeing, owed}
-use Rattle.session_acts.specs.World.{Devices, Office, Server, Speaker, World, at_first, devices_of}
+use Rattle.session_acts.specs.Session.{Held, Session, SessionAs, closing, deeds_of, ending_by, ending_of, freeing, owed}
+use Rattle.session_acts.specs.World.{Devices, Names, Office, Server, Speaker, World, at_first, devices_of}
 use Rattle.session_acts.specs.declared.cause.Cause.{Cause}
 use Rattle.session_acts.proofs.DeedLemmas.{all_gain, held_deeds}
 use Rattle.session_acts.proofs.ToldLemmas.{by_both, logged_gains}
@@ -67,7 +67,7 @@ module _ {Origin P : Type 0} where
 -- ---- worlds
 
 -- a world by its parts
-world_by : {Origin : Type 0} (w : World Origin) (client : Speaker) (logs : SinkView) (office : Office Origin) (server : Server) (names : List ℕ)
+world_by : {Origin : Type 0} (w : World Origin) (client : Speaker) (logs : SinkView) (office : Office Origin) (server : Server) (names : Names)
     → w.client ≡ client → w.logs ≡ logs → w.office ≡ office → w.server ≡ server → w.names ≡ names
     → w ≡ record { client = client; logs = logs; office = office; server = server; names = names }
 world_by {Origin} w client logs office server names c l o s n =
@@ -75,7 +75,7 @@ world_by {Origin} w client logs office server names c l o s n =
     ∙ ap (λ (x : SinkView). record { client = client; logs = x; office = w.office; server = w.server; names = w.names }) l
     ∙ ap (λ (x : Office Origin). record { client = client; logs = logs; office = x; server = w.server; names = w.names }) o
     ∙ ap (λ (x : Server). record { client = client; logs = logs; office = office; server = x; names = w.names }) s
-    ∙ ap (λ (x : List ℕ). record { client = client; logs = logs; office = office; server = server; names = x }) n
+    ∙ ap (λ (x : Names). record { client = client; logs = logs; office = office; server = server; names = x }) n
 
 -- where no session is open and no link is up, nothing is owed
 nothing_owed : {Origin : Type 0} (mid new : World Origin) (answer : Result Reply PortFault) → mid.server.link ≡ None → mid.office.opened ≡ None → DeedsAll (owed mid answer) mid new → mid ≡ new
@@ -85,7 +85,7 @@ nothing_owed mid new answer unlinked closed all =
 -- ---- the session
 
 module _ {Origin P : Type 0} where
-  log_failed : (line : List ℕ) (rows : PlaceTable (acts Origin) P) (go : Unit {0} → Row (acts Origin) P) (old new : Devices Origin) (ending : Ending) (session : Session rows (Do (Log line) go) old new ending)
+  log_failed : {relays : Bool} (line : List ℕ) (rows : PlaceTable (acts Origin) P) (go : Unit {0} → Row (acts Origin) P) (old new : Devices Origin) (ending : Ending) (session : SessionAs relays rows (Do (Log line) go) old new ending)
       → HaltsHere (Log line) (at_first old session.names) session.held.mid session.held.dialogue → LogFails line old new ending
   log_failed line rows go old new ending session h =
       let held = session.held in
@@ -107,7 +107,7 @@ module _ {Origin P : Type 0} where
     held : Held rows first world last ending
     same : deeds ≡ deeds_of held
 
-  went_on : (line : List ℕ) (rows : PlaceTable (acts Origin) P) (first : Row (acts Origin) P) (old new : Devices Origin) (ending : Ending) (session : Session rows (Do (Log line) (λ done. first)) old new ending)
+  went_on : {relays : Bool} (line : List ℕ) (rows : PlaceTable (acts Origin) P) (first : Row (acts Origin) P) (old new : Devices Origin) (ending : Ending) (session : SessionAs relays rows (Do (Log line) (λ done. first)) old new ending)
       → PassesOn rows (Log line) (λ done. first) (at_first old session.names) session.held.mid session.held.dialogue (deeds_ran session.held.ran) → GoesOn line rows first old new ending session
   went_on line rows first old new ending session p =
       let held = session.held in
@@ -117,19 +117,19 @@ module _ {Origin P : Type 0} where
       let from : HeldFrom rows first session.last ending (deeds_of rest) start = subst (λ (w : World Origin). HeldFrom rows first session.last ending (deeds_of rest) w) is (record { held = rest; same = refl }) in
       let log = all_gain logged_gains (deeds_of from.held) start session.last (held_deeds from.held) in
       record {
-        rest = record { names = session.names; last = session.last; held = from.held; leaves = session.leaves };
+        rest = record { names = session.names; lent = session.lent; last = session.last; held = from.held; leaves = session.leaves };
         deeds = ap (λ (l : List Deed). l ++ owed held.mid held.answer) p.same ∙ ap (λ (l : List Deed). line_logged line ∷ l) from.same;
         more = gives logged (deeds_of from.held);
         log = sym (ap (λ (d : Devices Origin). d.logs.given) session.leaves) ∙ log ∙ by_both old.logs.given line (gives logged (deeds_of from.held));
       }
 
-  logs_first_by : (line : List ℕ) (rows : PlaceTable (acts Origin) P) (first : Row (acts Origin) P) (old new : Devices Origin) (ending : Ending) (session : Session rows (Do (Log line) (λ done. first)) old new ending)
+  logs_first_by : {relays : Bool} (line : List ℕ) (rows : PlaceTable (acts Origin) P) (first : Row (acts Origin) P) (old new : Devices Origin) (ending : Ending) (session : SessionAs relays rows (Do (Log line) (λ done. first)) old new ending)
       → HaltsHere (Log line) (at_first old session.names) session.held.mid session.held.dialogue ⊎ PassesOn rows (Log line) (λ done. first) (at_first old session.names) session.held.mid session.held.dialogue (deeds_ran session.held.ran)
       → LogsFirst line rows first old new ending session
   logs_first_by line rows first old new ending session (inl h) = inl (log_failed line rows (λ done. first) old new ending session h)
   logs_first_by line rows first old new ending session (inr p) = inr (went_on line rows first old new ending session p)
 
-  pub logs_first : (line : List ℕ) (rows : PlaceTable (acts Origin) P) (first : Row (acts Origin) P) (old new : Devices Origin) (ending : Ending) (session : Session rows (Do (Log line) (λ done. first)) old new ending)
+  pub logs_first : {relays : Bool} (line : List ℕ) (rows : PlaceTable (acts Origin) P) (first : Row (acts Origin) P) (old new : Devices Origin) (ending : Ending) (session : SessionAs relays rows (Do (Log line) (λ done. first)) old new ending)
       → LogsFirst line rows first old new ending session
   logs_first line rows first old new ending session =
       logs_first_by line rows first old new ending session (ran_first rows (Log line) (λ done. first) (at_first old session.names) session.held.mid session.held.dialogue session.held.ran)

@@ -13,7 +13,7 @@ use Rattle.auth_events.specs.declared.request.Request.TheVariants as requests
 use Rattle.fw_acts.specs.Acts.{Row, PlaceTable}
 use Rattle.fw_types.specs.declared.ending.Ending.{Ending}
 use Rattle.session_acts.specs.Acts.{Act, Outcome}
-use Rattle.session_acts.specs.Acts.Act.{Hear, Say, Try, Log, Note, Ask, Renew, Dial, Reach, Take, Pass, HangUp}
+use Rattle.session_acts.specs.Acts.Act.{Hear, Say, Try, Log, Note, Ask, Renew, Dial, Reach, Take, Pass, HangUp, Relay}
 use Rattle.session_acts.specs.Deeds.{Gains, gives}
 use Rattle.session_acts.specs.FullPort.{RefusesOn, limit_told}
 use Rattle.session_acts.specs.Met.{Asking, AtOffice, acts, number_told, reply_of}
@@ -139,6 +139,7 @@ module _ {Origin : Type 0} where
   one_refuses Take outcome old new h = same_refuses old new h
   one_refuses (Pass text) outcome old new h = same_refuses old new h
   one_refuses HangUp outcome old new h = same_refuses old new h
+  one_refuses Relay outcome old new h = same_refuses old new h
 
   refusing_gains : Gains Origin asked (λ asks old new. Refusing (answered asks) old.office.port.full new.office.port.full)
   refusing_gains = record {

@@ -1,5 +1,5 @@
 -- What a session took of its client is what it heard, and at most 4,096 bytes more.
-use Rattle.std.proofs.Common.{arith, ◌≡◌, refl, sym, ap, subst, ◌∙◌, ℕ, ◌≤◌, List, [], ◌∷◌, ◌++◌, length, Option, Result, Ok, Err, append_assoc, append-nil}
+use Rattle.std.proofs.Common.{arith, ◌≡◌, refl, sym, ap, subst, ◌∙◌, ℕ, ◌≤◌, List, [], ◌∷◌, ◌++◌, length, Option, Some, None, Result, Ok, Err, append_assoc, append-nil}
 use Rattle.std.specs.List.{concat}
 use Rattle.std.proofs.lemmas.List.{length-append}
 use Rattle.fw_acts.specs.Acts.{Row, PlaceTable}
@@ -13,20 +13,23 @@ use Rattle.fw_outside.specs.declared.heard.Heard.{Heard}
 use Rattle.fw_outside.specs.declared.heard.Heard.TheVariants.{Line, TooLong, Stopped}
 use Rattle.fw_outside.specs.declared.heard.Stop.TheVariants as stops
 use Rattle.fw_types.specs.declared.ending.Ending.{Ending}
+use Rattle.relay_ways.specs.Carried.{Way}
+use Rattle.session_acts.specs.Relaying.{Flow, flow_of}
 use Rattle.session_acts.specs.Acts.{Act, Front, Outcome}
-use Rattle.session_acts.specs.Acts.Act.{Hear, Say, Try, Log, Note, Ask, Renew, Dial, Reach, Take, Pass, HangUp}
+use Rattle.session_acts.specs.Acts.Act.{Hear, Say, Try, Log, Note, Ask, Renew, Dial, Reach, Take, Pass, HangUp, Relay}
 use Rattle.session_acts.specs.Deeds.{Gains, gives}
-use Rattle.session_acts.specs.Hearing.{AreHeard, TakesHeard, heard_in}
-use Rattle.session_acts.specs.Met.{AtClient, Heeds, HeedsLine, IsTold, acts, stop_of}
+use Rattle.session_acts.specs.Hearing.{AreHeard, Fate, TakesHeard, carried_up, heard_in}
+use Rattle.session_acts.specs.Hearing.Fate.{IsHeard, IsCarried}
+use Rattle.session_acts.specs.Met.{AtClient, Carrying, ClientRelays, Heeds, HeedsLine, IsTold, acts, stop_of}
 use Rattle.session_acts.specs.Session.{Held, deeds_of}
 use Rattle.session_acts.specs.World.{Speaker, World}
 use Rattle.session_acts.specs.declared.form.Form.{Form}
 use Rattle.session_acts.proofs.DeedLemmas.{all_gain, held_deeds}
-use Rattle.session_acts.proofs.DeviceLemmas.{by_nothing}
+use Rattle.session_acts.proofs.DeviceLemmas.{by_nothing, drains_grew, drains_took}
 use Rattle.session_acts.proofs.ToldLemmas.{by_both}
 
 -- some bytes were taken, and what was pending before and these are what was heard and what is pending now
-record HearsOn (heards : List (Form × Heard)) (old new : Speaker) : Type 0 where
+record HearsOn (heards : List Fate) (old new : Speaker) : Type 0 where
   bytes : List ℕ
   pieces : List (List ℕ)
   grew : Grew (length bytes) old.inlet.amount new.inlet.amount
@@ -41,7 +44,7 @@ concat_both : (first more : List (List ℕ)) → concat (first ++ more) ≡ conc
 concat_both [] more = refl
 concat_both (one ∷ first) more = ap (λ (z : List ℕ). one ++ z) (concat_both first more) ∙ sym (append_assoc one (concat first) (concat more))
 
-heard_both : (heards others : List (Form × Heard)) (first more : List (List ℕ)) → AreHeard heards first → AreHeard others more → AreHeard (heards ++ others) (first ++ more)
+heard_both : (heards others : List Fate) (first more : List (List ℕ)) → AreHeard heards first → AreHeard others more → AreHeard (heards ++ others) (first ++ more)
 heard_both [] others [] more a b = b
 heard_both [] others (piece ∷ first) more a b = absurd a
 heard_both (one ∷ heards) others [] more a b = absurd a
@@ -64,7 +67,7 @@ hears_nothing speaker = record {
   near = λ near. near;
 }
 
-hears_both : (heards others : List (Form × Heard)) (old mid new : Speaker) → HearsOn heards old mid → HearsOn others mid new → HearsOn (heards ++ others) old new
+hears_both : (heards others : List Fate) (old mid new : Speaker) → HearsOn heards old mid → HearsOn others mid new → HearsOn (heards ++ others) old new
 hears_both heards others old mid new a b = record {
   bytes = a.bytes ++ b.bytes;
   pieces = a.pieces ++ b.pieces;
@@ -108,13 +111,13 @@ leaves_untaken (Stopped stops.Spent) left before after h = untaken_by before bef
 leaves_untaken (Stopped stops.Idle) left before after h = untaken_by (record before { idles = h.1.count; waited = before.waits }) before after h.1.is (record { amount = refl; taken = refl })
 leaves_untaken (Stopped stops.Failed) left before after h = untaken_by (record before { faults = h.1.count }) before after h.1.is (record { amount = refl; taken = refl })
 
-heeds_hearing : (form : Form) (heard : Heard) (old new : Speaker) → Heeds form heard old new → HearsOn ((form, heard) ∷ []) old new
+heeds_hearing : (form : Form) (heard : Heard) (old new : Speaker) → Heeds form heard old new → HearsOn (IsHeard form heard ∷ []) old new
 heeds_hearing form heard old new h =
     let reads = h.listens.reads in
     let middle = h.listens.middle in
     let untaken = leaves_untaken heard h.reader middle h.inlet h.listens.closes in
     let grew : Grew (length reads.taken_now) old.inlet.amount middle.amount = subst (λ (s : SourceView). Grew (length reads.taken_now) old.inlet.amount s.amount) (sym reads.takes.is) reads.takes.grew in
-    subst (λ (s : Speaker). HearsOn ((form, heard) ∷ []) old s) (sym h.is) (record {
+    subst (λ (s : Speaker). HearsOn (IsHeard form heard ∷ []) old s) (sym h.is) (record {
       bytes = reads.taken_now;
       pieces = h.listens.bytes ∷ [];
       grew = subst (λ (n : ℕ). Grew (length reads.taken_now) old.inlet.amount n) (sym untaken.amount) grew;
@@ -124,13 +127,29 @@ heeds_hearing form heard old new h =
       near = λ near. h.near;
     })
 
-line_hearing : (form : Form) (heard : Heard) (old new : Speaker) → HeedsLine form heard old new → HearsOn ((form, heard) ∷ []) old new
+line_hearing : (form : Form) (heard : Heard) (old new : Speaker) → HeedsLine form heard old new → HearsOn (IsHeard form heard ∷ []) old new
 line_hearing form (Line line) old new h = heeds_hearing form (Line line) old new h
 line_hearing form TooLong old new h = heeds_hearing form TooLong old new h
 line_hearing form (Stopped stops.End) old new h = heeds_hearing form (Stopped stops.End) old new h
 line_hearing form (Stopped stops.Idle) old new h = absurd h
 line_hearing form (Stopped stops.Failed) old new h = absurd h
 line_hearing form (Stopped stops.Spent) old new h = absurd h
+
+carrying_hearing : (off on : Way) (old new : Speaker) → Carrying off on old new → HearsOn (IsCarried off.taken ∷ []) old new
+carrying_hearing off on old new h =
+    subst (λ (s : Speaker). HearsOn (IsCarried off.taken ∷ []) old s) (sym h.is) (record {
+      bytes = h.drains.bytes;
+      pieces = off.taken ∷ [];
+      grew = drains_grew off old.reader.pending old.reader.room h.room old.inlet h.inlet h.drains;
+      took = drains_took off old.reader.pending old.reader.room h.room old.inlet h.inlet h.drains;
+      are_heard = (refl, tt);
+      all = sym h.drains.all ∙ sym (append-nil off.taken) ∙ sym (append-nil (off.taken ++ []));
+      near = λ near. omega (arith);
+    })
+
+relays_hearing : (flow : Option Flow) (old new : Speaker) → ClientRelays flow old new → HearsOn (carried_up flow) old new
+relays_hearing None old new h = same_hearing old new h
+relays_hearing (Some flow) old new h = carrying_hearing flow.up flow.down old new h
 
 act_hearing : (act : Act) (outcome : Outcome act) (old new : Speaker) → AtClient act outcome old new → HearsOn (heard_in act outcome) old new
 act_hearing (Hear form) (Ok heard) old new h = line_hearing form heard old new h
@@ -147,6 +166,7 @@ act_hearing (Reach dest) outcome old new h = same_hearing old new h
 act_hearing Take outcome old new h = same_hearing old new h
 act_hearing (Pass text) outcome old new h = same_hearing old new h
 act_hearing HangUp outcome old new h = same_hearing old new h
+act_hearing Relay outcome old new h = relays_hearing (flow_of outcome) old new h
 
 -- ---- the session
 

@@ -9,8 +9,12 @@ use Rattle.fw_acts.specs.Acts.Row.{Do, At, Over}
 use Rattle.fw_acts.specs.Ran.{Comes}
 use Rattle.fw_types.specs.declared.ending.Ending.{Ending}
 use Rattle.fw_types.specs.declared.ending.Ending.TheVariants as endings
+use Rattle.relay_ways.specs.Ending as ways
+use Rattle.relay_ways.specs.declared.way_end.WayEnd.{WayEnd}
+use Rattle.relay_ways.specs.declared.way_end.WayEnd.TheVariants.{Done, ReadFault, WriteFault, Idle, Spent}
+use Rattle.session_acts.specs.Relaying.{stops_by}
 use Rattle.session_acts.specs.Acts.{Act, Halt, cause_by, fault_cause, silence_cause}
-use Rattle.session_acts.specs.Acts.Act.{Hear, Say, Try, Log, Note, Ask, Renew, Dial, Reach, Take, Pass, HangUp}
+use Rattle.session_acts.specs.Acts.Act.{Hear, Say, Try, Log, Note, Ask, Renew, Dial, Reach, Take, Pass, HangUp, Relay}
 use Rattle.session_acts.specs.Deeds.{Deed, deed_last, done}
 use Rattle.session_acts.specs.LastStop.{StopsLast, is_no_memory, lacked_memory, one_lacked_memory}
 use Rattle.session_acts.specs.Met.{acts}
@@ -70,6 +74,41 @@ take_lacks Quiet is = absurd (cc)
 take_lacks Broken is = absurd (cc)
 take_lacks Limit is = absurd (cc)
 
+-- no relay stops for want of memory
+abbrev failed : Cause → Result (Unit {0}) Cause
+failed cause = Err cause
+
+abbrev has_memory : Result (Unit {0}) Cause → Bool
+has_memory (Ok done) = true
+has_memory (Err causes.NoMemory) = false
+has_memory (Err cause) = true
+
+relay_has : (up down : WayEnd) → has_memory (stops_by (ways.ending_of up down)) ≡ true
+relay_has ReadFault down = refl
+relay_has Done Done = refl
+relay_has Done ReadFault = refl
+relay_has Done WriteFault = refl
+relay_has Done Idle = refl
+relay_has Done Spent = refl
+relay_has WriteFault Done = refl
+relay_has WriteFault ReadFault = refl
+relay_has WriteFault WriteFault = refl
+relay_has WriteFault Idle = refl
+relay_has WriteFault Spent = refl
+relay_has Idle Done = refl
+relay_has Idle ReadFault = refl
+relay_has Idle WriteFault = refl
+relay_has Idle Idle = refl
+relay_has Idle Spent = refl
+relay_has Spent Done = refl
+relay_has Spent ReadFault = refl
+relay_has Spent WriteFault = refl
+relay_has Spent Idle = refl
+relay_has Spent Spent = refl
+
+relay_lacks : (up down : WayEnd) (cause : Cause) → stops_by (ways.ending_of up down) ≡ Err cause → cause ≡ causes.NoMemory → false ≡ true
+relay_lacks up down cause is none = ap has_memory (sym (is ∙ ap failed none)) ∙ relay_has up down
+
 stop_lacks : (act : Act) (halt : Halt act) → cause_by act halt ≡ causes.NoMemory → lacked_memory act (Err halt) ≡ true
 stop_lacks (Hear form) halt is = hear_lacks halt is
 stop_lacks (Say text) halt is = absurd (cc)
@@ -83,6 +122,7 @@ stop_lacks (Reach dest) halt is = absurd (cc)
 stop_lacks Take halt is = take_lacks halt is
 stop_lacks (Pass text) halt is = absurd (cc)
 stop_lacks HangUp halt is = absurd halt
+stop_lacks Relay halt is = relay_lacks halt.flow.up.end halt.flow.down.end halt.cause halt.is is
 
 ending_lacks : (cause : Cause) → ending_by cause ≡ endings.NoMemory → cause ≡ causes.NoMemory
 ending_lacks causes.ClientFault is = absurd (cc)

@@ -18,10 +18,14 @@ pub mod ServerlessLemmas
 pub mod PassingLemmas
 pub mod SpentLemmas
 pub mod StageLemmas
+pub mod ShutLemmas
+pub mod RelayLemmas
+pub mod RelayLastLemmas
 pub mod TalkLemmas
 pub mod ToldLemmas
 pub mod StaysLemmas
 pub mod TurnLemmas
+pub mod UsedUpLemmas
 pub mod WaitedLemmas
 mod Rows
 pub mod LastStopLemmas

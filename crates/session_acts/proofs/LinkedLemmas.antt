@@ -8,11 +8,12 @@ use Rattle.fw_outside.specs.declared.ask.Ask as asks
 use Rattle.fw_outside.specs.declared.ask.Ask.TheVariants.{Main}
 use Rattle.fw_outside.specs.declared.heard.Heard.{Heard}
 use Rattle.fw_types.specs.declared.dest.Dest.{Dest}
+use Rattle.session_acts.specs.Relaying.{Flow, flow_of}
 use Rattle.session_acts.specs.Acts.{Act, Front, Outcome}
-use Rattle.session_acts.specs.Acts.Act.{Hear, Say, Try, Log, Note, Ask, Renew, Dial, Reach, Take, Pass, HangUp}
+use Rattle.session_acts.specs.Acts.Act.{Hear, Say, Try, Log, Note, Ask, Renew, Dial, Reach, Take, Pass, HangUp, Relay}
 use Rattle.session_acts.specs.Deeds.{Gains}
 use Rattle.session_acts.specs.Laws.{Adds, CallsDialer, LinksDialer, called, linked, up_if, up_now}
-use Rattle.session_acts.specs.Met.{Clears, ConnectsIf, Dialing, Hanging, Met, Passes, Takes}
+use Rattle.session_acts.specs.Met.{Clears, ConnectsIf, Dialing, Hanging, Met, Passes, ServerRelays, Takes}
 use Rattle.session_acts.specs.World.{Server, Speaker, World}
 use Rattle.session_acts.specs.declared.silence.Silence.{Silence}
 
@@ -125,6 +126,12 @@ served_passes : (text : List ℕ) (outcome : Result (Unit {0}) (Front text)) (li
 served_passes text outcome None old new is passes = served_same old new passes.1
 served_passes text outcome (Some link) old new is passes = served_link old new link passes.speaker is passes.is
 
+served_relays : (flow : Option Flow) (link : Option Speaker) (old new : Server) → old.link ≡ link → ServerRelays flow link old new → Served [] [] old new
+served_relays None None old new is h = served_same old new h
+served_relays None (Some link) old new is h = absurd h
+served_relays (Some flow) None old new is h = absurd h
+served_relays (Some flow) (Some link) old new is h = served_link old new link h.speaker is h.is
+
 module _ {Origin : Type 0} where
   served_one : (a : Act) (outcome : Outcome a) (old new : World Origin) → Met a outcome old new → Served (called a outcome) (linked a outcome) old.server new.server
   served_one (Dial dest) (Ok up) old new met = served_dial dest up old.server new.server met.server
@@ -135,6 +142,7 @@ module _ {Origin : Type 0} where
   served_one (Pass text) outcome old new met = served_passes text outcome old.server.link old.server new.server refl met.server
   served_one HangUp (Ok done) old new met = served_hanging old.server new.server met.server
   served_one HangUp (Err never) old new met = absurd never
+  served_one Relay outcome old new met = served_relays (flow_of outcome) old.server.link old.server new.server refl met.server
   served_one (Hear form) outcome old new met = served_same old.server new.server met.server
   served_one (Say text) outcome old new met = served_same old.server new.server met.server
   served_one (Try text) outcome old new met = served_same old.server new.server met.server

@@ -1,5 +1,5 @@
 -- What is owed after a dialogue.
-use Rattle.std.proofs.Common.{◌≡◌, true, false, is_some, refl, sym, ap, subst, ◌∙◌, ℕ, Option, Some, None, Result, Ok, Err}
+use Rattle.std.proofs.Common.{◌≡◌, Bool, true, false, is_some, refl, sym, ap, subst, ◌∙◌, ℕ, Option, Some, None, Result, Ok, Err}
 use Rattle.auth_events.specs.declared.port.PortFault.{PortFault}
 use Rattle.auth_events.specs.declared.port.PortFault.TheVariants as faults
 use Rattle.auth_events.specs.declared.reply.Reply.{Reply}
@@ -11,9 +11,10 @@ use Rattle.fw_outside.specs.LineReaderView.{LineReaderView}
 use Rattle.fw_types.specs.declared.ending.Ending.{Ending}
 use Rattle.session_acts.specs.Acts.Act.{Ask, HangUp}
 use Rattle.session_acts.specs.Closing.{Closing, ending_told}
+use Rattle.session_acts.specs.Finishing.{Finishing}
 use Rattle.session_acts.specs.Deeds.{DeedsAll}
 use Rattle.session_acts.specs.Met.{Met, Stops, acts, opened_then, reply_of}
-use Rattle.session_acts.specs.Session.{Held, Session, closing, ending_by, ending_closed, ending_of, freeing}
+use Rattle.session_acts.specs.Session.{Held, SessionAs, closing, ending_by, ending_closed, ending_of, freeing}
 use Rattle.session_acts.specs.World.{Office, Server, Speaker, World, at_first, devices_of, unheard}
 use Rattle.session_acts.specs.declared.cause.Cause.{Cause}
 use Rattle.session_acts.proofs.DeedLemmas.{deeds_both, deeds_parted}
@@ -52,20 +53,22 @@ module _ {Origin : Type 0} where
   closed_fault None cause old new some stops = absurd (cc)
   closed_fault (Some sid) cause old new some stops = record { answer = Err stops.halt; after = (new, stops.met, refl); tells = ap ending_by stops.is_cause }
 
-  -- a dialogue, and what was owed after it
-  pub held_by : {P : Type 0} {rows : PlaceTable (acts Origin) P} {first : Row (acts Origin) P} (dialogue closed : Result (Unit {0}) Cause) (old mid between new : World Origin) (ending : Ending)
-      → Ran rows first (λ (done : Unit {0}). Over) old mid dialogue → DeedsAll (freeing mid.server.link) mid between → Closing closed between.office.opened between new → ending ≡ ending_told dialogue closed → Held rows first old new ending
-  held_by dialogue closed old mid between new ending ran freed closes ends =
+  -- what was owed after a dialogue, done
+  pub finishes : (dialogue closed : Result (Unit {0}) Cause) (mid between new : World Origin) (ending : Ending)
+      → DeedsAll (freeing mid.server.link) mid between → Closing closed between.office.opened between new → ending ≡ ending_told dialogue closed → Finishing dialogue mid new ending
+  finishes dialogue closed mid between new ending freed closes ends =
       let same : between.office.opened ≡ mid.office.opened = free_opened mid.server.link mid between freed in
       let after : DeedsAll (closing mid.office.opened closes.answer) between new = subst (λ (o : Option ℕ). DeedsAll (closing o closes.answer) between new) same closes.after in
       record {
-        dialogue = dialogue;
-        mid = mid;
-        ran = ran;
         answer = closes.answer;
         after = deeds_both (freeing mid.server.link) (closing mid.office.opened closes.answer) mid between new freed after;
         ends = ends ∙ ends_told dialogue closed between.office.opened closes.answer closes.tells ∙ ap (λ (o : Option ℕ). ending_of dialogue o closes.answer) same;
       }
+
+  -- a dialogue, and what was owed after it
+  pub held_by : {P : Type 0} {rows : PlaceTable (acts Origin) P} {first : Row (acts Origin) P} {dialogue : Result (Unit {0}) Cause} {old mid new : World Origin} {ending : Ending}
+      → Ran rows first (λ (done : Unit {0}). Over) old mid dialogue → Finishing dialogue mid new ending → Held rows first old new ending
+  held_by {dialogue = dialogue} {mid = mid} ran finishing = record { dialogue = dialogue; mid = mid; ran = ran; answer = finishing.answer; after = finishing.after; ends = finishing.ends }
 
   -- a world in which nothing was heard, no session is open and no link is up
   at_start : (world : World Origin) → world.client.reader ≡ unheard → world.office.opened ≡ None → world.server.link ≡ None → world ≡ at_first (devices_of world) world.names
@@ -75,10 +78,11 @@ module _ {Origin : Type 0} where
       ∙ ap (λ (l : Option Speaker). record world { client = record (world.client) { reader = unheard }; office = record (world.office) { opened = None }; server = record (world.server) { link = l } }) link
 
   -- a session that was held from there on
-  pub held_session : {P : Type 0} {rows : PlaceTable (acts Origin) P} {first : Row (acts Origin) P} {old last : World Origin} {ending : Ending} → Held rows first old last ending
-      → old.client.reader ≡ unheard → old.office.opened ≡ None → old.server.link ≡ None → Session rows first (devices_of old) (devices_of last) ending
-  held_session {P} {rows} {first} {old} {last} {ending} held reader opened link = record {
+  pub held_session : {P : Type 0} {rows : PlaceTable (acts Origin) P} {first : Row (acts Origin) P} {old last : World Origin} {ending : Ending} (relays : Bool) → Held rows first old last ending
+      → old.client.reader ≡ unheard → old.office.opened ≡ None → old.server.link ≡ None → old.names.relays ≡ relays → SessionAs relays rows first (devices_of old) (devices_of last) ending
+  held_session {P} {rows} {first} {old} {last} {ending} relays held reader opened link lent = record {
     names = old.names;
+    lent = lent;
     last = last;
     held = subst (λ (w : World Origin). Held rows first w last ending) (at_start old reader opened link) held;
     leaves = refl;

@@ -7,11 +7,13 @@ use Rattle.fw_outside.specs.declared.heard.Heard.{Heard}
 use Rattle.fw_types.specs.declared.dest.Dest.{Dest}
 use Rattle.fw_types.specs.declared.ending.Ending.{Ending}
 use Rattle.fw_acts.specs.Acts.{Row, PlaceTable}
+use Rattle.session_acts.specs.Relaying.{Flow, flow_of, given_up}
+use Rattle.session_acts.proofs.DeviceLemmas.{supplies_given}
 use Rattle.session_acts.specs.Acts.{Act, Front, Outcome}
-use Rattle.session_acts.specs.Acts.Act.{Hear, Say, Try, Log, Note, Ask, Renew, Dial, Reach, Take, Pass, HangUp}
+use Rattle.session_acts.specs.Acts.Act.{Hear, Say, Try, Log, Note, Ask, Renew, Dial, Reach, Take, Pass, HangUp, Relay}
 use Rattle.session_acts.specs.Deeds.{Deed, DeedsAll}
 use Rattle.session_acts.specs.Laws.{Adds, got}
-use Rattle.session_acts.specs.Met.{Clears, ConnectsIf, Dialing, Hanging, IsTold, Met, Passes, Takes, acts}
+use Rattle.session_acts.specs.Met.{Carrying, Clears, ConnectsIf, Dialing, Hanging, IsTold, Met, Passes, ServerRelays, Takes, acts}
 use Rattle.session_acts.specs.Passing.{AreGiven, GivesServers, IsGiven, hung, hung_by, passed_over, up_after, up_with}
 use Rattle.session_acts.specs.Session.{Held, deeds_of}
 use Rattle.session_acts.specs.World.{Server, Speaker, World}
@@ -134,6 +136,18 @@ pass_step up text outcome None old new is holds h =
     subst (λ (u : Option (List ℕ)). Step [] u old new) (unlinked up (got outcome) holds) (same_step up old new (subst (λ (l : Option Speaker). Holds up l) (sym is) holds) h.1)
 pass_step up text outcome (Some link) old new is holds h = link_step (up_with up (got outcome)) old new h.speaker (told_holds up text outcome link h.speaker h.told holds) h.is
 
+carried_holds : (up : Option (List ℕ)) (flow : Flow) (link speaker : Speaker) → Carrying flow.down flow.up link speaker → Holds up (Some link) → Holds (up_with up flow.up.given) (Some speaker)
+carried_holds None flow link speaker h holds = absurd holds
+carried_holds (Some passed) flow link speaker h holds =
+    subst (λ (s : Speaker). IsGiven (passed ++ flow.up.given) s.outlet.given) (sym h.is) (more_given passed flow.up.given link.outlet.given h.outlet.given holds (supplies_given flow.up link.outlet h.outlet h.supplies))
+
+relay_step : (up : Option (List ℕ)) (flow : Option Flow) (link : Option Speaker) (old new : Server) → old.link ≡ link → Holds up link → ServerRelays flow link old new → Step [] (up_with up (given_up flow)) old new
+relay_step up None None old new is holds h =
+    subst (λ (u : Option (List ℕ)). Step [] u old new) (unlinked up [] holds) (same_step up old new (subst (λ (l : Option Speaker). Holds up l) (sym is) holds) h)
+relay_step up None (Some link) old new is holds h = absurd h
+relay_step up (Some flow) None old new is holds h = absurd h
+relay_step up (Some flow) (Some link) old new is holds h = link_step (up_with up flow.up.given) old new h.speaker (carried_holds up flow link h.speaker h.carries holds) h.is
+
 -- ---- lists
 
 given_both : (first more : List (List ℕ)) (links others : List LinkView) → AreGiven first links → AreGiven more others → AreGiven (first ++ more) (links ++ others)
@@ -155,6 +169,7 @@ module _ {Origin : Type 0} where
   one_step (Pass text) outcome up old new met holds = pass_step up text outcome old.server.link old.server new.server refl holds met.server
   one_step HangUp (Ok done) up old new met holds = hang_step up old.server new.server holds met.server
   one_step HangUp (Err never) up old new met holds = absurd never
+  one_step Relay outcome up old new met holds = relay_step up (flow_of outcome) old.server.link old.server new.server refl holds met.server
   one_step (Hear form) outcome up old new met holds = same_step up old.server new.server holds met.server
   one_step (Say text) outcome up old new met holds = same_step up old.server new.server holds met.server
   one_step (Try text) outcome up old new met holds = same_step up old.server new.server holds met.server

@@ -6,7 +6,7 @@ use Rattle.fw_outside.specs.Counts.{Rose}
 use Rattle.fw_outside.specs.DialerView.{DialerView}
 use Rattle.fw_types.specs.declared.dest.Dest.{Dest}
 use Rattle.session_acts.specs.Acts.{Act, Outcome}
-use Rattle.session_acts.specs.Acts.Act.{Hear, Say, Try, Log, Note, Ask, Renew, Dial, Reach, Take, Pass, HangUp}
+use Rattle.session_acts.specs.Acts.Act.{Hear, Say, Try, Log, Note, Ask, Renew, Dial, Reach, Take, Pass, HangUp, Relay}
 use Rattle.session_acts.specs.Deeds.{Gains}
 use Rattle.session_acts.specs.Laws.{CountsRefusals, refused}
 use Rattle.session_acts.specs.Met.{Dialing, Met}
@@ -43,6 +43,7 @@ module _ {Origin : Type 0} where
   refused_one Take outcome old new met = none_refused Take outcome old new met
   refused_one (Pass text) outcome old new met = none_refused (Pass text) outcome old new met
   refused_one HangUp outcome old new met = none_refused HangUp outcome old new met
+  refused_one Relay outcome old new met = none_refused Relay outcome old new met
 
   pub refused_gains : Gains Origin refused CountsRefusals
   refused_gains = record {

@@ -14,6 +14,7 @@ use Rattle.session_acts.specs.Acts.Act.{Hear, Say, Try, Log, Note, Renew, Dial, 
 use Rattle.session_acts.specs.Deeds.{gives}
 use Rattle.session_acts.specs.FullPort.{limit_told}
 use Rattle.session_acts.specs.Hearing.{heard_in}
+use Rattle.session_acts.specs.Hearing.Fate.{IsHeard}
 use Rattle.session_acts.specs.Laws.{logged, told}
 use Rattle.session_acts.specs.Passing.{passed_over}
 use Rattle.session_acts.specs.Met.{opened_then}
@@ -75,7 +76,7 @@ a_front_is_passed : (dest : Dest) → passed_over None (record { act = Reach des
 unfolding cut_front
 a_front_is_passed dest = refl
 
-an_idle_client_is_heard_so : heard_in (Hear Lines) (Err Quiet) ≡ (Lines, Stopped stops.Idle) ∷ []
+an_idle_client_is_heard_so : heard_in (Hear Lines) (Err Quiet) ≡ IsHeard Lines (Stopped stops.Idle) ∷ []
 an_idle_client_is_heard_so = refl
 
 a_full_port_tells_its_limit : limit_told (replies.Denied (denials.Full 3)) ≡ Some 3

@@ -8,7 +8,7 @@ use Rattle.fw_acts.specs.Runs.{DoesAll}
 use Rattle.fw_acts.proofs.HistoryLemmas.{run_leaves, run_may}
 use Rattle.fw_types.specs.declared.ending.Ending.{Ending}
 use Rattle.session_acts.specs.Acts.{Act, Outcome}
-use Rattle.session_acts.specs.Acts.Act.{Hear, Say, Try, Log, Note, Ask, Renew, Dial, Reach, Take, Pass, HangUp}
+use Rattle.session_acts.specs.Acts.Act.{Hear, Say, Try, Log, Note, Ask, Renew, Dial, Reach, Take, Pass, HangUp, Relay}
 use Rattle.session_acts.specs.Deeds.{DeedsAll}
 use Rattle.session_acts.specs.Met.{Met, acts}
 use Rattle.session_acts.specs.Serverless.{KeepsServerless, is_serverless, serverless_watch}
@@ -32,6 +32,7 @@ module _ {Origin : Type 0} where
   met_serverless Take outcome old new is met = absurd (cc)
   met_serverless (Pass text) outcome old new is met = absurd (cc)
   met_serverless HangUp outcome old new is met = absurd (cc)
+  met_serverless Relay outcome old new is met = absurd (cc)
 
   steps_serverless : (P : Type 0) (steps : List (Step (acts Origin))) (old new : World Origin) → AllMay (serverless_watch Origin P) tt steps → DoesAll steps old new → new.server ≡ old.server
   steps_serverless P [] old new may does = ap (λ (w : World Origin). w.server) (sym does)

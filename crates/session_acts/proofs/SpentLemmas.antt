@@ -1,6 +1,7 @@
 -- A session that has taken of its client all that may be taken ends by that.
-use Rattle.std.proofs.Common.{arith, ◌≡◌, refl, sym, ap, subst, ◌∙◌, ℕ, ◌+◌, Bool, true, false, List, [], ◌∷◌, length, Option, Some, None, Result, Ok, Err}
+use Rattle.std.proofs.Common.{arith, ◌≡◌, refl, sym, ap, subst, ◌∙◌, ℕ, ◌+◌, Bool, true, false, List, [], ◌∷◌, length, map, Option, Some, None, Result, Ok, Err}
 use mathlib.Core.Bool.{true≢false}
+use Rattle.std.proofs.lemmas.Bool.{ne_eqb}
 use Rattle.std.specs.Prelude.{◌==◌}
 use Rattle.auth_events.specs.declared.port.PortFault.{PortFault}
 use Rattle.auth_events.specs.declared.reply.Reply.{Reply}
@@ -13,23 +14,30 @@ use Rattle.fw_outside.specs.declared.heard.Heard.{Heard}
 use Rattle.fw_outside.specs.declared.heard.Heard.TheVariants.{Line, TooLong, Stopped}
 use Rattle.fw_outside.specs.declared.heard.Stop.TheVariants as stops
 use Rattle.fw_types.specs.declared.ending.Ending.{Ending}
+use Rattle.fw_types.specs.declared.ending.Ending.TheVariants as endings
+use Rattle.relay_ways.specs.Carried.{LeavesSource, Way}
+use Rattle.relay_ways.specs.Ending as two_ways
+use Rattle.relay_ways.specs.declared.way_end.WayEnd.{WayEnd}
+use Rattle.relay_ways.specs.declared.way_end.WayEnd.TheVariants as ways
+use Rattle.session_acts.specs.Relaying.{Stuck, stops_by}
 use Rattle.session_acts.specs.Acts.{Act, Answer, Front, Halt, cause_by, silence_cause}
-use Rattle.session_acts.specs.Acts.Act.{Hear, Say, Try, Log, Note, Ask, Renew, Dial, Reach, Take, Pass, HangUp}
-use Rattle.session_acts.specs.Causes.{TakesFor, is_spent_ending}
-use Rattle.session_acts.specs.Deeds.{DeedsAll}
-use Rattle.session_acts.specs.Met.{Hears, Heeds, HeedsLine, IsTold, Met, acts}
-use Rattle.session_acts.specs.Session.{Session, closing, ending_by, ending_of, freeing, owed}
-use Rattle.session_acts.specs.World.{Devices, Speaker, World, at_first, most_taken}
+use Rattle.session_acts.specs.Acts.Act.{Hear, Say, Try, Log, Note, Ask, Renew, Dial, Reach, Take, Pass, HangUp, Relay}
+use Rattle.session_acts.specs.Causes.{TakesAs, is_spent_ending, is_spent_or}
+use Rattle.session_acts.specs.Deeds.{DeedsAll, done}
+use Rattle.session_acts.specs.Met.{Carrying, Hears, Heeds, HeedsLine, IsTold, Met, acts}
+use Rattle.session_acts.specs.Session.{Session, SessionAs, closing, ending_by, ending_of, freeing, owed}
+use Rattle.session_acts.specs.World.{Devices, Names, Speaker, World, at_first, most_taken}
 use Rattle.session_acts.specs.declared.cause.Cause.{Cause}
 use Rattle.session_acts.specs.declared.cause.Cause.TheVariants.{ClientFault, Idle}
 use Rattle.session_acts.specs.declared.form.Form.{Form}
 use Rattle.session_acts.specs.declared.silence.Silence.{Silence}
 use Rattle.session_acts.specs.declared.silence.Silence.TheVariants.{Quiet, Broken, Limit}
 use Rattle.session_acts.proofs.CauseLemmas.{session_stays}
-use Rattle.session_acts.proofs.DeedLemmas.{deeds_parted}
+use Rattle.session_acts.proofs.DeedLemmas.{all_last, deeds_done, deeds_parted}
+use Rattle.session_acts.proofs.KeptLemmas.{names_last}
 
 -- whether no more bytes may be taken of the client
-abbrev none_left : Speaker → Bool
+abbrev pub none_left : Speaker → Bool
 none_left speaker = speaker.reader.room == 0
 
 same_left : (old new : Speaker) → new ≡ old → none_left old ≡ false → none_left new ≡ false
@@ -38,7 +46,7 @@ same_left old new is more = ap none_left is ∙ more
 heeds_left : (form : Form) (heard : Heard) (old new : Speaker) (h : Heeds form heard old new) → none_left new ≡ (h.reader.room == 0)
 heeds_left form heard old new h = ap none_left h.is
 
-line_left : (form : Form) (heard : Heard) (old new : Speaker) → HeedsLine form heard old new → none_left new ≡ false
+pub line_left : (form : Form) (heard : Heard) (old new : Speaker) → HeedsLine form heard old new → none_left new ≡ false
 line_left form (Line line) old new h = heeds_left form (Line line) old new h ∙ sym h.listens.spent
 line_left form TooLong old new h = heeds_left form TooLong old new h ∙ sym h.listens.spent
 line_left form (Stopped stops.End) old new h = heeds_left form (Stopped stops.End) old new h ∙ sym h.listens.spent
@@ -46,8 +54,14 @@ line_left form (Stopped stops.Idle) old new h = absurd h
 line_left form (Stopped stops.Failed) old new h = absurd h
 line_left form (Stopped stops.Spent) old new h = absurd h
 
-told_left : (text : List ℕ) (outcome : Result (Unit {0}) (Front text)) (old new : Speaker) → IsTold text outcome old new → none_left old ≡ false → none_left new ≡ false
+pub told_left : (text : List ℕ) (outcome : Result (Unit {0}) (Front text)) (old new : Speaker) → IsTold text outcome old new → none_left old ≡ false → none_left new ≡ false
 told_left text outcome old new h more = ap none_left h.is ∙ more
+
+-- a way that is done leaves some
+pub done_left : (off on : Way) (old new : Speaker) → off.end ≡ ways.Done → Carrying off on old new → none_left new ≡ false
+done_left off on old new is h =
+    let leaves : LeavesSource ways.Done off.lost h.room h.drains.middle h.inlet = subst (λ (e : WayEnd). LeavesSource e off.lost h.room h.drains.middle h.inlet) is h.drains.leaves in
+    ap none_left h.is ∙ ne_eqb h.room 0 leaves.0
 
 -- no act that is done takes all
 act_left : {Origin : Type 0} (act : Act) (answer : Answer act) (old new : World Origin) → Met act (Ok answer) old new → none_left old.client ≡ false → none_left new.client ≡ false
@@ -63,32 +77,80 @@ act_left (Reach dest) done old new met more = same_left old.client new.client me
 act_left Take done old new met more = same_left old.client new.client met.client more
 act_left (Pass text) done old new met more = same_left old.client new.client met.client more
 act_left HangUp done old new met more = same_left old.client new.client met.client more
+act_left Relay None old new met more = same_left old.client new.client met.client more
+act_left Relay (Some through) old new met more = done_left through.flow.up through.flow.down old.client new.client through.up met.client
 
--- a stop that takes all is one at the limit
-abbrev IsSpentBy : Cause → Speaker → Type 0
+-- a stop that takes all is one at the limit, or one of a relay
+abbrev pub IsSpentBy : Cause → Speaker → Type 0
 IsSpentBy cause speaker = none_left speaker ≡ true → is_spent_ending (ending_by cause) ≡ true
+
+pub spent_or : (relays : Bool) (ending : Ending) → is_spent_ending ending ≡ true → is_spent_or relays ending ≡ true
+spent_or false ending is = is
+spent_or true endings.Done is = is
+spent_or true (endings.Denied line) is = is
+spent_or true endings.ClientFault is = refl
+spent_or true endings.ServerFault is = refl
+spent_or true endings.LogFault is = is
+spent_or true endings.AuthFault is = is
+spent_or true endings.Idle is = refl
+spent_or true endings.NoRoute is = is
+spent_or true endings.Spent is = is
+spent_or true endings.NoMemory is = is
+
+-- no relay stops for another cause
+abbrev of_relay : Result (Unit {0}) Cause → Bool
+of_relay (Ok done) = true
+of_relay (Err cause) = is_spent_or true (ending_by cause)
+
+ways_spent : (up down : WayEnd) → of_relay (stops_by (two_ways.ending_of up down)) ≡ true
+ways_spent ways.ReadFault down = refl
+ways_spent ways.Done ways.Done = refl
+ways_spent ways.Done ways.ReadFault = refl
+ways_spent ways.Done ways.WriteFault = refl
+ways_spent ways.Done ways.Idle = refl
+ways_spent ways.Done ways.Spent = refl
+ways_spent ways.WriteFault ways.Done = refl
+ways_spent ways.WriteFault ways.ReadFault = refl
+ways_spent ways.WriteFault ways.WriteFault = refl
+ways_spent ways.WriteFault ways.Idle = refl
+ways_spent ways.WriteFault ways.Spent = refl
+ways_spent ways.Idle ways.Done = refl
+ways_spent ways.Idle ways.ReadFault = refl
+ways_spent ways.Idle ways.WriteFault = refl
+ways_spent ways.Idle ways.Idle = refl
+ways_spent ways.Idle ways.Spent = refl
+ways_spent ways.Spent ways.Done = refl
+ways_spent ways.Spent ways.ReadFault = refl
+ways_spent ways.Spent ways.WriteFault = refl
+ways_spent ways.Spent ways.Idle = refl
+ways_spent ways.Spent ways.Spent = refl
+
+pub relay_spent : (halt : Stuck) (relays : Bool) → relays ≡ true → is_spent_or relays (ending_by halt.cause) ≡ true
+relay_spent halt relays may =
+    ap (λ (b : Bool). is_spent_or b (ending_by halt.cause)) may ∙ ap of_relay (sym halt.is) ∙ ways_spent halt.flow.up.end halt.flow.down.end
 
 more_spent : (cause : Cause) (speaker : Speaker) → none_left speaker ≡ false → IsSpentBy cause speaker
 more_spent cause speaker more none = absurd (true≢false (sym none ∙ more))
 
-hear_left : (form : Form) (silence : Silence) (old new : Speaker) → Hears form (Err silence) old new → IsSpentBy (silence_cause ClientFault silence) new
-hear_left form Quiet old new h = more_spent Idle new (heeds_left form (Stopped stops.Idle) old new h ∙ sym h.listens.spent)
-hear_left form Broken old new h = more_spent ClientFault new (heeds_left form (Stopped stops.Failed) old new h ∙ sym h.listens.spent)
-hear_left form Limit old new h = λ none. refl
+pub silence_left : (fault : Cause) (form : Form) (silence : Silence) (old new : Speaker) → Hears form (Err silence) old new → IsSpentBy (silence_cause fault silence) new
+silence_left fault form Quiet old new h = more_spent Idle new (heeds_left form (Stopped stops.Idle) old new h ∙ sym h.listens.spent)
+silence_left fault form Broken old new h = more_spent fault new (heeds_left form (Stopped stops.Failed) old new h ∙ sym h.listens.spent)
+silence_left fault form Limit old new h = λ none. refl
 
-stop_left : {Origin : Type 0} (act : Act) (halt : Halt act) (old new : World Origin) → Met act (Err halt) old new → none_left old.client ≡ false → IsSpentBy (cause_by act halt) new.client
-stop_left (Hear form) halt old new met more = hear_left form halt old.client new.client met.client
-stop_left (Say text) halt old new met more = more_spent ClientFault new.client (told_left text (Err halt) old.client new.client met.client more)
-stop_left (Try text) halt old new met more = absurd halt
-stop_left (Log text) halt old new met more = more_spent (cause_by (Log text) halt) new.client (same_left old.client new.client met.client more)
-stop_left (Note text) halt old new met more = absurd halt
-stop_left (Ask request) halt old new met more = more_spent (cause_by (Ask request) halt) new.client (same_left old.client new.client met.client more)
-stop_left (Renew name hash) halt old new met more = more_spent (cause_by (Renew name hash) halt) new.client (same_left old.client new.client met.client more)
-stop_left (Dial dest) halt old new met more = absurd halt
-stop_left (Reach dest) halt old new met more = more_spent (cause_by (Reach dest) halt) new.client (same_left old.client new.client met.client more)
-stop_left Take halt old new met more = more_spent (cause_by Take halt) new.client (same_left old.client new.client met.client more)
-stop_left (Pass text) halt old new met more = more_spent (cause_by (Pass text) halt) new.client (same_left old.client new.client met.client more)
-stop_left HangUp halt old new met more = absurd halt
+stop_left : {Origin : Type 0} (relays : Bool) (act : Act) (halt : Halt act) (old new : World Origin) → Met act (Err halt) old new → old.names.relays ≡ relays → none_left old.client ≡ false → none_left new.client ≡ true → is_spent_or relays (ending_by (cause_by act halt)) ≡ true
+stop_left relays (Hear form) halt old new met lent more none = spent_or relays (ending_by (cause_by (Hear form) halt)) ((silence_left ClientFault form halt old.client new.client met.client) none)
+stop_left relays (Say text) halt old new met lent more none = spent_or relays (ending_by (cause_by (Say text) halt)) ((more_spent ClientFault new.client (told_left text (Err halt) old.client new.client met.client more)) none)
+stop_left relays (Try text) halt old new met lent more none = absurd halt
+stop_left relays (Log text) halt old new met lent more none = spent_or relays (ending_by (cause_by (Log text) halt)) ((more_spent (cause_by (Log text) halt) new.client (same_left old.client new.client met.client more)) none)
+stop_left relays (Note text) halt old new met lent more none = absurd halt
+stop_left relays (Ask request) halt old new met lent more none = spent_or relays (ending_by (cause_by (Ask request) halt)) ((more_spent (cause_by (Ask request) halt) new.client (same_left old.client new.client met.client more)) none)
+stop_left relays (Renew name hash) halt old new met lent more none = spent_or relays (ending_by (cause_by (Renew name hash) halt)) ((more_spent (cause_by (Renew name hash) halt) new.client (same_left old.client new.client met.client more)) none)
+stop_left relays (Dial dest) halt old new met lent more none = absurd halt
+stop_left relays (Reach dest) halt old new met lent more none = spent_or relays (ending_by (cause_by (Reach dest) halt)) ((more_spent (cause_by (Reach dest) halt) new.client (same_left old.client new.client met.client more)) none)
+stop_left relays Take halt old new met lent more none = spent_or relays (ending_by (cause_by Take halt)) ((more_spent (cause_by Take halt) new.client (same_left old.client new.client met.client more)) none)
+stop_left relays (Pass text) halt old new met lent more none = spent_or relays (ending_by (cause_by (Pass text) halt)) ((more_spent (cause_by (Pass text) halt) new.client (same_left old.client new.client met.client more)) none)
+stop_left relays HangUp halt old new met lent more none = absurd halt
+stop_left relays Relay halt old new met lent more none = relay_spent halt relays (sym lent ∙ met.may)
 
 -- all that was taken
 none_by : (bytes : List ℕ) (left : ℕ) → most_taken ≡ length bytes + left → length bytes ≡ most_taken → (left == 0) ≡ true
@@ -113,30 +175,36 @@ module _ {Origin : Type 0} where
       let parted = deeds_parted (freeing mid.server.link) (closing mid.office.opened answer) mid new all in
       closing_client mid.office.opened answer parted.mid new parted.after ∙ freeing_client mid.server.link mid parted.mid parted.before
 
-  dialogue_left : {P : Type 0} (rows : PlaceTable (acts Origin) P) (dialogue : Result (Unit {0}) Cause) (left : Row (acts Origin) P) (before mid : World Origin) (opened : Option ℕ) (answer : Result Reply PortFault)
-      → Comes rows (λ (done : Unit {0}). Over) dialogue mid left before → none_left before.client ≡ false → none_left mid.client ≡ true → is_spent_ending (ending_of dialogue opened answer) ≡ true
-  dialogue_left rows (Ok over) left before mid opened answer comes more none =
+  dialogue_left : {P : Type 0} (relays : Bool) (rows : PlaceTable (acts Origin) P) (dialogue : Result (Unit {0}) Cause) (left : Row (acts Origin) P) (before mid : World Origin) (opened : Option ℕ) (answer : Result Reply PortFault)
+      → Comes rows (λ (done : Unit {0}). Over) dialogue mid left before → before.names.relays ≡ relays → none_left before.client ≡ false → none_left mid.client ≡ true → is_spent_or relays (ending_of dialogue opened answer) ≡ true
+  dialogue_left relays rows (Ok over) left before mid opened answer comes lent more none =
       absurd (true≢false (sym none ∙ ap (λ (w : World Origin). none_left w.client) (sym comes.1) ∙ more))
-  dialogue_left rows (Err cause) left before mid opened answer comes more none =
+  dialogue_left relays rows (Err cause) left before mid opened answer comes lent more none =
       let here = stopped rows left cause before mid comes in
-      ap (λ (c : Cause). is_spent_ending (ending_by c)) here.why.is_cause ∙ stop_left here.act here.why.halt before mid here.why.met more none
+      ap (λ (c : Cause). is_spent_or relays (ending_by c)) here.why.is_cause ∙ stop_left relays here.act here.why.halt before mid here.why.met lent more none
 
   -- where all was taken, the session ends by that
-  pub all_spent : {P : Type 0} {rows : PlaceTable (acts Origin) P} {first : Row (acts Origin) P} {old new : Devices Origin} {ending : Ending} (session : Session rows first old new ending)
-      → length (session_stays session).client.source.bytes ≡ most_taken → is_spent_ending ending ≡ true
-  all_spent {rows = rows} {old = old} session whole =
+  pub all_spent_or : {relays : Bool} {P : Type 0} {rows : PlaceTable (acts Origin) P} {first : Row (acts Origin) P} {old new : Devices Origin} {ending : Ending} (session : SessionAs relays rows first old new ending)
+      → length (session_stays session).client.source.bytes ≡ most_taken → is_spent_or relays ending ≡ true
+  all_spent_or {relays = relays} {rows = rows} {old = old} session whole =
       let held = session.held in
       let start = at_first old session.names in
       let source = (session_stays session).client.source in
       let more : none_left held.ran.mid.client ≡ false = steps_left held.ran.steps start held.ran.mid held.ran.does refl in
+      let names = all_last names_last (map done held.ran.steps) start held.ran.mid (deeds_done held.ran.steps start held.ran.mid held.ran.does) in
+      let lent : held.ran.mid.names.relays ≡ relays = ap (λ (n : Names). n.relays) names ∙ session.lent in
       let same : session.last.client ≡ held.mid.client = owed_client held.mid session.last held.answer held.after in
-      ap is_spent_ending held.ends ∙ dialogue_left rows held.dialogue held.ran.left held.ran.mid held.mid held.mid.office.opened held.answer held.ran.comes more (sym (ap none_left same) ∙ none_by source.bytes session.last.client.reader.room source.room whole)
+      ap (λ (e : Ending). is_spent_or relays e) held.ends ∙ dialogue_left relays rows held.dialogue held.ran.left held.ran.mid held.mid held.mid.office.opened held.answer held.ran.comes lent more (sym (ap none_left same) ∙ none_by source.bytes session.last.client.reader.room source.room whole)
 
-  pub session_spent : {P : Type 0} {rows : PlaceTable (acts Origin) P} {first : Row (acts Origin) P} {old new : Devices Origin} {ending : Ending} → Session rows first old new ending → TakesFor ending old new
-  session_spent {old = old} {ending = ending} session =
+  pub all_spent : {P : Type 0} {rows : PlaceTable (acts Origin) P} {first : Row (acts Origin) P} {old new : Devices Origin} {ending : Ending} (session : Session rows first old new ending)
+      → length (session_stays session).client.source.bytes ≡ most_taken → is_spent_ending ending ≡ true
+  all_spent session whole = all_spent_or session whole
+
+  pub session_spent : {relays : Bool} {P : Type 0} {rows : PlaceTable (acts Origin) P} {first : Row (acts Origin) P} {old new : Devices Origin} {ending : Ending} → SessionAs relays rows first old new ending → TakesAs relays ending old new
+  session_spent {relays = relays} {old = old} {ending = ending} session =
       let source = (session_stays session).client.source in
       let room = source.room in
-      subst (λ (d : Devices Origin). TakesFor ending old d) session.leaves (record {
+      subst (λ (d : Devices Origin). TakesAs relays ending old d) session.leaves (record {
         took = record { bytes = source.bytes; most = omega (arith, room); grew = source.grew; is = source.took };
-        all = λ whole. all_spent session whole;
+        all = λ whole. all_spent_or session whole;
       })

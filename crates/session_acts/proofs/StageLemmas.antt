@@ -100,4 +100,5 @@ dials_so source_view sink_view dest dialed up after link old mid met put comes m
         connects = connects_so source_view sink_view dest dialed up mid.server.dialer after link put comes misses;
       };
       names = met.names;
+      may = tt;
     }

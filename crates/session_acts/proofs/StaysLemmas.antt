@@ -1,5 +1,5 @@
 -- What every deed keeps of the devices.
-use Rattle.std.proofs.Common.{arith, ◌≡◌, refl, sym, subst, ℕ, ◌+◌, Bool, true, false, List, length, Option, Some, None, Result, Ok, Err, ap, ◌∙◌}
+use Rattle.std.proofs.Common.{arith, ◌≡◌, refl, sym, subst, ℕ, ◌+◌, Bool, true, false, List, [], length, Option, Some, None, Result, Ok, Err, ap, ◌∙◌}
 use Rattle.auth_events.specs.declared.port.PortFault.{PortFault}
 use Rattle.auth_events.specs.declared.reply.Reply.{Reply}
 use Rattle.auth_events.specs.declared.request.Request.{Request}
@@ -13,28 +13,30 @@ use Rattle.fw_outside.specs.declared.heard.Heard.{Heard}
 use Rattle.fw_outside.specs.declared.heard.Heard.TheVariants.{Line, TooLong, Stopped}
 use Rattle.fw_outside.specs.declared.heard.Stop.TheVariants as stops
 use Rattle.fw_types.specs.declared.dest.Dest.{Dest}
+use Rattle.relay_ways.specs.Carried.{Way}
+use Rattle.session_acts.specs.Relaying.{Flow, flow_of}
 use Rattle.session_acts.specs.Acts.{Act, Front, Outcome}
-use Rattle.session_acts.specs.Acts.Act.{Hear, Say, Try, Log, Note, Ask, Renew, Dial, Reach, Take, Pass, HangUp}
+use Rattle.session_acts.specs.Acts.Act.{Hear, Say, Try, Log, Note, Ask, Renew, Dial, Reach, Take, Pass, HangUp, Relay}
 use Rattle.session_acts.specs.Deeds.{Lasts}
-use Rattle.session_acts.specs.Met.{Asking, AtClient, AtLogs, AtOffice, AtServer, Clears, ConnectsIf, Dialing, Gets, Hanging, Hears, Heeds, HeedsLine, IsTold, Met, Passes, Takes, number_told, stop_of}
+use Rattle.session_acts.specs.Met.{Asking, AtClient, AtLogs, AtOffice, AtServer, Carrying, ClientRelays, Clears, ConnectsIf, Dialing, Gets, Hanging, Hears, Heeds, HeedsLine, IsTold, Met, Passes, ServerRelays, Takes, number_told, stop_of}
 use Rattle.session_acts.specs.World.{Office, Server, Speaker, World, most_taken}
 use Rattle.session_acts.specs.declared.form.Form.{Form}
 use Rattle.session_acts.specs.declared.form.Form.TheVariants.{Lines}
 use Rattle.session_acts.specs.declared.silence.Silence.{Silence}
-use Rattle.session_acts.proofs.DeviceLemmas.{DialerKeeps, PortKeeps, SinkKeeps, SourceKeeps, asks_port, both_dialer, both_port, both_sink, both_source, listens_source, rose_if, same_dialer, same_port, same_sink, same_source}
+use Rattle.session_acts.proofs.DeviceLemmas.{DialerKeeps, PortKeeps, SinkHolds, SinkKeeps, SourceKeeps, asks_port, both_dialer, both_holds, both_port, both_sink, both_source, drains_source, listens_source, rose_if, same_dialer, same_port, same_sink, same_source, sink_holds, supplies_sink}
 
 -- ---- who is heard and told
 
 pub record SpeakerKeeps (old new : Speaker) : Type 0 where
   pub source : SourceKeeps old.inlet new.inlet old.reader new.reader
-  pub sink : SinkKeeps old.outlet new.outlet
+  pub sink : SinkHolds old.outlet new.outlet
 
 same_speaker : (old new : Speaker) → new ≡ old → SpeakerKeeps old new
-same_speaker old new is = subst (λ (s : Speaker). SpeakerKeeps old s) (sym is) (record { source = same_source old.inlet old.reader; sink = same_sink old.outlet })
+same_speaker old new is = subst (λ (s : Speaker). SpeakerKeeps old s) (sym is) (record { source = same_source old.inlet old.reader; sink = sink_holds old.outlet old.outlet (same_sink old.outlet) })
 
 heeds_keeps : (form : Form) (heard : Heard) (old new : Speaker) → Heeds form heard old new → SpeakerKeeps old new
 heeds_keeps form heard old new h =
-    subst (λ (s : Speaker). SpeakerKeeps old s) (sym h.is) (record { source = listens_source form heard old.reader h.reader old.inlet h.inlet h.listens; sink = same_sink old.outlet })
+    subst (λ (s : Speaker). SpeakerKeeps old s) (sym h.is) (record { source = listens_source form heard old.reader h.reader old.inlet h.inlet h.listens; sink = sink_holds old.outlet old.outlet (same_sink old.outlet) })
 
 line_keeps : (form : Form) (heard : Heard) (old new : Speaker) → HeedsLine form heard old new → SpeakerKeeps old new
 line_keeps form (Line line) old new h = heeds_keeps form (Line line) old new h
@@ -54,7 +56,15 @@ gets_keeps text (Err front) old new h = subst (λ (s : SinkView). SinkKeeps old 
 
 pub told_keeps : (text : List ℕ) (outcome : Result (Unit {0}) (Front text)) (old new : Speaker) → IsTold text outcome old new → SpeakerKeeps old new
 told_keeps text outcome old new h =
-    subst (λ (s : Speaker). SpeakerKeeps old s) (sym h.is) (record { source = same_source old.inlet old.reader; sink = gets_keeps text outcome old.outlet h.outlet h.gets })
+    subst (λ (s : Speaker). SpeakerKeeps old s) (sym h.is) (record { source = same_source old.inlet old.reader; sink = sink_holds old.outlet h.outlet (gets_keeps text outcome old.outlet h.outlet h.gets) })
+
+pub carrying_keeps : (off on : Way) (old new : Speaker) → Carrying off on old new → SpeakerKeeps old new
+carrying_keeps off on old new h =
+    subst (λ (s : Speaker). SpeakerKeeps old s) (sym h.is) (record { source = drains_source off old.reader.pending old.reader (record { pending = []; room = h.room }) old.inlet h.inlet h.drains; sink = supplies_sink on old.outlet h.outlet h.supplies })
+
+relays_keeps : (flow : Option Flow) (old new : Speaker) → ClientRelays flow old new → SpeakerKeeps old new
+relays_keeps None old new h = same_speaker old new h
+relays_keeps (Some flow) old new h = carrying_keeps flow.up flow.down old new h
 
 client_keeps : (act : Act) (outcome : Outcome act) (old new : Speaker) → AtClient act outcome old new → SpeakerKeeps old new
 client_keeps (Hear form) outcome old new h = hears_keeps form outcome old new h
@@ -70,6 +80,7 @@ client_keeps (Reach dest) outcome old new h = same_speaker old new h
 client_keeps Take outcome old new h = same_speaker old new h
 client_keeps (Pass text) outcome old new h = same_speaker old new h
 client_keeps HangUp outcome old new h = same_speaker old new h
+client_keeps Relay outcome old new h = relays_keeps (flow_of outcome) old new h
 
 -- ---- the log
 
@@ -90,6 +101,7 @@ logs_keeps (Reach dest) outcome old new h = same_logs old new h
 logs_keeps Take outcome old new h = same_logs old new h
 logs_keeps (Pass text) outcome old new h = same_logs old new h
 logs_keeps HangUp outcome old new h = same_logs old new h
+logs_keeps Relay outcome old new h = same_logs old new h
 
 -- ---- the office
 
@@ -115,6 +127,7 @@ module _ {Origin : Type 0} where
   office_keeps Take outcome old new h = same_office old new h
   office_keeps (Pass text) outcome old new h = same_office old new h
   office_keeps HangUp outcome old new h = same_office old new h
+  office_keeps Relay outcome old new h = same_office old new h
 
 -- ---- the server
 
@@ -203,6 +216,12 @@ passes_keeps : (text : List ℕ) (outcome : Result (Unit {0}) (Front text)) (lin
 passes_keeps text outcome None old new up h = same_server old new h.1
 passes_keeps text outcome (Some link) old new up h = link_keeps link h.speaker old new up (told_keeps text outcome link h.speaker h.told) h.is
 
+server_relays : (flow : Option Flow) (link : Option Speaker) (old new : Server) → old.link ≡ link → ServerRelays flow link old new → ServerKeeps old new
+server_relays None None old new up h = same_server old new h
+server_relays None (Some link) old new up h = absurd h
+server_relays (Some flow) None old new up h = absurd h
+server_relays (Some flow) (Some link) old new up h = link_keeps link h.speaker old new up (carrying_keeps flow.down flow.up link h.speaker h.carries) h.is
+
 server_keeps : (act : Act) (outcome : Outcome act) (old new : Server) → AtServer act outcome old new → ServerKeeps old new
 server_keeps (Dial dest) (Ok up) old new h = dialing_keeps dest up old new h
 server_keeps (Dial dest) (Err never) old new h = absurd never
@@ -212,6 +231,7 @@ server_keeps Take outcome old new h = takes_keeps outcome old.link old new refl 
 server_keeps (Pass text) outcome old new h = passes_keeps text outcome old.link old new refl h
 server_keeps HangUp (Ok done) old new h = hanging_keeps old new h
 server_keeps HangUp (Err never) old new h = absurd never
+server_keeps Relay outcome old new h = server_relays (flow_of outcome) old.link old new refl h
 server_keeps (Hear form) outcome old new h = same_server old new h
 server_keeps (Say text) outcome old new h = same_server old new h
 server_keeps (Try text) outcome old new h = same_server old new h
@@ -241,7 +261,7 @@ module _ {Origin : Type 0} where
   stays_both old mid new a b = record {
     client = record {
       source = both_source old.client.inlet mid.client.inlet new.client.inlet old.client.reader mid.client.reader new.client.reader a.client.source b.client.source;
-      sink = both_sink old.client.outlet mid.client.outlet new.client.outlet a.client.sink b.client.sink;
+      sink = both_holds old.client.outlet mid.client.outlet new.client.outlet a.client.sink b.client.sink;
     };
     logs = both_sink old.logs mid.logs new.logs a.logs b.logs;
     port = both_port old.office.port mid.office.port new.office.port a.port b.port;

@@ -8,7 +8,7 @@ use Rattle.auth_events.specs.declared.request.Request.{Request}
 use Rattle.auth_events.specs.declared.request.Request.TheVariants as requests
 use Rattle.fw_outside.specs.DiceView.{DiceView}
 use Rattle.session_acts.specs.Acts.{Act, Outcome}
-use Rattle.session_acts.specs.Acts.Act.{Hear, Say, Try, Log, Note, Ask, Renew, Dial, Reach, Take, Pass, HangUp}
+use Rattle.session_acts.specs.Acts.Act.{Hear, Say, Try, Log, Note, Ask, Renew, Dial, Reach, Take, Pass, HangUp, Relay}
 use Rattle.session_acts.specs.Deeds.{Gains}
 use Rattle.session_acts.specs.Laws.{Adds}
 use Rattle.session_acts.specs.Met.{Asking, AtOffice, Renewing, is_password, number_told, opened_then, reply_of}
@@ -77,6 +77,7 @@ module _ {Origin : Type 0} where
   entered_one Take outcome old new h = same_talk old new h
   entered_one (Pass text) outcome old new h = same_talk old new h
   entered_one HangUp outcome old new h = same_talk old new h
+  entered_one Relay outcome old new h = same_talk old new h
 
   entered_then : (asks others : List (Request × Option Reply)) (old mid new : Office Origin) → Entered asks old mid → Entered others mid new → Entered (asks ++ others) old new
   entered_then asks others old mid new a b =
@@ -128,6 +129,7 @@ module _ {Origin : Type 0} where
   thrown_one Take outcome old new h = same_dice old new h
   thrown_one (Pass text) outcome old new h = same_dice old new h
   thrown_one HangUp outcome old new h = same_dice old new h
+  thrown_one Relay outcome old new h = same_dice old new h
 
   pub thrown_gains : Gains Origin thrown ThrowsSalts
   thrown_gains = record {

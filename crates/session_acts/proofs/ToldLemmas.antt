@@ -5,11 +5,13 @@ use Rattle.fw_outside.specs.ToldList.{grown}
 use Rattle.fw_outside.specs.declared.heard.Heard.{Heard}
 use Rattle.fw_outside.specs.declared.heard.Heard.TheVariants.{Line, TooLong, Stopped}
 use Rattle.fw_outside.specs.declared.heard.Stop.TheVariants as stops
+use Rattle.session_acts.specs.Relaying.{Flow, flow_of, given_down}
+use Rattle.session_acts.proofs.DeviceLemmas.{supplies_given}
 use Rattle.session_acts.specs.Acts.{Act, Front, Outcome}
-use Rattle.session_acts.specs.Acts.Act.{Hear, Say, Try, Log, Note, Ask, Renew, Dial, Reach, Take, Pass, HangUp}
+use Rattle.session_acts.specs.Acts.Act.{Hear, Say, Try, Log, Note, Ask, Renew, Dial, Reach, Take, Pass, HangUp, Relay}
 use Rattle.session_acts.specs.Deeds.{Gains}
 use Rattle.session_acts.specs.Laws.{TellsClient, TellsLog, got, logged, told}
-use Rattle.session_acts.specs.Met.{Gets, Hears, HeedsLine, Met}
+use Rattle.session_acts.specs.Met.{ClientRelays, Gets, Hears, HeedsLine, Met}
 use Rattle.session_acts.specs.World.{Speaker, World}
 use Rattle.session_acts.specs.declared.form.Form.{Form}
 use Rattle.session_acts.specs.declared.silence.Silence.{Silence}
@@ -43,6 +45,10 @@ pub hears_outlet : (form : Form) (outcome : Result Heard Silence) (old new : Spe
 hears_outlet form (Ok heard) old new hears = line_outlet form heard old new hears
 hears_outlet form (Err silence) old new hears = ap (λ (s : Speaker). s.outlet) hears.is
 
+relays_told : (flow : Option Flow) (old new : Speaker) → ClientRelays flow old new → new.outlet.given ≡ grown old.outlet.given (given_down flow)
+relays_told None old new h = same_sink old.outlet new.outlet (ap (λ (s : Speaker). s.outlet) h)
+relays_told (Some flow) old new h = ap (λ (s : Speaker). s.outlet.given) h.is ∙ supplies_given flow.down old.outlet h.outlet h.supplies
+
 module _ {Origin : Type 0} where
   same_client : (old new : World Origin) → new.client ≡ old.client → TellsClient [] old new
   same_client old new same = same_sink old.client.outlet new.client.outlet (ap (λ (s : Speaker). s.outlet) same)
@@ -63,6 +69,7 @@ module _ {Origin : Type 0} where
   told_one Take outcome old new met = same_client old new met.client
   told_one (Pass text) outcome old new met = same_client old new met.client
   told_one HangUp outcome old new met = same_client old new met.client
+  told_one Relay outcome old new met = relays_told (flow_of outcome) old.client new.client met.client
 
   pub told_gains : Gains Origin told TellsClient
   told_gains = record {
@@ -85,6 +92,7 @@ module _ {Origin : Type 0} where
   logged_one Take outcome old new met = same_sink old.logs new.logs met.logs
   logged_one (Pass text) outcome old new met = same_sink old.logs new.logs met.logs
   logged_one HangUp outcome old new met = same_sink old.logs new.logs met.logs
+  logged_one Relay outcome old new met = same_sink old.logs new.logs met.logs
 
   pub logged_gains : Gains Origin logged TellsLog
   logged_gains = record {

@@ -1,5 +1,5 @@
 -- Where a session ends as idle, somebody was waited for as long as was set.
-use Rattle.std.proofs.Common.{◌≡◌, sym, ap, subst, ◌∙◌, ℕ, inl, inr, List, map, Option, Some, None, Result, Ok, Err}
+use Rattle.std.proofs.Common.{◌≡◌, sym, ap, subst, ◌∙◌, ℕ, Bool, inl, inr, map, Option, Some, None, Result, Ok, Err}
 use Rattle.auth_events.specs.declared.port.PortFault.{PortFault}
 use Rattle.auth_events.specs.declared.port.PortFault.TheVariants as faults
 use Rattle.auth_events.specs.declared.reply.Reply.{Reply}
@@ -14,8 +14,8 @@ use Rattle.session_acts.specs.Acts.{cause_by, fault_cause}
 use Rattle.session_acts.specs.Causes.{IsLast, LinkWaitedInVain, WaitsFor}
 use Rattle.session_acts.specs.Deeds.{DeedsAll, deeds_ran, done}
 use Rattle.session_acts.specs.Met.{acts}
-use Rattle.session_acts.specs.Session.{Session, ending_by, ending_closed, ending_of, owed}
-use Rattle.session_acts.specs.World.{Devices, Server, Speaker, World, at_first, devices_of}
+use Rattle.session_acts.specs.Session.{SessionAs, ending_by, ending_closed, ending_of, owed}
+use Rattle.session_acts.specs.World.{Devices, Names, Server, Speaker, World, at_first, devices_of}
 use Rattle.session_acts.specs.declared.cause.Cause.{Cause}
 use Rattle.session_acts.specs.declared.cause.Cause.TheVariants.{ClientFault, ServerFault, LogFault, AuthFault, Idle, NoRoute, Spent, NoMemory}
 use Rattle.session_acts.proofs.CauseLemmas.{Counted, Freed, HasIdled, Owed, counted_since, idle_freed, last_of, owed_done, stop_counted}
@@ -37,7 +37,7 @@ module _ {Origin : Type 0} where
     waited = idle.1 ∙ patient ∙ waits;
   }
 
-  waited_by : (cause : Cause) (devices : Devices Origin) (names : List ℕ) (mid new : World Origin) → Owed (at_first devices names) mid new → new.client ≡ mid.client → Counted cause (at_first devices names) mid → WaitsFor (ending_by cause) devices (devices_of new)
+  waited_by : (cause : Cause) (devices : Devices Origin) (names : Names) (mid new : World Origin) → Owed (at_first devices names) mid new → new.client ≡ mid.client → Counted cause (at_first devices names) mid → WaitsFor (ending_by cause) devices (devices_of new)
   waited_by ClientFault devices names mid new owes same counted = tt
   waited_by ServerFault devices names mid new owes same counted = tt
   waited_by LogFault devices names mid new owes same counted = tt
@@ -63,7 +63,7 @@ module _ {Origin : Type 0} where
   waited_done (Some sid) (Ok reply) old new = tt
   waited_done (Some sid) (Err fault) old new = waited_closing fault old new
 
-  waited_dialogue : {P : Type 0} (rows : PlaceTable (acts Origin) P) (dialogue : Result (Unit {0}) Cause) (left : Row (acts Origin) P) (devices : Devices Origin) (names : List ℕ) (before mid new : World Origin) (answer : Result Reply PortFault)
+  waited_dialogue : {P : Type 0} (rows : PlaceTable (acts Origin) P) (dialogue : Result (Unit {0}) Cause) (left : Row (acts Origin) P) (devices : Devices Origin) (names : Names) (before mid new : World Origin) (answer : Result Reply PortFault)
       → Stays (at_first devices names) before → Comes rows (λ (done : Unit {0}). Over) dialogue mid left before → Stays (at_first devices names) mid → DeedsAll (owed mid answer) mid new → WaitsFor (ending_of dialogue mid.office.opened answer) devices (devices_of new)
   waited_dialogue rows (Ok over) left devices names before mid new answer first comes stays after = waited_done mid.office.opened answer devices (devices_of new)
   waited_dialogue rows (Err cause) left devices names before mid new answer first comes stays after =
@@ -72,7 +72,7 @@ module _ {Origin : Type 0} where
       let since : Counted cause (at_first devices names) mid = counted_since cause (at_first devices names) before mid first (subst (λ (c : Cause). Counted c before mid) (sym here.why.is_cause) counted) in
       waited_by cause devices names mid new (owed_done (at_first devices names) mid new answer stays after) (owed_client mid new answer after) since
 
-  pub session_waited : {P : Type 0} {rows : PlaceTable (acts Origin) P} {first : Row (acts Origin) P} {old new : Devices Origin} {ending : Ending} → Session rows first old new ending → WaitsFor ending old new
+  pub session_waited : {relays : Bool} {P : Type 0} {rows : PlaceTable (acts Origin) P} {first : Row (acts Origin) P} {old new : Devices Origin} {ending : Ending} → SessionAs relays rows first old new ending → WaitsFor ending old new
   session_waited {rows = rows} {old = old} {ending = ending} session =
       let held = session.held in
       let start = at_first old session.names in

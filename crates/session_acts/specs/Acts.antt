@@ -1,11 +1,12 @@
 -- What a session does, how that comes out, and for which cause it stops at an act.
-use Rattle.std.specs.Prelude.{◌≡◌, ◌≢◌, ℕ, Bool, List, [], ◌++◌, Result}
+use Rattle.std.specs.Prelude.{◌≡◌, ◌≢◌, ℕ, Bool, List, [], ◌++◌, Option, Result}
 use Rattle.auth_events.specs.declared.port.PortFault.{PortFault}
 use Rattle.auth_events.specs.declared.port.PortFault.TheVariants as faults
 use Rattle.auth_events.specs.declared.reply.Reply.{Reply}
 use Rattle.auth_events.specs.declared.request.Request.{Request}
 use Rattle.fw_outside.specs.declared.heard.Heard.{Heard}
 use Rattle.fw_types.specs.declared.dest.Dest.{Dest}
+use Rattle.session_acts.specs.Relaying.{Stuck, Through}
 use Rattle.session_acts.specs.declared.cause.Cause.{Cause}
 use Rattle.session_acts.specs.declared.form.Form.{Form}
 use Rattle.session_acts.specs.declared.silence.Silence.{Silence}
@@ -14,9 +15,9 @@ use Rattle.session_acts.specs.declared.cause.Cause.TheVariants.{ClientFault, Ser
 
 -- To the client: hear a line of it, in one of the forms; say a text; try to say one. To the log: log a text, and note one.
 -- At the port: ask, at a moment of the clock; and renew a password, which is salted by the dice. To the server: dial a
--- destination; reach one; take a line of the server; pass a text to it; hang up. What is tried or noted never stops the
--- session. Dialing is answered by whether the link came up, and reaching stops where it doesn't; both first hang up a link
--- that is up.
+-- destination; reach one; take a line of the server; pass a text to it; hang up. Between both: relay, both ways at once, to
+-- the ends of both. What is tried or noted never stops the session. Dialing is answered by whether the link came up, and
+-- reaching stops where it doesn't; both first hang up a link that is up.
 pub data Act : Type 0 where
   Hear : (form : Form) → Act
   Say : (text : List ℕ) → Act
@@ -30,6 +31,7 @@ pub data Act : Type 0 where
   Take : Act
   Pass : (text : List ℕ) → Act
   HangUp : Act
+  Relay : Act
 
 -- a front of a text, which isn't all of it, unless there is nothing in it
 pub record Front (text : List ℕ) : Type 0 where
@@ -51,6 +53,7 @@ Answer (Reach dest) = Unit {0}
 Answer Take = Heard
 Answer (Pass text) = Unit {0}
 Answer HangUp = Unit {0}
+Answer Relay = Option Through
 
 -- in which ways an act stops
 abbrev pub Halt : Act → Type 0
@@ -66,6 +69,7 @@ Halt (Reach dest) = Unit {0}
 Halt Take = Silence
 Halt (Pass text) = Front text
 Halt HangUp = ⊥
+Halt Relay = Stuck
 
 -- an act is done, with an answer, or stops
 abbrev pub Outcome : Act → Type 0
@@ -97,3 +101,4 @@ cause_by (Reach dest) halt = NoRoute
 cause_by Take halt = silence_cause ServerFault halt
 cause_by (Pass text) halt = ServerFault
 cause_by HangUp halt = absurd halt
+cause_by Relay halt = halt.cause

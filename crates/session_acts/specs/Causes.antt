@@ -1,5 +1,6 @@
 -- What a session keeps of the devices that it is lent, and by what each ending is caused.
 use Rattle.std.specs.Prelude.{◌≡◌, ℕ, ◌≤◌, ◌⊎◌, Bool, true, false, List, ◌∷◌, [], ◌++◌, length, Option, Some, None}
+use Rattle.std.specs.Option.{option_map}
 use Rattle.fw_outside.specs.Counts.{Grew, Rose}
 use Rattle.fw_outside.specs.DialerView.{LinkView}
 use Rattle.fw_outside.specs.SourceView.{SourceView}
@@ -8,24 +9,39 @@ use Rattle.fw_types.specs.declared.ending.Ending.{Ending}
 use Rattle.fw_types.specs.declared.ending.Ending.TheVariants.{Done, Denied, ClientFault, ServerFault, LogFault, AuthFault, Idle, NoRoute, Spent, NoMemory}
 use Rattle.session_acts.specs.World.{Devices, most_taken}
 
--- No count falls. How long the client's source and the dialer's links wait stays, as do whether the client's sink and the
--- log were told the end, and whose history the port's is.
-pub record SessionKeeps {Origin : Type 0} (old new : Devices Origin) : Type 0 where
+-- whether a sink was told the end stays, or it was told so by a relay
+abbrev pub StaysShut : (relays : Bool) → Option Bool → Option Bool → Type 0
+StaysShut false old new = new ≡ old
+StaysShut true old new = (new ≡ old) ⊎ (new ≡ option_map (λ _. true) old)
+
+-- These counts don't fall: of failures, of waits in vain, of refusals, of strange things, of the bytes taken of the client and
+-- of the requests. How long the client's source and the dialer's links wait stays, as do whether the log was told the end,
+-- and whose history the port's is; and, unless there was a relay, whether the client's sink was.
+pub record KeepsAs {Origin : Type 0} (relays : Bool) (old new : Devices Origin) : Type 0 where
   pub faults : old.inlet.faults ≤ new.inlet.faults
   pub idles : old.inlet.idles ≤ new.inlet.idles
+  pub amount : old.inlet.amount ≤ new.inlet.amount
   pub drops : old.outlet.faults ≤ new.outlet.faults
   pub log_drops : old.logs.faults ≤ new.logs.faults
   pub breaks : old.port.faults ≤ new.port.faults
   pub strays : old.port.odd ≤ new.port.odd
+  pub asks : old.port.asks ≤ new.port.asks
   pub refusals : old.dialer.refusals ≤ new.dialer.refusals
   pub link_faults : old.dialer.link_faults ≤ new.dialer.link_faults
   pub link_idles : old.dialer.link_idles ≤ new.dialer.link_idles
   pub waits : new.inlet.waits ≡ old.inlet.waits
   pub link_waits : new.dialer.waits ≡ old.dialer.waits
-  pub shut : new.outlet.shut ≡ old.outlet.shut
+  pub shut : StaysShut relays old.outlet.shut new.outlet.shut
   pub log_shut : new.logs.shut ≡ old.logs.shut
   pub origin : new.port.origin ≡ old.port.origin
   pub home : new.port.home ≡ old.port.home
+
+-- what a session without a relay keeps, and what one with a relay
+abbrev pub SessionKeeps : {Origin : Type 0} → Devices Origin → Devices Origin → Type 0
+SessionKeeps old new = KeepsAs false old new
+
+abbrev pub RelayKeeps : {Origin : Type 0} → Devices Origin → Devices Origin → Type 0
+RelayKeeps old new = KeepsAs true old new
 
 -- these bytes were taken, at most `most_taken`: the source has counted them, and they are those that it tells, where it does
 pub record TookAtMost (old new : SourceView) : Type 0 where
@@ -71,10 +87,25 @@ abbrev pub is_spent_ending : Ending → Bool
 is_spent_ending Spent = true
 is_spent_ending _ = false
 
--- `most_taken` bytes at most were taken of the client; where it was so many, the ending is `Spent`
-pub record TakesFor {Origin : Type 0} (ending : Ending) (old new : Devices Origin) : Type 0 where
+-- so a session ends of whose client `most_taken` bytes were taken: as `Spent`, or, where it relayed, by a failure or by
+-- idleness, which come before that
+abbrev pub is_spent_or : (relays : Bool) → Ending → Bool
+is_spent_or false ending = is_spent_ending ending
+is_spent_or true ClientFault = true
+is_spent_or true ServerFault = true
+is_spent_or true Idle = true
+is_spent_or true ending = is_spent_ending ending
+
+-- `most_taken` bytes at most were taken of the client; where it was so many, the session ends so
+pub record TakesAs {Origin : Type 0} (relays : Bool) (ending : Ending) (old new : Devices Origin) : Type 0 where
   pub took : TookAtMost old.inlet new.inlet
-  pub all : length took.bytes ≡ most_taken → is_spent_ending ending ≡ true
+  pub all : length took.bytes ≡ most_taken → is_spent_or relays ending ≡ true
+
+abbrev pub TakesFor : {Origin : Type 0} → Ending → Devices Origin → Devices Origin → Type 0
+TakesFor ending old new = TakesAs false ending old new
+
+abbrev pub RelayTakesFor : {Origin : Type 0} → Ending → Devices Origin → Devices Origin → Type 0
+RelayTakesFor ending old new = TakesAs true ending old new
 
 -- The client's source or sink failed, or the log; a link that was hung up had failed, or had been idle, or the client was;
 -- a link was refused; all that may be was taken of the client, or of the link that was hung up last, where that is told,

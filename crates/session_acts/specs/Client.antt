@@ -1,5 +1,5 @@
 -- A whole client: the verdict's line is logged, and then comes what follows it.
-use Rattle.std.specs.Prelude.{◌≡◌, ℕ, List, ◌∷◌, ◌++◌, ◌⊎◌, Result, Ok}
+use Rattle.std.specs.Prelude.{◌≡◌, ℕ, Bool, List, ◌∷◌, ◌++◌, ◌⊎◌, Result, Ok}
 use Rattle.fw_acts.specs.Acts.{Row, PlaceTable}
 use Rattle.fw_acts.specs.Acts.Row.{Do}
 use Rattle.fw_outside.specs.ToldList.{grown}
@@ -9,7 +9,7 @@ use Rattle.session_acts.specs.Acts.{Front}
 use Rattle.session_acts.specs.Acts.Act.{Log}
 use Rattle.session_acts.specs.Deeds.{Deed}
 use Rattle.session_acts.specs.Met.{CutAt, Gets, acts}
-use Rattle.session_acts.specs.Session.{Session, deeds_of}
+use Rattle.session_acts.specs.Session.{SessionAs, deeds_of}
 use Rattle.session_acts.specs.World.{Devices}
 
 -- the devices after the log was given a line
@@ -28,16 +28,16 @@ pub record LogFails {Origin : Type 0} (line : List ℕ) (old new : Devices Origi
   pub ends : ending ≡ LogFault
 
 -- The log was given the line, and then the session that follows was held. What the log was given begins with the line.
-pub record GoesOn {Origin P : Type 0} (line : List ℕ) (rows : PlaceTable (acts Origin) P) (first : Row (acts Origin) P) (old new : Devices Origin) (ending : Ending)
-    (session : Session rows (Do (Log line) (λ done. first)) old new ending) : Type 0 where
-  pub rest : Session rows first (with_line line old) new ending
+pub record GoesOn {Origin P : Type 0} {relays : Bool} (line : List ℕ) (rows : PlaceTable (acts Origin) P) (first : Row (acts Origin) P) (old new : Devices Origin) (ending : Ending)
+    (session : SessionAs relays rows (Do (Log line) (λ done. first)) old new ending) : Type 0 where
+  pub rest : SessionAs relays rows first (with_line line old) new ending
   pub deeds : deeds_of session.held ≡ line_logged line ∷ deeds_of rest.held
   pub more : List ℕ
   pub log : new.logs.given ≡ grown old.logs.given (line ++ more)
 
 -- a session before which a line is logged
-abbrev pub LogsFirst : {Origin P : Type 0} (line : List ℕ) (rows : PlaceTable (acts Origin) P) (first : Row (acts Origin) P) (old new : Devices Origin) (ending : Ending)
-    → Session rows (Do (Log line) (λ done. first)) old new ending → Type 0
+abbrev pub LogsFirst : {Origin P : Type 0} {relays : Bool} (line : List ℕ) (rows : PlaceTable (acts Origin) P) (first : Row (acts Origin) P) (old new : Devices Origin) (ending : Ending)
+    → SessionAs relays rows (Do (Log line) (λ done. first)) old new ending → Type 0
 LogsFirst line rows first old new ending session = LogFails line old new ending ⊎ GoesOn line rows first old new ending session
 
 -- The log was given the line, and nothing else; and the client was given the words, or a front of them where its sink

@@ -6,7 +6,8 @@ use Rattle.fw_outside.specs.declared.ask.Ask.TheVariants.{Main}
 use Rattle.fw_outside.specs.declared.ask.Ask as asks
 use Rattle.fw_types.specs.declared.dest.Dest.{Dest}
 use Rattle.session_acts.specs.Acts.{Act, Front, Outcome}
-use Rattle.session_acts.specs.Acts.Act.{Say, Try, Log, Note, Dial, Reach}
+use Rattle.session_acts.specs.Acts.Act.{Say, Try, Log, Note, Dial, Reach, Relay}
+use Rattle.session_acts.specs.Relaying.{flow_of, given_down}
 use Rattle.session_acts.specs.World.{Speaker, World}
 
 -- ---- what the client and the log are given
@@ -20,10 +21,11 @@ abbrev pub got_trying : {text : List ℕ} {Never : Type 0} → Result (Result (U
 got_trying (Ok tried) = got tried
 got_trying (Err never) = []
 
--- what the client is told: what is said and what is tried
+-- what the client is told: what is said, what is tried, and what a relay carries to it
 abbrev pub told : (act : Act) → Outcome act → List ℕ
 told (Say text) outcome = got outcome
 told (Try text) outcome = got_trying outcome
+told Relay outcome = given_down (flow_of outcome)
 told act outcome = []
 
 -- what the log is given: what is logged and what is noted

@@ -13,6 +13,10 @@ pub mod Laws
 pub mod Link
 pub mod Met
 pub mod Passing
+pub mod Relayed
+pub mod Relaying
+pub mod RelayLast
+pub mod Finishing
 pub mod Session
 pub mod Talk
 pub mod World

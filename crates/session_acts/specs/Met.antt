@@ -1,5 +1,5 @@
 -- What an act, with its outcome, does to each part of what the session meets.
-use Rattle.std.specs.Prelude.{◌≡◌, ℕ, ◌-◌, ◌^◌, ◌≤◌, Bool, true, false, List, length, Option, Some, None, Result, Ok, Err, unwrap_or}
+use Rattle.std.specs.Prelude.{◌≡◌, ℕ, ◌-◌, ◌^◌, ◌≤◌, Bool, true, false, List, [], length, Option, Some, None, Result, Ok, Err, unwrap_or}
 use Rattle.auth_events.specs.Port.{Asks, Port}
 use Rattle.auth_events.specs.declared.port.PortFault.{PortFault}
 use Rattle.auth_events.specs.declared.reply.Reply.{Reply}
@@ -21,10 +21,12 @@ use Rattle.fw_outside.specs.declared.heard.Heard.TheVariants.{Line, TooLong, Sto
 use Rattle.fw_outside.specs.declared.heard.Stop.{Stop}
 use Rattle.fw_outside.specs.declared.heard.Stop.TheVariants as stops
 use Rattle.fw_types.specs.declared.dest.Dest.{Dest}
+use Rattle.relay_ways.specs.Carried.{Drains, Supplies, Way}
 use Rattle.session_acts.specs.Acts.{Act, Answer, Front, Halt, Outcome, cause_by}
-use Rattle.session_acts.specs.Acts.Act.{Hear, Say, Try, Log, Note, Ask, Renew, Dial, Reach, Take, Pass, HangUp}
+use Rattle.session_acts.specs.Acts.Act.{Hear, Say, Try, Log, Note, Ask, Renew, Dial, Reach, Take, Pass, HangUp, Relay}
 use Rattle.session_acts.specs.Forms.{ListensIn}
-use Rattle.session_acts.specs.World.{Office, Server, Speaker, World, unheard}
+use Rattle.session_acts.specs.Relaying.{Flow, Through, flow_of}
+use Rattle.session_acts.specs.World.{Names, Office, Server, Speaker, World, unheard}
 use Rattle.session_acts.specs.declared.cause.Cause.{Cause}
 use Rattle.session_acts.specs.declared.form.Form.{Form}
 use Rattle.session_acts.specs.declared.form.Form.TheVariants.{Lines}
@@ -85,12 +87,27 @@ abbrev pub IsTriedTold : (text : List ℕ) → Result (Result (Unit {0}) (Front 
 IsTriedTold text (Ok tried) old new = IsTold text tried old new
 IsTriedTold text (Err never) old new = ⊥
 
+-- What was taken of a speaker went one way, and what went the other way was given to it. The first begins with what was
+-- taken ahead and not heard, of which nothing is pending then.
+pub record Carrying (off on : Way) (old new : Speaker) : Type 0 where
+  pub inlet : SourceView
+  pub outlet : SinkView
+  pub room : ℕ
+  pub drains : Drains off old.reader.pending old.reader.room room old.inlet inlet
+  pub supplies : Supplies on old.outlet outlet
+  pub is : new ≡ record { inlet = inlet; reader = record { pending = []; room = room }; outlet = outlet }
+
 -- ---- the client and the log
+
+abbrev pub ClientRelays : Option Flow → Speaker → Speaker → Type 0
+ClientRelays None old new = new ≡ old
+ClientRelays (Some flow) old new = Carrying flow.up flow.down old new
 
 abbrev pub AtClient : (act : Act) → Outcome act → Speaker → Speaker → Type 0
 AtClient (Hear form) outcome old new = Hears form outcome old new
 AtClient (Say text) outcome old new = IsTold text outcome old new
 AtClient (Try text) outcome old new = IsTriedTold text outcome old new
+AtClient Relay outcome old new = ClientRelays (flow_of outcome) old new
 AtClient act outcome old new = new ≡ old
 
 abbrev pub AtLogs : (act : Act) → Outcome act → SinkView → SinkView → Type 0
@@ -220,15 +237,33 @@ abbrev pub HangsUpServer : Result (Unit {0}) ⊥ → Server → Server → Type 
 HangsUpServer (Ok done) old new = Hanging old new
 HangsUpServer (Err never) old new = ⊥
 
+-- the other end of the link
+pub record ServerCarries (flow : Flow) (link : Speaker) (old new : Server) : Type 0 where
+  pub speaker : Speaker
+  pub carries : Carrying flow.down flow.up link speaker
+  pub is : new ≡ record old { link = Some speaker }
+
+-- there is a flow exactly where a link is up
+abbrev pub ServerRelays : Option Flow → Option Speaker → Server → Server → Type 0
+ServerRelays None None old new = new ≡ old
+ServerRelays (Some flow) (Some link) old new = ServerCarries flow link old new
+ServerRelays _ _ old new = ⊥
+
 abbrev pub AtServer : (act : Act) → Outcome act → Server → Server → Type 0
 AtServer (Dial dest) outcome old new = Dials dest outcome old new
 AtServer (Reach dest) outcome old new = Reaches dest outcome old new
 AtServer Take outcome old new = Takes outcome old.link old new
 AtServer (Pass text) outcome old new = Passes text outcome old.link old new
 AtServer HangUp outcome old new = HangsUpServer outcome old new
+AtServer Relay outcome old new = ServerRelays (flow_of outcome) old.link old new
 AtServer act outcome old new = new ≡ old
 
 -- ---- all parts
+
+-- only a session that is lent threads relays
+abbrev pub May : Act → Names → Type 0
+May Relay names = names.relays ≡ true
+May act names = Unit {0}
 
 -- the act came out so
 pub record Met {Origin : Type 0} (act : Act) (outcome : Outcome act) (old new : World Origin) : Type 0 where
@@ -237,6 +272,7 @@ pub record Met {Origin : Type 0} (act : Act) (outcome : Outcome act) (old new : 
   pub office : AtOffice act outcome old.office new.office
   pub server : AtServer act outcome old.server new.server
   pub names : new.names ≡ old.names
+  pub may : May act old.names
 
 -- the session stopped at the act, for this cause
 pub record Stops {Origin : Type 0} (act : Act) (cause : Cause) (old new : World Origin) : Type 0 where
@@ -264,3 +300,12 @@ pub record Tried {Origin : Type 0} (text : List ℕ) (old new : World Origin) : 
 pub record Jotted {Origin : Type 0} (text : List ℕ) (old new : World Origin) : Type 0 where
   pub tried : Result (Unit {0}) (Front text)
   pub met : Met (Note text) (Ok tried) old new
+
+-- a relay was done, whatever it carried, or the session stopped at it
+pub record RelayDone {Origin : Type 0} (old new : World Origin) : Type 0 where
+  pub through : Option Through
+  pub met : Met Relay (Ok through) old new
+
+abbrev pub Relays : {Origin : Type 0} → Result (Unit {0}) Cause → World Origin → World Origin → Type 0
+Relays (Ok done) old new = RelayDone old new
+Relays (Err cause) old new = Stops Relay cause old new

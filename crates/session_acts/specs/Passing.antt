@@ -1,10 +1,11 @@
--- What servers were given: what was passed over each link, from where it came up to where it was hung up.
+-- What servers were given: what was passed and relayed over each link, from where it came up to where it was hung up.
 use Rattle.std.specs.Prelude.{◌≡◌, ℕ, Bool, true, false, List, [], ◌∷◌, ◌++◌, Option, Some, None, Result, Ok, Err}
 use Rattle.fw_outside.specs.DialerView.{LinkView}
 use Rattle.session_acts.specs.Acts.{Act, Outcome}
-use Rattle.session_acts.specs.Acts.Act.{Dial, HangUp, Pass, Reach}
+use Rattle.session_acts.specs.Acts.Act.{Dial, HangUp, Pass, Reach, Relay}
 use Rattle.session_acts.specs.Deeds.{Deed}
 use Rattle.session_acts.specs.Laws.{Adds, got}
+use Rattle.session_acts.specs.Relaying.{flow_of, given_up}
 use Rattle.session_acts.specs.World.{World}
 
 -- what was passed over the link that is up, if one is, with these bytes more
@@ -28,6 +29,7 @@ up_after (Dial dest) outcome up = up_if_dialed outcome
 up_after (Reach dest) outcome up = up_if_reached outcome
 up_after HangUp outcome up = None
 up_after (Pass text) outcome up = up_with up (got outcome)
+up_after Relay outcome up = up_with up (given_up (flow_of outcome))
 up_after act outcome up = up
 
 -- a link that was up is hung up

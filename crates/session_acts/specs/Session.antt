@@ -1,5 +1,5 @@
 -- A whole session: its dialogue, what is owed after it, and how it ends.
-use Rattle.std.specs.Prelude.{◌≡◌, ℕ, List, [], ◌∷◌, ◌++◌, Option, Some, None, Result, Ok, Err}
+use Rattle.std.specs.Prelude.{◌≡◌, ℕ, Bool, true, false, List, [], ◌∷◌, ◌++◌, Option, Some, None, Result, Ok, Err}
 use Rattle.auth_events.specs.declared.port.PortFault.{PortFault}
 use Rattle.auth_events.specs.declared.reply.Reply.{Reply}
 use Rattle.auth_events.specs.declared.request.Request.TheVariants as requests
@@ -12,7 +12,7 @@ use Rattle.session_acts.specs.Acts.{fault_cause}
 use Rattle.session_acts.specs.Acts.Act.{Ask, HangUp}
 use Rattle.session_acts.specs.Deeds.{Deed, DeedsAll, deeds_ran}
 use Rattle.session_acts.specs.Met.{acts}
-use Rattle.session_acts.specs.World.{Devices, Speaker, World, at_first, devices_of}
+use Rattle.session_acts.specs.World.{Devices, Names, Speaker, World, at_first, devices_of}
 use Rattle.session_acts.specs.declared.cause.Cause.{Cause}
 use Rattle.session_acts.specs.declared.cause.Cause.TheVariants as causes
 
@@ -74,9 +74,17 @@ pub record Held {Origin P : Type 0} (rows : PlaceTable (acts Origin) P) (first :
 abbrev pub deeds_of : {Origin P : Type 0} {rows : PlaceTable (acts Origin) P} {first : Row (acts Origin) P} {old new : World Origin} {ending : Ending} → Held rows first old new ending → List Deed
 deeds_of held = deeds_ran held.ran ++ owed held.mid held.answer
 
--- a session over these devices, which leaves them so
-pub record Session {Origin P : Type 0} (rows : PlaceTable (acts Origin) P) (first : Row (acts Origin) P) (old new : Devices Origin) (ending : Ending) : Type 0 where
-  pub names : List ℕ
+-- a session over these devices, lent threads or not, which leaves them so
+pub record SessionAs {Origin P : Type 0} (relays : Bool) (rows : PlaceTable (acts Origin) P) (first : Row (acts Origin) P) (old new : Devices Origin) (ending : Ending) : Type 0 where
+  pub names : Names
+  pub lent : names.relays ≡ relays
   pub last : World Origin
   pub held : Held rows first (at_first old names) last ending
   pub leaves : devices_of last ≡ new
+
+-- one without a relay, and one that may end with a relay
+abbrev pub Session : {Origin P : Type 0} → PlaceTable (acts Origin) P → Row (acts Origin) P → Devices Origin → Devices Origin → Ending → Type 0
+Session rows first old new ending = SessionAs false rows first old new ending
+
+abbrev pub RelaySession : {Origin P : Type 0} → PlaceTable (acts Origin) P → Row (acts Origin) P → Devices Origin → Devices Origin → Ending → Type 0
+RelaySession rows first old new ending = SessionAs true rows first old new ending

@@ -1,5 +1,5 @@
 -- What a session meets, in four parts: the client, the log, the office where it asks, and the server.
-use Rattle.std.specs.Prelude.{ℕ, ◌^◌, List, [], Option, None}
+use Rattle.std.specs.Prelude.{ℕ, ◌^◌, Bool, List, [], Option, None}
 use Rattle.auth_events.specs.Port.{Port}
 use Rattle.fw_outside.specs.ClockView.{ClockView}
 use Rattle.fw_outside.specs.DialerView.{DialerView}
@@ -28,13 +28,17 @@ pub record Server : Type 0 where
   pub dialer : DialerView
   pub link : Option Speaker
 
--- with the names of the references to the devices, which stay
+-- what stays: the names of the references to the devices, and whether the session is lent threads, so that it may relay
+pub record Names : Type 0 where
+  pub devices : List ℕ
+  pub relays : Bool
+
 pub record World (Origin : Type 0) : Type 0 where
   pub client : Speaker
   pub logs : SinkView
   pub office : Office Origin
   pub server : Server
-  pub names : List ℕ
+  pub names : Names
 
 -- no more bytes than these are taken from a client, or from a server over one link
 abbrev pub most_taken : ℕ
@@ -59,7 +63,7 @@ abbrev pub devices_with : {Origin : Type 0} → Port Origin → SourceView → S
 devices_with port inlet outlet logs dialer clock dice = record { inlet = inlet; outlet = outlet; logs = logs; port = port; clock = clock; dice = dice; dialer = dialer }
 
 -- at first nothing was heard, no session is open and no link is up
-abbrev pub at_first : {Origin : Type 0} → Devices Origin → List ℕ → World Origin
+abbrev pub at_first : {Origin : Type 0} → Devices Origin → Names → World Origin
 at_first devices names = record {
   client = record { inlet = devices.inlet; reader = unheard; outlet = devices.outlet };
   logs = devices.logs;

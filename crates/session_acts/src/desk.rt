@@ -41,6 +41,7 @@ pub(crate) struct Desk<
     pub(crate) dice: &'r mut R,
     pub(crate) reader: LineReader,
     pub(crate) opened: Option<u64>,
+    pub(crate) relays: bool,
 }
 
 fn fault_cause(fault: PortFault) -> Cause
@@ -117,7 +118,7 @@ where
       logs = G.sink_view d.logs.now;
       office = record { port = P.port d.port.now; clock = C.clock_view d.clock.now; dice = R.dice_view d.dice.now; opened = d.opened };
       server = record { dialer = D.dialer_view d.dialer.now; link = link_view D.In.source_view D.Out.sink_view d.link.now };
-      names = d.port.ghost_name ∷ d.from.ghost_name ∷ d.to.ghost_name ∷ d.logs.ghost_name ∷ d.dialer.ghost_name ∷ d.link.ghost_name ∷ d.clock.ghost_name ∷ d.dice.ghost_name ∷ [];
+      names = record { devices = d.port.ghost_name ∷ d.from.ghost_name ∷ d.to.ghost_name ∷ d.logs.ghost_name ∷ d.dialer.ghost_name ∷ d.link.ghost_name ∷ d.clock.ghost_name ∷ d.dice.ghost_name ∷ []; relays = d.relays };
     } };
 
     fn is_open(&self) -> bool {

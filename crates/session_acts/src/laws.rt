@@ -1,5 +1,5 @@
 //! What holds of every session, whatever its script.
-ghost use Rattle.std.specs.Prelude.{◌≡◌, ◌≢◌, ◌||◌, ℕ, Bool, List, [], true, None, Err, filter, length, map};
+ghost use Rattle.std.specs.Prelude.{◌≡◌, ◌≢◌, ◌||◌, ◌⊎◌, ℕ, Bool, List, [], true, None, Some, Ok, Err, filter, length, map};
 ghost use Rattle.std.specs.List.{AllByRecursion, list_any};
 ghost use Rattle.auth_events.specs.Port.{places};
 ghost use Rattle.auth_events.specs.declared.reply.Reply.{Reply};
@@ -8,7 +8,8 @@ ghost use Rattle.fw_acts.specs.Acts.{Row, PlaceTable};
 ghost use Rattle.fw_acts.specs.Acts.Row.{Do};
 ghost use Rattle.fw_types.specs.declared.ending.Ending.{Ending};
 ghost use Rattle.fw_types.specs.declared.ending.Ending.TheVariants.{NoMemory};
-ghost use Rattle.session_acts.specs.Acts.Act.{Ask, Log};
+ghost use Rattle.session_acts.specs.Acts.Act.{Ask, Log, Relay};
+ghost use Rattle.session_acts.specs.Causes.{is_spent_or};
 ghost use Rattle.session_acts.specs.Client.{Denies, LogsFirst};
 ghost use Rattle.session_acts.specs.Course.{AreOfOne, Course, CourseState, KeepsCourse};
 ghost use Rattle.session_acts.specs.Deeds.{gives};
@@ -17,12 +18,15 @@ ghost use Rattle.session_acts.specs.FullPort.{RefusesOn};
 ghost use Rattle.session_acts.specs.Hearing.{TakesHeard, heard_in};
 ghost use Rattle.session_acts.specs.LastStop.{StopsLast, one_lacked_memory};
 ghost use Rattle.session_acts.specs.Laws.{CallsDialer, CountsRefusals, LinksDialer, TellsClient, TellsLog, called, linked, logged, refused, told};
-ghost use Rattle.session_acts.specs.Met.{acts};
+ghost use Rattle.session_acts.specs.Met.{Met, acts};
 ghost use Rattle.session_acts.specs.Passing.{GivesServers, passed_over};
+ghost use Rattle.session_acts.specs.RelayLast.{IsThrough, RelaysLast, StopsBefore};
+ghost use Rattle.session_acts.specs.Relayed.{relayed, then_relay};
+ghost use Rattle.session_acts.specs.Relaying.{Through};
 ghost use Rattle.session_acts.specs.Serverless.{CausedAlone, KeepsServerless, TakesExactly};
-ghost use Rattle.session_acts.specs.Session.{Held, Session, deeds_of};
+ghost use Rattle.session_acts.specs.Session.{Held, Session, SessionAs, deeds_of};
 ghost use Rattle.session_acts.specs.Talk.{CountsAsks, Entered, ThrowsSalts, answered, asked, is_entered, is_refused_as_full, said_of, thrown};
-ghost use Rattle.session_acts.specs.World.{Devices, World};
+ghost use Rattle.session_acts.specs.World.{Devices, Speaker, World, most_taken};
 ghost use Rattle.session_acts.specs.declared.cause.Cause.{Cause};
 
 /// What a client was given by a session is what its deeds say and try to say, one after another: of a text at which the
@@ -173,8 +177,9 @@ pub fn a_stop_is_last<Origin, P>()
 /// that is denied is given the words, or a front of them, where the log has the whole line, and nothing else is done
 /// (`denied`).
 pub fn a_line_is_logged_first<Origin, P>()
-    ensures first { (line : List ℕ) (rows : PlaceTable (acts Origin) P) (first : Row (acts Origin) P)
-        (old new : Devices Origin) (ending : Ending) (session : Session rows (Do (Log line) (λ done. first)) old new ending) →
+    ensures first { (relays : Bool) (line : List ℕ) (rows : PlaceTable (acts Origin) P) (first : Row (acts Origin) P)
+        (old new : Devices Origin) (ending : Ending)
+        (session : SessionAs relays rows (Do (Log line) (λ done. first)) old new ending) →
         LogsFirst line rows first old new ending session }
     ensures denied { (line words : List ℕ) (old new : Devices Origin) (ending : Ending) →
         Session no_rows (denying_row line words) old new ending → Denies line words old new ending }
@@ -191,4 +196,31 @@ pub fn the_memory_was_lacking<Origin, P>()
 pub fn the_refusals_are_counted<Origin, P>()
     ensures { (rows : PlaceTable (acts Origin) P) (first : Row (acts Origin) P) (old new : World Origin) (ending : Ending)
         (held : Held rows first old new ending) → CountsRefusals (gives refused (deeds_of held)) old new }
+{}
+
+/// A session with a relay at the end of its dialogue: either the dialogue stopped, and there was no relay; or it came to its
+/// end, and then there was one relay, and nothing after it but what was owed. The session stops at the relay unless both ways
+/// are done (`last`). Then nothing is left of what the client says, all that was taken of it since the last line was given to
+/// the server, and the client was told that no more comes (`through`). So what the server was given of the client begins
+/// behind the last line, and each byte of it is given once (`the_client_is_heard`, `the_servers_are_given`).
+pub fn the_relay_is_last<Origin, P>()
+    ensures last { (rows : PlaceTable (acts Origin) P) (first : Row (acts Origin) P) (old new : World Origin) (ending : Ending)
+        (held : Held (relayed rows) (then_relay first) old new ending) → StopsBefore rows first held ⊎ RelaysLast rows first held }
+    ensures through { (through : Through) (old new : World Origin) → Met Relay (Ok (Some through)) old new →
+        IsThrough through.flow.up through.flow.down old.client new.client }
+{}
+
+/// A session with a relay keeps the course of requests if its rows do.
+pub fn a_relay_keeps_the_course<Origin, P>()
+    ensures { (console : Bool) (may_be : P → CourseState → Bool) (rows : PlaceTable (acts Origin) P)
+        (first : Row (acts Origin) P) → KeepsCourse console may_be rows first →
+        KeepsCourse console may_be (relayed rows) (then_relay first) }
+{}
+
+/// If of the link that was up behind a dialogue, or its relay, as many bytes were taken as may be, 2^40, the session ends as
+/// spent; or, if it may relay, by a failure or by idleness, which come before that.
+pub fn a_used_up_link_ends_it<Origin, P>()
+    ensures { (relays : Bool) (rows : PlaceTable (acts Origin) P) (first : Row (acts Origin) P) (old new : Devices Origin)
+        (ending : Ending) (session : SessionAs relays rows first old new ending) (link : Speaker) →
+        session.held.mid.server.link ≡ Some link → link.inlet.amount ≡ most_taken → is_spent_or relays ending ≡ true }
 {}

@@ -1,10 +1,11 @@
 //! A session from its first row to its ending.
-ghost use Rattle.std.specs.Prelude.{◌≡◌, [], None};
+ghost use Rattle.std.specs.Prelude.{◌≡◌, [], false, None};
 ghost use Rattle.fw_acts.specs.Acts.Row.{Over};
 ghost use Rattle.fw_acts.specs.Ran.{Ran};
 ghost use Rattle.session_acts.specs.Causes.{Caused, SessionKeeps, TakesFor, WaitsFor};
 ghost use Rattle.session_acts.specs.Closing.{Closing, ending_told};
 ghost use Rattle.session_acts.specs.Deeds.{DeedsAll};
+ghost use Rattle.session_acts.specs.Finishing.{Finishing};
 ghost use Rattle.session_acts.specs.Session.{Held, Session, ending_by, freeing};
 ghost use Rattle.session_acts.specs.World.{devices_with, unheard};
 
@@ -16,7 +17,7 @@ use fw_outside::{Clock, Dialer, Dice, LineReader, Sink, Source};
 use fw_types::Ending;
 
 // The dialogue, to its end or to the act at which it stopped.
-fn dialogue<T: Script, D: Stage>(script: &T, stage: &mut D) -> Result<(), Cause>
+fn turns<T: Script, D: Stage>(script: &T, stage: &mut D) -> Result<(), Cause>
     ensures { Ran (T.rows script.now D.Origin) (T.first script.now D.Origin) (λ done. Over)
         (D.world stage.old) (D.world stage.new) result }
 {
@@ -25,6 +26,15 @@ fn dialogue<T: Script, D: Stage>(script: &T, stage: &mut D) -> Result<(), Cause>
         next = script.turn(stage, place)?;
     }
     Ok(())
+}
+
+// So it is, and the references stay.
+pub(crate) fn dialogue<T: Script, D: Stage>(script: &T, stage: &mut D) -> Result<(), Cause>
+    ensures ran { Ran (T.rows script.now D.Origin) (T.first script.now D.Origin) (λ done. Over)
+        (D.world stage.old) (D.world stage.new) result }
+    ensures names { (D.world stage.new).names.devices ≡ (D.world stage.old).names.devices }
+{
+    turns(script, stage)
 }
 
 // Hangs up a link that is up.
@@ -77,16 +87,24 @@ fn ending_told(dialogue: Result<(), Cause>, closed: Result<(), Cause>) -> Ending
     }
 }
 
+// What is owed after a dialogue, with a relay behind it or not; and how the session ends.
+pub(crate) fn finish<D: Stage>(stage: &mut D, dialogue: Result<(), Cause>) -> Ending
+    ensures finishing { Finishing dialogue (D.world stage.old) (D.world stage.new) result }
+    ensures names { (D.world stage.new).names.devices ≡ (D.world stage.old).names.devices }
+{
+    free(stage);
+    let closed = close(stage);
+    ending_told(dialogue, closed)
+}
+
 // The session on a stage.
 fn held<T: Script, D: Stage>(script: &T, stage: &mut D) -> Ending
     ensures held { Held (T.rows script.now D.Origin) (T.first script.now D.Origin) (D.world stage.old)
         (D.world stage.new) result }
-    ensures names { (D.world stage.new).names ≡ (D.world stage.old).names }
+    ensures names { (D.world stage.new).names.devices ≡ (D.world stage.old).names.devices }
 {
     let dialogue = dialogue(script, stage);
-    free(stage);
-    let closed = close(stage);
-    ending_told(dialogue, closed)
+    finish(stage, dialogue)
 }
 
 // The session over these devices, before anything was heard, with no session open and no link up.
@@ -105,6 +123,7 @@ where
     T: Script,
     requires reader { desk.old.reader ≡ unheard }
     requires opened { desk.old.opened ≡ None }
+    requires alone { desk.old.relays ≡ false }
     requires link { desk.old.link.now ≡ None }
     ensures session { Session (T.rows script.now P.Origin) (T.first script.now P.Origin)
         (devices_with (P.port desk.old.port.now) (S.source_view desk.old.from.now) (K.sink_view desk.old.to.now)
@@ -187,6 +206,7 @@ where
         dice,
         reader: LineReader::new(MOST_TAKEN),
         opened: None,
+        relays: false,
     };
     session_at(script, &mut desk)
 }

@@ -1,2 +1,3 @@
 pub mod CourseLemmas
 mod RelayLemmas
+mod ThroughLemmas

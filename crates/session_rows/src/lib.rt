@@ -7,3 +7,8 @@ mod relay;
 #[cfg(test)]
 mod relay_tests;
 mod run;
+#[cfg(test)]
+mod scenes;
+mod through;
+#[cfg(test)]
+mod through_tests;

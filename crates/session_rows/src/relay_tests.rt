@@ -1,27 +1,8 @@
-use crate::run::{After, Scene, run};
+use crate::run::run;
+use crate::scenes::{check, scene};
 use fw_memory::Calls;
-use fw_types::{Ending, Octets};
-use std::process::Abort;
+use fw_types::Ending;
 use std::test::Fail;
-
-// A scene in which nothing fails.
-fn scene(rt: &impl AllocGlobal, client: &[u8], server: &[u8]) -> Result<Scene, Fail> {
-    Ok(Scene {
-        client: Octets::copy(rt.alloc(), client)?,
-        server: Octets::copy(rt.alloc(), server)?,
-        client_fails: Calls::none(),
-        log_fails: Calls::none(),
-        dial_fails: Calls::none(),
-        server_fails: Calls::none(),
-        server_idles: Calls::none(),
-    })
-}
-
-fn check(rt: &impl Abort, after: &After, ending: Ending, told: &[u8], passed: &[u8]) {
-    assert!(rt; after.ending == ending);
-    assert!(rt; after.told.bytes() == told);
-    assert!(rt; after.passed.bytes() == passed);
-}
 
 #[test]
 fn lines_are_passed_and_answers_told(rt: HostRuntime) -> Result<(), Fail> {

@@ -3,12 +3,14 @@ ghost use Rattle.std.specs.Prelude.{All, IfOk, [], None, false};
 ghost use Rattle.fw_memory.specs.MemDialerView.{IsNewLink};
 
 use crate::relay::Relay;
+use crate::through::PutThrough;
 use auth_events::{AuthPort, PortFault, Reply, Request};
 use fw_memory::{Calls, MemClock, MemDialer, MemDice, MemSink, MemSource};
 use fw_outside::{Dialer, Sink, Source};
 use fw_types::{Dest, Ending, Host, NoMemory, Octets};
-use session_acts::session_over;
+use session_acts::{relayed_over, session_over};
 use std::alloc::Global;
+use std::thread::Threads;
 
 /// A port whose link is down.
 #[derive(Drop)]
@@ -49,6 +51,7 @@ pub(crate) struct Scene {
     pub(crate) dial_fails: Calls,
     pub(crate) server_fails: Calls,
     pub(crate) server_idles: Calls,
+    pub(crate) server_room: usize,
 }
 
 /// How a run ended, and what each was given.
@@ -68,10 +71,11 @@ fn link(
     bytes: Octets,
     fails: Calls,
     idles: Calls,
+    room: usize,
 ) -> Result<(MemSource, MemSink), NoMemory>
     ensures { IfOk result IsNewLink }
 {
-    let to = MemSink::new(alloc, 1000, Calls::none())?;
+    let to = MemSink::new(alloc, room, Calls::none())?;
     Ok((MemSource::new(bytes, 7, fails, idles), to))
 }
 
@@ -102,7 +106,13 @@ struct Devices {
 }
 
 fn new_devices(alloc: Global, scene: Scene) -> Result<Devices, NoMemory> {
-    let link = link(alloc, scene.server, scene.server_fails, scene.server_idles)?;
+    let link = link(
+        alloc,
+        scene.server,
+        scene.server_fails,
+        scene.server_idles,
+        scene.server_room,
+    )?;
     Ok(Devices {
         from: MemSource::new(scene.client, 3, Calls::none(), Calls::none()),
         to: MemSink::new(alloc, 1000, scene.client_fails)?,
@@ -149,6 +159,47 @@ fn what_is_after(alloc: Global, devices: &Devices, ending: Ending) -> Result<Aft
 pub(crate) fn run(alloc: Global, scene: Scene) -> Result<After, NoMemory> {
     let mut devices = new_devices(alloc, scene)?;
     let ending = hold(
+        alloc,
+        &mut devices.from,
+        &mut devices.to,
+        &mut devices.logs,
+        &mut devices.dialer,
+    );
+    what_is_after(alloc, &devices, ending)
+}
+
+// Runs the session that puts its client through.
+fn put_through<H: Threads + Sync, S: Source + Send, K: Sink + Send, G: Sink, D: Dialer>(
+    rt: &H,
+    alloc: Global,
+    from: &mut S,
+    to: &mut K,
+    logs: &mut G,
+    dialer: &mut D,
+) -> Ending {
+    let through = PutThrough {
+        dest: Dest {
+            host: Host::Addr([10, 0, 0, 5]),
+            port: 7,
+        },
+    };
+    let mut port = Down { asks: 0, faults: 0 };
+    let mut clock = MemClock::new(Vec::new(alloc));
+    let mut dice = MemDice::new(0);
+    relayed_over(
+        rt, &through, &mut port, from, to, logs, dialer, &mut clock, &mut dice,
+    )
+}
+
+/// Runs the session that puts its client through, over the devices of a scene.
+pub(crate) fn run_through<H: Threads + Sync>(
+    rt: &H,
+    alloc: Global,
+    scene: Scene,
+) -> Result<After, NoMemory> {
+    let mut devices = new_devices(alloc, scene)?;
+    let ending = put_through(
+        rt,
         alloc,
         &mut devices.from,
         &mut devices.to,

@@ -1,10 +1,12 @@
 //! What a slot holds.
 
+use crate::SlotDisk;
 use crate::writing::{body_byte, body_len};
+use fw_real::{FileDisk, SlotFile};
 use fw_types::Message;
-use slot_bytes::{Slot, SlotFault, read_slot};
+use spool_slots::{Full, Opened, ReadBack, SlotWhy, open};
 use std::alloc::{AllocError, Global};
-use std::{fs, io};
+use std::io::{self, ErrorKind};
 
 // The number of the message, if it is one of ours and whole.
 fn number_of(message: &Message) -> Option<u64> {
@@ -36,21 +38,46 @@ fn tell_message(alloc: Global, slot: u32, message: &Message) -> Result<String, A
     }
 }
 
-fn path_of(alloc: Global, folder: &str, slot: u32) -> Result<String, AllocError> {
-    format!(in alloc; "{folder}/slot{slot}")
+// Reads the message, as whoever hands it on does.
+fn tell_full(alloc: Global, slot: u32, full: Full<SlotDisk>) -> Result<String, AllocError> {
+    let mut full = full;
+    match full.message(alloc) {
+        Ok(message) => tell_message(alloc, slot, &message),
+        Err(ReadBack::DiskFault) => line(alloc, slot, "unread"),
+        Err(ReadBack::NoMemory) => line(alloc, slot, "no memory"),
+    }
 }
 
-/// A line that tells what the file of this slot holds.
+// The disk of this slot, whose file isn't made.
+fn disk_of(rt: HostRuntime, folder: &str, slot: u32) -> io::Result<SlotDisk> {
+    match SlotFile::new(rt, folder.as_bytes(), slot) {
+        Ok(file) => Ok(FileDisk::new(file)),
+        Err(_) => Err(io::Error::from(ErrorKind::OutOfMemory)),
+    }
+}
+
+fn tell_opened(alloc: Global, slot: u32, opened: Opened<SlotDisk>) -> Result<String, AllocError> {
+    match opened {
+        Opened::Free(_free) => line(alloc, slot, "free"),
+        Opened::Full(full) => tell_full(alloc, slot, full),
+        Opened::Aside(_aside) => line(alloc, slot, "aside"),
+    }
+}
+
+fn tell_why(alloc: Global, slot: u32, why: SlotWhy) -> Result<String, AllocError> {
+    match why {
+        SlotWhy::BadSlot { at } => numbered(alloc, slot, "bad", at),
+        SlotWhy::DiskFault => line(alloc, slot, "fault"),
+        SlotWhy::NoMemory => line(alloc, slot, "no memory"),
+    }
+}
+
+/// A line that tells what this slot opens as, with the number of its message.
 pub fn tell_slot(rt: HostRuntime, folder: &str, slot: u32) -> io::Result<String> {
     let alloc = rt.alloc();
-    let path = path_of(alloc, folder, slot)?;
-    let bytes = fs::read(&rt, &path)?;
-    let told = match read_slot(alloc, &bytes) {
-        Ok(Slot::Free) => line(alloc, slot, "free"),
-        Ok(Slot::Whole(message)) => tell_message(alloc, slot, &message),
-        Ok(Slot::Aside(_message)) => line(alloc, slot, "aside"),
-        Err(SlotFault::Bad { at }) => numbered(alloc, slot, "bad", at as u64),
-        Err(SlotFault::NoMemory) => line(alloc, slot, "unread"),
+    let told = match open(alloc, slot, disk_of(rt, folder, slot)?) {
+        Ok(opened) => tell_opened(alloc, slot, opened),
+        Err((_broken, why)) => tell_why(alloc, slot, why),
     };
     Ok(told?)
 }

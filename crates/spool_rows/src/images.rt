@@ -5,8 +5,8 @@ use crate::marks::marked;
 use fw_memory::MemDisk;
 use fw_types::NoMemory;
 use row_lines::{Told, add_number, cut_word, numbers_of};
-use slot_bytes::Message;
-use spool_slots::{Broken, Full, Opened, ReadBack, SlotWhy, open};
+use slot_bytes::{Message, Slot, SlotFault, read_slot};
+use spool_slots::{Aside, Broken, Full, Opened, ReadBack, SlotWhy, open};
 use std::alloc::Global;
 
 // How many images open as what; a message other than the one that was written is told as bad.
@@ -18,30 +18,58 @@ struct Counts {
     bad: u64,
 }
 
-// Whether it is the message of the rows, with a body of this length.
-fn is_letter(message: &Message, length: u64) -> bool {
+// Whether it is the message of the rows, with this body.
+fn is_letter(message: &Message, body: &[u8]) -> bool {
     message.from.bytes() == b"a@b".as_slice()
         && message.rcpts.len() == 1
-        && message.body.bytes().len() as u64 == length
+        && message
+            .rcpts
+            .as_slice()
+            .iter()
+            .all(|rcpt| rcpt.bytes() == b"c@d".as_slice())
+        && message.body.bytes() == body
+}
+
+// Counts a message as what its slot opened as, or as bad.
+fn count_message(message: &Message, body: &[u8], right: &mut u64, bad: &mut u64) {
+    if is_letter(message, body) {
+        *right = right.saturating_add(1);
+    } else {
+        *bad = bad.saturating_add(1);
+    }
 }
 
 fn count_full(
     alloc: Global,
     full: Full<MemDisk>,
-    length: u64,
+    body: &[u8],
     counts: &mut Counts,
 ) -> Result<(), NoMemory> {
     let mut full = full;
     match full.message(alloc) {
-        Ok(message) => {
-            if is_letter(&message, length) {
-                counts.full = counts.full.saturating_add(1);
-            } else {
-                counts.bad = counts.bad.saturating_add(1);
-            }
-        }
+        Ok(message) => count_message(&message, body, &mut counts.full, &mut counts.bad),
         Err(ReadBack::DiskFault) => counts.bad = counts.bad.saturating_add(1),
         Err(ReadBack::NoMemory) => return Err(NoMemory),
+    }
+    Ok(())
+}
+
+// A slot that was set aside has no call that reads its message, but its bytes have.
+fn count_aside(
+    alloc: Global,
+    aside: Aside<MemDisk>,
+    body: &[u8],
+    counts: &mut Counts,
+) -> Result<(), NoMemory> {
+    let disk = aside.into_disk();
+    match read_slot(alloc, disk.bytes()) {
+        Ok(Slot::Aside(message)) => {
+            count_message(&message, body, &mut counts.aside, &mut counts.bad);
+        }
+        Ok(Slot::Free) => counts.bad = counts.bad.saturating_add(1),
+        Ok(Slot::Whole(_message)) => counts.bad = counts.bad.saturating_add(1),
+        Err(SlotFault::Bad { at: _ }) => counts.bad = counts.bad.saturating_add(1),
+        Err(SlotFault::NoMemory) => return Err(NoMemory),
     }
     Ok(())
 }
@@ -62,7 +90,7 @@ fn count_broken(
 fn count_opened(
     alloc: Global,
     opened: Opened<MemDisk>,
-    length: u64,
+    body: &[u8],
     counts: &mut Counts,
 ) -> Result<(), NoMemory> {
     match opened {
@@ -71,18 +99,14 @@ fn count_opened(
             counts.free = counts.free.saturating_add(1);
             Ok(())
         }
-        Opened::Full(full) => count_full(alloc, full, length, counts),
-        Opened::Aside(aside) => {
-            let _ = aside.into_disk();
-            counts.aside = counts.aside.saturating_add(1);
-            Ok(())
-        }
+        Opened::Full(full) => count_full(alloc, full, body, counts),
+        Opened::Aside(aside) => count_aside(alloc, aside, body, counts),
     }
 }
 
-fn count(alloc: Global, disk: MemDisk, length: u64, counts: &mut Counts) -> Result<(), NoMemory> {
+fn count(alloc: Global, disk: MemDisk, body: &[u8], counts: &mut Counts) -> Result<(), NoMemory> {
     match open(alloc, 7, disk) {
-        Ok(opened) => count_opened(alloc, opened, length, counts),
+        Ok(opened) => count_opened(alloc, opened, body, counts),
         Err((broken, why)) => count_broken(broken, why, counts),
     }
 }
@@ -102,27 +126,29 @@ const NONE: Counts = Counts {
 };
 
 /// `fill-crashes LENGTHS FIRST => FREE FULL ASIDE BAD`: how many of the images that the numbers 0 to 15 pick after
-/// `fill` open as what; full only where the message is the one that was written.
+/// `fill` open as what; full or aside only where the message is the one that was written.
 pub(crate) fn tell_fill_crashes(
     alloc: Global,
     asked: &[u8],
     out: &mut Told,
 ) -> Result<(), NoMemory> {
-    let mut length: u64 = 0;
+    let mut body = Vec::new(alloc);
     for piece in numbers_of(alloc, cut_word(asked).0)? {
-        length = length.saturating_add(piece);
+        for _ in 0..piece.min(8192) {
+            body.push(b'x')?;
+        }
     }
     let mut counts = NONE;
     for pick in 0..16 {
         let disk = filled(alloc, asked, true, &mut Told::new())?.crash(pick)?;
-        count(alloc, disk, length, &mut counts)?;
+        count(alloc, disk, &body, &mut counts)?;
     }
     tell_counts(counts, out);
     Ok(())
 }
 
 /// `set-aside-crashes DIGITS FIRST`, `release-crashes DIGITS FIRST => FREE FULL ASIDE BAD`: the same after `set-aside`
-/// and `release` of a slot whose body has 5 bytes.
+/// and `release` of a slot whose body is `abc`, CR, LF.
 pub(crate) fn tell_mark_crashes(
     alloc: Global,
     kind: &str,
@@ -132,7 +158,7 @@ pub(crate) fn tell_mark_crashes(
     let mut counts = NONE;
     for pick in 0..16 {
         let disk = marked(alloc, kind, asked, &mut Told::new())?.crash(pick)?;
-        count(alloc, disk, 5, &mut counts)?;
+        count(alloc, disk, b"abc\r\n", &mut counts)?;
     }
     tell_counts(counts, out);
     Ok(())

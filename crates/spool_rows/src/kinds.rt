@@ -5,6 +5,7 @@ use crate::formats::{tell_crashes, tell_format};
 use crate::images::{tell_fill_crashes, tell_mark_crashes};
 use crate::letters::{tell_abandon, tell_fill};
 use crate::marks::{tell_mark, tell_open};
+use crate::racks::tell_rack;
 use crate::slots::{base_of, tell_base, tell_head, tell_length, tell_slot};
 use fw_types::NoMemory;
 use row_lines::{Rows, Told, add};
@@ -49,6 +50,7 @@ impl Rows for Kinds {
             "set-aside" | "release" => tell_mark(alloc, kind, asked, out)?,
             "fill-crashes" => tell_fill_crashes(alloc, asked, out)?,
             "set-aside-crashes" => tell_mark_crashes(alloc, "set-aside", asked, out)?,
+            "rack" => tell_rack(alloc, asked, out)?,
             "release-crashes" => tell_mark_crashes(alloc, "release", asked, out)?,
             _ => add(out, b"no such kind"),
         }

@@ -8,6 +8,7 @@ mod images;
 mod kinds;
 mod letters;
 mod marks;
+mod racks;
 mod slots;
 
 use kinds::Kinds;

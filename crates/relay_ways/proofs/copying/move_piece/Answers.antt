@@ -1,14 +1,14 @@
-use Rattle.std.proofs.Common.{◌≤◌, refl, rules}
+use Rattle.std.proofs.Common.{◌≡◌, ◌+◌, ◌-◌, ◌≤◌, arith, refl, rules}
 use Rattle.std.proofs.lemmas.List.{take-append-le}
 use Rattle.relay_ways.proofs.WayLemmas.{copies_cut, copies_none, lost_end}
 use Rattle.relay_ways.proofs.copying.move_piece.Goals as goal
 
 pub returns-in-Err-give-clause-copies : goal.returns-in-Err-give-clause-copies
 returns-in-Err-give-clause-copies g c =
-    let fits : c.in-Ok-Bytes.count ≤ c.args.most = search rules in
+    let fits : c.in-Ok-Bytes.count ≤ c.args.left.now = search rules in
     let small : c.in-Ok-Bytes.count ≤ 4096 = search rules in
     let came = rw c.in-Ok-Bytes.field-0-is at c.in-Ok-Bytes.ensures in
-    copies_cut c.in-Ok-Bytes.count c.args.most c.take.new.buf _ (g.S.Source.source_view c.args.from.now) (g.S.Source.source_view c.take.new.self) (g.K.Sink.sink_view c.args.to.now) (g.K.Sink.sink_view c.give.new.self) fits small came c.in-Err-give.ensures (take-append-le _ _ _ came.fits)
+    copies_cut c.in-Ok-Bytes.count c.args.left.now (c.args.left.now - c.in-Ok-Bytes.count) c.take.new.buf _ (g.S.Source.source_view c.args.from.now) (g.S.Source.source_view c.take.new.self) (g.K.Sink.sink_view c.args.to.now) (g.K.Sink.sink_view c.give.new.self) (omega (arith, fits)) small came c.in-Err-give.ensures (take-append-le _ _ _ came.fits)
 
 pub returns-in-Ok-end-clause-copies : goal.returns-in-Ok-end-clause-copies
 returns-in-Ok-end-clause-copies g c =

@@ -1,4 +1,4 @@
-use Rattle.std.proofs.Common.{rules}
+use Rattle.std.proofs.Common.{false, rules}
 use Rattle.session_acts.proofs.CauseLemmas.{session_caused, session_keeps}
 use Rattle.session_acts.proofs.SpentLemmas.{session_spent}
 use Rattle.session_acts.proofs.WaitedLemmas.{session_waited}
@@ -10,12 +10,12 @@ returns-clause-keeps g c =
 
 pub returns-clause-caused : goal.returns-clause-caused
 returns-clause-caused g c =
-    session_caused {rows = g.T.Script.rows c.args.script.now g.row.P-Origin.Denot} {first = g.T.Script.first c.args.script.now g.row.P-Origin.Denot} {ending = c.session_at.result} (search rules)
+    session_caused {relays = false} {rows = g.T.Script.rows c.args.script.now g.row.P-Origin.Denot} {first = g.T.Script.first c.args.script.now g.row.P-Origin.Denot} {ending = c.session_at.result} (search rules)
 
 pub returns-clause-spent : goal.returns-clause-spent
 returns-clause-spent g c =
-    session_spent {rows = g.T.Script.rows c.args.script.now g.row.P-Origin.Denot} {first = g.T.Script.first c.args.script.now g.row.P-Origin.Denot} {ending = c.session_at.result} (search rules)
+    session_spent {relays = false} {rows = g.T.Script.rows c.args.script.now g.row.P-Origin.Denot} {first = g.T.Script.first c.args.script.now g.row.P-Origin.Denot} {ending = c.session_at.result} (search rules)
 
 pub returns-clause-waited : goal.returns-clause-waited
 returns-clause-waited g c =
-    session_waited {rows = g.T.Script.rows c.args.script.now g.row.P-Origin.Denot} {first = g.T.Script.first c.args.script.now g.row.P-Origin.Denot} {ending = c.session_at.result} (search rules)
+    session_waited {relays = false} {rows = g.T.Script.rows c.args.script.now g.row.P-Origin.Denot} {first = g.T.Script.first c.args.script.now g.row.P-Origin.Denot} {ending = c.session_at.result} (search rules)

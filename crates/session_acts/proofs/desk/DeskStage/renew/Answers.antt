@@ -8,6 +8,7 @@ returns-in-Ok g c = record {
   office = record { dice = g.R.Dice.dice_view c.salt-salt.new.self; gave_salt = c.salt-salt.ensures; asking = c.in-Ok.ensures (g.R.Dice.dice_view c.salt-salt.new.self) };
   server = refl;
   names = refl;
+  may = tt;
 }
 
 pub returns-in-Err : goal.returns-in-Err
@@ -20,5 +21,6 @@ returns-in-Err g c = record {
     office = record { dice = g.R.Dice.dice_view c.salt-salt.new.self; gave_salt = c.salt-salt.ensures; asking = c.in-Err.ensures (g.R.Dice.dice_view c.salt-salt.new.self) };
     server = refl;
     names = refl;
+    may = tt;
   };
 }

@@ -1,0 +1,42 @@
+//! The kinds of row.
+
+use crate::launching::tell_program;
+use crate::linking::{tell_host, tell_link};
+use fw_types::NoMemory;
+use real_links::can_be_looked_up;
+use row_lines::{Rows, Told, add};
+use std::alloc::Global;
+
+/// Knows the kinds of row.
+#[derive(Drop)]
+pub(crate) struct Kinds {
+    pub(crate) rt: HostRuntime,
+}
+
+/// `name TEXT => yes`, or `no`: whether it may be looked up.
+fn tell_name(asked: &[u8], out: &mut Told) {
+    if can_be_looked_up(asked) {
+        add(out, b"yes");
+    } else {
+        add(out, b"no");
+    }
+}
+
+impl Rows for Kinds {
+    fn tell(
+        &mut self,
+        alloc: Global,
+        kind: &str,
+        asked: &[u8],
+        out: &mut Told,
+    ) -> Result<(), NoMemory> {
+        match kind {
+            "program" => return tell_program(self.rt, alloc, asked, out),
+            "name" => tell_name(asked, out),
+            "host" => tell_host(self.rt, asked, out),
+            "link" => tell_link(self.rt, asked, out),
+            _ => add(out, b"no such kind"),
+        }
+        Ok(())
+    }
+}

@@ -1,0 +1,35 @@
+//! Rows of links over loopback sockets and of programs of the system: each row of `data/` says what is told of what is
+//! asked. `row_lines` says how a row is written.
+//!
+//! Behind the word `-relay` stand two ports of 127.0.0.1 and a number of seconds: then it makes a link to each, relays
+//! between them both ways, and prints how each way ended.
+#![tactic(auto)]
+
+mod kinds;
+mod launching;
+mod linking;
+mod relaying;
+
+use kinds::Kinds;
+use relaying::relay;
+use row_lines::compare;
+use std::process::ExitCode;
+use std::{env, io};
+
+fn main(rt: HostRuntime) -> io::Result<ExitCode> {
+    let mut args = env::args(&rt)?.skip(1);
+    if let (Some(word), Some(first), Some(second), Some(seconds)) = (
+        args.next(),
+        args.next(),
+        args.next(),
+        args.next(),
+    )
+        && word.as_str() == "-relay"
+    {
+        let ports = (first.as_str(), second.as_str());
+        let (up, down) = relay(&rt, rt, ports, seconds.as_str())?;
+        println!(&rt; "{up} {down}")?;
+        return Ok(ExitCode::from(0));
+    }
+    compare(rt, &mut Kinds { rt })
+}

@@ -1,0 +1,6 @@
+use Rattle.std.proofs.Common.{[], refl}
+use Rattle.real_links.proofs.link_sink.LinkSinkSink.give.Goals as goal
+
+pub returns-in-Err-clause-gives : goal.returns-in-Err-clause-gives
+returns-in-Err-clause-gives g c =
+    record { part = []; rest = c.args.piece.now; count = c.fail.new.self.faults; cut = refl; short = λ some. some; rose = c.fail.ensures.rose; is = refl }

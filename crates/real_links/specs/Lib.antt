@@ -1,0 +1,6 @@
+pub mod Commands
+pub mod Dialing
+pub mod Links
+pub mod Names
+pub mod NewLinks
+pub mod Programs

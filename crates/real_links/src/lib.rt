@@ -1,0 +1,32 @@
+//! Links to other hosts over TCP, and programs of the system.
+//!
+//! [`TcpDialer`] makes links, each a [`LinkSource`] and a [`LinkSink`] with a handle of its own of one socket, and
+//! [`Programs`] runs programs with the streams of this process. They are the dialer and the launcher of `fw_outside`
+//! over the real thing: none tells what it holds, and each counts its failures in counts of 64 bits that stand still at
+//! their last value.
+//!
+//! A [`LinkSink`] over [`StandardOutput`] is the sink to a client whom inetd or systemd handed over: its end is told too.
+//!
+//! A name is looked up only if no resolver can take it for an address ([`can_be_looked_up`]), and a program is run only
+//! if it is named by a path with a slash.
+#![tactic(auto)]
+
+mod address;
+mod command;
+mod dialer;
+mod link;
+mod link_sink;
+mod link_source;
+mod names;
+mod programs;
+mod ran;
+mod standard_output;
+mod wait;
+
+pub use address::Address;
+pub use dialer::TcpDialer;
+pub use link_sink::LinkSink;
+pub use link_source::LinkSource;
+pub use names::can_be_looked_up;
+pub use programs::Programs;
+pub use standard_output::StandardOutput;

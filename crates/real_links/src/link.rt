@@ -1,0 +1,56 @@
+ghost use Rattle.std.specs.Prelude.{◌≡◌, IfOk};
+ghost use Rattle.real_links.specs.NewLinks.{IsNewLink};
+
+use crate::wait::{set_wait, time_of};
+use crate::{Address, LinkSink, LinkSource};
+use std::io::{self, Read, Write};
+use std::net::{Ipv4Addr, Net, OpenStream, SocketAddr, SocketAddrV4, TcpStream};
+
+/// The two ends of a link.
+#[derive(Drop)]
+pub(crate) struct Link<S> {
+    pub(crate) from: LinkSource<S>,
+    pub(crate) to: LinkSink<S>,
+}
+
+// A socket that was connected, and to where.
+#[derive(Drop)]
+struct Connected<S> {
+    socket: S,
+    to: Address,
+}
+
+// Connects to an address of IPv4, within so many seconds. That this leads to the host there is the system's word.
+fn connect<R: Net>(net: &R, to: Address, seconds: u32) -> io::Result<Connected<R::Stream>>
+    ensures { IfOk result (λ connected. connected.to ≡ to) }
+{
+    let at = SocketAddrV4::new(Ipv4Addr::from_octets(to.host), to.port);
+    let socket = TcpStream::connect_timeout(net, &SocketAddr::V4(at), time_of(seconds))?;
+    Ok(Connected { socket, to })
+}
+
+// The two ends of a link over the socket, each with a handle of its own, which wait so many seconds.
+fn link_over<S: Read + Write + OpenStream + Drop>(
+    connected: Connected<S>,
+    seconds: u32,
+) -> io::Result<Link<S>>
+    ensures to { IfOk result (λ link. link.from.to ≡ connected.to) }
+    ensures new { IfOk result (IsNewLink seconds) }
+{
+    let Connected { socket, to } = connected;
+    set_wait(&socket, seconds)?;
+    let _ = socket.set_nodelay(true);
+    let other = socket.try_clone()?;
+    Ok(Link {
+        from: LinkSource::new(socket, to, seconds),
+        to: LinkSink::new(other),
+    })
+}
+
+/// A link to this address, which waits so many seconds, as long as it may take to come up.
+pub(crate) fn open<R: Net>(net: &R, to: Address, seconds: u32) -> io::Result<Link<R::Stream>>
+    ensures to { IfOk result (λ link. link.from.to ≡ to) }
+    ensures new { IfOk result (IsNewLink seconds) }
+{
+    link_over(connect(net, to, seconds)?, seconds)
+}

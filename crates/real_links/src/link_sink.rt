@@ -1,0 +1,64 @@
+ghost use Rattle.std.specs.Prelude.{◌≡◌};
+ghost use Rattle.fw_outside.specs.Counts.{Rose, counted};
+ghost use Rattle.fw_outside.specs.SinkView.{Gives, TellsEnd};
+ghost use Rattle.real_links.specs.Links.{Writes, untold_sink};
+
+use fw_outside::{Failed, Sink};
+use std::io::Write;
+use std::net::{OpenStream, Shutdown};
+
+/// What goes over a link. A write that a signal interrupts goes on; one whose reader doesn't read fails after the time
+/// for which the link waits. Its end is told to the other side, which can go on giving.
+#[derive(Drop)]
+pub struct LinkSink<S> {
+    socket: S,
+    faults: u64,
+}
+
+impl<S> LinkSink<S> {
+    /// What goes over a socket. Nothing is counted yet.
+    pub fn new(socket: S) -> LinkSink<S>
+        ensures { result.faults ≡ 0 }
+    {
+        LinkSink { socket, faults: 0 }
+    }
+
+    /// How many writes failed.
+    pub fn faults(&self) -> u64
+        ensures { result ≡ self.now.faults }
+    {
+        self.faults
+    }
+
+    fn fail(&mut self) -> Failed
+        ensures rose { Rose self.old.faults self.new.faults }
+        ensures is { self.new ≡ record self.old { faults = counted self.old.faults } }
+    {
+        self.faults = self.faults.saturating_add(1);
+        Failed
+    }
+}
+
+impl<S: Write + OpenStream + Drop> Sink for LinkSink<S> {
+    ghost sink_view = { λ s. untold_sink s.faults };
+
+    fn give(&mut self, piece: &[u8]) -> Result<(), Failed>
+        ensures gives { Gives result piece.now (untold_sink self.old.faults) (untold_sink self.new.faults) }
+        ensures bytes { Writes result piece.now (S.contents self.old.socket) (S.contents self.new.socket) }
+    {
+        match self.socket.write_all(piece) {
+            Ok(()) => Ok(()),
+            Err(_) => Err(self.fail()),
+        }
+    }
+
+    fn end(&mut self) -> Result<(), Failed>
+        ensures ends { TellsEnd result (untold_sink self.old.faults) (untold_sink self.new.faults) }
+        ensures socket { self.new.socket ≡ self.old.socket }
+    {
+        match self.socket.shutdown(Shutdown::Write) {
+            Ok(()) => Ok(()),
+            Err(_) => Err(self.fail()),
+        }
+    }
+}

@@ -1,0 +1,21 @@
+//! How long a socket waits.
+
+use std::io;
+use std::net::OpenStream;
+use std::time::Duration;
+
+/// So many seconds, or the shortest time that a socket can wait.
+pub(crate) fn time_of(seconds: u32) -> Duration {
+    if seconds == 0 {
+        Duration::from_micros(1)
+    } else {
+        Duration::from_secs(u64::from(seconds))
+    }
+}
+
+/// Sets how many seconds a read and a write of the socket wait at most. All its handles wait so.
+pub(crate) fn set_wait<S: OpenStream>(socket: &S, seconds: u32) -> io::Result<()> {
+    let time = Some(time_of(seconds));
+    socket.set_read_timeout(time)?;
+    socket.set_write_timeout(time)
+}

@@ -1,0 +1,269 @@
+//! What is told of racks of slots on disks in memory.
+ghost use Rattle.std.specs.Prelude.{◌≡◌, ◌∷◌, [], codes, false, IfOk, IfSome};
+ghost use Rattle.spool_rack.specs.Store.{MayPutBroken};
+ghost use Rattle.spool_rows.specs.Out.{IsLentFree, IsLentFull};
+
+use crate::disks::bytes_of;
+use fw_memory::{Calls, MemDisk};
+use fw_types::{NoMemory, Octets, OctetsList};
+use row_lines::{Told, add_number, add_word, cut, cut_word, number_of};
+use slot_bytes::{Slot, SlotFault, read_slot};
+use spool_rack::{Broken, Filling, Free, Full, Rack, RackFault, SlotWhy, StartFault};
+use std::alloc::Global;
+
+type MemRack = Rack<MemDisk>;
+
+// The bytes of a slot: `f` a free one, `w` with the message from a@b to c@d, `a` with it set aside, or digits.
+fn slot_of(alloc: Global, word: &[u8]) -> Result<Vec<u8>, NoMemory> {
+    match word {
+        b"f" => bytes_of(alloc, b"0000"),
+        b"w" => bytes_of(
+            alloc,
+            b"01004657533100000000000000050001000361406200036340646162630d0a",
+        ),
+        b"a" => bytes_of(
+            alloc,
+            b"01014657533100000000000000050001000361406200036340646162630d0a",
+        ),
+        digits => bytes_of(alloc, digits),
+    }
+}
+
+// The disk of a slot, and behind `!` the first call of it that fails.
+fn disk_of(alloc: Global, word: &[u8]) -> Result<MemDisk, NoMemory> {
+    let (slot, first) = cut(word, b'!');
+    let fails = match first {
+        [] => Calls::none(),
+        _ => Calls::onward(number_of(first)),
+    };
+    Ok(MemDisk::new(alloc, Octets::of(slot_of(alloc, slot)?), fails))
+}
+
+fn disks_of(alloc: Global, words: &[u8]) -> Result<Vec<MemDisk>, NoMemory> {
+    let mut disks = Vec::new(alloc);
+    if !words.is_empty() {
+        for word in words.split(|byte| *byte == b',') {
+            disks.push(disk_of(alloc, word)?)?;
+        }
+    }
+    Ok(disks)
+}
+
+// A letter for what a disk's bytes are read as.
+fn letter_of(alloc: Global, disk: &MemDisk) -> Result<&'static [u8], NoMemory> {
+    match read_slot(alloc, disk.bytes()) {
+        Ok(Slot::Free) => Ok(b"f"),
+        Ok(Slot::Whole(_)) => Ok(b"w"),
+        Ok(Slot::Aside(_)) => Ok(b"a"),
+        Err(SlotFault::Bad { at: _ }) => Ok(b"b"),
+        Err(SlotFault::NoMemory) => Err(NoMemory),
+    }
+}
+
+fn tell_disks(alloc: Global, disks: &[MemDisk], out: &mut Told) -> Result<(), NoMemory> {
+    for disk in disks {
+        add_word(out, letter_of(alloc, disk)?);
+    }
+    Ok(())
+}
+
+fn tell_number(what: &[u8], number: u32, out: &mut Told) {
+    add_word(out, what);
+    add_number(out, u64::from(number));
+}
+
+// Puts a slot whose disk failed.
+fn put_broken(rack: &mut MemRack, broken: Broken<MemDisk>, out: &mut Told)
+    requires { MayPutBroken broken rack.old.out }
+{
+    tell_number(b"broken", broken.number(), out);
+    rack.put_broken(broken);
+}
+
+// Finishes a message, and puts its slot full.
+#[tactic(auto, using(crate::proofs::OutLemmas::may_put_new, crate::proofs::OutLemmas::may_put_broken))]
+fn finish(rack: &mut MemRack, filling: Filling<MemDisk>, out: &mut Told)
+    requires { IsLentFree filling.number rack.old.out }
+{
+    match filling.finish() {
+        Ok(full) => {
+            tell_number(b"kept", full.number(), out);
+            rack.put_full(full);
+        }
+        Err(broken) => put_broken(rack, broken, out),
+    }
+}
+
+// The recipients: one.
+fn recipients(alloc: Global) -> Result<OctetsList, NoMemory>
+    ensures { IfOk result (λ rcpts. rcpts ≡ codes "c@d" ∷ []) }
+{
+    let mut rcpts = OctetsList::new(alloc);
+    let one = Octets::copy(alloc, b"c@d")?;
+    match rcpts.push(one) {
+        Ok(()) => Ok(rcpts),
+        Err(_) => Err(NoMemory),
+    }
+}
+
+// Writes an empty message in a free slot, and puts it full.
+#[tactic(auto, using(crate::proofs::OutLemmas::free_onward, crate::proofs::OutLemmas::may_put_broken))]
+fn write(
+    alloc: Global,
+    rack: &mut MemRack,
+    free: Free<MemDisk>,
+    out: &mut Told,
+) -> Result<(), NoMemory>
+    requires { IsLentFree free.number rack.old.out }
+{
+    let rcpts = recipients(alloc)?;
+    match free.start(alloc, b"a@b", &rcpts) {
+        Ok(filling) => finish(rack, filling, out),
+        Err(StartFault::NoMemory(_)) => return Err(NoMemory),
+        Err(StartFault::Disk(broken)) => put_broken(rack, broken, out),
+    }
+    Ok(())
+}
+
+// Releases a full slot, and puts it.
+#[tactic(auto, using(crate::proofs::OutLemmas::released_out, crate::proofs::OutLemmas::may_put_failed))]
+fn release(rack: &mut MemRack, full: Full<MemDisk>, out: &mut Told)
+    requires { IsLentFull full rack.old.out }
+{
+    match full.release() {
+        Ok(free) => {
+            tell_number(b"handed", free.number(), out);
+            rack.put_free(free);
+        }
+        Err(broken) => put_broken(rack, broken, out),
+    }
+}
+
+// Sets a full slot aside, and puts it.
+#[tactic(auto, using(crate::proofs::OutLemmas::may_put_aside, crate::proofs::OutLemmas::may_put_failed))]
+fn set_aside(rack: &mut MemRack, full: Full<MemDisk>, out: &mut Told)
+    requires { IsLentFull full rack.old.out }
+{
+    match full.set_aside() {
+        Ok(aside) => {
+            tell_number(b"aside", aside.number(), out);
+            rack.put_aside(aside);
+        }
+        Err(broken) => put_broken(rack, broken, out),
+    }
+}
+
+// Puts a full slot back as it is.
+#[tactic(auto, using(crate::proofs::OutLemmas::may_put_back))]
+fn put_back(rack: &mut MemRack, full: Full<MemDisk>, out: &mut Told)
+    requires lent { IsLentFull full rack.old.out }
+    requires read { full.unread ≡ false }
+{
+    tell_number(b"back", full.number(), out);
+    rack.put_full(full);
+}
+
+#[tactic(auto, using(crate::proofs::OutLemmas::lent_free))]
+fn take_free(rack: &mut MemRack) -> Option<Free<MemDisk>>
+    ensures { IfSome result (λ free. IsLentFree free.number rack.new.out) }
+{
+    rack.take_free()
+}
+
+#[tactic(auto, using(crate::proofs::OutLemmas::lent_full, crate::proofs::OutLemmas::read_full))]
+fn take_full(rack: &mut MemRack) -> Option<Full<MemDisk>>
+    ensures lent { IfSome result (λ full. IsLentFull full rack.new.out) }
+    ensures read { IfSome result (λ full. full.unread ≡ false) }
+{
+    rack.take_full()
+}
+
+// A step with the free slot at the front.
+#[tactic(auto, using(crate::proofs::OutLemmas::free_out))]
+fn step_free(
+    alloc: Global,
+    rack: &mut MemRack,
+    step: &[u8],
+    out: &mut Told,
+) -> Result<(), NoMemory> {
+    let Some(free) = take_free(rack) else {
+        add_word(out, b"none");
+        return Ok(());
+    };
+    match step {
+        b"keep" => write(alloc, rack, free, out)?,
+        b"lose" => tell_number(b"lost", free.number(), out),
+        _ => {
+            tell_number(b"free", free.number(), out);
+            rack.put_free(free);
+        }
+    }
+    Ok(())
+}
+
+// A step with the full slot at the front.
+fn step_full(rack: &mut MemRack, step: &[u8], out: &mut Told) {
+    let Some(full) = take_full(rack) else {
+        add_word(out, b"none");
+        return;
+    };
+    match step {
+        b"hand" => release(rack, full, out),
+        b"aside" => set_aside(rack, full, out),
+        b"drop" => tell_number(b"dropped", full.number(), out),
+        _ => put_back(rack, full, out),
+    }
+}
+
+// One step: `free`, `keep` and `lose` take a free slot, and `hand`, `aside`, `drop` and `back` a full one.
+fn step(alloc: Global, rack: &mut MemRack, step: &[u8], out: &mut Told) -> Result<(), NoMemory> {
+    match step {
+        b"free" | b"keep" | b"lose" => step_free(alloc, rack, step, out)?,
+        _ => step_full(rack, step, out),
+    }
+    Ok(())
+}
+
+fn tell_steps(
+    alloc: Global,
+    rack: MemRack,
+    steps: &[u8],
+    out: &mut Told,
+) -> Result<Vec<MemDisk>, NoMemory> {
+    let mut rack = rack;
+    for word in steps.split(|byte| *byte == b' ') {
+        step(alloc, &mut rack, word, out)?;
+    }
+    add_word(out, b"closed");
+    Ok(rack.close())
+}
+
+fn tell_fault(fault: RackFault<MemDisk>, out: &mut Told) -> Result<Vec<MemDisk>, NoMemory> {
+    let RackFault { disks, slot, why } = fault;
+    tell_number(b"fault slot", slot, out);
+    match why {
+        SlotWhy::BadSlot { at } => {
+            add_word(out, b"bad at");
+            add_number(out, at);
+        }
+        SlotWhy::DiskFault => add_word(out, b"disk"),
+        SlotWhy::NoMemory => return Err(NoMemory),
+    }
+    Ok(disks)
+}
+
+/// `rack SLOTS STEPS => ANSWERS closed LETTERS`, or `fault slot N WHY LETTERS`: the slots are opened as a rack, each
+/// step takes one of them and puts it back, and the rack is closed. The letters say what the disks hold that come back.
+pub(crate) fn tell_rack(alloc: Global, asked: &[u8], out: &mut Told) -> Result<(), NoMemory> {
+    let (slots, steps) = cut_word(asked);
+    let disks = disks_of(alloc, slots)?;
+    if disks.len() > 64 {
+        add_word(out, b"too many slots");
+        return Ok(());
+    }
+    let back = match Rack::open(alloc, disks) {
+        Ok(rack) => tell_steps(alloc, rack, steps, out)?,
+        Err(fault) => tell_fault(fault, out)?,
+    };
+    tell_disks(alloc, &back, out)
+}
