@@ -6,7 +6,7 @@ use crate::stage::{Stage, load};
 use auth_events::{Entry, Request};
 use auth_machine::OpenFault;
 use fw_types::{Name, Octets};
-use row_lines::{Told, add, add_hex, add_number, add_word, cut_word, number_of, numbers_of};
+use lines_of_rows::{Told, add, add_hex, add_number, add_word, cut_word, number_of, numbers_of};
 use std::alloc::Global;
 
 /// What is there after a scene.

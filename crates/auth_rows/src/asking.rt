@@ -6,7 +6,7 @@ use arrayvec::ArrayVec;
 use auth_events::{Reply, Request};
 use authsrv_lines::{Wire, read_request, reply_text};
 use fw_types::{Name, NoMemory};
-use row_lines::{Told, add, add_number, cut_word, number_of, unescape};
+use lines_of_rows::{Told, add, add_number, cut_word, number_of, unescape};
 use std::alloc::Global;
 
 const SALT: [u8; 8] = [1, 2, 3, 4, 5, 6, 7, 8];

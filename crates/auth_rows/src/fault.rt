@@ -1,7 +1,7 @@
 //! Why a scene isn't as it says.
 
 use fw_types::NoMemory;
-use row_lines::{Told, add, unescape};
+use lines_of_rows::{Told, add, unescape};
 use std::alloc::{AllocError, AllocFailed, Global};
 
 /// A line of a scene, and its number in the file, from 1.

@@ -7,7 +7,7 @@ use crate::setup::{Setup, setup_of};
 use crate::stage::{Stage, load, open_book};
 use crate::sweeps::sweep;
 use crate::talk::{Break, Talk};
-use row_lines::Told;
+use lines_of_rows::Told;
 use std::alloc::Global;
 
 /// A book of the setup, whose keeper fails at these calls.
@@ -33,7 +33,7 @@ pub(crate) fn book_of(
 
 fn no_policy() -> Told {
     let mut told = Told::new();
-    row_lines::add(&mut told, b"no policy");
+    lines_of_rows::add(&mut told, b"no policy");
     told
 }
 

@@ -5,9 +5,9 @@ use auth_machine::Policy;
 use auth_records::{LongName, Otp, Plain, Proto, Record, Seed, Wiz, encode};
 use fw_memory::{Calls, MemSource};
 use fw_types::{Name, NoMemory, Octets};
+use lines_of_rows::{cut_word, from_hex, number_of, numbers_of};
 use md5::{Digest, Md5};
 use netperm_table::{Table, TableFault};
-use row_lines::{cut_word, from_hex, number_of, numbers_of};
 use std::alloc::Global;
 use std::str;
 

@@ -6,7 +6,7 @@ use crate::setup::Setup;
 use crate::stage::Stage;
 use crate::talk::{Break, Device};
 use auth_events::{Entry, Request};
-use row_lines::{cut_word, number_of};
+use lines_of_rows::{cut_word, number_of};
 use std::alloc::Global;
 
 // A book of the setup, whose keeper fails at these calls, or the line differs.

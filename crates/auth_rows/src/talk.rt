@@ -4,7 +4,7 @@ use crate::fault::{Fault, Line, check};
 use crate::stage::{Devices, Stage};
 use fw_memory::{Calls, MemClock, MemSink, MemSource};
 use fw_types::{Ending, NoMemory, Octets};
-use row_lines::{number_of, numbers_of};
+use lines_of_rows::{number_of, numbers_of};
 use std::alloc::Global;
 
 /// A device of a session.

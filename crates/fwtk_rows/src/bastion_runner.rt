@@ -3,9 +3,9 @@
 use crate::commands;
 use crate::running::run_over;
 use crate::serving::serve_over;
+use format_of_rows::{Row, Setting};
 use fw_types::{NoMemory, Octets};
-use row_format::{Row, Setting};
-use row_runs::{Devices, Difference, Ended, Runner};
+use runs_of_rows::{Devices, Difference, Ended, Runner};
 use std::alloc::Global;
 
 /// Runs a row by `bastion`: by `run`, or by `conn` where the row limits the history.

@@ -2,10 +2,10 @@
 
 use arrayvec::ArrayVec;
 use bastion::{Command, Query, places, read_command, table_named};
+use format_of_rows::{Row, TABLE};
 use fw_types::{NoMemory, Octets, Peer};
 use gate_rules::Service;
-use row_format::{Row, TABLE};
-use row_runs::Difference;
+use runs_of_rows::Difference;
 use std::alloc::Global;
 
 /// The name of the records' file where the command line names none.

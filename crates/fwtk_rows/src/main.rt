@@ -8,8 +8,8 @@
 #![tactic(auto)]
 
 use bastion_runner::BastionRunner;
-use row_format::parse;
-use row_runs::{Counts, Report, try_rows};
+use format_of_rows::parse;
+use runs_of_rows::{Counts, Report, try_rows};
 use std::process::ExitCode;
 use std::{env, fs, io};
 

@@ -3,7 +3,7 @@
 use bastion::{Kit, World, run};
 use fw_memory::{MemClock, MemDice, MemFiles, MemKeeper, MemLauncher, MemSink, MemSource};
 use fw_types::Octets;
-use row_runs::{Devices, Ended};
+use runs_of_rows::{Devices, Ended};
 use std::alloc::Global;
 
 /// The kinds of device in memory.

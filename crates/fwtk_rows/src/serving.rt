@@ -7,7 +7,7 @@ use fw_outside::Files;
 use fw_types::{Ending, Octets, Peer};
 use gate_rules::{Rules, Service};
 use netperm_table::Table;
-use row_runs::{Devices, Ended};
+use runs_of_rows::{Devices, Ended};
 use session_acts::Nowhere;
 use std::alloc::Global;
 

@@ -2,7 +2,7 @@
 
 use crate::kinds::tell_text;
 use arrayvec::ArrayVec;
-use row_lines::{Told, add_number, add_word, cut, cut_word, number_of};
+use lines_of_rows::{Told, add_number, add_word, cut, cut_word, number_of};
 use std::str;
 
 // Whether what is told ends so if the byte stands at the place of the text.

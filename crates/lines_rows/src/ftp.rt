@@ -4,7 +4,7 @@ use crate::telling::add_text;
 use arrayvec::ArrayVec;
 use ftp_lines::{find_six, read_command, read_six, write_six};
 use fw_types::NoMemory;
-use row_lines::{Told, add, add_number, add_word, numbers_of};
+use lines_of_rows::{Told, add, add_number, add_word, numbers_of};
 use std::alloc::Global;
 
 /// `command LINE => VERB [ARGUMENT]`. `-` is none.

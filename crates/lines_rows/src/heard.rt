@@ -3,7 +3,7 @@
 use crate::pieces::{Feeding, tell_fed};
 use crate::telling::add_text;
 use arrayvec::ArrayVec;
-use row_lines::{Told, add, add_word};
+use lines_of_rows::{Told, add, add_word};
 use telnet::{Telnet, TelnetStep};
 
 /// The reader of Telnet, and the line that it told last.

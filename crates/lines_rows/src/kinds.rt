@@ -6,7 +6,7 @@ use crate::heard::{tell_first_line, tell_telnet};
 use crate::mail::{tell_bodies, tell_body, tell_mail, tell_path};
 use crate::replies::{tell_first_code, tell_replies};
 use fw_types::NoMemory;
-use row_lines::{Rows, Told, add};
+use lines_of_rows::{Rows, Told, add};
 use std::alloc::Global;
 
 /// Knows the kinds of row.

@@ -2,7 +2,7 @@
 
 use crate::pieces::{Feeding, tell_fed};
 use crate::telling::add_text;
-use row_lines::{Told, add, add_word};
+use lines_of_rows::{Told, add, add_word};
 use smap_lines::{BodyStep, MailBody, MailCommand, PathFault, read_mail_command, read_path};
 
 fn tell_path_text(word: &[u8], path_text: Option<&[u8]>, out: &mut Told) {

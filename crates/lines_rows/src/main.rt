@@ -1,5 +1,5 @@
 //! Rows of the lines of FTP (`ftp_lines`), Telnet (`telnet`) and mail (`smap_lines`): each row of `data/` says what is
-//! told of what is asked, by the kinds that [`kinds`] knows. `row_lines` says how a row is written.
+//! told of what is asked, by the kinds that [`kinds`] knows. `lines_of_rows` says how a row is written.
 #![tactic(auto)]
 
 mod every;
@@ -12,7 +12,7 @@ mod replies;
 mod telling;
 
 use kinds::Kinds;
-use row_lines::compare;
+use lines_of_rows::compare;
 use std::io;
 use std::process::ExitCode;
 

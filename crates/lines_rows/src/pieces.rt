@@ -1,6 +1,6 @@
 //! Readers that are fed byte by byte.
 
-use row_lines::{Told, add, add_word};
+use lines_of_rows::{Told, add, add_word};
 
 /// A reader, and what is told of it.
 pub(crate) trait Feeding {

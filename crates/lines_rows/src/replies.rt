@@ -3,7 +3,7 @@
 use crate::pieces::{Feeding, tell_fed};
 use crate::telling::add_text;
 use ftp_lines::{ReplyReader, ReplyStep};
-use row_lines::{Told, add_number, add_word};
+use lines_of_rows::{Told, add_number, add_word};
 
 /// The reader of replies, and its last step.
 #[derive(Drop)]

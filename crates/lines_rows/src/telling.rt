@@ -1,6 +1,6 @@
 //! Texts within what is told.
 
-use row_lines::{Told, add, add_number, add_word};
+use lines_of_rows::{Told, add, add_number, add_word};
 
 /// Adds a text in brackets. Of more than 64 bytes it is the first eight, `..` and how many there are.
 pub(crate) fn add_text(out: &mut Told, text: &[u8]) {

@@ -3,8 +3,8 @@
 use crate::launching::tell_program;
 use crate::linking::{tell_host, tell_link};
 use fw_types::NoMemory;
+use lines_of_rows::{Rows, Told, add};
 use real_links::can_be_looked_up;
-use row_lines::{Rows, Told, add};
 use std::alloc::Global;
 
 /// Knows the kinds of row.

@@ -2,8 +2,8 @@
 
 use fw_outside::{Launcher, Started};
 use fw_types::{NoMemory, Octets, OctetsList};
+use lines_of_rows::{Told, add_number, add_word, cut};
 use real_links::Programs;
-use row_lines::{Told, add_number, add_word, cut};
 use std::alloc::Global;
 
 // The texts between commas, or none.

@@ -2,8 +2,8 @@
 
 use fw_outside::{Dialed, Dialer, Failed, Got, Sink, Source};
 use fw_types::{Dest, Host};
+use lines_of_rows::{Told, add, add_word, cut, cut_word};
 use real_links::{LinkSink, LinkSource, TcpDialer};
-use row_lines::{Told, add, add_word, cut, cut_word};
 use std::io::{self, Read, Write};
 use std::net::{Ipv4Addr, TcpListener, TcpStream};
 

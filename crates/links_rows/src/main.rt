@@ -1,5 +1,5 @@
 //! Rows of links over loopback sockets and of programs of the system: each row of `data/` says what is told of what is
-//! asked. `row_lines` says how a row is written.
+//! asked. `lines_of_rows` says how a row is written.
 //!
 //! Behind the word `-relay` stand two ports of 127.0.0.1 and a number of seconds: then it makes a link to each, relays
 //! between them both ways, and prints how each way ended.
@@ -11,8 +11,8 @@ mod linking;
 mod relaying;
 
 use kinds::Kinds;
+use lines_of_rows::compare;
 use relaying::relay;
-use row_lines::compare;
 use std::process::ExitCode;
 use std::{env, io};
 

@@ -2,9 +2,9 @@
 
 use fw_outside::{Dialed, Dialer};
 use fw_types::{Dest, Host, read_numbered_port};
+use lines_of_rows::number_of;
 use real_links::{LinkSink, LinkSource, TcpDialer};
 use relay_ways::{WayEnd, both_ways};
-use row_lines::number_of;
 use std::io::{self, ErrorKind};
 use std::net::TcpStream;
 use std::thread::Threads;

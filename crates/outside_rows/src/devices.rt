@@ -3,7 +3,7 @@
 use fw_memory::{Calls, MemClock, MemDice, MemFiles, MemSink, MemSource};
 use fw_outside::{Clock, Dice, Failed, Files, Got, Sink, Source};
 use fw_types::{NoMemory, Octets};
-use row_lines::{Told, add_hex, add_number, add_word, cut, cut_word, number_of, numbers_of};
+use lines_of_rows::{Told, add_hex, add_number, add_word, cut, cut_word, number_of, numbers_of};
 use std::alloc::Global;
 
 /// The calls with the numbers between commas, none for `-`, or all from a number on for `N+`. They are copied once.

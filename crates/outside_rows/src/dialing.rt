@@ -6,7 +6,7 @@ use crate::devices::{calls_of, tell_take};
 use fw_memory::{Calls, MemDialer, MemSink, MemSource};
 use fw_outside::{Dialed, Dialer};
 use fw_types::{Dest, Host, NoMemory, Octets};
-use row_lines::{Told, add_number, add_word, cut_word, number_of};
+use lines_of_rows::{Told, add_number, add_word, cut_word, number_of};
 use std::alloc::Global;
 
 // A link to a server that says this.

@@ -4,7 +4,7 @@ use crate::devices::calls_of;
 use fw_memory::MemKeeper;
 use fw_outside::{KeepFault, Keeper};
 use fw_types::{Name, NoMemory, Octets};
-use row_lines::{Told, add, add_number, add_word, cut, cut_word};
+use lines_of_rows::{Told, add, add_number, add_word, cut, cut_word};
 use std::alloc::Global;
 
 // The entries of the texts `NAME=BYTES` between commas.

@@ -11,7 +11,7 @@ use crate::values::{
 };
 use crate::ways::tell_way;
 use fw_types::{NoMemory, read_numbered_port, read_port};
-use row_lines::{Rows, Told, add};
+use lines_of_rows::{Rows, Told, add};
 use std::alloc::Global;
 
 /// Knows the kinds of row.

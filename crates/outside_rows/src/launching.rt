@@ -4,7 +4,7 @@ use crate::devices::calls_of;
 use fw_memory::MemLauncher;
 use fw_outside::{Launcher, Started};
 use fw_types::{NoMemory, Octets, OctetsList};
-use row_lines::{Told, add, add_number, add_word, cut, cut_word, numbers_of};
+use lines_of_rows::{Told, add, add_number, add_word, cut, cut_word, numbers_of};
 use std::alloc::Global;
 
 // The numbers between commas as bytes: 255 in place of each above it.

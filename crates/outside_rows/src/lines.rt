@@ -4,7 +4,7 @@ use crate::devices::calls_of;
 use fw_memory::MemSource;
 use fw_outside::{Heard, LineReader, Stop};
 use fw_types::{NoMemory, Octets};
-use row_lines::{Told, add, add_word, cut_word, number_of};
+use lines_of_rows::{Told, add, add_word, cut_word, number_of};
 use std::alloc::Global;
 
 fn tell_heard(heard: &Heard, out: &mut Told) {

@@ -1,5 +1,5 @@
 //! Rows of the plain types, the devices in memory, the reader of lines and the ways of a relay: each row of `data/` says
-//! what is told of what is asked, by the kinds that [`kinds`] knows. `row_lines` says how a row is written.
+//! what is told of what is asked, by the kinds that [`kinds`] knows. `lines_of_rows` says how a row is written.
 #![tactic(auto)]
 
 mod devices;
@@ -13,7 +13,7 @@ mod values;
 mod ways;
 
 use kinds::Kinds;
-use row_lines::compare;
+use lines_of_rows::compare;
 use std::io;
 use std::process::ExitCode;
 

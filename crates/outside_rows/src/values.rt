@@ -5,7 +5,7 @@ use fw_types::{
     Dest, Host, HostName, Name, NoMemory, Octets, OctetsList, Peer, Verb, VerbList, read_number,
     read_quad,
 };
-use row_lines::{Told, add, add_number, add_word, cut_word};
+use lines_of_rows::{Told, add, add_number, add_word, cut_word};
 use std::alloc::Global;
 
 /// `name TEXT => TEXT`.

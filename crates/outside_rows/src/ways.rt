@@ -3,8 +3,8 @@
 use crate::devices::{calls_of, tell_take};
 use fw_memory::{MemSink, MemSource};
 use fw_types::{NoMemory, Octets};
+use lines_of_rows::{Told, add_number, add_word, cut_word, number_of};
 use relay_ways::{WayEnd, copy_way};
-use row_lines::{Told, add_number, add_word, cut_word, number_of};
 use std::alloc::Global;
 
 fn tell_end(end: WayEnd, out: &mut Told) {

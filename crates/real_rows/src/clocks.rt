@@ -2,7 +2,7 @@
 
 use fw_outside::{Clock, Dice};
 use fw_real::{Salts, SystemClock};
-use row_lines::{Told, add_number, add_word, number_of};
+use lines_of_rows::{Told, add_number, add_word, number_of};
 use std::io::{self, ErrorKind};
 use std::time::Duration;
 

@@ -5,7 +5,7 @@ use crate::system::System;
 use crate::telling::{tell_bytes, tell_done, tell_unknown};
 use fw_disk::Disk;
 use fw_real::{FileDisk, Place, RawFile, SlotFile};
-use row_lines::{Told, add_word, cut_word, number_of};
+use lines_of_rows::{Told, add_word, cut_word, number_of};
 use std::fs::File;
 
 type SlotDisk = FileDisk<SlotFile, File>;

@@ -6,7 +6,7 @@ use crate::records::tell_records;
 use crate::streams::tell_streams;
 use crate::uneven::{tell_uneven_sink, tell_uneven_source};
 use fw_types::NoMemory;
-use row_lines::{Rows, Told, add};
+use lines_of_rows::{Rows, Told, add};
 use std::alloc::Global;
 
 /// Knows the kinds of row.

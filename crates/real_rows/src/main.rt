@@ -1,5 +1,5 @@
 //! Rows of the devices of a process, over real files, the real clock and a real database: each row of `data/` says what
-//! is told of what is asked, by the kinds that [`kinds`] knows. `row_lines` says how a row is written.
+//! is told of what is asked, by the kinds that [`kinds`] knows. `lines_of_rows` says how a row is written.
 #![tactic(auto)]
 
 mod clocks;
@@ -13,7 +13,7 @@ mod telling;
 mod uneven;
 
 use kinds::Kinds;
-use row_lines::compare;
+use lines_of_rows::compare;
 use std::io;
 use std::process::ExitCode;
 

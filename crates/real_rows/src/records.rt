@@ -5,7 +5,7 @@ use crate::telling::{tell_bytes, tell_done, tell_unknown};
 use fw_outside::{KeepFault, Keeper};
 use fw_real::Records;
 use fw_types::{Name, Octets};
-use row_lines::{Told, add_word, cut_word};
+use lines_of_rows::{Told, add_word, cut_word};
 use sqlite::{Connection, Error, ErrorCode};
 
 fn tell_kept(answer: Result<(), KeepFault>, out: &mut Told) {

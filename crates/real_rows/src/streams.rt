@@ -4,7 +4,7 @@ use crate::system::{System, path_of};
 use crate::telling::{tell_bytes, tell_done, tell_unknown};
 use fw_outside::{Files, Got, Sink, Source};
 use fw_real::{Paths, Reading, Writing};
-use row_lines::{Told, add_word, cut_word, number_of};
+use lines_of_rows::{Told, add_word, cut_word, number_of};
 use std::fs::{self, File};
 
 fn take<S: Source>(source: &mut S, out: &mut Told) {

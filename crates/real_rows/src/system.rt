@@ -1,7 +1,7 @@
 //! What is done with files besides: steps that most kinds of row have.
 
 use crate::telling::{tell_bytes, tell_done, tell_unknown};
-use row_lines::{Told, add_number, add_word, cut_word, number_of};
+use lines_of_rows::{Told, add_number, add_word, cut_word, number_of};
 use std::os::unix::fs::MetadataExt;
 use std::{fs, io, str};
 

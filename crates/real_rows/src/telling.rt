@@ -1,6 +1,6 @@
 //! Words of what is told.
 
-use row_lines::{Told, add, add_word};
+use lines_of_rows::{Told, add, add_word};
 
 /// Whether something was done.
 pub(crate) fn tell_done(is_done: bool, out: &mut Told) {

@@ -2,7 +2,7 @@
 
 use crate::streams::{sink_step, source_step};
 use fw_real::{Reading, Timed, Writing};
-use row_lines::{Told, cut_word};
+use lines_of_rows::{Told, cut_word};
 use std::io::{self, ErrorKind, Read, Write};
 
 fn error(kind: ErrorKind) -> io::Error {

@@ -2,7 +2,7 @@
 ghost use Rattle.std.specs.Prelude.{◌≡◌, [], None, false};
 
 use auth_events::{AuthPort, PortFault, Reply, Request};
-use row_lines::{Told, add, add_number};
+use lines_of_rows::{Told, add, add_number};
 
 /// A port whose link is down.
 #[derive(Drop)]

@@ -8,7 +8,7 @@ use crate::replies::{tell_opened, tell_reply};
 use crate::requests::tell_line;
 use auth_machine::Policy;
 use fw_types::NoMemory;
-use row_lines::{Rows, Told, add};
+use lines_of_rows::{Rows, Told, add};
 use std::alloc::Global;
 
 /// Knows the kinds of row.

@@ -1,5 +1,5 @@
 //! Rows of records, one-time passwords, the lines of `authsrv`, and the policy: each row of `data/` says what
-//! is told of what is asked, by the kinds that [`kinds`] knows. `row_lines` says how a row is written.
+//! is told of what is asked, by the kinds that [`kinds`] knows. `lines_of_rows` says how a row is written.
 #![tactic(auto)]
 
 mod down;
@@ -11,7 +11,7 @@ mod replies;
 mod requests;
 
 use kinds::Kinds;
-use row_lines::compare;
+use lines_of_rows::compare;
 use std::io;
 use std::process::ExitCode;
 

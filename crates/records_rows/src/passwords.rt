@@ -3,8 +3,8 @@
 use arrayvec::ArrayVec;
 use auth_events::OtpNumber;
 use auth_records::Seed;
+use lines_of_rows::{Told, add, add_hex, add_number, cut_word, number_of};
 use otp_md5::{challenge_text, fold, initial, next, read_hex};
-use row_lines::{Told, add, add_hex, add_number, cut_word, number_of};
 
 /// `passwords SEED PHRASE => ZEROTH FIRST HUNDREDTH`: those of the counts 0, 1 and 99.
 pub(crate) fn tell_passwords(asked: &[u8], out: &mut Told) {

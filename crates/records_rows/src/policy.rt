@@ -5,8 +5,8 @@ use auth_machine::Policy;
 use fw_memory::{Calls, MemSource};
 use fw_types::{Host, Name, Octets};
 use gate_rules::{RulesFault, Verdict};
+use lines_of_rows::{Told, add, add_number, add_word, cut_word};
 use netperm_table::{Table, TableFault};
-use row_lines::{Told, add, add_number, add_word, cut_word};
 use std::alloc::Global;
 
 fn read_table(alloc: Global, text: &[u8]) -> Result<Table, TableFault> {

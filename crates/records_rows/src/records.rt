@@ -2,7 +2,7 @@
 
 use auth_records::{LongName, Otp, Plain, Proto, Record, Seed, Wiz, decode, encode};
 use fw_types::{Name, NoMemory};
-use row_lines::{Told, add, add_hex, add_number, add_word, cut_word, from_hex, number_of};
+use lines_of_rows::{Told, add, add_hex, add_number, add_word, cut_word, from_hex, number_of};
 use std::alloc::Global;
 use std::str;
 

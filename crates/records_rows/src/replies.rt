@@ -4,7 +4,7 @@ use crate::records::{tell_group, tell_long_name, tell_standing};
 use arrayvec::ArrayVec;
 use auth_events::{Denial, Reply, Summary};
 use authsrv_lines::{denial_text, read_reply, reply_text};
-use row_lines::{Told, add, add_number, add_word, number_of};
+use lines_of_rows::{Told, add, add_number, add_word, number_of};
 
 // Tells the kind of a denial that has a number.
 fn tell_numbers(denial: Denial, out: &mut Told) {

@@ -5,7 +5,7 @@ use arrayvec::ArrayVec;
 use auth_events::{OpService, Request};
 use authsrv_lines::{Wire, read_request};
 use fw_types::{Host, Name};
-use row_lines::{Told, add, add_hex, add_number, add_word};
+use lines_of_rows::{Told, add, add_hex, add_number, add_word};
 
 fn tell_named(command: &[u8], name: &Name, out: &mut Told) {
     add(out, command);

@@ -3,7 +3,7 @@
 use fw_disk::{Disk, Failed};
 use fw_memory::{Calls, MemDisk};
 use fw_types::{NoMemory, Octets};
-use row_lines::{
+use lines_of_rows::{
     Told, add_hex, add_number, add_word, cut, cut_word, from_hex, number_of, numbers_of,
 };
 use std::alloc::Global;

@@ -3,7 +3,7 @@
 use crate::disks::{bytes_of, calls_of};
 use fw_memory::MemDisk;
 use fw_types::{NoMemory, Octets};
-use row_lines::{Told, add_hex, add_number, add_word, cut, cut_word};
+use lines_of_rows::{Told, add_hex, add_number, add_word, cut, cut_word};
 use slot_bytes::{Slot, SlotFault, read_slot};
 use spool_slots::format;
 use std::alloc::Global;

@@ -4,7 +4,7 @@ use crate::letters::filled;
 use crate::marks::marked;
 use fw_memory::MemDisk;
 use fw_types::NoMemory;
-use row_lines::{Told, add_number, cut_word, numbers_of};
+use lines_of_rows::{Told, add_number, cut_word, numbers_of};
 use slot_bytes::{Message, Slot, SlotFault, read_slot};
 use spool_slots::{Aside, Broken, Full, Opened, ReadBack, SlotWhy, open};
 use std::alloc::Global;

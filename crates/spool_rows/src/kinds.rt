@@ -8,7 +8,7 @@ use crate::marks::{tell_mark, tell_open};
 use crate::racks::tell_rack;
 use crate::slots::{base_of, tell_base, tell_head, tell_length, tell_slot};
 use fw_types::NoMemory;
-use row_lines::{Rows, Told, add};
+use lines_of_rows::{Rows, Told, add};
 use std::alloc::Global;
 
 /// Knows the kinds of row.

@@ -3,7 +3,7 @@ ghost use Rattle.std.specs.Prelude.{◌+◌, ◌≤◌, IfOk};
 
 use fw_memory::{Calls, MemDisk};
 use fw_types::{NoMemory, Octets, OctetsList};
-use row_lines::{Told, add_number, add_word, cut_word, number_of, numbers_of};
+use lines_of_rows::{Told, add_number, add_word, cut_word, number_of, numbers_of};
 use spool_slots::{Aside, Broken, Filling, Free, Full, StartFault, format};
 use std::alloc::Global;
 

@@ -1,5 +1,5 @@
 //! Rows of slots' bytes, of disks in memory and of slots on them: each row of `data/` says what is told of what is
-//! asked, by the kinds that [`kinds`] knows. `row_lines` says how a row is written.
+//! asked, by the kinds that [`kinds`] knows. `lines_of_rows` says how a row is written.
 #![tactic(auto)]
 
 mod disks;
@@ -12,7 +12,7 @@ mod racks;
 mod slots;
 
 use kinds::Kinds;
-use row_lines::compare;
+use lines_of_rows::compare;
 use std::io;
 use std::process::ExitCode;
 

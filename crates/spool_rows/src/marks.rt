@@ -5,7 +5,7 @@ use crate::letters::{failing, tell_aside, tell_broken, tell_free};
 use crate::slots::tell_message;
 use fw_memory::{Calls, MemDisk};
 use fw_types::{NoMemory, Octets};
-use row_lines::{Told, add_number, add_word, cut_word};
+use lines_of_rows::{Told, add_number, add_word, cut_word};
 use spool_slots::{Broken, Full, Opened, ReadBack, SlotWhy, open};
 use std::alloc::Global;
 

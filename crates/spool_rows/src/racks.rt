@@ -6,7 +6,7 @@ ghost use Rattle.spool_rows.specs.Out.{IsLentFree, IsLentFull};
 use crate::disks::bytes_of;
 use fw_memory::{Calls, MemDisk};
 use fw_types::{NoMemory, Octets, OctetsList};
-use row_lines::{Told, add_number, add_word, cut, cut_word, number_of};
+use lines_of_rows::{Told, add_number, add_word, cut, cut_word, number_of};
 use slot_bytes::{Slot, SlotFault, read_slot};
 use spool_rack::{Broken, Filling, Free, Full, Rack, RackFault, SlotWhy, StartFault};
 use std::alloc::Global;

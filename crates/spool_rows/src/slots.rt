@@ -1,7 +1,7 @@
 //! What is told of slots' bytes.
 
 use fw_types::{NoMemory, Octets, OctetsList};
-use row_lines::{Told, add, add_hex, add_number, add_word, cut_word, from_hex, number_of};
+use lines_of_rows::{Told, add, add_hex, add_number, add_word, cut_word, from_hex, number_of};
 use slot_bytes::{Message, Slot, SlotFault, head_bytes, length_bytes, read_slot};
 use std::alloc::Global;
 use std::str;

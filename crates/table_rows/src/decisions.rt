@@ -9,7 +9,7 @@ use fw_memory::Calls;
 use fw_types::{Dest, Host, NoMemory, Peer};
 use gate_rules::{Options, Rules, RulesFault, Service, Verdict, destination};
 use host_pattern::Steps;
-use row_lines::{Told, add, add_number, add_word, cut_word};
+use lines_of_rows::{Told, add, add_number, add_word, cut_word};
 use std::alloc::Global;
 use std::marker::Brand;
 use std::sync::ledger::{Blank, Ledger};

@@ -4,7 +4,7 @@ use crate::decisions::{tell_decision, tell_destination, tell_rules, tell_service
 use crate::patterns::{tell_list, tell_pattern, tell_single, tell_text, tell_words};
 use crate::tables::{tell_broken, tell_fault, tell_idle, tell_table};
 use fw_types::NoMemory;
-use row_lines::{Rows, Told, add};
+use lines_of_rows::{Rows, Told, add};
 use std::alloc::Global;
 
 /// Knows the kinds of row.

@@ -1,5 +1,5 @@
 //! Rows of the table and its rules: each row of `data/` says what is told of what is asked, by the kinds that
-//! [`kinds`] knows. `row_lines` says how a row is written.
+//! [`kinds`] knows. `lines_of_rows` says how a row is written.
 #![tactic(auto)]
 
 mod decisions;
@@ -9,7 +9,7 @@ mod patterns;
 mod tables;
 
 use kinds::Kinds;
-use row_lines::compare;
+use lines_of_rows::compare;
 use std::io;
 use std::process::ExitCode;
 

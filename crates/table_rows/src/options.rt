@@ -3,7 +3,7 @@
 use arrayvec::ArrayVec;
 use fw_types::{Dest, Octets, Verb};
 use gate_rules::{Options, Rules, Setting};
-use row_lines::{Told, add_number, add_word};
+use lines_of_rows::{Told, add_number, add_word};
 
 fn tell_texts(texts: &[Octets], out: &mut Told) {
     for text in texts {

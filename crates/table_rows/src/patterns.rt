@@ -4,7 +4,7 @@ ghost use Rattle.std.specs.Prelude.{◌≡◌, ◌<◌};
 use arrayvec::ArrayVec;
 use fw_types::{HostName, NoMemory, Octets, Peer, read_quad};
 use host_pattern::{ListFault, Pattern, PatternFault, PatternList, Steps, Word};
-use row_lines::{Told, add, add_number, add_word, cut_word};
+use lines_of_rows::{Told, add, add_number, add_word, cut_word};
 use std::alloc::Global;
 use std::marker::Brand;
 use std::sync::ledger::{Blank, Ledger};

@@ -3,8 +3,8 @@ ghost use Rattle.std.specs.Prelude.{◌<◌};
 
 use fw_memory::{Calls, MemSource};
 use fw_types::{NoMemory, Octets};
+use lines_of_rows::{Told, add, add_number, add_word, cut_word, number_of};
 use netperm_table::{Line, Table, TableFault};
-use row_lines::{Told, add, add_number, add_word, cut_word, number_of};
 use std::alloc::Global;
 
 fn tell_between(open: &[u8], text: &[u8], close: &[u8], out: &mut Told) {

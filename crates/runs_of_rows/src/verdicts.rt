@@ -3,8 +3,8 @@
 use crate::comparing::Expected;
 use crate::devices::NEXT;
 use crate::texts::{first_lines, later_lines, with_last_word};
+use format_of_rows::Row;
 use fw_types::{Name, NoMemory, Octets};
-use row_format::Row;
 use std::alloc::Global;
 
 /// What is expected of a row that is run as its file says.

@@ -1,9 +1,9 @@
 //! The devices that a row's run is given.
 
 use crate::calls::{Broken, ROOM, calls_of, no_calls, room_of};
+use format_of_rows::{File, Part, Row};
 use fw_memory::{MemClock, MemDice, MemFiles, MemKeeper, MemLauncher, MemSink, MemSource};
 use fw_types::{Name, NoMemory, Octets};
-use row_format::{File, Part, Row};
 use std::alloc::Global;
 
 /// The names that a keeper has, with their bytes.
@@ -121,7 +121,7 @@ pub(crate) fn console_devices(
     records: Records,
 ) -> Result<Devices, NoMemory> {
     let mut entries = Vec::new(alloc);
-    let name = Octets::copy(alloc, row_format::TABLE.as_bytes())?;
+    let name = Octets::copy(alloc, format_of_rows::TABLE.as_bytes())?;
     entries.push((name, Octets::of(Vec::new(alloc))))?;
     let said = Octets::copy(alloc, said)?;
     Ok(Devices {

@@ -9,8 +9,8 @@ use crate::runner::Runner;
 use crate::sweeps::{Swept, say_where, sweep};
 use crate::texts::count_lines;
 use crate::verdicts::usual;
+use format_of_rows::Row;
 use fw_types::{Name, NoMemory, Octets};
-use row_format::Row;
 use std::alloc::Global;
 
 // What is told at the console where each line is answered by `ok`.

@@ -2,9 +2,9 @@
 
 use crate::comparing::Difference;
 use crate::devices::Devices;
+use format_of_rows::{Row, Setting};
 use fw_memory::{MemClock, MemKeeper, MemLauncher, MemSink, MemSource};
 use fw_types::{NoMemory, Octets};
-use row_format::{Row, Setting};
 use std::alloc::Global;
 
 /// The status of a run, and the devices after it.

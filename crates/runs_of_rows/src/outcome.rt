@@ -3,10 +3,10 @@
 use crate::calls::Broken;
 use crate::devices::{Devices, Records, console_devices, copy_of, devices_of};
 use crate::runner::{Ended, Runner};
+use format_of_rows::Row;
 use fw_memory::{MemKeeper, MemLauncher, MemSource};
 use fw_outside::{Clock, Got, Source};
 use fw_types::{Name, NoMemory, Octets};
-use row_format::Row;
 use std::alloc::Global;
 
 /// What a run came to.

@@ -1,8 +1,8 @@
 //! Which calls of a device fail.
 
+use format_of_rows::{Part, Row, Times};
 use fw_memory::Calls;
 use fw_types::NoMemory;
-use row_format::{Part, Row, Times};
 use std::alloc::Global;
 
 /// What fails in a run besides what its row says: one part, or none, at one call; for a sink's room the count of bytes.

@@ -9,8 +9,8 @@ use crate::texts::{count_lines, first_lines, front, has_line, later_lines, witho
 use crate::verdicts::{
     is_netacl, is_session, is_verdict, log_of, paced_moment, untouched, usual, verdict,
 };
+use format_of_rows::{Part, Row, Tried};
 use fw_types::{Name, NoMemory, Octets};
-use row_format::{Part, Row, Tried};
 use std::alloc::Global;
 
 /// A row with the records that its runs begin with, and how its bytes are cut.
