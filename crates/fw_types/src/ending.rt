@@ -7,7 +7,7 @@ pub enum Ending {
     Denied { line: u32 },
     /// The client's source or sink failed.
     ClientFault,
-    /// The link to the server of a gateway failed. No session here ends so.
+    /// The link to the server of a gateway failed.
     ServerFault,
     /// The log failed.
     LogFault,
@@ -15,7 +15,7 @@ pub enum Ending {
     AuthFault,
     /// Nothing came in time.
     Idle,
-    /// The server of a gateway couldn't be reached. No session here ends so.
+    /// The server of a gateway couldn't be reached.
     NoRoute,
     /// As many bytes were taken as may be.
     Spent,
