@@ -35,7 +35,7 @@ use Rattle.bastion.proofs.SessionLemmas.{serves_takes}
 no_rise : {A : Type 0} → Rose 0 0 → A
 no_rise rose = let late = rose.1 in absurd (omega (arith, late))
 
-port_rose : {A : Type 0} → Rose 0 0 ⊎ Rose 0 0 → A
+pub port_rose : {A : Type 0} → Rose 0 0 ⊎ Rose 0 0 → A
 port_rose (inl rose) = no_rise rose
 port_rose (inr rose) = no_rise rose
 

@@ -1,9 +1,11 @@
+pub mod Asking
 pub mod Complete
 pub mod Conn
 pub mod Deciding
 pub mod Endings
 pub mod Headline
 pub mod Inputs
+pub mod Linking
 pub mod Outcome
 pub mod Places
 pub mod Reading

@@ -67,4 +67,5 @@ pub record Attended (client : Client) (inputs : Inputs) (out : outcomes.Outcome)
   pub comes : out ≡ outcome.Ended ending book.refused
   pub kept : new.inputs.keeper ≡ Some book.keeper
   pub files : new.files ≡ old.files
+  pub links : new.inputs.dialer ≡ old.inputs.dialer
   pub launcher : new.inputs.launcher ≡ old.inputs.launcher

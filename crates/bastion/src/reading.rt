@@ -6,7 +6,7 @@ ghost use Rattle.gate_rules.specs.Reading.{rules_of};
 ghost use Rattle.gate_rules.specs.declared.service.Service.TheVariants.{Authsrv};
 
 use crate::server_rules::ServerRules;
-use crate::{Device, Outcome, Refusal, Step};
+use crate::{Device, Kit, Outcome, Refusal, Step, World};
 use auth_machine::Policy;
 use fw_outside::Files;
 use fw_types::NoMemory;
@@ -79,8 +79,8 @@ fn read_both(alloc: Global, table: &Table) -> Result<ServerRules, Outcome>
     }
 }
 
-/// The rules that the table with this name has for a service.
-pub(crate) fn find_rules<F: Files>(
+// The rules that the table with this name has for a service.
+fn find_rules<F: Files>(
     alloc: Global,
     files: &mut F,
     name: &[u8],
@@ -93,6 +93,21 @@ pub(crate) fn find_rules<F: Files>(
         Ok(table) => read_rules(alloc, &table, service),
         Err(outcome) => Err(outcome),
     }
+}
+
+/// The rules of a service, which only the files are asked for.
+pub(crate) fn rules_for<T: Kit>(
+    alloc: Global,
+    name: &[u8],
+    service: &Service,
+    world: &mut World<T>,
+) -> Result<Rules, Outcome>
+    ensures found { Finds (ruling_in (rules_of service.now)) name.now result world.old.files world.new.files }
+    ensures output { world.new.output ≡ world.old.output }
+    ensures logs { world.new.logs ≡ world.old.logs }
+    ensures inputs { world.new.inputs ≡ world.old.inputs }
+{
+    find_rules(alloc, &mut world.files, name, service)
 }
 
 /// What the table with this name says to the authentication server.
