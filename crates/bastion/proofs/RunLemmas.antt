@@ -36,7 +36,7 @@ use Rattle.bastion.specs.declared.words.Command.TheVariants.{Netacl, NetaclRun, 
 use Rattle.bastion.proofs.AttendedLemmas.{attended_rose, attended_status, attended_takes, takes_same}
 use Rattle.bastion.proofs.DecidedLemmas.{ByVerdict, after_rose, after_status, shown_rose, shown_status}
 use Rattle.bastion.proofs.LaunchLemmas.{run_left, run_rose, run_status_by}
-use Rattle.bastion.proofs.SinkLemmas.{cut_rose, gives_most, rose_later, same_low}
+use Rattle.client_service.proofs.SinkLemmas.{cut_rose, gives_most, rose_later, same_low}
 
 -- ---- what reading leaves
 

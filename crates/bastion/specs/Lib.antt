@@ -1,7 +1,5 @@
 pub mod Complete
-pub mod Conn
 pub mod Deciding
-pub mod Endings
 pub mod Headline
 pub mod Inputs
 pub mod Outcome
@@ -13,7 +11,6 @@ pub mod SessionSteps
 pub mod Status
 pub mod TableReport
 pub mod Texts
-pub mod TurningAway
 pub mod Words
 pub mod Works
 pub mod WorldView
