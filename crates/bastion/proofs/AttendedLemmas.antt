@@ -20,7 +20,7 @@ use Rattle.session_acts.specs.Serverless.{CausedAlone, TakesExactly}
 use Rattle.session_acts.specs.Dummies.{nowhere}
 use Rattle.session_acts.specs.World.{Devices, most_taken}
 use Rattle.session_acts.proofs.DeviceLemmas.{by_nothing}
-use Rattle.bastion.specs.Conn.{Causes, IsRefused}
+use Rattle.client_service.specs.Conn.{Causes, IsRefused}
 use Rattle.bastion.specs.Inputs.{Inputs}
 use Rattle.bastion.specs.Outcome.{CountRose, EndingRose, status_of}
 use Rattle.bastion.specs.Serving.{Attended, Serves, book_at_first, devices_at, most_entries, origin_of}
@@ -29,7 +29,7 @@ use Rattle.bastion.specs.WorldView.{WorldView}
 use Rattle.bastion.specs.declared.outcome.Outcome.{Outcome}
 use Rattle.bastion.specs.declared.outcome.Outcome.TheVariants.{Ended}
 use Rattle.bastion.specs.declared.words.Client.{Client}
-use Rattle.bastion.proofs.ConnLemmas.{conn_caused, conn_refused, conn_spent, console_caused, console_spent}
+use Rattle.client_service.proofs.ConnLemmas.{conn_caused, conn_refused, conn_spent, console_caused, console_spent}
 use Rattle.bastion.proofs.SessionLemmas.{serves_takes}
 
 no_rise : {A : Type 0} → Rose 0 0 → A

@@ -15,7 +15,7 @@ use Rattle.gate_rules.specs.declared.service.Service.TheVariants.{Authsrv}
 use Rattle.gate_rules.specs.declared.verdict.Verdict.{Verdict}
 use Rattle.gate_rules.specs.declared.verdict.Verdict.TheVariants.{Permit, Deny}
 use Rattle.session_acts.specs.Dummies.{nowhere}
-use Rattle.bastion.specs.Conn.{dialer_then}
+use Rattle.client_service.specs.Conn.{dialer_then}
 use Rattle.bastion.specs.Inputs.{Inputs}
 use Rattle.bastion.specs.Serving.{Serves, UntouchedAt, book_at_first, devices_at, most_entries, origin_of}
 use Rattle.bastion.specs.SessionSteps.{GivesBack, HoldsOver, IsUndialed, OfRecords, Opened, Proceeds}
@@ -24,7 +24,7 @@ use Rattle.bastion.specs.declared.outcome.Outcome.{Outcome}
 use Rattle.bastion.specs.declared.outcome.Outcome.TheVariants.{Ended}
 use Rattle.bastion.specs.declared.server_rules.ServerRules.{ServerRules}
 use Rattle.bastion.specs.declared.words.Client.{Client}
-use Rattle.bastion.proofs.ConnLemmas.{conn_origin, console_origin}
+use Rattle.client_service.proofs.ConnLemmas.{conn_origin, console_origin}
 
 -- what the keeper is doesn't matter to those who meet
 with_keeper_back : (client : Client) (rules : RuleBook) (first book : BookView) (before dialer : DialerView) (ending : Ending) (old mid new : WorldView) (keeper : Option KeeperView) → new ≡ record mid { inputs = record (mid.inputs) { keeper = keeper } }

@@ -15,7 +15,8 @@ use Rattle.bastion.specs.Inputs.{HasInputs, Inputs}
 use Rattle.bastion.specs.Outcome.{fault_line_of, refusal_text, status_of, verdict_status}
 use Rattle.bastion.specs.Run.{DoesLine, Run, Stops, TellsIf, Worked, verdict_for}
 use Rattle.bastion.specs.Status.{IsServed, RoseBy, RoseOf, SomeRose}
-use Rattle.bastion.specs.Texts.{decision_text, ended_text, print_text, program_of}
+use Rattle.client_service.specs.Decision.{decision_text}
+use Rattle.bastion.specs.Texts.{ended_text, print_text, program_of}
 use Rattle.bastion.specs.Words.{LineView}
 use Rattle.bastion.specs.Works.{LaunchesIf, PrintsAfter, PrintsEnd, StaysSo, announced, shown, with_given}
 use Rattle.bastion.specs.WorldView.{SessionInputs, WorldView}
@@ -33,7 +34,7 @@ use Rattle.bastion.proofs.RunLemmas.{by_later, calls_launcher, count_some, only_
 use Rattle.bastion.proofs.LinkedLemmas.{linked_whole}
 use Rattle.bastion.proofs.QuietLemmas.{Quiet, gave_whole, quiet, same_from, same_to}
 use Rattle.bastion.proofs.ServedLemmas.{attended_whole}
-use Rattle.bastion.proofs.SinkLemmas.{cut_rose, gives_most, same_low}
+use Rattle.client_service.proofs.SinkLemmas.{cut_rose, gives_most, same_low}
 
 grown_from : (text : List ℕ) (a b c : SinkView) → b ≡ a → c ≡ with_given b text → c.given ≡ grown a.given text
 grown_from text a b c same is = ap (λ (s : SinkView). s.given) is ∙ ap (λ (s : SinkView). grown s.given text) same

@@ -45,8 +45,8 @@ use Rattle.session_acts.proofs.DeedLemmas.{all_gain, held_deeds}
 use Rattle.session_acts.proofs.EntryLemmas.{whole_talk}
 use Rattle.session_acts.proofs.TalkLemmas.{entered_gains}
 use Rattle.session_acts.proofs.ToldLemmas.{told_gains}
-use Rattle.bastion.specs.Conn.{NotedIf, denied_by}
-use Rattle.bastion.specs.Endings.{denied_text, ending_line}
+use Rattle.client_service.specs.Conn.{NotedIf, denied_by}
+use Rattle.client_service.specs.Endings.{denied_text, ending_line}
 use Rattle.bastion.specs.Asking.{IsUndecided}
 use Rattle.bastion.specs.Headline.{Headline, HeadlineFor, IsDenied, IsPermitted, IsSilent, IsToldOff, IsUnserved, LogsDenial, OfHistory, begins, lent_to, table_kept, talk_of}
 use Rattle.bastion.specs.Inputs.{Inputs}
@@ -55,7 +55,8 @@ use Rattle.bastion.specs.Run.{DoesLine, ReadsOnly, Run, Stops, TellsIf, Worked, 
 use Rattle.bastion.specs.Serving.{Attended, UntouchedAt, book_at_first, devices_at, most_entries, origin_of}
 use Rattle.bastion.specs.Status.{IsHeld, IsServed}
 use Rattle.bastion.specs.Words.{LineView}
-use Rattle.bastion.specs.Texts.{decision_text, print_text, program_of}
+use Rattle.client_service.specs.Decision.{decision_text}
+use Rattle.bastion.specs.Texts.{print_text, program_of}
 use Rattle.bastion.specs.Works.{Announced, AnnouncedRun, PrintsAfter, StaysSo, announced, with_given}
 use Rattle.bastion.specs.WorldView.{SessionInputs, WorldView}
 use Rattle.bastion.specs.declared.outcome.Device.TheVariants as device

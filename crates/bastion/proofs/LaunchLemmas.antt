@@ -21,7 +21,7 @@ use Rattle.bastion.specs.declared.outcome.Outcome.{Outcome}
 use Rattle.bastion.specs.declared.outcome.Outcome.TheVariants.{Usage, Unread, Failed, NoMemory, Decided, Ended}
 use Rattle.bastion.specs.declared.words.Query.{Query}
 use Rattle.bastion.proofs.DecidedLemmas.{ByVerdict, after_rose, after_status, shown_rose, shown_status}
-use Rattle.bastion.proofs.SinkLemmas.{cut_rose, gives_most, same_low}
+use Rattle.client_service.proofs.SinkLemmas.{cut_rose, gives_most, same_low}
 
 -- ---- a program was started, or not
 

@@ -1,9 +1,7 @@
 pub mod AttendedLemmas
 pub mod ClientLemmas
 pub mod CompleteLemmas
-pub mod ConnLemmas
 pub mod DecidedLemmas
-pub mod DenialLemmas
 pub mod DoesLemmas
 pub mod HeadlineLemmas
 pub mod InputLemmas
@@ -16,5 +14,3 @@ pub mod ReadingLemmas
 pub mod RunLemmas
 pub mod ServedLemmas
 pub mod SessionLemmas
-pub mod SinkLemmas
-pub mod WaitLemmas

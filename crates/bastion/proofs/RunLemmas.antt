@@ -39,7 +39,7 @@ use Rattle.bastion.proofs.AttendedLemmas.{attended_rose, attended_status, attend
 use Rattle.bastion.proofs.DecidedLemmas.{ByVerdict, after_rose, after_status, shown_rose, shown_status}
 use Rattle.bastion.proofs.LaunchLemmas.{run_left, run_rose, run_status_by}
 use Rattle.bastion.proofs.LinkingLemmas.{linked_rose, linked_status, linked_takes}
-use Rattle.bastion.proofs.SinkLemmas.{cut_rose, gives_most, rose_later, same_low}
+use Rattle.client_service.proofs.SinkLemmas.{cut_rose, gives_most, rose_later, same_low}
 
 -- ---- what reading leaves
 

@@ -13,7 +13,7 @@ use Rattle.gate_rules.specs.declared.verdict.Verdict.{Verdict}
 use Rattle.gate_rules.specs.declared.verdict.Verdict.TheVariants.{Permit, Deny}
 use Rattle.session_acts.specs.Session.{deeds_of}
 use Rattle.session_acts.specs.Talk.{is_refused_as_full}
-use Rattle.bastion.specs.Endings.{denied_text, ending_line}
+use Rattle.client_service.specs.Endings.{denied_text, ending_line}
 use Rattle.bastion.specs.Asking.{IsAsked, linking_text}
 use Rattle.bastion.specs.Headline.{OfHistory, talk_of}
 use Rattle.bastion.specs.Inputs.{HasInputs, Inputs}
@@ -21,7 +21,8 @@ use Rattle.bastion.specs.Outcome.{fault_line_of, refusal_text, verdict_status}
 use Rattle.bastion.specs.Run.{ReadsOnly, verdict_for}
 use Rattle.bastion.specs.Status.{IsHeld}
 use Rattle.bastion.specs.TableReport.{report_text}
-use Rattle.bastion.specs.Texts.{decision_text, ended_text, print_text, program_of}
+use Rattle.client_service.specs.Decision.{decision_text}
+use Rattle.bastion.specs.Texts.{ended_text, print_text, program_of}
 use Rattle.bastion.specs.Words.{LineView}
 use Rattle.bastion.specs.WorldView.{WorldView}
 use Rattle.bastion.specs.declared.outcome.Outcome.TheVariants.{Ended}

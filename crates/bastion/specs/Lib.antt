@@ -1,8 +1,6 @@
 pub mod Asking
 pub mod Complete
-pub mod Conn
 pub mod Deciding
-pub mod Endings
 pub mod Headline
 pub mod Inputs
 pub mod Linking
@@ -15,7 +13,6 @@ pub mod SessionSteps
 pub mod Status
 pub mod TableReport
 pub mod Texts
-pub mod TurningAway
 pub mod Words
 pub mod Works
 pub mod WorldView

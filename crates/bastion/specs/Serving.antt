@@ -13,7 +13,7 @@ use Rattle.gate_rules.specs.declared.service.Service.TheVariants.{Authsrv}
 use Rattle.gate_rules.specs.declared.verdict.Verdict.{Verdict}
 use Rattle.session_acts.specs.Dummies.{nowhere, refusing}
 use Rattle.session_acts.specs.World.{Devices, devices_with}
-use Rattle.bastion.specs.Conn.{AtConsole, Conn, Untouched}
+use Rattle.client_service.specs.Conn.{AtConsole, Conn, Untouched}
 use Rattle.bastion.specs.Inputs.{Inputs}
 use Rattle.bastion.specs.WorldView.{WorldView}
 use Rattle.bastion.specs.declared.outcome.Outcome as outcomes

@@ -13,7 +13,8 @@ use Rattle.bastion.specs.Inputs.{Inputs}
 use Rattle.bastion.specs.Linking.{Linked}
 use Rattle.bastion.specs.Serving.{Attended}
 use Rattle.bastion.specs.TableReport.{report_text}
-use Rattle.bastion.specs.Texts.{decision_text, ended_text, print_text, program_of}
+use Rattle.client_service.specs.Decision.{decision_text}
+use Rattle.bastion.specs.Texts.{ended_text, print_text, program_of}
 use Rattle.bastion.specs.WorldView.{WorldView}
 use Rattle.bastion.specs.declared.outcome.Device.TheVariants as device
 use Rattle.bastion.specs.declared.outcome.Outcome.{Outcome}

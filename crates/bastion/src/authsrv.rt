@@ -1,6 +1,6 @@
 //! The command `authsrv`: the table and the records are read, a client is served, and the records are given back.
 ghost use Rattle.std.specs.Prelude.{◌≡◌, IsSome, IfOk, IfErr, true};
-ghost use Rattle.bastion.specs.Conn.{AtConsole, Conn, Untouched};
+ghost use Rattle.client_service.specs.Conn.{AtConsole, Conn, Untouched};
 ghost use Rattle.bastion.specs.Reading.{Finds, ruling_in, server_rules_of};
 ghost use Rattle.bastion.specs.Run.{DoesFor};
 ghost use Rattle.bastion.specs.Serving.{Serves, UntouchedAt, devices_at};
@@ -11,9 +11,9 @@ ghost use Rattle.gate_rules.specs.declared.service.Service.TheVariants as servic
 
 use crate::reading::find_server_rules;
 use crate::server_rules::ServerRules;
-use crate::serving::{conn, console};
 use crate::{Client, Device, Kit, Outcome, Refusal, Step, World};
 use auth_machine::{Book, OpenFault, Policy};
+use client_service::{conn, console};
 use fw_outside::{Files, Keeper};
 use fw_types::{Ending, Peer};
 use gate_rules::{Rules, Service};

@@ -1,7 +1,7 @@
 use Rattle.gate_rules.specs.declared.service.Service.TheVariants.{Authsrv}
 use Rattle.bastion.specs.Serving.{devices_at}
 use Rattle.bastion.proofs.ClientLemmas.{conn_undialed_so, same_undialed}
-use Rattle.bastion.proofs.ConnLemmas.{conn_undialed, console_undialed}
+use Rattle.client_service.proofs.ConnLemmas.{conn_undialed, console_undialed}
 use Rattle.bastion.proofs.authsrv.hold.Goals as goal
 
 pub returns-then-client-clause-undialed : goal.returns-then-client-clause-undialed

@@ -1,9 +1,9 @@
 use Rattle.std.proofs.Common.{subst}
 use Rattle.gate_rules.specs.declared.verdict.Verdict.{Verdict}
 use Rattle.session_acts.specs.World.{Devices, devices_with}
-use Rattle.bastion.specs.Conn.{Conn, Treats, Untouched}
-use Rattle.bastion.proofs.ConnLemmas.{conn_caused, conn_home, conn_keeps, conn_origin, conn_refused, conn_spent, conn_undialed, conn_waited}
-use Rattle.bastion.proofs.serving.conn.Goals as goal
+use Rattle.client_service.specs.Conn.{Conn, Treats, Untouched}
+use Rattle.client_service.proofs.ConnLemmas.{conn_caused, conn_home, conn_keeps, conn_origin, conn_refused, conn_spent, conn_undialed, conn_waited}
+use Rattle.client_service.proofs.serving.conn.Goals as goal
 
 pub returns : goal.returns
 returns g c =

@@ -13,7 +13,7 @@ use Rattle.session_acts.specs.Session.{Session}
 use Rattle.session_acts.specs.World.{Devices, Names, World, at_first}
 use Rattle.session_acts.specs.declared.cause.Cause.TheVariants as causes
 use Rattle.session_acts.proofs.StageLemmas.{Gift, cut_at, front_of, gift}
-use Rattle.bastion.specs.TurningAway.{TurnedAway}
+use Rattle.client_service.specs.TurningAway.{TurnedAway}
 
 -- the client is lent no threads
 abbrev nobody : Names

@@ -1,9 +1,9 @@
 //! One client of a service: the verdict, the session, and how it ended.
 ghost use Rattle.std.specs.Prelude.{◌≡◌, true, false};
 ghost use Rattle.authsrv_gate.specs.Dialogue.{rows, session_row};
-ghost use Rattle.bastion.specs.Conn.{AtConsole, Causes, Conn, IsRefused, Noted, NotedIf, Treats, Untouched, WaitsAs, denied_by, dialer_then, lent_by, logged_row, patient, seconds_by, timeout_of};
-ghost use Rattle.bastion.specs.Endings.{ending_line};
-ghost use Rattle.bastion.specs.TurningAway.{TurnedAway};
+ghost use Rattle.client_service.specs.Conn.{AtConsole, Causes, Conn, IsRefused, Noted, NotedIf, Treats, Untouched, WaitsAs, denied_by, dialer_then, lent_by, logged_row, patient, seconds_by, timeout_of};
+ghost use Rattle.client_service.specs.Endings.{ending_line};
+ghost use Rattle.client_service.specs.TurningAway.{TurnedAway};
 ghost use Rattle.fw_outside.specs.DialerView.{dialer_waiting};
 ghost use Rattle.fw_outside.specs.SourceView.{waiting};
 ghost use Rattle.gate_rules.specs.Verdict.{verdict_of};
@@ -14,8 +14,8 @@ ghost use Rattle.session_acts.specs.Session.{Session};
 ghost use Rattle.session_acts.specs.World.{devices_with};
 
 use crate::deciding::verdict_of;
+use crate::decision::decision_line;
 use crate::endings::{denied_line, ending_line};
-use crate::texts::decision_line;
 use auth_events::AuthPort;
 use authsrv_gate::AuthsrvScript;
 use fw_outside::{Clock, Dialer, Dice, Failed, Sink, Source};
@@ -143,7 +143,7 @@ where
 }
 
 /// A session at the console of the server, and then its ending's line.
-pub(crate) fn console<P, S, K, G, D, C, R>(
+pub fn console<P, S, K, G, D, C, R>(
     service: &Service,
     peer: &Peer,
     port: &mut P,

@@ -24,11 +24,11 @@ use Rattle.session_acts.proofs.ServerlessLemmas.{logged_serverless, session_serv
 use Rattle.session_acts.proofs.DeviceLemmas.{by_nothing}
 use Rattle.fw_outside.proofs.CountLemmas.{grew_none}
 use Rattle.fw_outside.specs.Counts.{Grew, Rose}
-use Rattle.bastion.specs.Conn.{AtConsole, Causes, Conn, IsRefused, NotedIf, Permits, Treats, TurnsAway, Untouched, WaitsAs, denied_by, dialer_then, lent_by, logged_row, patient, timeout_of}
-use Rattle.bastion.specs.Endings.{denied_text, ending_line}
-use Rattle.bastion.specs.Texts.{decision_text}
-use Rattle.bastion.proofs.SinkLemmas.{gives_most, gives_shut, rose_later, same_low}
-use Rattle.bastion.proofs.WaitLemmas.{session_waits}
+use Rattle.client_service.specs.Conn.{AtConsole, Causes, Conn, IsRefused, NotedIf, Permits, Treats, TurnsAway, Untouched, WaitsAs, denied_by, dialer_then, lent_by, logged_row, patient, timeout_of}
+use Rattle.client_service.specs.Endings.{denied_text, ending_line}
+use Rattle.client_service.specs.Decision.{decision_text}
+use Rattle.client_service.proofs.SinkLemmas.{gives_most, gives_shut, rose_later, same_low}
+use Rattle.client_service.proofs.WaitLemmas.{session_waits}
 
 noted_most : (line : Option (List ℕ)) (old new : SinkView) → NotedIf line old new → old.faults ≤ new.faults
 noted_most None old new is = same_low old.faults new.faults (ap (λ (s : SinkView). s.faults) is)

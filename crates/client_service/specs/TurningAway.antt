@@ -5,7 +5,7 @@ use Rattle.fw_outside.specs.SinkView.{Cut, SinkView}
 use Rattle.fw_outside.specs.ToldList.{grown}
 use Rattle.fw_types.specs.declared.ending.Ending.{Ending}
 use Rattle.fw_types.specs.declared.ending.Ending.TheVariants.{Done, LogFault}
-use Rattle.bastion.specs.Conn.{Noted}
+use Rattle.client_service.specs.Conn.{Noted}
 
 -- the log failed within the line, and the client was told nothing
 pub record StaysUntold (line : List ℕ) (ending : Ending) (to told logs noted : SinkView) : Type 0 where

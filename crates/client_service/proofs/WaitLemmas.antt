@@ -32,7 +32,7 @@ use Rattle.session_acts.proofs.DeedLemmas.{all_last, deeds_done}
 use Rattle.session_acts.proofs.DeviceLemmas.{halted_waited, rose_within}
 use Rattle.session_acts.proofs.SpentLemmas.{owed_client}
 use Rattle.session_acts.proofs.StaysLemmas.{stays_last}
-use Rattle.bastion.specs.Conn.{WaitsAlone}
+use Rattle.client_service.specs.Conn.{WaitsAlone}
 
 -- what a stop says of the client, by how the session ends
 abbrev QuietBy : Ending → Speaker → Speaker → Type 0

@@ -23,8 +23,8 @@ use Rattle.session_acts.specs.Met.{acts}
 use Rattle.session_acts.specs.Serverless.{CausedAlone}
 use Rattle.session_acts.specs.Session.{Session}
 use Rattle.session_acts.specs.World.{Devices}
-use Rattle.bastion.specs.Endings.{denied_text, ending_line}
-use Rattle.bastion.specs.Texts.{decision_text}
+use Rattle.client_service.specs.Endings.{denied_text, ending_line}
+use Rattle.client_service.specs.Decision.{decision_text}
 
 -- the seconds that a source waits for a client: as the table sets them, or else an hour
 abbrev pub seconds_by : Option (ℕ × ℕ) → ℕ

@@ -5,13 +5,13 @@ use Rattle.gate_rules.specs.declared.verdict.Verdict.{Verdict}
 use Rattle.gate_rules.specs.declared.verdict.Verdict.TheVariants.{Deny, Permit}
 use Rattle.session_acts.specs.Session.{Session}
 use Rattle.session_acts.specs.World.{Devices, devices_with}
-use Rattle.bastion.specs.Conn.{logged_row, patient, timeout_of}
-use Rattle.bastion.specs.Endings.{denied_text}
-use Rattle.bastion.specs.Texts.{decision_text}
-use Rattle.bastion.specs.TurningAway.{TurnedAway}
-use Rattle.bastion.proofs.ConnLemmas.{treated_deny, treated_permit, untouched_deny, untouched_permit}
-use Rattle.bastion.proofs.DenialLemmas.{away_session}
-use Rattle.bastion.proofs.serving.treat.Goals as goal
+use Rattle.client_service.specs.Conn.{logged_row, patient, timeout_of}
+use Rattle.client_service.specs.Endings.{denied_text}
+use Rattle.client_service.specs.Decision.{decision_text}
+use Rattle.client_service.specs.TurningAway.{TurnedAway}
+use Rattle.client_service.proofs.ConnLemmas.{treated_deny, treated_permit, untouched_deny, untouched_permit}
+use Rattle.client_service.proofs.DenialLemmas.{away_session}
+use Rattle.client_service.proofs.serving.treat.Goals as goal
 
 pub returns-in-Deny : goal.returns-in-Deny
 returns-in-Deny g c =

@@ -1,9 +1,9 @@
 //! How the end of a session is told.
 ghost use Rattle.std.specs.Prelude.{◌≡◌, ◌≤◌, length, IfSome, MatchOption, None, Some};
 ghost use Rattle.std.specs.Option.{option_copied};
-ghost use Rattle.bastion.specs.Endings.{denied_text, end_text, ending_line, ending_word};
+ghost use Rattle.client_service.specs.Endings.{denied_text, end_text, ending_line, ending_word};
 
-use crate::texts::{LogLine, append_peer, append_service};
+use crate::decision::{LogLine, append_peer, append_service};
 use arrayvec::ArrayVec;
 use fw_types::{Ending, Peer, append, append_u32};
 use gate_rules::Service;

@@ -1,0 +1,4 @@
+pub mod ConnLemmas
+pub mod DenialLemmas
+pub mod SinkLemmas
+pub mod WaitLemmas

@@ -1,0 +1,4 @@
+pub mod Conn
+pub mod Decision
+pub mod Endings
+pub mod TurningAway
