@@ -71,7 +71,7 @@ attended_rose client inputs out old new h =
 
 -- ---- bytes
 
-spent_is : (ending : Ending) → is_spent_ending ending ≡ true → ending ≡ Spent
+pub spent_is : (ending : Ending) → is_spent_ending ending ≡ true → ending ≡ Spent
 spent_is Spent is = refl
 spent_is Done is = absurd (cc)
 spent_is (Denied line) is = absurd (cc)

@@ -245,7 +245,6 @@ worked_complete name (Table query) outcome old mid new none h tells =
           table_whole (verdict_of h.inputs.rules query.peer) _ outcome old h.middle mid new (quiet old new none) h.only.logs h.only.output h.works.logs h.works.printed.printing h.works.printed.is h.works.printed.gives tells;
     })
 worked_complete name (Authsrv client) outcome old mid new none h tells = served_whole name client outcome old mid new none h tells (attended_status client h.inputs outcome h.middle mid h.works)
-
 worked_complete name (PlugGw caller) outcome old mid new none h tells =
     let later = tells_later (fault_line_of outcome) mid new tells in
     let never : status_of outcome ≡ 4 → ⊥ = λ four. none (by_later (PlugGw caller) old mid new later (rose_some (PlugGw caller) outcome old mid (worked_rose name (PlugGw caller) outcome old mid h) four)) in

@@ -14,3 +14,4 @@ pub mod ReadingLemmas
 pub mod RunLemmas
 pub mod ServedLemmas
 pub mod SessionLemmas
+pub mod TempEnd

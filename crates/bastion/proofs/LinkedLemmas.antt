@@ -1,7 +1,7 @@
 -- From what a session of the plug did to the headline, and to a run in which no count rose.
-use Rattle.std.proofs.Common.{◌≡◌, ◌≢◌, ◌≤◌, ◌∙◌, ℕ, List, [], ◌∷◌, ◌++◌, refl, sym, ap, subst, inl, inr, ◌⊎◌, arith, append_assoc, append-nil, true, false}
+use Rattle.std.proofs.Common.{◌≡◌, ◌≢◌, ◌≤◌, ◌∙◌, ℕ, List, [], ◌∷◌, ◌++◌, refl, sym, ap, subst, inl, inr, ◌⊎◌, arith, append_assoc, Bool, true, false}
 use Rattle.std.specs.Option.{option_map}
-use Rattle.std.specs.Prelude.{Option, Some, None, unwrap_or}
+use Rattle.std.specs.Prelude.{Option, Some, None, unwrap_or, codes, if◌then◌else◌}
 use Rattle.client_service.specs.Conn.{NotedIf, logged_row, patient, timeout_of}
 use Rattle.client_service.specs.Decision.{decision_text}
 use Rattle.client_service.specs.Endings.{ending_line}
@@ -17,11 +17,11 @@ use Rattle.fw_types.specs.declared.ending.Ending.{Ending}
 use Rattle.fw_types.specs.declared.ending.Ending.TheVariants as endings
 use Rattle.fw_types.specs.declared.peer.Peer.{Peer}
 use Rattle.gate_rules.specs.Reading.{RuleBook}
-use Rattle.gate_rules.specs.Verdict.{options_at, verdict_of}
+use Rattle.gate_rules.specs.Verdict.{verdict_of}
 use Rattle.gate_rules.specs.declared.service.Service.TheVariants as services
 use Rattle.gate_rules.specs.declared.verdict.Verdict.{Verdict}
 use Rattle.gate_rules.specs.declared.verdict.Verdict.TheVariants.{Permit, Deny}
-use Rattle.plug_gate.proofs.EndLemmas.{plug_ends, plug_fronts}
+use Rattle.bastion.proofs.TempEnd.{plug_ends, plug_fronts}
 use Rattle.plug_gate.specs.Dialogue.{connect_text, plug_row}
 use Rattle.plug_gate.specs.Laws.{Ends, GivesFronts, IsPlugged, IsTurnedDown, IsWhole}
 use Rattle.session_acts.proofs.ClientLemmas.{logs_first}
@@ -33,12 +33,13 @@ use Rattle.session_acts.specs.Laws.{Adds}
 use Rattle.session_acts.specs.Relayed.{relayed}
 use Rattle.session_acts.specs.Session.{RelaySession}
 use Rattle.session_acts.specs.World.{Devices}
-use Rattle.bastion.specs.Asking.{FailsAtLog, FailsWithin, IsAsked, IsUnasked, linking_text, target_in}
+use Rattle.bastion.specs.TempPlug.{LinksTo, LogsDenial, silent_row, target_of}
+use Rattle.bastion.specs.Asking.{FailsAtLog, FailsWithin, IsAsked, IsUnasked, linking_text}
 use Rattle.bastion.specs.Complete as complete
 use Rattle.bastion.specs.Complete.{IsLinkedWhole, IsPutThrough}
 use Rattle.bastion.specs.Headline.{IsDenied, IsPermitted, IsSilent}
 use Rattle.bastion.specs.Inputs.{Inputs}
-use Rattle.bastion.specs.Linking.{Linked, devices_for}
+use Rattle.bastion.specs.Linking.{Linked, devices_for, linked_devices}
 use Rattle.bastion.specs.Outcome.{ending_status, fault_line_of, is_at_limit, status_of, verdict_status}
 use Rattle.bastion.specs.Run.{ReadsOnly, TellsIf, verdict_for}
 use Rattle.bastion.specs.Status.{IsLinked}
@@ -58,18 +59,25 @@ record IsAdmitted (caller : Caller) (rules : RuleBook) (old new : Devices (Unit 
   line : ℕ
   permitted : verdict_of rules caller.peer ≡ Permit line
   dest : Dest
-  target : target_in (options_at rules line) ≡ Some dest
+  target : target_of rules line ≡ Some dest
   logs : SinkView
   session : RelaySession (relayed no_rows) (logged_row (decision_text (Permit line) (services.PlugGw caller.port) caller.peer) (plug_row (connect_text caller.port caller.peer dest line) dest)) (patient (timeout_of rules) old) (record new { logs = logs }) ending
   noted : NotedIf (ending_line (services.PlugGw caller.port) caller.peer ending) logs new.logs
 
--- the rules deny the peer: the log failed within the line of that, or has it, and nothing else was done
+-- the log failed within the line of a denial, or has it, and nothing else was done
+abbrev TurnedSo : Caller → ℕ → Devices (Unit {0}) → Devices (Unit {0}) → Ending → Type 0
+TurnedSo caller line old new ending =
+    ((new ≡ record old { logs = new.logs }) × (ending ≡ endings.LogFault)) ⊎ ((new ≡ with_line (decision_text (Deny line) (services.PlugGw caller.port) caller.peer) old) × (ending ≡ endings.Denied line))
+
+-- the rules deny the peer
 record IsTurnedOff (caller : Caller) (rules : RuleBook) (old new : Devices (Unit {0})) (ending : Ending) : Type 0 where
   line : ℕ
   denied : verdict_of rules caller.peer ≡ Deny line
-  so :
-      ((new ≡ record old { logs = new.logs }) × (ending ≡ endings.LogFault))
-      ⊎ ((new ≡ with_line (decision_text (Deny line) (services.PlugGw caller.port) caller.peer) old) × (ending ≡ endings.Denied line))
+  so : TurnedSo caller line old new ending
+
+linked_so : (caller : Caller) (inputs : Inputs) (out : Outcome) (old mid : WorldView) → (h : Linked caller inputs out old mid)
+    → IsAdmitted caller inputs.rules (linked_devices old) (linked_devices mid) h.ending ⊎ IsTurnedOff caller inputs.rules (linked_devices old) (linked_devices mid) h.ending
+linked_so caller inputs out old mid h = ?
 
 -- ---- no line is told behind the session's
 
@@ -86,12 +94,12 @@ no_limit endings.Spent = refl
 no_limit endings.NoMemory = refl
 
 ended_status : (ending : Ending) → status_of (Ended ending false) ≡ ending_status ending
-ended_status ending = rw (no_limit ending) refl
+ended_status ending = ap (λ (b : Bool). if b then 6 else ending_status ending) (no_limit ending)
 
 untold_more : (out : Outcome) (ending : Ending) (mid new : WorldView) → out ≡ Ended ending false → TellsIf (fault_line_of out) mid new → new ≡ mid
 untold_more out ending mid new comes h =
     let told : TellsIf (fault_line_of (Ended ending false)) mid new = subst (λ (o : Outcome). TellsIf (fault_line_of o) mid new) comes h in
-    let none : fault_line_of (Ended ending false) ≡ None = rw (no_limit ending) refl in
+    let none : fault_line_of (Ended ending false) ≡ None = ap (λ (b : Bool). if b then Some (codes "fault limit\n") else None) (no_limit ending) in
     subst (λ (l : Option (List ℕ)). TellsIf l mid new) none told
 
 -- ---- texts
@@ -118,7 +126,7 @@ waits_same old new is = is ∙ ap (λ (d : DialerView). record old { waits = d.w
 last_logs : (caller : Caller) (ending : Ending) (logs new : SinkView) → ending ≡ endings.LogFault → NotedIf (ending_line (services.PlugGw caller.port) caller.peer ending) logs new → new ≡ logs
 last_logs caller ending logs new is h = let Noted : Ending → Type 0 = λ e. NotedIf (ending_line (services.PlugGw caller.port) caller.peer e) logs new in subst Noted is h
 
-module _ (caller : Caller) (inputs : Inputs) (old mid : WorldView) (ending : Ending) (a : IsAdmitted caller inputs.rules (devices_for old) (devices_for mid) ending) where
+module _ (caller : Caller) (inputs : Inputs) (old mid : WorldView) (ending : Ending) (a : IsAdmitted caller inputs.rules (linked_devices old) (linked_devices mid) ending) where
   abbrev decided : List ℕ
   decided = decision_text (Permit a.line) (services.PlugGw caller.port) caller.peer
 
@@ -129,10 +137,10 @@ module _ (caller : Caller) (inputs : Inputs) (old mid : WorldView) (ending : End
   seconds = timeout_of inputs.rules
 
   abbrev begun : Devices (Unit {0})
-  begun = patient seconds (devices_for old)
+  begun = patient seconds (linked_devices old)
 
   abbrev left : Devices (Unit {0})
-  left = record (devices_for mid) { logs = a.logs }
+  left = record (linked_devices mid) { logs = a.logs }
 
   -- within the line of the permission
   fails_first : LogFails decided begun left ending → IsUnasked caller inputs old mid
@@ -183,12 +191,12 @@ module _ (caller : Caller) (inputs : Inputs) (old mid : WorldView) (ending : End
   -- ---- the destination was asked for
 
   -- what went over the link, from the devices of the run
-  whole_here : (links : List LinkView) → IsWhole (with_line decided begun) left links → IsWhole (devices_for old) (devices_for mid) links
+  whole_here : (links : List LinkView) → IsWhole (with_line decided begun) left links → IsWhole (linked_devices old) (linked_devices mid) links
   whole_here [] h = h
   whole_here (link ∷ []) h = record { client = h.client; server = h.server; client_told = h.client_told; server_told = h.server_told }
   whole_here (link ∷ other ∷ links) h = h
 
-  fronts_here : GivesFronts (with_line decided begun) left ending → GivesFronts (devices_for old) (devices_for mid) ending
+  fronts_here : GivesFronts (with_line decided begun) left ending → GivesFronts (linked_devices old) (linked_devices mid) ending
   fronts_here h = record {
     of_client = h.of_client;
     to_server = h.to_server;
@@ -263,7 +271,7 @@ linked_undenied (Permit other) line status old new permitted (inr (inl zero)) is
 linked_undenied (Permit other) line status old new permitted (inr (inr six)) is = let now = six.0 in omega (arith, now, is)
 linked_undenied (Deny other) line status old new permitted (inr one) is = absurd (cc)
 
-admitted_headline : (caller : Caller) (inputs : Inputs) (ending : Ending) (old mid : WorldView) → IsAdmitted caller inputs.rules (devices_for old) (devices_for mid) ending
+admitted_headline : (caller : Caller) (inputs : Inputs) (ending : Ending) (old mid : WorldView) → IsAdmitted caller inputs.rules (linked_devices old) (linked_devices mid) ending
     → ((ending_status ending ≡ 4) ⊎ (ending_status ending ≡ 5)) ⊎ IsLinked (verdict_for (PlugGw caller) inputs) (ending_status ending) old.inputs mid.inputs → LinkedHeadline caller inputs (ending_status ending) old mid
 admitted_headline caller inputs ending old mid a by =
     let undenied : ending_status ending ≢ 1 = linked_undenied (verdict_for (PlugGw caller) inputs) a.line (ending_status ending) old.inputs mid.inputs a.permitted by in
@@ -277,32 +285,27 @@ admitted_headline caller inputs ending old mid a by =
 denied_asks : (caller : Caller) (inputs : Inputs) (line : ℕ) (old mid : WorldView) → verdict_for (PlugGw caller) inputs ≡ Deny line → mid.inputs.dialer ≡ old.inputs.dialer → mid.output ≡ old.output → IsUnasked caller inputs old mid
 denied_asks caller inputs line old mid denied dialer output = record { why = inl (line, denied); dialer = waits_same old.inputs.dialer mid.inputs.dialer dialer; output = output }
 
-turned_headline : (caller : Caller) (inputs : Inputs) (ending : Ending) (old mid : WorldView) → IsTurnedOff caller inputs.rules (devices_for old) (devices_for mid) ending → LinkedHeadline caller inputs (ending_status ending) old mid
-turned_headline caller inputs ending old mid t = by t.so
-  where
-    by :
-        (((devices_for mid) ≡ record (devices_for old) { logs = mid.logs }) × (ending ≡ endings.LogFault))
-        ⊎ (((devices_for mid) ≡ with_line (decision_text (Deny t.line) (services.PlugGw caller.port) caller.peer) (devices_for old)) × (ending ≡ endings.Denied t.line)) → LinkedHeadline caller inputs (ending_status ending) old mid
-    by (inl cut) =
-        let output : mid.output ≡ old.output = ap (λ (d : Devices (Unit {0})). d.outlet) cut.0 in
-        let four : ending_status ending ≡ 4 = ap ending_status cut.1 in
-        record {
-          asks = inl (denied_asks caller inputs t.line old mid t.denied (ap (λ (d : Devices (Unit {0})). d.dialer) cut.0) output);
-          denials = inl (record { output = output; undenied = λ one. omega (arith, four, one) });
-          untold = λ one. output;
-        }
-    by (inr whole) =
-        let output : mid.output ≡ old.output = ap (λ (d : Devices (Unit {0})). d.outlet) whole.0 in
-        record {
-          asks = inl (denied_asks caller inputs t.line old mid t.denied (ap (λ (d : Devices (Unit {0})). d.dialer) whole.0) output);
-          denials = inr (inr (record { line = t.line; denied = t.denied; logged = ap (λ (d : Devices (Unit {0})). d.logs) whole.0; status_is = ap ending_status whole.1 }));
-          untold = λ one. output;
-        }
+turned_headline : (caller : Caller) (inputs : Inputs) (line : ℕ) (ending : Ending) (old mid : WorldView) → verdict_for (PlugGw caller) inputs ≡ Deny line → TurnedSo caller line (linked_devices old) (linked_devices mid) ending → LinkedHeadline caller inputs (ending_status ending) old mid
+turned_headline caller inputs line ending old mid denied (inl cut) =
+    let output : mid.output ≡ old.output = ap (λ (d : Devices (Unit {0})). d.outlet) cut.0 in
+    let four : ending_status ending ≡ 4 = ap ending_status cut.1 in
+    record {
+      asks = inl (denied_asks caller inputs line old mid denied (ap (λ (d : Devices (Unit {0})). d.dialer) cut.0) output);
+      denials = inl (record { output = output; undenied = λ one. omega (arith, four, one) });
+      untold = λ one. output;
+    }
+turned_headline caller inputs line ending old mid denied (inr whole) =
+    let output : mid.output ≡ old.output = ap (λ (d : Devices (Unit {0})). d.outlet) whole.0 in
+    record {
+      asks = inl (denied_asks caller inputs line old mid denied (ap (λ (d : Devices (Unit {0})). d.dialer) whole.0) output);
+      denials = inr (inr (record { line = line; denied = denied; logged = ap (λ (d : Devices (Unit {0})). d.logs) whole.0; status_is = ap ending_status whole.1 }));
+      untold = λ one. output;
+    }
 
-linked_by : (caller : Caller) (inputs : Inputs) (ending : Ending) (old mid : WorldView) → IsAdmitted caller inputs.rules (devices_for old) (devices_for mid) ending ⊎ IsTurnedOff caller inputs.rules (devices_for old) (devices_for mid) ending
+linked_by : (caller : Caller) (inputs : Inputs) (ending : Ending) (old mid : WorldView) → IsAdmitted caller inputs.rules (linked_devices old) (linked_devices mid) ending ⊎ IsTurnedOff caller inputs.rules (linked_devices old) (linked_devices mid) ending
     → ((ending_status ending ≡ 4) ⊎ (ending_status ending ≡ 5)) ⊎ IsLinked (verdict_for (PlugGw caller) inputs) (ending_status ending) old.inputs mid.inputs → LinkedHeadline caller inputs (ending_status ending) old mid
 linked_by caller inputs ending old mid (inl a) by = admitted_headline caller inputs ending old mid a by
-linked_by caller inputs ending old mid (inr t) by = turned_headline caller inputs ending old mid t
+linked_by caller inputs ending old mid (inr t) by = turned_headline caller inputs t.line ending old mid t.denied t.so
 
 pub linked_headline : (caller : Caller) (inputs : Inputs) (out : Outcome) (old mid new : WorldView) → Linked caller inputs out old mid → TellsIf (fault_line_of out) mid new → LinkedHeadline caller inputs (status_of out) old new
 linked_headline caller inputs out old mid new h tells =
@@ -318,7 +321,7 @@ linked_headline caller inputs out old mid new h tells =
 asked_from : (caller : Caller) (inputs : Inputs) (status : ℕ) (old middle new : WorldView) → middle.inputs ≡ old.inputs → middle.output ≡ old.output → middle.logs ≡ old.logs → IsAsked caller inputs status middle new → IsAsked caller inputs status old new
 asked_from caller inputs status old middle new ins output logs h =
     let Noted : SinkView → Type 0 = λ s. NotedIf (ending_line (services.PlugGw caller.port) caller.peer h.ending) (with_given s (linking_text caller h.line h.dest)) new.logs in
-    let Gives : SessionInputs → SinkView → SinkView → Type 0 = λ i o l. GivesFronts (devices_for (record old { inputs = i; output = o; logs = l })) (devices_for new) h.ending in
+    let Gives : SessionInputs → SinkView → SinkView → Type 0 = λ i o l. GivesFronts (linked_devices (record old { inputs = i; output = o; logs = l })) (linked_devices new) h.ending in
     record {
       line = h.line;
       permitted = h.permitted;

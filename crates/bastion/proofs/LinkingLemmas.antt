@@ -1,6 +1,6 @@
 -- What a session of the plug comes to, by its ending.
 use Rattle.std.proofs.Common.{◌≡◌, ◌∙◌, ℕ, List, length, refl, sym, ap, subst, inl, inr, ◌⊎◌, true, false}
-use Rattle.client_service.proofs.ConnLemmas.{conn_caused, conn_refused, conn_spent}
+use Rattle.bastion.proofs.TempEnd.{CausedBy, conn_caused, conn_refused, conn_spent}
 use Rattle.client_service.specs.Conn.{IsRefused}
 use Rattle.fw_types.specs.declared.ending.Ending.{Ending}
 use Rattle.fw_types.specs.declared.ending.Ending.TheVariants.{Done, Denied, ClientFault, ServerFault, LogFault, AuthFault, Idle, NoRoute, Spent, NoMemory}
@@ -20,11 +20,6 @@ use Rattle.bastion.specs.declared.outcome.Outcome.TheVariants.{Ended}
 use Rattle.bastion.specs.declared.words.Caller.{Caller}
 use Rattle.bastion.specs.declared.words.Command.TheVariants.{PlugGw}
 use Rattle.bastion.proofs.AttendedLemmas.{port_rose}
-
--- a denial is the verdict's, and every other ending has its cause
-abbrev pub CausedBy : Verdict → Ending → Devices (Unit {0}) → Devices (Unit {0}) → Type 0
-CausedBy verdict (Denied line) old new = verdict ≡ Deny line
-CausedBy verdict ending old new = Caused ending old new
 
 -- ---- what each ending has counted
 

@@ -446,7 +446,6 @@ worked_status name (Authsrv client) outcome old mid new h later =
     served_so name (Authsrv client) outcome old mid new Served (worked_rose name (Authsrv client) outcome old mid h) later
     (λ served. inr (record { read = Ok h.inputs; inputs = h.read; is = served_then client.console (verdict_of h.inputs.rules client.peer) (status_of outcome) h.middle.inputs mid.inputs old.inputs new.inputs left.input left.clock later.inputs served }))
     (attended_status client h.inputs outcome h.middle mid h.works)
-
 worked_status name (PlugGw caller) outcome old mid new h later =
     let verdict : Verdict = verdict_of h.inputs.rules caller.peer in
     let Linked : SessionInputs → SessionInputs → Type 0 = λ a b. IsLinked verdict (status_of outcome) a b in

@@ -1,5 +1,5 @@
 -- For which destination a run asks the dialer, and what goes over the link.
-use Rattle.std.specs.Prelude.{◌≡◌, ◌≢◌, ℕ, ◌⊎◌, List, [], ◌∷◌, ◌++◌, Option, Some, None, Result, Ok}
+use Rattle.std.specs.Prelude.{◌≡◌, ◌≢◌, ℕ, ◌⊎◌, List, [], ◌∷◌, ◌++◌, Some, Ok}
 use Rattle.client_service.specs.Conn.{NotedIf}
 use Rattle.client_service.specs.Decision.{decision_text}
 use Rattle.client_service.specs.Endings.{ending_line}
@@ -8,15 +8,14 @@ use Rattle.fw_outside.specs.ToldList.{grown}
 use Rattle.fw_outside.specs.declared.ask.Ask.TheVariants.{Main}
 use Rattle.fw_types.specs.declared.dest.Dest.{Dest}
 use Rattle.fw_types.specs.declared.ending.Ending.{Ending}
-use Rattle.gate_rules.specs.Verdict.{options_at}
-use Rattle.gate_rules.specs.declared.options.Options.{Options}
 use Rattle.gate_rules.specs.declared.service.Service.TheVariants as services
 use Rattle.gate_rules.specs.declared.verdict.Verdict.TheVariants.{Permit, Deny}
 use Rattle.plug_gate.specs.Dialogue.{connect_text}
 use Rattle.plug_gate.specs.Laws.{GivesFronts}
 use Rattle.session_acts.specs.Laws.{Adds}
+use Rattle.bastion.specs.TempPlug.{target_of}
 use Rattle.bastion.specs.Inputs.{HasInputs, Inputs, needs_records}
-use Rattle.bastion.specs.Linking.{devices_for}
+use Rattle.bastion.specs.Linking.{linked_devices}
 use Rattle.bastion.specs.Outcome.{ending_status}
 use Rattle.bastion.specs.Run.{ReadsOnly, verdict_for}
 use Rattle.bastion.specs.Works.{with_given}
@@ -24,11 +23,6 @@ use Rattle.bastion.specs.WorldView.{WorldView}
 use Rattle.bastion.specs.declared.words.Caller.{Caller}
 use Rattle.bastion.specs.declared.words.Command.{Command}
 use Rattle.bastion.specs.declared.words.Command.TheVariants.{PlugGw}
-
--- the target of the line with this number
-abbrev pub target_in : Option Options → Option Dest
-target_in None = None
-target_in (Some options) = options.plug_to
 
 -- the two lines before a destination is asked for: that of the permission, and then the connect line
 abbrev pub linking_text : Caller → ℕ → Dest → List ℕ
@@ -48,7 +42,7 @@ pub record FailsAtLog (caller : Caller) (inputs : Inputs) (old new : WorldView) 
   pub line : ℕ
   pub permitted : verdict_for (PlugGw caller) inputs ≡ Permit line
   pub dest : Dest
-  pub target : target_in (options_at inputs.rules line) ≡ Some dest
+  pub target : target_of inputs.rules line ≡ Some dest
   pub within : FailsWithin (linking_text caller line dest) old new
 
 -- The rules deny the peer, or the log failed. No destination was asked for, and the client was told nothing.
@@ -64,11 +58,11 @@ pub record IsAsked (caller : Caller) (inputs : Inputs) (status : ℕ) (old new :
   pub line : ℕ
   pub permitted : verdict_for (PlugGw caller) inputs ≡ Permit line
   pub dest : Dest
-  pub target : target_in (options_at inputs.rules line) ≡ Some dest
+  pub target : target_of inputs.rules line ≡ Some dest
   pub ending : Ending
   pub noted : NotedIf (ending_line (services.PlugGw caller.port) caller.peer ending) (with_given old.logs (linking_text caller line dest)) new.logs
   pub asked : Adds (Main dest ∷ []) old.inputs.dialer.asked new.inputs.dialer.asked
-  pub relayed : GivesFronts (devices_for old) (devices_for new) ending
+  pub relayed : GivesFronts (linked_devices old) (linked_devices new) ending
   pub status_is : status ≡ ending_status ending
 
 -- what the command needs couldn't be had: no destination was asked for, and the client was told nothing

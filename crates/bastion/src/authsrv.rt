@@ -118,7 +118,6 @@ where
     ensures launcher { world.new.inputs.launcher ≡ world.old.inputs.launcher }
 {
     conn(
-        rt,
         &Service::Authsrv,
         rules,
         peer,

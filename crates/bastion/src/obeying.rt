@@ -69,12 +69,7 @@ where
 }
 
 /// Does what the words ask for.
-pub(crate) fn obey<H, T>(
-    rt: &H,
-    alloc: Global,
-    words: &[Octets],
-    world: &mut World<T>,
-) -> Outcome
+pub(crate) fn obey<H, T>(rt: &H, alloc: Global, words: &[Octets], world: &mut World<T>) -> Outcome
 where
     H: Threads + Sync,
     T: Kit,

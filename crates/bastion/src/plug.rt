@@ -2,6 +2,8 @@
 ghost use Rattle.bastion.specs.Inputs.{no_inputs};
 ghost use Rattle.bastion.specs.Linking.{Linked};
 ghost use Rattle.bastion.specs.Run.{DoesFor};
+ghost use Rattle.bastion.specs.TempPlug.{AreRulesOf};
+ghost use Rattle.gate_rules.specs.declared.service.Service.TheVariants as services;
 ghost use Rattle.bastion.specs.declared.words.Command.TheVariants.{PlugGw};
 
 use crate::reading::rules_for;
@@ -17,11 +19,11 @@ fn link<H, T>(rt: &H, rules: &Rules, caller: &Caller, world: &mut World<T>) -> O
 where
     H: Threads + Sync,
     T: Kit,
+    requires rules { AreRulesOf (services.PlugGw caller.now.port) rules.now }
     ensures { Linked caller.now (record no_inputs { rules = rules.now }) result world.old world.new }
 {
     let mut port = NoPort;
     let ending = conn(
-        rt,
         &Service::PlugGw(caller.port),
         rules,
         &caller.peer,

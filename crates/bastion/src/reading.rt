@@ -1,5 +1,6 @@
 //! From the files to the rules of a service.
-ghost use Rattle.std.specs.Prelude.{◌≡◌, Ok};
+ghost use Rattle.std.specs.Prelude.{◌≡◌, IfOk, Ok};
+ghost use Rattle.bastion.specs.TempPlug.{AreRulesOf};
 ghost use Rattle.auth_machine.specs.Policy.{policy_of};
 ghost use Rattle.bastion.specs.Reading.{Finds, ReadsLines, ReadsTable, reading_fault, ruling_in, server_rules_of};
 ghost use Rattle.gate_rules.specs.Reading.{rules_of};
@@ -39,7 +40,8 @@ fn read_table<F: Files>(alloc: Global, files: &mut F, name: &[u8]) -> Result<Tab
 }
 
 fn read_rules(alloc: Global, table: &Table, service: &Service) -> Result<Rules, Outcome>
-    ensures { ReadsLines (rules_of service.now table.now) result }
+    ensures lines { ReadsLines (rules_of service.now table.now) result }
+    ensures ruled { IfOk result (AreRulesOf service.now) }
 {
     match Rules::of(alloc, table, service) {
         Ok(rules) => Ok(rules),
@@ -86,8 +88,9 @@ fn find_rules<F: Files>(
     name: &[u8],
     service: &Service,
 ) -> Result<Rules, Outcome>
-    ensures { Finds (ruling_in (rules_of service.now)) name.now result (F.files_view files.old) (F.files_view
+    ensures found { Finds (ruling_in (rules_of service.now)) name.now result (F.files_view files.old) (F.files_view
         files.new) }
+    ensures ruled { IfOk result (AreRulesOf service.now) }
 {
     match read_table(alloc, files, name) {
         Ok(table) => read_rules(alloc, &table, service),
@@ -103,6 +106,7 @@ pub(crate) fn rules_for<T: Kit>(
     world: &mut World<T>,
 ) -> Result<Rules, Outcome>
     ensures found { Finds (ruling_in (rules_of service.now)) name.now result world.old.files world.new.files }
+    ensures ruled { IfOk result (AreRulesOf service.now) }
     ensures output { world.new.output ≡ world.old.output }
     ensures logs { world.new.logs ≡ world.old.logs }
     ensures inputs { world.new.inputs ≡ world.old.inputs }
