@@ -45,7 +45,8 @@ use Rattle.session_acts.proofs.DeedLemmas.{all_gain, held_deeds}
 use Rattle.session_acts.proofs.EntryLemmas.{whole_talk}
 use Rattle.session_acts.proofs.TalkLemmas.{entered_gains}
 use Rattle.session_acts.proofs.ToldLemmas.{told_gains}
-use Rattle.client_service.specs.Conn.{NotedIf, denied_by}
+use Rattle.client_service.specs.Conn.{NotedIf}
+use Rattle.client_service.specs.Meeting.{denied_by}
 use Rattle.client_service.specs.Endings.{denied_text, ending_line}
 use Rattle.bastion.specs.Asking.{IsUndecided}
 use Rattle.bastion.specs.Headline.{Headline, HeadlineFor, IsDenied, IsPermitted, IsSilent, IsToldOff, IsUnserved, LogsDenial, OfHistory, begins, lent_to, table_kept, talk_of}

@@ -24,7 +24,8 @@ use Rattle.session_acts.specs.World.{Devices}
 use Rattle.session_acts.proofs.ClientLemmas.{denies, logs_first}
 use Rattle.session_acts.proofs.ToldLemmas.{by_both, by_nothing}
 use Rattle.bastion.specs.Complete.{IsHeldWhole, IsServedWhole, IsWhole, opening_text}
-use Rattle.client_service.specs.Conn.{NotedIf, denied_by, logged_row, patient, timeout_of}
+use Rattle.client_service.specs.Conn.{NotedIf}
+use Rattle.client_service.specs.Meeting.{denied_by, logged_row, patient, timeout_of}
 use Rattle.client_service.specs.Endings.{denied_text, ending_line}
 use Rattle.bastion.specs.Headline.{OfHistory, begins, lent_to, talk_of}
 use Rattle.bastion.specs.Inputs.{Inputs}

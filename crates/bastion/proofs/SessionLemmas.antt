@@ -39,7 +39,8 @@ use Rattle.session_acts.proofs.ClientLemmas.{denies}
 use Rattle.session_acts.proofs.DeedLemmas.{all_gain, held_deeds}
 use Rattle.session_acts.proofs.EntryLemmas.{whole_talk}
 use Rattle.session_acts.proofs.TalkLemmas.{entered_gains}
-use Rattle.client_service.specs.Conn.{NotedIf, Treats, denied_by}
+use Rattle.client_service.specs.Conn.{NotedIf, Treats}
+use Rattle.client_service.specs.Meeting.{denied_by}
 use Rattle.client_service.specs.Endings.{denied_text, ending_line}
 use Rattle.bastion.specs.Headline.{begins, lent_to}
 use Rattle.bastion.specs.Run.{TellsIf}

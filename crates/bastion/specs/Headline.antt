@@ -34,7 +34,8 @@ use Rattle.session_acts.specs.Met.{acts}
 use Rattle.session_acts.specs.Session.{Session, deeds_of}
 use Rattle.session_acts.specs.Talk.{answered, asked, is_entered, is_refused_as_full, said_of}
 use Rattle.session_acts.specs.World.{Devices}
-use Rattle.client_service.specs.Conn.{NotedIf, logged_row, patient, timeout_of}
+use Rattle.client_service.specs.Conn.{NotedIf}
+use Rattle.client_service.specs.Meeting.{logged_row, patient, timeout_of}
 use Rattle.client_service.specs.Endings.{denied_text, ending_line}
 use Rattle.bastion.specs.Asking.{AsksPermitted}
 use Rattle.bastion.specs.Inputs.{HasInputs, Inputs, needs_records}

@@ -6,8 +6,11 @@
 
 mod deciding;
 mod decision;
+mod denying;
 mod endings;
+mod linking;
 mod serving;
+mod waiting;
 
 pub use deciding::verdict_of;
 pub use decision::{LogLine, decision_line, verdict_line, verdict_word};

@@ -4,7 +4,7 @@ use Rattle.fw_outside.specs.DialerView.{DialerView, dialer_waiting}
 use Rattle.fw_outside.specs.SourceView.{SourceView, waiting}
 use Rattle.session_acts.specs.Session.{Session}
 use Rattle.session_acts.specs.World.{Devices, devices_with}
-use Rattle.client_service.specs.Conn.{logged_row}
+use Rattle.client_service.specs.Meeting.{logged_row}
 use Rattle.client_service.proofs.serving.admit_by.Goals as goal
 
 pub returns : goal.returns

@@ -1,9 +1,14 @@
-use Rattle.std.proofs.Common.{subst}
+use Rattle.std.proofs.Common.{subst, sym}
 use Rattle.gate_rules.specs.declared.verdict.Verdict.{Verdict}
 use Rattle.session_acts.specs.World.{Devices, devices_with}
-use Rattle.client_service.specs.Conn.{Conn, Treats, Untouched}
-use Rattle.client_service.proofs.ConnLemmas.{conn_caused, conn_home, conn_keeps, conn_origin, conn_refused, conn_spent, conn_undialed, conn_waited}
+use Rattle.client_service.specs.Conn.{Conn, TargetFor, Treats, Untouched}
+use Rattle.client_service.proofs.ConnLemmas.{conn_caused, conn_dialed, conn_home, conn_keeps, conn_origin, conn_refused, conn_spent, conn_waited}
+use Rattle.client_service.proofs.TargetLemmas.{served_target}
 use Rattle.client_service.proofs.serving.conn.Goals as goal
+
+pub requires-treat-target : goal.requires-treat-target
+requires-treat-target g c =
+    subst (λ (v : Verdict). TargetFor v c.args.service.now c.args.rules.now) (sym c.verdict_of-verdict.ensures) (served_target c.args.service.now c.args.rules.now c.args.peer.now c.requires.service)
 
 pub returns : goal.returns
 returns g c =
@@ -20,9 +25,11 @@ returns g c =
       spent = conn_spent c.args.service.now c.args.rules.now c.args.peer.now old new c.treat-ending.result conn;
       waited = conn_waited c.args.service.now c.args.rules.now c.args.peer.now old new c.treat-ending.result conn;
       refused = conn_refused c.args.service.now c.args.rules.now c.args.peer.now old new c.treat-ending.result conn;
-      undialed = conn_undialed c.args.service.now c.args.rules.now c.args.peer.now old new c.treat-ending.result conn;
+      dialed = conn_dialed c.args.service.now c.args.rules.now c.args.peer.now old new c.treat-ending.result conn;
       origin = conn_origin c.args.service.now c.args.rules.now c.args.peer.now old new c.treat-ending.result conn;
       home = conn_home c.args.service.now c.args.rules.now c.args.peer.now old new c.treat-ending.result conn;
-      untouched = subst (λ (v : Verdict). Untouched v c.args.port.now c.treat-ending.new.port) c.verdict_of-verdict.ensures c.treat-ending.ensures.untouched;
+      untouched = subst (λ (v : Verdict). Untouched c.args.service.now v c.args.port.now c.treat-ending.new.port) c.verdict_of-verdict.ensures c.treat-ending.ensures.untouched;
+      unclocked = subst (λ (v : Verdict). Untouched c.args.service.now v c.args.clock.now c.treat-ending.new.clock) c.verdict_of-verdict.ensures c.treat-ending.ensures.unclocked;
+      unthrown = subst (λ (v : Verdict). Untouched c.args.service.now v c.args.dice.now c.treat-ending.new.dice) c.verdict_of-verdict.ensures c.treat-ending.ensures.unthrown;
       keeps = conn_keeps c.args.service.now c.args.rules.now c.args.peer.now old new c.treat-ending.result conn;
     }

@@ -1,5 +1,5 @@
 use Rattle.std.proofs.Common.{refl, inl, inr}
-use Rattle.client_service.proofs.serving.turn_away.Goals as goal
+use Rattle.client_service.proofs.denying.turn_away.Goals as goal
 
 pub returns-in-Ok : goal.returns-in-Ok
 returns-in-Ok g c = inr (record { ends = refl; logged = c.in-Ok.ensures; tried = c.try_words.ensures })
