@@ -2,7 +2,9 @@
 use Rattle.std.proofs.Common.{◌≡◌, ◌≢◌, ◌≤◌, ◌∙◌, ℕ, List, [], ◌∷◌, ◌++◌, refl, sym, ap, subst, inl, inr, ◌⊎◌, arith, append_assoc, Bool, true, false}
 use Rattle.std.specs.Option.{option_map}
 use Rattle.std.specs.Prelude.{Option, Some, None, unwrap_or, codes, if◌then◌else◌}
-use Rattle.client_service.specs.Conn.{NotedIf, logged_row, patient, timeout_of}
+use Rattle.client_service.proofs.PlugLemmas.{IsLoggedAlone, silent_denial}
+use Rattle.client_service.specs.Conn.{NotedIf, Treats}
+use Rattle.client_service.specs.Meeting.{denied_by, logged_row, patient, timeout_of}
 use Rattle.client_service.specs.Decision.{decision_text}
 use Rattle.client_service.specs.Endings.{ending_line}
 use Rattle.fw_outside.specs.Counts.{Rose}
@@ -22,8 +24,9 @@ use Rattle.gate_rules.specs.declared.service.Service.TheVariants as services
 use Rattle.gate_rules.specs.declared.verdict.Verdict.{Verdict}
 use Rattle.gate_rules.specs.declared.verdict.Verdict.TheVariants.{Permit, Deny}
 use Rattle.bastion.proofs.TempEnd.{plug_ends, plug_fronts}
+use Rattle.plug_gate.specs.Dummies.{lent}
 use Rattle.plug_gate.specs.Dialogue.{connect_text, plug_row}
-use Rattle.plug_gate.specs.Laws.{Ends, GivesFronts, IsPlugged, IsTurnedDown, IsWhole}
+use Rattle.bastion.specs.TempLaws.{Ends, GivesFronts, IsPlugged, IsTurnedDown, IsWhole}
 use Rattle.session_acts.proofs.ClientLemmas.{logs_first}
 use Rattle.session_acts.proofs.LinkedLemmas.{adds_one}
 use Rattle.session_acts.proofs.ToldLemmas.{by_both, by_nothing}
@@ -33,7 +36,7 @@ use Rattle.session_acts.specs.Laws.{Adds}
 use Rattle.session_acts.specs.Relayed.{relayed}
 use Rattle.session_acts.specs.Session.{RelaySession}
 use Rattle.session_acts.specs.World.{Devices}
-use Rattle.bastion.specs.TempPlug.{LinksTo, LogsDenial, silent_row, target_of}
+use Rattle.client_service.specs.PlugService.{LinksTo, LogsDenial, silent_row, target_of}
 use Rattle.bastion.specs.Asking.{FailsAtLog, FailsWithin, IsAsked, IsUnasked, linking_text}
 use Rattle.bastion.specs.Complete as complete
 use Rattle.bastion.specs.Complete.{IsLinkedWhole, IsPutThrough}
@@ -75,9 +78,45 @@ record IsTurnedOff (caller : Caller) (rules : RuleBook) (old new : Devices (Unit
   denied : verdict_of rules caller.peer ≡ Deny line
   so : TurnedSo caller line old new ending
 
+-- the rules permit the peer
+admits : (caller : Caller) (inputs : Inputs) (line : ℕ) (ending : Ending) (old mid : WorldView) (logs : SinkView) → verdict_of inputs.rules caller.peer ≡ Permit line
+    → LinksTo caller.port line inputs.rules caller.peer ending (devices_for old) (record (devices_for mid) { logs = logs }) → NotedIf (ending_line (services.PlugGw caller.port) caller.peer ending) logs mid.logs
+    → IsAdmitted caller inputs.rules (linked_devices old) (linked_devices mid) ending
+admits caller inputs line ending old mid logs permitted h noted = record { line = line; permitted = permitted; dest = h.over.dest; target = h.over.target; logs = logs; session = h.over.session; noted = noted }
+
+-- the log's last line is no ending's
+unnoted : (caller : Caller) (line : ℕ) (ending : Ending) (logs new : SinkView) → ending ≡ endings.Denied line → NotedIf (ending_line (services.PlugGw caller.port) caller.peer ending) logs new → new ≡ logs
+unnoted caller line ending logs new is h = let Noted : Ending → Type 0 = λ e. NotedIf (ending_line (services.PlugGw caller.port) caller.peer e) logs new in subst Noted is h
+
+turned_by : (caller : Caller) (line : ℕ) (told ending : Ending) (old mid : WorldView) (logs : SinkView) → ending ≡ denied_by line told → NotedIf (ending_line (services.PlugGw caller.port) caller.peer ending) logs mid.logs
+    → LogFails (decision_text (Deny line) (services.PlugGw caller.port) caller.peer) (devices_for old) (record (devices_for mid) { logs = logs }) told
+    ⊎ IsLoggedAlone (decision_text (Deny line) (services.PlugGw caller.port) caller.peer) (devices_for old) (record (devices_for mid) { logs = logs }) told
+    → TurnedSo caller line (linked_devices old) (linked_devices mid) ending
+turned_by caller line told ending old mid logs ends noted (inl fails) =
+    inl (ap (λ (d : Devices (Unit {0})). lent d.inlet d.outlet mid.logs d.dialer) fails.same, ends ∙ ap (denied_by line) fails.ends)
+turned_by caller line told ending old mid logs ends noted (inr alone) =
+    let denied : ending ≡ endings.Denied line = ends ∙ ap (denied_by line) alone.ends in
+    inr (
+      ap (λ (s : SinkView). lent mid.inputs.input mid.output s mid.inputs.dialer) (unnoted caller line ending logs mid.logs denied noted) ∙ ap (λ (d : Devices (Unit {0})). lent d.inlet d.outlet d.logs d.dialer) alone.same,
+      denied,
+    )
+
+so_by : (caller : Caller) (inputs : Inputs) (verdict : Verdict) (ending : Ending) (old mid : WorldView) (logs : SinkView) → verdict_of inputs.rules caller.peer ≡ verdict
+    → Treats verdict (services.PlugGw caller.port) inputs.rules caller.peer ending (devices_for old) (record (devices_for mid) { logs = logs }) → NotedIf (ending_line (services.PlugGw caller.port) caller.peer ending) logs mid.logs
+    → IsAdmitted caller inputs.rules (linked_devices old) (linked_devices mid) ending ⊎ IsTurnedOff caller inputs.rules (linked_devices old) (linked_devices mid) ending
+so_by caller inputs (Permit line) ending old mid logs is h noted = inl (admits caller inputs line ending old mid logs is h noted)
+so_by caller inputs (Deny line) ending old mid logs is h noted =
+    inr (record {
+      line = line;
+      denied = is;
+      so =
+          turned_by caller line h.told ending old mid logs h.ends noted
+          (silent_denial (decision_text (Deny line) (services.PlugGw caller.port) caller.peer) (devices_for old) (record (devices_for mid) { logs = logs }) h.told h.session);
+    })
+
 linked_so : (caller : Caller) (inputs : Inputs) (out : Outcome) (old mid : WorldView) → (h : Linked caller inputs out old mid)
     → IsAdmitted caller inputs.rules (linked_devices old) (linked_devices mid) h.ending ⊎ IsTurnedOff caller inputs.rules (linked_devices old) (linked_devices mid) h.ending
-linked_so caller inputs out old mid h = ?
+linked_so caller inputs out old mid h = so_by caller inputs (verdict_of inputs.rules caller.peer) h.ending old mid h.serves.logs refl h.serves.treats h.serves.noted
 
 -- ---- no line is told behind the session's
 

@@ -11,9 +11,9 @@ use Rattle.fw_types.specs.declared.ending.Ending.{Ending}
 use Rattle.gate_rules.specs.declared.service.Service.TheVariants as services
 use Rattle.gate_rules.specs.declared.verdict.Verdict.TheVariants.{Permit, Deny}
 use Rattle.plug_gate.specs.Dialogue.{connect_text}
-use Rattle.plug_gate.specs.Laws.{GivesFronts}
+use Rattle.bastion.specs.TempLaws.{GivesFronts}
 use Rattle.session_acts.specs.Laws.{Adds}
-use Rattle.bastion.specs.TempPlug.{target_of}
+use Rattle.client_service.specs.PlugService.{target_of}
 use Rattle.bastion.specs.Inputs.{HasInputs, Inputs, needs_records}
 use Rattle.bastion.specs.Linking.{linked_devices}
 use Rattle.bastion.specs.Outcome.{ending_status}

@@ -16,4 +16,4 @@ pub mod Texts
 pub mod Words
 pub mod Works
 pub mod WorldView
-pub mod TempPlug
+pub mod TempLaws

@@ -32,7 +32,7 @@ Serves false rules peer old new ending = Conn Authsrv rules peer old new ending
 -- where the verdict denies a client that isn't at the console, this is left as it was
 abbrev pub UntouchedAt : {A : Type 0} → Bool → Verdict → A → A → Type 0
 UntouchedAt true verdict old new = Unit {0}
-UntouchedAt false verdict old new = Untouched verdict old new
+UntouchedAt false verdict old new = Untouched Authsrv verdict old new
 
 -- a book of these records, of which nothing was asked yet
 abbrev pub book_at_first : Origin → ℕ → KeeperView → BookView

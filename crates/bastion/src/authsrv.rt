@@ -111,13 +111,14 @@ where
     T: Kit,
     ensures conn { Conn services.Authsrv rules.now peer.now (devices_at world.old book.old dialer.old)
         (devices_at world.new book.new dialer.new) result }
-    ensures untouched { Untouched (verdict_of rules.now peer.now) book.old book.new }
+    ensures untouched { Untouched services.Authsrv (verdict_of rules.now peer.now) book.old book.new }
     ensures files { world.new.files ≡ world.old.files }
     ensures keeper { world.new.inputs.keeper ≡ world.old.inputs.keeper }
     ensures links { world.new.inputs.dialer ≡ world.old.inputs.dialer }
     ensures launcher { world.new.inputs.launcher ≡ world.old.inputs.launcher }
 {
     conn(
+        rt,
         &Service::Authsrv,
         rules,
         peer,

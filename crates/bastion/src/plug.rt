@@ -2,7 +2,7 @@
 ghost use Rattle.bastion.specs.Inputs.{no_inputs};
 ghost use Rattle.bastion.specs.Linking.{Linked};
 ghost use Rattle.bastion.specs.Run.{DoesFor};
-ghost use Rattle.bastion.specs.TempPlug.{AreRulesOf};
+ghost use Rattle.client_service.specs.PlugService.{AreRulesOf};
 ghost use Rattle.gate_rules.specs.declared.service.Service.TheVariants as services;
 ghost use Rattle.bastion.specs.declared.words.Command.TheVariants.{PlugGw};
 
@@ -24,6 +24,7 @@ where
 {
     let mut port = NoPort;
     let ending = conn(
+        rt,
         &Service::PlugGw(caller.port),
         rules,
         &caller.peer,

@@ -1,6 +1,6 @@
 //! From the files to the rules of a service.
 ghost use Rattle.std.specs.Prelude.{◌≡◌, IfOk, Ok};
-ghost use Rattle.bastion.specs.TempPlug.{AreRulesOf};
+ghost use Rattle.client_service.specs.PlugService.{AreRulesOf};
 ghost use Rattle.auth_machine.specs.Policy.{policy_of};
 ghost use Rattle.bastion.specs.Reading.{Finds, ReadsLines, ReadsTable, reading_fault, ruling_in, server_rules_of};
 ghost use Rattle.gate_rules.specs.Reading.{rules_of};
