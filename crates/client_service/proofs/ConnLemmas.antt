@@ -45,6 +45,10 @@ noted_shut : (line : Option (List ℕ)) (old new : SinkView) → NotedIf line ol
 noted_shut None old new is = ap (λ (s : SinkView). s.shut) is
 noted_shut (Some line) old new noted = gives_shut noted.told line old new noted.gives
 
+-- a log that failed is told no ending
+unended : (service : Service) (peer : Peer) (ending : Ending) → ending ≡ LogFault → ending_line service peer ending ≡ None
+unended service peer ending is = ap (ending_line service peer) is
+
 module _ {Origin : Type 0} where
   abbrev with_logs : Devices Origin → SinkView → Devices Origin
   with_logs devices logs = record devices { logs = logs }
@@ -380,9 +384,6 @@ module _ {Origin : Type 0} where
   held_undialed line service rules peer ending old new h =
       session_serverless rows (logged_row (decision_text (Permit line) service peer) (session_row false)) (patient (timeout_of rules) old) new ending h
       (logged_serverless (decision_text (Permit line) service peer) (keeps_serverless Origin false))
-
-  unended : (service : Service) (peer : Peer) (ending : Ending) → ending ≡ LogFault → ending_line service peer ending ≡ None
-  unended service peer ending is = ap (ending_line service peer) is
 
   treats_dialed : (verdict : Verdict) (service : Service) (rules : RuleBook) (peer : Peer) (ending : Ending) (old new : Devices Origin) (logs : SinkView) → Treats verdict service rules peer ending old (with_logs new logs)
       → NotedIf (ending_line service peer ending) logs new.logs → Dials service verdict rules peer ending old new

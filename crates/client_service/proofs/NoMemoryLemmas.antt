@@ -78,6 +78,9 @@ closed_remembers : (opened : Option ℕ) (answer : Result Reply PortFault) → o
 closed_remembers None answer none is = absurd (cc)
 closed_remembers (Some sid) answer none is = absurd (cc)
 
+cause_remembers : (cause own : Cause) → cause ≡ own → ending_by own ≢ endings.NoMemory → ending_by cause ≢ endings.NoMemory
+cause_remembers cause own is some e = some (sym (ap ending_by is) ∙ e)
+
 module _ {Origin : Type 0} where
   abbrev table : PlaceTable (acts Origin) NoPlace
   table = relayed no_rows
@@ -92,9 +95,6 @@ module _ {Origin : Type 0} where
   -- what a step did, which was this act
   did_step : (act : Act) (answer : (acts Origin).Answer act) (step : Step (acts Origin)) (old new : World Origin) → step ≡ record { act = act; answer = answer } → (acts Origin).does step.act step.answer old new → Met act (Ok answer) old new
   did_step act answer step old new is does = subst (λ (s : Step (acts Origin)). (acts Origin).does s.act s.answer old new) is does
-
-  cause_remembers : (cause own : Cause) → cause ≡ own → ending_by own ≢ endings.NoMemory → ending_by cause ≢ endings.NoMemory
-  cause_remembers cause own is some e = some (sym (ap ending_by is) ∙ e)
 
   remembers : (line : List ℕ) (dest : Dest) (steps : List (Step (acts Origin))) (left : Row (acts Origin) NoPlace) (old before mid : World Origin) (dialogue : Result (Unit {0}) Cause) (answer : Result Reply PortFault)
       → old.office.opened ≡ None → Run table (plug_row line dest) steps left → DoesAll steps old before → Comes table over dialogue mid left before → ending_of dialogue mid.office.opened answer ≢ endings.NoMemory

@@ -130,6 +130,7 @@ module _ {Origin : Type 0} where
   AsksBy lines dest ending old new = IsUnasked lines ending old new ⊎ IsAsked lines dest old new
 
   fails_unasked : (first second : List ℕ) (old new : Devices Origin) (ending : Ending) → second ≢ [] → LogFails first old new ending → IsUnasked (first ++ second) ending old new
+  unfolding front_first
   fails_unasked first second old new ending some fails =
       let dialer : new.dialer ≡ old.dialer = ap (λ (d : Devices Origin). d.dialer) fails.same in
       record {
@@ -151,6 +152,7 @@ module _ {Origin : Type 0} where
 
   links_asked : (first second : List ℕ) (dest : Dest) (old new : Devices Origin) (ending : Ending) → second ≢ [] → (rest : RelaySession (relayed no_rows) (plug_row second dest) (with_line first old) new ending)
       → Links second dest (at_first (with_line first old) rest.names) rest.last ending → AsksBy (first ++ second) dest ending old new
+  unfolding front_second
   links_asked first second dest old new ending some rest (inl un) = inl (record {
     ends = un.ends;
     front = front_second first some un.front;
@@ -204,15 +206,15 @@ asks_noted lines dest ending old new logs line silent (inr was) noted =
       asked = was.asked;
     })
 
+-- what the dialer waited for has no part in what it is asked
+asks_patient : {Origin : Type 0} (seconds : ℕ) (lines : List ℕ) (dest : Dest) (ending : Ending) (old new : Devices Origin) → AsksBy lines dest ending (patient seconds old) new → AsksBy lines dest ending old new
+asks_patient seconds lines dest ending old new (inl un) = inl (record { ends = un.ends; front = un.front; logs = un.logs; asked = un.asked })
+asks_patient seconds lines dest ending old new (inr was) = inr (record { more = was.more; logs = was.logs; asked = was.asked })
+
 module _ {Origin : Type 0} where
   asks_with : (lines : List ℕ) (dest : Dest) (ending : Ending) (old new : Devices Origin) → AsksBy lines dest ending (plug_devices old) (plug_devices new) → AsksBy lines dest ending old new
   asks_with lines dest ending old new (inl un) = inl (record { ends = un.ends; front = un.front; logs = un.logs; asked = un.asked })
   asks_with lines dest ending old new (inr was) = inr (record { more = was.more; logs = was.logs; asked = was.asked })
-
-  -- what the dialer waited for has no part in what it is asked
-  asks_patient : (seconds : ℕ) (lines : List ℕ) (dest : Dest) (ending : Ending) (old new : Devices Origin) → AsksBy lines dest ending (patient seconds old) new → AsksBy lines dest ending old new
-  asks_patient seconds lines dest ending old new (inl un) = inl (record { ends = un.ends; front = un.front; logs = un.logs; asked = un.asked })
-  asks_patient seconds lines dest ending old new (inr was) = inr (record { more = was.more; logs = was.logs; asked = was.asked })
 
   -- a destination is asked for exactly where both lines stand
   pub plug_dials : (at line : ℕ) (rules : RuleBook) (peer : Peer) (ending : Ending) (old new : Devices Origin) (logs : SinkView) (end : Option (List ℕ)) → (ending ≡ endings.LogFault → end ≡ None)

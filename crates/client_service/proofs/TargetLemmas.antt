@@ -50,7 +50,14 @@ AllTargeted (rule ∷ rules) = IsTargeted rule × AllTargeted rules
 
 -- ---- one line
 
-targets_same : (a b : LineEffect) → Result.Ok {LineEffect} {Why} a ≡ Ok b → EffectTargets a → EffectTargets b
+-- what a line says, and what lines are read as
+abbrev says : LineEffect → Result LineEffect Why
+says effect = Ok effect
+
+abbrev reads : RuleBook → Result RuleBook RuleFault
+reads book = Ok book
+
+targets_same : (a b : LineEffect) → says a ≡ says b → EffectTargets a → EffectTargets b
 targets_same a b is h = let same : a ≡ b = cc in subst EffectTargets same h
 
 where_targets : (ours : Bool) (rule : Rule) → IsSome rule.options.plug_to → EffectTargets (where_ours ours (Ruled rule))
@@ -77,7 +84,7 @@ port_targets : (at number : ℕ) (words : List Word) (effect : LineEffect) → e
 port_targets at number [] effect is = absurd (cc)
 port_targets at number (word ∷ words) effect is = plug_targets (PlugGw at) number (port_of word.text) words effect is
 
-nothing_targets : (effect : LineEffect) → Result.Ok {LineEffect} {Why} Nothing ≡ Ok effect → EffectTargets effect
+nothing_targets : (effect : LineEffect) → says Nothing ≡ says effect → EffectTargets effect
 nothing_targets effect is = targets_same Nothing effect is tt
 
 setting_targets : (which : Setting) (number : ℕ) (value : Result ℕ Why) (effect : LineEffect) → mapped (λ (v : ℕ). Set (record { which = which; value = v; line = number })) value ≡ Ok effect → EffectTargets effect
@@ -108,7 +115,7 @@ with_targets Nothing book one more = more
 with_targets (Ruled rule) book one more = (one, more)
 with_targets (Set assigned) book one more = more
 
-rules_same : (a b : RuleBook) → Result.Ok {RuleBook} {RuleFault} a ≡ Ok b → AllTargeted a.rules → AllTargeted b.rules
+rules_same : (a b : RuleBook) → reads a ≡ reads b → AllTargeted a.rules → AllTargeted b.rules
 rules_same a b is h = let same : a ≡ b = cc in subst (λ (book : RuleBook). AllTargeted book.rules) same h
 
 then_targets : (number : ℕ) (effect : Result LineEffect Why) (more : Result RuleBook RuleFault) (book : RuleBook) → ((one : LineEffect) → effect ≡ Ok one → EffectTargets one) → ((rest : RuleBook) → more ≡ Ok rest → AllTargeted rest.rules)
@@ -141,30 +148,31 @@ either_true true b e = refl
 either_true false b e = e
 
 -- the first that matches permits, and so a line with its number does
+permits_here : (line : ℕ) (permits : Bool) (number : ℕ) → cond permits (Permit number) (Deny number) ≡ Permit line → (permits && number == line) ≡ true
+permits_here line true number is = let same : number ≡ line = cc in eq-eqb number line same
+permits_here line false number is = absurd (cc)
+
+permits_by : (line : ℕ) (rule : Rule) (matches any : Bool) (more : Option Rule) → (decided_by more ≡ Permit line → any ≡ true) → decided_by (cond matches (Some rule) more) ≡ Permit line → (permits_at line rule || any) ≡ true
+permits_by line rule true any more later is = let here = permits_here line rule.permits rule.line is in rw here refl
+permits_by line rule false any more later is = either_true (permits_at line rule) any (later is)
+
 permits_one : (peer : Peer) (line : ℕ) (rules : List Rule) → decided_by (find (rule_matches peer) rules) ≡ Permit line → list_any (permits_at line) rules ≡ true
 permits_one peer line [] is = absurd (cc)
-permits_one peer line (rule ∷ rules) is = by (rule_matches peer rule) is
-  where
-    here : (permits : Bool) (number : ℕ) → cond permits (Permit number) (Deny number) ≡ Permit line → (permits && number == line) ≡ true
-    here true number e = let same : number ≡ line = cc in eq-eqb number line same
-    here false number e = absurd (cc)
-
-    by : (matches : Bool) → decided_by (cond matches (Some rule) (find (rule_matches peer) rules)) ≡ Permit line → (permits_at line rule || list_any (permits_at line) rules) ≡ true
-    by true e = rw (here rule.permits rule.line e) refl
-    by false e = either_true (permits_at line rule) (list_any (permits_at line) rules) (permits_one peer line rules e)
+permits_one peer line (rule ∷ rules) is = permits_by line rule (rule_matches peer rule) (list_any (permits_at line) rules) (find (rule_matches peer) rules) (permits_one peer line rules) is
 
 -- and that has a destination
+permits_so : (permits same : Bool) → (permits && same) ≡ true → permits ≡ true
+permits_so true same is = refl
+permits_so false same is = absurd (cc)
+
+targeted_by : (line : ℕ) (rule : Rule) (found any : Bool) (more : Option Rule) → permits_at line rule ≡ found → IsTargeted rule → (any ≡ true → IsSome (target_in (option_map (λ (r : Rule). r.options) more))) → (found || any) ≡ true
+    → IsSome (target_in (option_map (λ (r : Rule). r.options) (cond found (Some rule) more)))
+targeted_by line rule true any more is one later h = one (permits_so rule.permits (rule.line == line) is)
+targeted_by line rule false any more is one later h = later h
+
 one_targeted : (line : ℕ) (rules : List Rule) → AllTargeted rules → list_any (permits_at line) rules ≡ true → IsSome (target_in (option_map (λ (rule : Rule). rule.options) (find (permits_at line) rules)))
 one_targeted line [] all any = absurd (cc)
-one_targeted line (rule ∷ rules) all any = by (permits_at line rule) refl any
-  where
-    first : (permits same : Bool) → (permits && same) ≡ true → permits ≡ true
-    first true same e = refl
-    first false same e = absurd (cc)
-
-    by : (found : Bool) → permits_at line rule ≡ found → (found || list_any (permits_at line) rules) ≡ true → IsSome (target_in (option_map (λ (r : Rule). r.options) (cond found (Some rule) (find (permits_at line) rules))))
-    by true e h = all.0 (first rule.permits (rule.line == line) e)
-    by false e h = one_targeted line rules all.1 h
+one_targeted line (rule ∷ rules) all any = targeted_by line rule (permits_at line rule) (list_any (permits_at line) rules) (find (permits_at line) rules) refl all.0 (one_targeted line rules all.1) any
 
 plug_targeted : (at line : ℕ) (lines : List Line) (rules : RuleBook) (peer : Peer) → rules_of (PlugGw at) lines ≡ Ok rules → verdict_of rules peer ≡ Permit line → IsSome (target_of rules line)
 unfolding verdict_of

@@ -6,8 +6,8 @@ use Rattle.client_service.proofs.ConnLemmas.{conn_caused, conn_dialed, conn_home
 use Rattle.client_service.proofs.TargetLemmas.{served_target}
 use Rattle.client_service.proofs.serving.conn.Goals as goal
 
-pub requires-treat-target : goal.requires-treat-target
-requires-treat-target g c =
+pub treat-ending-requires-clause-target : goal.treat-ending-requires-clause-target
+treat-ending-requires-clause-target g c lifetimes outlive =
     subst (λ (v : Verdict). TargetFor v c.args.service.now c.args.rules.now) (sym c.verdict_of-verdict.ensures) (served_target c.args.service.now c.args.rules.now c.args.peer.now c.requires.service)
 
 pub returns : goal.returns

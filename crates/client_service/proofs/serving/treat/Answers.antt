@@ -2,11 +2,8 @@ use Rattle.std.proofs.Common.{refl}
 use Rattle.fw_outside.specs.SinkView.{SinkView}
 use Rattle.session_acts.specs.World.{Devices, devices_with}
 use Rattle.client_service.proofs.DenialLemmas.{denied_session}
-use Rattle.client_service.proofs.ServiceLemmas.{denied_untouched, permitted_target, permitted_untouched, treated_deny, treated_permit}
+use Rattle.client_service.proofs.ServiceLemmas.{denied_untouched, permitted_untouched, treated_deny, treated_permit}
 use Rattle.client_service.proofs.serving.treat.Goals as goal
-
-pub requires-permit-target : goal.requires-permit-target
-requires-permit-target g c = permitted_target c.args.verdict c.in-Permit.line c.args.service.now c.args.rules.now c.in-Permit.is c.requires.target
 
 pub returns-in-Deny : goal.returns-in-Deny
 returns-in-Deny g c =
