@@ -27,7 +27,7 @@ use Rattle.relay_ways.specs.declared.way_end.WayEnd.TheVariants as ways
 use Rattle.session_acts.specs.Acts.{Act, Outcome}
 use Rattle.session_acts.specs.Acts.Act.{HangUp, Log, Reach, Relay}
 use Rattle.session_acts.specs.Client.{GoesOn, LogFails, LogsFirst, with_line}
-use Rattle.session_acts.specs.Deeds.{DeedsAll, deeds_ran}
+use Rattle.session_acts.specs.Deeds.{Deed, DeedsAll, deeds_ran}
 use Rattle.session_acts.specs.Denying.{no_rows}
 use Rattle.session_acts.specs.Laws.{Adds}
 use Rattle.session_acts.specs.Met.{Carrying, Clears, ClientRelays, Met, ServerCarries, ServerRelays, acts}
@@ -40,7 +40,7 @@ use Rattle.session_acts.specs.World.{Devices, Names, Office, Server, Speaker, Wo
 use Rattle.session_acts.specs.declared.cause.Cause.{Cause}
 use Rattle.session_acts.specs.declared.cause.Cause.TheVariants as causes
 use Rattle.session_acts.specs.declared.denying.NoPlace.{NoPlace}
-use Rattle.session_acts.proofs.ClientLemmas.{HaltsHere, IsOver as NothingLeft, PassesOn, logs_first, nothing_owed, over_ran, ran_first, world_by}
+use Rattle.session_acts.proofs.ClientLemmas.{HaltsHere, PassesOn, logs_first, nothing_owed, over_ran, ran_first, world_by}
 use Rattle.session_acts.proofs.DeviceLemmas.{by_nothing, drains_grew, drains_took, supplies_given}
 use Rattle.session_acts.proofs.LinkedLemmas.{adds_none, adds_one}
 use Rattle.session_acts.proofs.RelayLemmas.{both_done}
@@ -61,7 +61,7 @@ stopped_ending endings.NoRoute cause is = let same : cause ≡ causes.NoRoute = 
 stopped_ending endings.Spent cause is = let same : cause ≡ causes.Spent = cc in ap ending_by same
 stopped_ending endings.NoMemory cause is = let same : cause ≡ causes.NoMemory = cc in ap ending_by same
 
-ends_by_ways : (flow : Flow) → Ending
+abbrev ends_by_ways : (flow : Flow) → Ending
 ends_by_ways flow = two_ways.ending_of flow.up.end flow.down.end
 
 through_ends : (through : Through) → endings.Done ≡ ends_by_ways through.flow
@@ -134,7 +134,7 @@ module _ {Origin : Type 0} where
     met : Met Relay outcome old mid
     is : dialogue ≡ told_by outcome
 
-  relayed_so : (old mid : World Origin) (dialogue : Result (Unit {0}) Cause) (deeds : _) → HaltsHere Relay old mid dialogue ⊎ PassesOn table Relay (λ flow. Over) old mid dialogue deeds → Relayed dialogue old mid
+  relayed_so : (old mid : World Origin) (dialogue : Result (Unit {0}) Cause) (deeds : List Deed) → HaltsHere Relay old mid dialogue ⊎ PassesOn table Relay (λ flow. Over) old mid dialogue deeds → Relayed dialogue old mid
   relayed_so old mid dialogue deeds (inl h) = record { outcome = Err h.stops.halt; met = h.stops.met; is = h.is ∙ ap (λ (c : Cause). Err c) h.stops.is_cause }
   relayed_so old mid dialogue deeds (inr p) =
       let over = over_ran table p.next mid dialogue p.rest in
@@ -301,24 +301,35 @@ module _ {Origin : Type 0} where
         done = λ is. all_said dest old new ending h is;
       }
 
+  -- what the log was given changes nothing of that
+  whole_over : (line : List ℕ) (old new : Devices Origin) (links : List LinkView) → IsWhole (with_line line old) new links → IsWhole old new links
+  whole_over line old new [] whole = absurd whole
+  whole_over line old new (link ∷ []) whole = record { client = whole.client; server = whole.server; client_told = whole.client_told; server_told = whole.server_told }
+  whole_over line old new (link ∷ other ∷ links) whole = absurd whole
+
+  fronts_over : (line : List ℕ) (old new : Devices Origin) (ending : Ending) → GivesFronts (with_line line old) new ending → GivesFronts old new ending
+  fronts_over line old new ending g = record {
+    of_client = g.of_client;
+    to_server = g.to_server;
+    of_server = g.of_server;
+    to_client = g.to_client;
+    took = g.took;
+    grew = g.grew;
+    told = g.told;
+    links = g.links;
+    ended = g.ended;
+    over = g.over;
+    up = g.up;
+    down = g.down;
+    done = λ is. whole_over line old new g.links (g.done is);
+  }
+
   fronts_by : (line : List ℕ) (dest : Dest) (old new : Devices Origin) (ending : Ending) → Ends line dest old new ending → GivesFronts old new ending
   fronts_by line dest old new ending (inl fails) =
       none_linked old new ending (ap (λ (d : Devices Origin). d.inlet) fails.same) (ap (λ (d : Devices Origin). d.outlet) fails.same) (ap (λ (d : Devices Origin). d.dialer.ended) fails.same) (λ is. let clash : endings.Done ≡ endings.LogFault = sym is ∙ fails.ends in absurd (cc))
   fronts_by line dest old new ending (inr (inl down)) =
       none_linked old new ending (ap (λ (d : Devices Origin). d.inlet) down.same) (ap (λ (d : Devices Origin). d.outlet) down.same) (ap (λ (d : DialerView). d.ended) down.refused.is) (λ is. let clash : endings.Done ≡ endings.NoRoute = sym is ∙ down.ends in absurd (cc))
-  fronts_by line dest old new ending (inr (inr on)) = fronts_over line dest old new ending (plugged_fronts dest (with_line line old) new ending on)
-    where
-      fronts_over : (line : List ℕ) (dest : Dest) (old new : Devices Origin) (ending : Ending) → GivesFronts (with_line line old) new ending → GivesFronts old new ending
-      fronts_over line dest old new ending g = record {
-        of_client = g.of_client; to_server = g.to_server; of_server = g.of_server; to_client = g.to_client;
-        took = g.took; grew = g.grew; told = g.told; links = g.links; ended = g.ended; over = g.over; up = g.up; down = g.down;
-        done = λ is. said_over g.links (g.done is);
-      }
-        where
-          said_over : (links : List LinkView) → IsWhole (with_line line old) new links → IsWhole old new links
-          said_over [] whole = whole
-          said_over (link ∷ []) whole = record { client = whole.client; server = whole.server; client_told = whole.client_told; server_told = whole.server_told }
-          said_over (link ∷ other ∷ links) whole = absurd whole
+  fronts_by line dest old new ending (inr (inr on)) = fronts_over line old new ending (plugged_fronts dest (with_line line old) new ending on)
 
   pub plug_fronts : (line : List ℕ) (dest : Dest) (old new : Devices Origin) (ending : Ending) → RelaySession table (plug_row line dest) old new ending → GivesFronts old new ending
   plug_fronts line dest old new ending session = fronts_by line dest old new ending (plug_ends line dest old new ending session)

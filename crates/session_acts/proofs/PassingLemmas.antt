@@ -21,12 +21,12 @@ use Rattle.session_acts.proofs.OverLinksLemmas.{Holds, Step, Tale, all_steps, di
 use Rattle.session_acts.proofs.ToldLemmas.{gets_grew, hears_outlet}
 
 -- a new sink has nothing
-new_given : (given : Option (List ℕ)) → IsOver given → IsGiven [] given
+pub new_given : (given : Option (List ℕ)) → IsOver given → IsGiven [] given
 new_given None over = tt
 new_given (Some all) over = over
 
 -- the server of the link that is up, if one is, was given this
-pub passing : Tale ℕ
+abbrev pub passing : Tale ℕ
 passing = record {
   IsUp = λ passed link. IsGiven passed link.outlet.given;
   WasUp = WasGiven;

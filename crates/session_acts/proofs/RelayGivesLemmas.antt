@@ -57,7 +57,7 @@ module _ {Origin : Type 0} where
   met_over outcome flow old new met is =
       over_link flow old.server.link old.client new.client old.server new.server refl (subst (λ (f : Option Flow). ClientRelays f old.client new.client) is met.client) (subst (λ (f : Option Flow). ServerRelays f old.server.link old.server new.server) is met.server)
 
-  both_by : (flow : Flow) (old new : World Origin) → OverLink flow old.client new.client old.server new.server → ConveysBoth flow old new
+  abbrev both_by : (flow : Flow) (old new : World Origin) → OverLink flow old.client new.client old.server new.server → ConveysBoth flow old new
   both_by flow old new over = record {
     link = over.link;
     link_after = over.after;
@@ -103,9 +103,9 @@ module _ {Origin P : Type 0} (rows : PlaceTable (acts Origin) P) (first : Row (a
       let rest : List Deed = record { act = Relay; outcome = last.outcome } ∷ owed held.mid held.answer in
       let all = servers_given (relayed rows) (then_relay first) old new ending held none in
       let ends : over_each up_after (over_last up_after None talk) rest ≡ (up.0 ++ flow.up.given) ∷ [] =
-          ap (λ (u : Option (List ℕ)). over_each up_after u rest) up.1 ∙ owed_over up.0 held.mid.server.link over.after held.mid.office.opened held.answer last.outcome over.is ∙ ap (λ (f : Option Flow). (up.0 ++ given_up f) ∷ []) is in
+      ap (λ (u : Option (List ℕ)). over_each up_after u rest) up.1 ∙ owed_over up.0 held.mid.server.link over.after held.mid.office.opened held.answer last.outcome over.is ∙ ap (λ (f : Option Flow). (up.0 ++ given_up f) ∷ []) is in
       let lists : passed_over None (deeds_of held) ≡ passed_over None talk ++ ((up.0 ++ flow.up.given) ∷ []) =
-          ap (λ (d : List Deed). passed_over None d) last.deeds ∙ each_both up_after None talk rest ∙ ap (λ (z : List (List ℕ)). passed_over None talk ++ z) ends in
+      ap (λ (d : List Deed). passed_over None d) last.deeds ∙ each_both up_after None talk rest ∙ ap (λ (z : List (List ℕ)). passed_over None talk ++ z) ends in
       let given : AreOver WasGiven (passed_over None talk ++ ((up.0 ++ flow.up.given) ∷ [])) all.links = subst (λ (z : List (List ℕ)). AreOver WasGiven z all.links) lists all.given in
       let end = last_over passing (passed_over None talk) (up.0 ++ flow.up.given) all.links given in
       record {

@@ -1,14 +1,13 @@
 -- What was heard of servers is what their links gave.
 use Rattle.std.proofs.Common.{arith, ◌≡◌, refl, sym, ap, subst, ◌∙◌, ℕ, ◌≤◌, Bool, true, false, List, [], ◌∷◌, ◌++◌, length, Option, Some, None, Result, Ok, Err, append-nil}
 use Rattle.std.specs.List.{concat}
-use Rattle.std.specs.Option.{option_map}
 use Rattle.fw_acts.specs.Acts.{Row, PlaceTable}
 use Rattle.fw_outside.specs.Counts.{Grew}
 use Rattle.fw_outside.specs.DialerView.{ComesUp, DialerView}
 use Rattle.fw_outside.specs.SinkView.{SinkView}
-use Rattle.fw_outside.specs.SourceView.{SourceView}
+use Rattle.fw_outside.specs.SourceView.{SourceView, fresh}
 use Rattle.fw_outside.specs.ToldList.{IsOver, grown}
-use Rattle.fw_outside.specs.declared.ask.Ask.{Ask}
+use Rattle.fw_outside.specs.declared.ask.Ask as asks
 use Rattle.fw_outside.specs.declared.heard.Heard.{Heard}
 use Rattle.fw_outside.specs.declared.heard.Heard.TheVariants.{Stopped}
 use Rattle.fw_types.specs.declared.ending.Ending.{Ending}
@@ -40,11 +39,11 @@ record Listened (heards : List Fate) (link : Speaker) : Type 0 where
   on : HearsOn heards start link
 
 -- of a new source nothing was taken
-pub none_taken : (left : Option (List ℕ)) → IsOver (option_map (λ (l : List ℕ). ([] : List ℕ)) left)
+pub none_taken : (left : Option (List ℕ)) → IsOver (fresh left).taken
 none_taken None = tt
 none_taken (Some left) = refl
 
-came_up : (ask : Ask) (inlet : SourceView) (outlet : SinkView) (old new : DialerView) → ComesUp ask inlet outlet old new → Listened [] (record { inlet = inlet; reader = unheard; outlet = outlet })
+came_up : (ask : asks.Ask) (inlet : SourceView) (outlet : SinkView) (old new : DialerView) → ComesUp ask inlet outlet old new → Listened [] (record { inlet = inlet; reader = unheard; outlet = outlet })
 came_up ask inlet outlet old new up = record {
   start = record { inlet = inlet; reader = unheard; outlet = outlet };
   amount = ap (λ (s : SourceView). s.amount) up.new_source;
@@ -76,7 +75,7 @@ went_down heards link h =
       near = h.on.near (subst (λ (z : List ℕ). length z ≤ 4096) (sym h.pending) none_few);
     }
 
-listening : Tale Fate
+abbrev listening : Tale Fate
 listening = record { IsUp = Listened; WasUp = WasHeard; begins = came_up; ends = went_down }
 
 abbrev Hold : Option (List Fate) → Option Speaker → Type 0
