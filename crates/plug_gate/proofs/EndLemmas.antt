@@ -197,6 +197,10 @@ module _ {Origin : Type 0} where
   pub plug_ends : (line : List ℕ) (dest : Dest) (old new : Devices Origin) (ending : Ending) → RelaySession table (plug_row line dest) old new ending → Ends line dest old new ending
   plug_ends line dest old new ending session = ends_by line dest old new ending session (logs_first line table (reach_row dest) old new ending session)
 
+  -- a text that is the line
+  pub plug_ends_as : (text line : List ℕ) → text ≡ line → (dest : Dest) (old new : Devices Origin) (ending : Ending) → RelaySession table (plug_row text dest) old new ending → Ends line dest old new ending
+  plug_ends_as text line is dest old new ending session = subst (λ (t : List ℕ). Ends t dest old new ending) is (plug_ends text dest old new ending session)
+
 -- ---- fronts
 
 front_by : (may_lose : Bool) (way : Way) → (may_lose ≡ false → is_write_fault way.end ≡ false) → IsFront may_lose way.given way.taken
@@ -232,6 +236,21 @@ down_lost ways.Spent ways.WriteFault is = absurd (cc)
 no_front : (may_lose : Bool) → IsFront may_lose [] []
 no_front may_lose = record { lost = []; cut = refl; short = omega (arith); whole = λ none. refl }
 
+-- a way that is done leaves nothing, and tells its sink the end
+done_source : (way : Way) (left : ℕ) (middle after : SourceView) → way.end ≡ ways.Done → LeavesSource way.end way.lost left middle after → IsOver after.left
+done_source way left middle after is leaves =
+    let so : LeavesSource ways.Done way.lost left middle after = subst (λ (e : WayEnd). LeavesSource e way.lost left middle after) is leaves in
+    subst (λ (s : SourceView). IsOver s.left) (sym so.1.is) so.1.over
+
+done_sink : (way : Way) (before after : SinkView) → way.end ≡ ways.Done → LeavesSink way.end (holding way.given before) after → after.shut ≡ option_map (λ (shut : Bool). true) before.shut
+done_sink way before after is leaves =
+    let so : LeavesSink ways.Done (holding way.given before) after = subst (λ (e : WayEnd). LeavesSink e (holding way.given before) after) is leaves in
+    ap (λ (s : SinkView). s.shut) so
+
+is_shut : (before : Option Bool) → IfSome (option_map (λ (shut : Bool). true) before) (λ (shut : Bool). shut ≡ true)
+is_shut None = tt
+is_shut (Some shut) = refl
+
 module _ {Origin : Type 0} where
   -- where no link came up, nothing was taken or given
   none_linked : (old new : Devices Origin) (ending : Ending) → new.inlet ≡ old.inlet → new.outlet ≡ old.outlet → new.dialer.ended ≡ old.dialer.ended → (ending ≡ endings.Done → ⊥) → GivesFronts old new ending
@@ -250,21 +269,6 @@ module _ {Origin : Type 0} where
     down = no_front (may_lose_down ending);
     done = λ is. absurd (undone is);
   }
-
-  -- a way that is done leaves nothing, and tells its sink the end
-  done_source : (way : Way) (left : ℕ) (middle after : SourceView) → way.end ≡ ways.Done → LeavesSource way.end way.lost left middle after → IsOver after.left
-  done_source way left middle after is leaves =
-      let so : LeavesSource ways.Done way.lost left middle after = subst (λ (e : WayEnd). LeavesSource e way.lost left middle after) is leaves in
-      subst (λ (s : SourceView). IsOver s.left) (sym so.1.is) so.1.over
-
-  done_sink : (way : Way) (before after : SinkView) → way.end ≡ ways.Done → LeavesSink way.end (holding way.given before) after → after.shut ≡ option_map (λ (shut : Bool). true) before.shut
-  done_sink way before after is leaves =
-      let so : LeavesSink ways.Done (holding way.given before) after = subst (λ (e : WayEnd). LeavesSink e (holding way.given before) after) is leaves in
-      ap (λ (s : SinkView). s.shut) so
-
-  is_shut : (before : Option Bool) → IfSome (option_map (λ (shut : Bool). true) before) (λ (shut : Bool). shut ≡ true)
-  is_shut None = tt
-  is_shut (Some shut) = refl
 
   all_said : (dest : Dest) (old new : Devices Origin) (ending : Ending) (h : IsPlugged dest old new ending) → ending ≡ endings.Done → AllIsSaid old new h.went
   all_said dest old new ending h is =
