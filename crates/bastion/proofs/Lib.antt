@@ -14,4 +14,3 @@ pub mod ReadingLemmas
 pub mod RunLemmas
 pub mod ServedLemmas
 pub mod SessionLemmas
-pub mod TempEnd

@@ -23,10 +23,10 @@ use Rattle.gate_rules.specs.Verdict.{verdict_of}
 use Rattle.gate_rules.specs.declared.service.Service.TheVariants as services
 use Rattle.gate_rules.specs.declared.verdict.Verdict.{Verdict}
 use Rattle.gate_rules.specs.declared.verdict.Verdict.TheVariants.{Permit, Deny}
-use Rattle.bastion.proofs.TempEnd.{plug_ends, plug_fronts}
+use Rattle.plug_gate.proofs.EndLemmas.{plug_ends, plug_fronts}
 use Rattle.plug_gate.specs.Dummies.{lent}
 use Rattle.plug_gate.specs.Dialogue.{connect_text, plug_row}
-use Rattle.bastion.specs.TempLaws.{Ends, GivesFronts, IsPlugged, IsTurnedDown, IsWhole}
+use Rattle.plug_gate.specs.Laws.{Ends, GivesFronts, IsPlugged, IsTurnedDown, IsWhole}
 use Rattle.session_acts.proofs.ClientLemmas.{logs_first}
 use Rattle.session_acts.proofs.LinkedLemmas.{adds_one}
 use Rattle.session_acts.proofs.ToldLemmas.{by_both, by_nothing}

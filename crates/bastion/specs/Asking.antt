@@ -11,7 +11,7 @@ use Rattle.fw_types.specs.declared.ending.Ending.{Ending}
 use Rattle.gate_rules.specs.declared.service.Service.TheVariants as services
 use Rattle.gate_rules.specs.declared.verdict.Verdict.TheVariants.{Permit, Deny}
 use Rattle.plug_gate.specs.Dialogue.{connect_text}
-use Rattle.bastion.specs.TempLaws.{GivesFronts}
+use Rattle.plug_gate.specs.Laws.{GivesFronts}
 use Rattle.session_acts.specs.Laws.{Adds}
 use Rattle.client_service.specs.PlugService.{target_of}
 use Rattle.bastion.specs.Inputs.{HasInputs, Inputs, needs_records}

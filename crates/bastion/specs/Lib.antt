@@ -16,4 +16,3 @@ pub mod Texts
 pub mod Words
 pub mod Works
 pub mod WorldView
-pub mod TempLaws
