@@ -1,6 +1,5 @@
 -- From what a session of the plug did to the headline, and to a run in which no count rose.
-use Rattle.std.proofs.Common.{◌≡◌, ◌≢◌, ◌≤◌, ◌∙◌, ℕ, List, [], ◌∷◌, ◌++◌, refl, sym, ap, subst, inl, inr, ◌⊎◌, arith, append_assoc, Bool, true, false}
-use Rattle.std.specs.Option.{option_map}
+use Rattle.std.proofs.Common.{◌≡◌, ◌≢◌, ◌∙◌, ℕ, List, [], ◌∷◌, ◌++◌, refl, sym, ap, subst, inl, inr, ◌⊎◌, arith, append_assoc, Bool, false}
 use Rattle.std.specs.Prelude.{Option, Some, None, unwrap_or, codes, if◌then◌else◌}
 use Rattle.client_service.proofs.PlugLemmas.{IsLoggedAlone, silent_denial}
 use Rattle.client_service.specs.Conn.{NotedIf, Treats}
@@ -9,15 +8,12 @@ use Rattle.client_service.specs.Decision.{decision_text}
 use Rattle.client_service.specs.Endings.{ending_line}
 use Rattle.fw_outside.specs.Counts.{Rose}
 use Rattle.fw_outside.specs.DialerView.{DialerView, LinkView, dialer_waiting}
-use Rattle.fw_outside.specs.SinkView.{Gives, SinkView}
+use Rattle.fw_outside.specs.SinkView.{SinkView}
 use Rattle.fw_outside.specs.ToldList.{grown}
-use Rattle.fw_outside.specs.declared.ask.Ask.{Ask}
 use Rattle.fw_outside.specs.declared.ask.Ask.TheVariants.{Main}
-use Rattle.fw_outside.specs.declared.failed.Failed as sink
 use Rattle.fw_types.specs.declared.dest.Dest.{Dest}
 use Rattle.fw_types.specs.declared.ending.Ending.{Ending}
 use Rattle.fw_types.specs.declared.ending.Ending.TheVariants as endings
-use Rattle.fw_types.specs.declared.peer.Peer.{Peer}
 use Rattle.gate_rules.specs.Reading.{RuleBook}
 use Rattle.gate_rules.specs.Verdict.{verdict_of}
 use Rattle.gate_rules.specs.declared.service.Service.TheVariants as services
@@ -30,14 +26,14 @@ use Rattle.plug_gate.specs.Laws.{Ends, GivesFronts, IsPlugged, IsTurnedDown, IsW
 use Rattle.session_acts.proofs.ClientLemmas.{logs_first}
 use Rattle.session_acts.proofs.LinkedLemmas.{adds_one}
 use Rattle.session_acts.proofs.ToldLemmas.{by_both, by_nothing}
-use Rattle.session_acts.specs.Client.{GoesOn, LogFails, LogsFirst, with_line}
+use Rattle.session_acts.specs.Client.{LogFails, LogsFirst, with_line}
 use Rattle.session_acts.specs.Denying.{no_rows}
 use Rattle.session_acts.specs.Laws.{Adds}
 use Rattle.session_acts.specs.Relayed.{relayed}
 use Rattle.session_acts.specs.Session.{RelaySession}
 use Rattle.session_acts.specs.World.{Devices}
-use Rattle.client_service.specs.PlugService.{LinksTo, LogsDenial, silent_row, target_of}
-use Rattle.bastion.specs.Asking.{FailsAtLog, FailsWithin, IsAsked, IsUnasked, linking_text}
+use Rattle.client_service.specs.PlugService.{LinksTo, target_of}
+use Rattle.bastion.specs.Asking.{FailsAtLog, IsAsked, IsUnasked, linking_text}
 use Rattle.bastion.specs.Complete as complete
 use Rattle.bastion.specs.Complete.{IsLinkedWhole, IsPutThrough}
 use Rattle.bastion.specs.Headline.{IsDenied, IsPermitted, IsSilent}

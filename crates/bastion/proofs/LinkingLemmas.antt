@@ -1,5 +1,5 @@
 -- What a session of the plug comes to, by its ending.
-use Rattle.std.proofs.Common.{◌≡◌, ◌∙◌, ℕ, List, length, refl, sym, ap, subst, inl, inr, ◌⊎◌, ◌==◌, true, false}
+use Rattle.std.proofs.Common.{◌≡◌, ◌∙◌, ℕ, refl, sym, ap, subst, inl, inr, ◌⊎◌, ◌==◌, true, false}
 use Rattle.client_service.proofs.ConnLemmas.{conn_caused, conn_refused, conn_spent}
 use Rattle.client_service.specs.Conn.{Causes, IsRefused, TakesBy, is_linked}
 use Rattle.fw_types.specs.declared.ending.Ending.{Ending}
