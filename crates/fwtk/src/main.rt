@@ -13,6 +13,7 @@ use real_links::{LinkSink, Programs, StandardOutput, TcpDialer};
 use std::env;
 use std::io::ErrorKind;
 use std::process::ExitCode;
+use std::thread::Threads;
 
 mod process;
 
@@ -109,13 +110,18 @@ impl<'a> Needs<'a> {
     }
 }
 
-fn run_with<D: Dice>(
+fn run_with<H, D>(
+    threads: &H,
     rt: HostRuntime,
     words: &[Octets],
     db: &[u8],
     output: LinkSink<StandardOutput>,
     dice: D,
-) -> Result<u8, Outcome> {
+) -> Result<u8, Outcome>
+where
+    H: Threads + Sync,
+    D: Dice,
+{
     let mut world: World<Process<D>> = World {
         files: Paths::new(rt),
         input: Reading::new(StandardInput::of(rt.stdin())),
@@ -127,10 +133,10 @@ fn run_with<D: Dice>(
         dialer: TcpDialer::new(rt),
         launcher: Programs::new(rt, rt.alloc()),
     };
-    Ok(run(&rt, rt.alloc(), words, &mut world))
+    Ok(run(threads, rt.alloc(), words, &mut world))
 }
 
-fn serve(rt: HostRuntime) -> Result<u8, Stop> {
+fn serve<H: Threads + Sync>(threads: &H, rt: HostRuntime) -> Result<u8, Stop> {
     let words = read_words(&rt)?;
     let mut output = LinkSink::new(StandardOutput::of(rt.stdout()));
     if let Some(text) = answer(&words) {
@@ -141,16 +147,16 @@ fn serve(rt: HostRuntime) -> Result<u8, Stop> {
     }
     let needs = Needs::of(&words);
     if !needs.salts {
-        return Ok(run_with(rt, &words, needs.db, output, MemDice::new(0))?);
+        return Ok(run_with(threads, rt, &words, needs.db, output, MemDice::new(0))?);
     }
     match Salts::new(&rt) {
-        Ok(salts) => Ok(run_with(rt, &words, needs.db, output, salts)?),
+        Ok(salts) => Ok(run_with(threads, rt, &words, needs.db, output, salts)?),
         Err(_) => Err(Stop::NoRandomBytes),
     }
 }
 
 fn main(rt: HostRuntime) -> ExitCode {
-    match serve(rt) {
+    match serve(&rt, rt) {
         Ok(status) => ExitCode::from(status),
         Err(stop) => ExitCode::from(tell(&rt, &stop)),
     }
