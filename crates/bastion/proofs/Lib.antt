@@ -6,6 +6,8 @@ pub mod DoesLemmas
 pub mod HeadlineLemmas
 pub mod InputLemmas
 pub mod LaunchLemmas
+pub mod LinkedLemmas
+pub mod LinkingLemmas
 pub mod LoglessLemmas
 pub mod QuietLemmas
 pub mod ReadingLemmas

@@ -1,7 +1,9 @@
+pub mod Asking
 pub mod Complete
 pub mod Deciding
 pub mod Headline
 pub mod Inputs
+pub mod Linking
 pub mod Outcome
 pub mod Places
 pub mod Reading
