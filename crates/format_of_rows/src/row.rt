@@ -56,6 +56,11 @@ impl Row {
             | Keyword::LogPart
             | Keyword::Started
             | Keyword::NoneStarted
+            | Keyword::Asked
+            | Keyword::NoneAsked
+            | Keyword::Given
+            | Keyword::GivenPart
+            | Keyword::HungUp
             | Keyword::Status
             | Keyword::Untaken
             | Keyword::Unchanged

@@ -7,20 +7,33 @@ use format_of_rows::{Row, Setting};
 use fw_types::{NoMemory, Octets};
 use runs_of_rows::{Devices, Difference, Ended, Runner};
 use std::alloc::Global;
+use std::thread::Threads;
 
 /// Runs a row by `bastion`: by `run`, or by `conn` where the row limits the history.
 pub(crate) struct BastionRunner;
 
 impl Runner for BastionRunner {
-    fn run(&self, alloc: Global, setting: &Setting, devices: Devices) -> Ended {
+    fn run<H: Threads + Sync>(
+        &self,
+        rt: &H,
+        alloc: Global,
+        setting: &Setting,
+        devices: Devices,
+    ) -> Ended {
         match setting.limit {
             Some(limit) => serve_over(alloc, &setting.words, limit, devices),
-            None => run_over(alloc, &setting.words, devices),
+            None => run_over(rt, alloc, &setting.words, devices),
         }
     }
 
-    fn run_words(&self, alloc: Global, words: &[Octets], devices: Devices) -> Ended {
-        run_over(alloc, words, devices)
+    fn run_words<H: Threads + Sync>(
+        &self,
+        rt: &H,
+        alloc: Global,
+        words: &[Octets],
+        devices: Devices,
+    ) -> Ended {
+        run_over(rt, alloc, words, devices)
     }
 
     fn misread(&self, alloc: Global, row: &Row, command: &[u8]) -> Result<Difference, NoMemory> {

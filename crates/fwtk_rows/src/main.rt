@@ -34,7 +34,7 @@ fn try_file(rt: HostRuntime, name: &str, differ: bool, counts: &mut Counts) -> i
         }
     };
     let mut report = Report::new(alloc, differ);
-    let tried = try_rows(&BastionRunner, alloc, &rows, &mut report, counts);
+    let tried = try_rows(&rt, &BastionRunner, alloc, &rows, &mut report, counts);
     let mut out = io::writer(&rt);
     io::Write::write_all(&mut out, report.bytes())?;
     if tried.is_err() {

@@ -1,31 +1,43 @@
 //! Who runs a row.
 
 use crate::comparing::Difference;
-use crate::devices::Devices;
+use crate::devices::{Devices, Helpers, Place, Talk};
 use format_of_rows::{Row, Setting};
-use fw_memory::{MemClock, MemKeeper, MemLauncher, MemSink, MemSource};
+use fw_memory::MemKeeper;
 use fw_types::{NoMemory, Octets};
 use std::alloc::Global;
+use std::thread::Threads;
 
 /// The status of a run, and the devices after it.
 #[derive(Drop)]
 pub struct Ended {
     pub status: u8,
-    pub input: MemSource,
-    pub output: MemSink,
-    pub logs: MemSink,
-    pub clock: MemClock,
+    pub talk: Talk,
+    pub place: Place,
+    pub helpers: Helpers,
+    /// What the run gives back of its keeper.
     pub keeper: Option<MemKeeper>,
-    pub launcher: MemLauncher,
 }
 
 /// What the program under test does with a row.
 pub trait Runner {
     /// Runs what the setting says over the devices.
-    fn run(&self, alloc: Global, setting: &Setting, devices: Devices) -> Ended;
+    fn run<H: Threads + Sync>(
+        &self,
+        rt: &H,
+        alloc: Global,
+        setting: &Setting,
+        devices: Devices,
+    ) -> Ended;
 
     /// Runs this command line over the devices.
-    fn run_words(&self, alloc: Global, words: &[Octets], devices: Devices) -> Ended;
+    fn run_words<H: Threads + Sync>(
+        &self,
+        rt: &H,
+        alloc: Global,
+        words: &[Octets],
+        devices: Devices,
+    ) -> Ended;
 
     /// The first thing in which the row's words are read otherwise than as this command.
     ///

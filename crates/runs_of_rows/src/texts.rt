@@ -53,13 +53,20 @@ pub(crate) fn without_line(alloc: Global, text: &[u8], line: u64) -> Result<Vec<
     Ok(rest)
 }
 
+// The text up to its last blank.
+fn without_last_word(text: &[u8]) -> &[u8] {
+    let mut end = 0;
+    for (at, byte) in text.iter().enumerate() {
+        if *byte == b' ' {
+            end = at.saturating_add(1);
+        }
+    }
+    text.get(..end).unwrap_or(&[])
+}
+
 /// The text with this for its last word.
 pub(crate) fn with_last_word(alloc: Global, text: &[u8], word: &[u8]) -> Result<Vec<u8>, NoMemory> {
-    let end = match text.iter().rposition(|byte| *byte == b' ') {
-        Some(at) => at.saturating_add(1),
-        None => 0,
-    };
-    let mut out = Vec::from_slice(alloc, text.get(..end).unwrap_or(&[]))?;
+    let mut out = Vec::from_slice(alloc, without_last_word(text))?;
     out.extend_from_slice(word)?;
     out.push(b'\n')?;
     Ok(out)
