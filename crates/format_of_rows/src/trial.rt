@@ -93,6 +93,8 @@ pub struct Trial {
     pub sweep: Vec<Tried>,
     /// Whether each text that the client is given answers one request, which has its own moment.
     pub paced: bool,
+    /// Whether it is no matter how many requests are made.
+    pub untimed: bool,
 }
 
 fn part_of(keyword: Keyword, device: &[u8]) -> Result<Part, Why> {
@@ -120,6 +122,7 @@ impl Trial {
             pieces: Vec::new(alloc),
             sweep: Vec::new(alloc),
             paced: false,
+            untimed: false,
         }
     }
 

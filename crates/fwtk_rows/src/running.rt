@@ -43,32 +43,36 @@ fn ended_of(status: u8, world: World<Memory>, dialer: MemDialer) -> Ended {
         keeper,
         launcher,
     } = world;
+    let place = Place {
+        files,
+        logs,
+        clock,
+        dice,
+    };
+    let devices = Devices {
+        talk: Talk { input, output },
+        place,
+        helpers: Helpers { dialer, launcher },
+    };
     Ended {
         status,
-        talk: Talk { input, output },
-        place: Place {
-            files,
-            logs,
-            clock,
-            dice,
-        },
-        helpers: Helpers { dialer, launcher },
+        devices,
         keeper,
     }
 }
 
-/// Runs the command line over the devices.
+/// Runs the command line over the devices and the keeper.
 pub(crate) fn run_over<H: Threads + Sync>(
     _rt: &H,
     alloc: Global,
     words: &[Octets],
     devices: Devices,
+    keeper: MemKeeper,
 ) -> Ended {
     let Devices {
         talk,
         place,
         helpers,
-        keeper,
     } = devices;
     let Talk { input, output } = talk;
     let Place {

@@ -58,12 +58,12 @@ fn conn_over(server: &Server, book: &mut Book<MemKeeper>, ended: &mut Ended) -> 
         &server.rules,
         &server.peer,
         book,
-        &mut ended.talk.input,
-        &mut ended.talk.output,
-        &mut ended.place.logs,
+        &mut ended.devices.talk.input,
+        &mut ended.devices.talk.output,
+        &mut ended.devices.place.logs,
         &mut Nowhere::new(),
-        &mut ended.place.clock,
-        &mut ended.place.dice,
+        &mut ended.devices.place.clock,
+        &mut ended.devices.place.dice,
     )
 }
 
@@ -76,21 +76,19 @@ fn hold(server: &Server, mut book: Book<MemKeeper>, limit: u64, ended: &mut Ende
 }
 
 /// Serves the client of the command line over a history with room for so many requests.
-pub(crate) fn serve_over(alloc: Global, words: &[Octets], limit: u64, devices: Devices) -> Ended {
-    let Devices {
-        talk,
-        place,
-        helpers,
-        keeper,
-    } = devices;
+pub(crate) fn serve_over(
+    alloc: Global,
+    words: &[Octets],
+    limit: u64,
+    devices: Devices,
+    keeper: MemKeeper,
+) -> Ended {
     let mut ended = Ended {
         status: UNSERVED,
-        talk,
-        place,
-        helpers,
+        devices,
         keeper: None,
     };
-    let Some((server, policy)) = server_in(alloc, words, &mut ended.place.files) else {
+    let Some((server, policy)) = server_in(alloc, words, &mut ended.devices.place.files) else {
         return ended;
     };
     if let Ok(book) = Book::open(alloc, keeper, policy, limit) {

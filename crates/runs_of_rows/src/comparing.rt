@@ -2,11 +2,10 @@
 
 use crate::devices::{Helpers, Place, Talk};
 use crate::runner::Ended;
-use crate::seen::{asked_of, given_over, left_of, started_by};
-use fw_memory::MemKeeper;
+use crate::seen::{asked_of, given_over, left_of, started_by, table_of, told_of};
+use crate::writing::{Text, add, add_number, add_quoted};
 use fw_outside::Clock;
-use fw_types::{Name, NoMemory, Octets};
-use std::alloc::Global;
+use fw_types::{Name, Octets};
 
 /// What is expected of those whom a run calls.
 #[derive(Clone, Copy)]
@@ -50,84 +49,16 @@ pub(crate) const UNCALLED: Called<'static> = Called {
     hung_up: 0,
 };
 
-/// Whatever is left.
-pub(crate) const ANY: Rest<'static> = Rest {
-    next: None,
-    left: None,
-    records: None,
-};
-
 /// The first thing that differs, in words; empty where nothing does.
 #[derive(Drop)]
 pub struct Difference {
-    alloc: Global,
-    text: Vec<u8>,
-}
-
-fn add_hex(alloc: Global, out: &mut Vec<u8>, byte: u8) -> Result<(), NoMemory> {
-    let escape = format!(in alloc; "\\x{byte:02x}")?;
-    out.extend_from_slice(escape.as_bytes())?;
-    Ok(())
-}
-
-fn add_escaped(alloc: Global, out: &mut Vec<u8>, byte: u8) -> Result<(), NoMemory> {
-    match byte {
-        b'\n' => out.extend_from_slice(b"\\n")?,
-        b'\\' => out.extend_from_slice(b"\\\\")?,
-        b' '..=b'~' => out.push(byte)?,
-        other => add_hex(alloc, out, other)?,
-    }
-    Ok(())
-}
-
-// Adds a text with its quotes, and a line's end and what is no printing character as an escape.
-fn add_quoted(alloc: Global, out: &mut Vec<u8>, text: &[u8]) -> Result<(), NoMemory> {
-    out.push(b'"')?;
-    for byte in text {
-        add_escaped(alloc, out, *byte)?;
-    }
-    out.push(b'"')?;
-    Ok(())
-}
-
-fn add_record(
-    alloc: Global,
-    out: &mut Vec<u8>,
-    name: &Name,
-    bytes: &Octets,
-) -> Result<(), NoMemory> {
-    let digits = hex::encode(alloc, bytes.bytes())?;
-    out.extend_from_slice(name.text())?;
-    out.push(b' ')?;
-    out.extend_from_slice(digits.as_bytes())?;
-    out.push(b'\n')?;
-    Ok(())
-}
-
-// A name and the bytes of its record, for each of the records.
-fn told_of(alloc: Global, records: &[(Name, Octets)]) -> Result<Vec<u8>, NoMemory> {
-    let mut out = Vec::new(alloc);
-    for (name, bytes) in records {
-        add_record(alloc, &mut out, name, bytes)?;
-    }
-    Ok(out)
-}
-
-// The records that are kept: none where there is no keeper.
-fn table_of(keeper: &Option<MemKeeper>) -> &[(Name, Octets)] {
-    match keeper {
-        Some(keeper) => keeper.table(),
-        None => &[],
-    }
+    text: Text,
 }
 
 impl Difference {
     /// Nothing.
-    pub fn none(alloc: Global) -> Difference {
-        Difference {
-            alloc,
-            text: Vec::new(alloc),
-        }
+    pub fn none() -> Difference {
+        Difference { text: Text::new() }
     }
 
     /// Whether nothing differs.
@@ -137,133 +68,91 @@ impl Difference {
 
     /// In words.
     pub(crate) fn text(&self) -> &[u8] {
-        &self.text
+        self.text.as_slice()
     }
 
     /// Adds words.
-    pub(crate) fn say(&mut self, words: &[u8]) -> Result<(), NoMemory> {
-        self.text.extend_from_slice(words)?;
-        Ok(())
+    pub(crate) fn say(&mut self, words: &[u8]) {
+        add(&mut self.text, words);
     }
 
     /// Adds a number.
-    pub(crate) fn say_number(&mut self, number: u64) -> Result<(), NoMemory> {
-        let digits = format!(in self.alloc; "{number}")?;
-        self.say(digits.as_bytes())
-    }
-
-    fn say_texts(&mut self, what: &[u8], wanted: &[u8], was: &[u8]) -> Result<(), NoMemory> {
-        self.say(what)?;
-        self.say(b", expected ")?;
-        add_quoted(self.alloc, &mut self.text, wanted)?;
-        self.say(b", was ")?;
-        add_quoted(self.alloc, &mut self.text, was)
+    pub(crate) fn say_number(&mut self, number: u64) {
+        add_number(&mut self.text, number);
     }
 
     /// Compares two texts, unless something differs already.
-    ///
-    /// # Errors
-    ///
-    /// `NoMemory` where memory was wanting.
-    pub fn text_of(&mut self, what: &[u8], wanted: &[u8], was: &[u8]) -> Result<(), NoMemory> {
-        if !self.is_none() || wanted == was {
-            return Ok(());
+    pub fn text_of(&mut self, what: &[u8], wanted: &[u8], was: &[u8]) {
+        if self.is_none() && wanted != was {
+            self.say(what);
+            self.say(b", expected ");
+            add_quoted(&mut self.text, wanted);
+            self.say(b", was ");
+            add_quoted(&mut self.text, was);
         }
-        self.say_texts(what, wanted, was)
-    }
-
-    fn say_numbers(&mut self, what: &[u8], wanted: u64, was: u64) -> Result<(), NoMemory> {
-        self.say(what)?;
-        self.say(b", expected ")?;
-        self.say_number(wanted)?;
-        self.say(b", was ")?;
-        self.say_number(was)
     }
 
     /// Compares two numbers, unless something differs already.
-    pub(crate) fn number_of(&mut self, what: &[u8], wanted: u64, was: u64) -> Result<(), NoMemory> {
-        if !self.is_none() || wanted == was {
-            return Ok(());
+    pub(crate) fn number_of(&mut self, what: &[u8], wanted: u64, was: u64) {
+        if self.is_none() && wanted != was {
+            self.say(what);
+            self.say(b", expected ");
+            self.say_number(wanted);
+            self.say(b", was ");
+            self.say_number(was);
         }
-        self.say_numbers(what, wanted, was)
-    }
-
-    fn started_of(&mut self, expected: &Called, helpers: &Helpers) -> Result<(), NoMemory> {
-        let started = started_by(self.alloc, &helpers.launcher)?;
-        self.text_of(b"what was started", expected.started, &started)
-    }
-
-    fn dests_of(&mut self, expected: &Called, helpers: &Helpers) -> Result<(), NoMemory> {
-        let asked = asked_of(self.alloc, &helpers.dialer)?;
-        self.text_of(b"what was asked for", expected.asked, &asked)
-    }
-
-    fn given_of(&mut self, expected: &Called, helpers: &Helpers) -> Result<(), NoMemory> {
-        let given = given_over(self.alloc, &helpers.dialer)?;
-        self.text_of(b"what servers were given", expected.given, &given)
     }
 
     // Compares what those were told whom the run called.
-    fn called_of(&mut self, expected: &Called, helpers: &Helpers) -> Result<(), NoMemory> {
-        self.started_of(expected, helpers)?;
-        self.dests_of(expected, helpers)?;
-        self.given_of(expected, helpers)?;
+    fn called_of(&mut self, expected: &Called, helpers: &Helpers) {
+        let started = started_by(&helpers.launcher);
+        self.text_of(b"what was started", expected.started, started.as_slice());
+        let asked = asked_of(&helpers.dialer);
+        self.text_of(b"what was asked for", expected.asked, asked.as_slice());
+        let given = given_over(&helpers.dialer);
+        self.text_of(b"what servers were given", expected.given, given.as_slice());
         let hung_up = helpers.dialer.ended().len() as u64;
-        self.number_of(b"the links hung up", expected.hung_up, hung_up)
+        self.number_of(b"the links hung up", expected.hung_up, hung_up);
     }
 
-    fn records_of(
-        &mut self,
-        wanted: &[(Name, Octets)],
-        was: &[(Name, Octets)],
-    ) -> Result<(), NoMemory> {
-        let wanted = told_of(self.alloc, wanted)?;
-        let was = told_of(self.alloc, was)?;
-        self.text_of(b"the records", &wanted, &was)
+    fn records_of(&mut self, wanted: &[(Name, Octets)], was: &[(Name, Octets)]) {
+        let (wanted, was) = (told_of(wanted), told_of(was));
+        self.text_of(b"the records", wanted.as_slice(), was.as_slice());
     }
 
-    fn unsaid_of(&mut self, wanted: &[u8], talk: &mut Talk) -> Result<(), NoMemory> {
-        let left = left_of(self.alloc, &mut talk.input)?;
-        self.text_of(b"what the client would still say", wanted, &left)
+    fn unsaid_of(&mut self, wanted: &[u8], talk: &mut Talk) {
+        let left = left_of(&mut talk.input);
+        self.text_of(b"what the client would still say", wanted, left.as_slice());
     }
 
-    fn next_of(&mut self, wanted: u64, place: &mut Place) -> Result<(), NoMemory> {
+    fn next_of(&mut self, wanted: u64, place: &mut Place) {
         let next = place.clock.now();
-        self.number_of(b"the moment of the next request", wanted, next)
+        self.number_of(b"the moment of the next request", wanted, next);
     }
 
     // Compares what is left of the devices.
-    fn rest_of(&mut self, expected: &Rest, was: &mut Ended) -> Result<(), NoMemory> {
+    fn rest_of(&mut self, expected: &Rest, was: &mut Ended) {
         if let Some(next) = expected.next {
-            self.next_of(next, &mut was.place)?;
+            self.next_of(next, &mut was.devices.place);
         }
         if let Some(left) = expected.left {
-            self.unsaid_of(left, &mut was.talk)?;
+            self.unsaid_of(left, &mut was.devices.talk);
         }
-        match expected.records {
-            Some(records) => self.records_of(records, table_of(&was.keeper)),
-            None => Ok(()),
+        if let Some(records) = expected.records {
+            self.records_of(records, table_of(&was.keeper));
         }
-    }
-
-    // Compares all that is expected with what a run came to.
-    fn all_of(&mut self, expected: &Expected, was: &mut Ended) -> Result<(), NoMemory> {
-        let (wanted, status) = (u64::from(expected.status), u64::from(was.status));
-        self.number_of(b"the status", wanted, status)?;
-        self.text_of(b"the output", expected.output, was.talk.output.bytes())?;
-        self.text_of(b"the log", expected.log, was.place.logs.bytes())?;
-        self.called_of(&expected.called, &was.helpers)?;
-        self.rest_of(&expected.rest, was)
     }
 }
 
 /// The first thing in which a run came out otherwise than expected.
-pub(crate) fn compare(
-    alloc: Global,
-    expected: &Expected,
-    was: &mut Ended,
-) -> Result<Difference, NoMemory> {
-    let mut difference = Difference::none(alloc);
-    difference.all_of(expected, was)?;
-    Ok(difference)
+pub(crate) fn compare(expected: &Expected, was: &mut Ended) -> Difference {
+    let mut difference = Difference::none();
+    let (wanted, status) = (u64::from(expected.status), u64::from(was.status));
+    difference.number_of(b"the status", wanted, status);
+    let output = was.devices.talk.output.bytes();
+    difference.text_of(b"the output", expected.output, output);
+    difference.text_of(b"the log", expected.log, was.devices.place.logs.bytes());
+    difference.called_of(&expected.called, &was.devices.helpers);
+    difference.rest_of(&expected.rest, was);
+    difference
 }

@@ -2,9 +2,9 @@
 ghost use Rattle.std.specs.Prelude.{All, IfOk};
 ghost use Rattle.fw_memory.specs.MemDialerView.{IsNewLink};
 
-use crate::calls::{ROOM, calls_of, room_of};
-use crate::plan::{Plan, WHOLE};
-use format_of_rows::{File, Part, TABLE};
+use crate::calls::{calls_of, room_of};
+use crate::plan::Plan;
+use format_of_rows::{File, Part};
 use fw_memory::{
     Calls, MemClock, MemDialer, MemDice, MemFiles, MemKeeper, MemLauncher, MemSink, MemSource,
 };
@@ -46,13 +46,12 @@ pub struct Helpers {
     pub launcher: MemLauncher,
 }
 
-/// The devices that a run is given.
+/// The devices that a run is given, but for its keeper.
 #[derive(Drop)]
 pub struct Devices {
     pub talk: Talk,
     pub place: Place,
     pub helpers: Helpers,
-    pub keeper: MemKeeper,
 }
 
 fn twin_of(alloc: Global, name: &Name, bytes: &Octets) -> Result<(Name, Octets), NoMemory> {
@@ -116,7 +115,8 @@ fn logs_of(plan: &Plan) -> Result<MemSink, NoMemory> {
     MemSink::new(plan.alloc, room_of(plan, Part::LogRoom), fails)
 }
 
-fn keeper_of(plan: &Plan) -> Result<MemKeeper, NoMemory> {
+/// The keeper of a row's run.
+pub(crate) fn keeper_of(plan: &Plan) -> Result<MemKeeper, NoMemory> {
     let fails = calls_of(plan, Part::Keeper)?;
     let records = copy_of(plan.alloc, plan.records)?;
     Ok(MemKeeper::new(plan.alloc, records, fails))
@@ -200,67 +200,10 @@ fn helpers_of(plan: &Plan) -> Result<Helpers, NoMemory> {
 pub(crate) fn devices_of(plan: &Plan) -> Result<Devices, NoMemory> {
     let talk = talk_of(plan)?;
     let place = place_of(plan)?;
-    let keeper = keeper_of(plan)?;
     let helpers = helpers_of(plan)?;
     Ok(Devices {
         talk,
         place,
         helpers,
-        keeper,
-    })
-}
-
-fn console_talk(alloc: Global, said: &[u8]) -> Result<Talk, NoMemory> {
-    let output = MemSink::new(alloc, ROOM, Calls::none())?;
-    let said = Octets::copy(alloc, said)?;
-    Ok(Talk {
-        input: MemSource::new(said, WHOLE, Calls::none(), Calls::none()),
-        output,
-    })
-}
-
-// A table without lines.
-fn empty_table(alloc: Global) -> Result<MemFiles, NoMemory> {
-    let entry = entry_of(alloc, TABLE.as_bytes(), b"")?;
-    let mut entries = Vec::new(alloc);
-    entries.push(entry)?;
-    Ok(MemFiles::new(alloc, entries, WHOLE, Calls::none(), Calls::none()))
-}
-
-fn console_place(alloc: Global) -> Result<Place, NoMemory> {
-    let clock = clock_of(alloc, &[])?;
-    let logs = MemSink::new(alloc, ROOM, Calls::none())?;
-    let files = empty_table(alloc)?;
-    Ok(Place {
-        files,
-        logs,
-        clock,
-        dice: MemDice::new(FIRST_SALT),
-    })
-}
-
-fn console_helpers(alloc: Global) -> Result<Helpers, NoMemory> {
-    let dialer = MemDialer::new(alloc, Vec::new(alloc), 0, Calls::none())?;
-    Ok(Helpers {
-        dialer,
-        launcher: MemLauncher::new(alloc, Vec::new(alloc), Calls::none()),
-    })
-}
-
-/// What a run at the console meets that says these lines, over the records.
-pub(crate) fn console_devices(
-    alloc: Global,
-    said: &[u8],
-    records: Records,
-) -> Result<Devices, NoMemory> {
-    let keeper = MemKeeper::new(alloc, records, Calls::none());
-    let talk = console_talk(alloc, said)?;
-    let place = console_place(alloc)?;
-    let helpers = console_helpers(alloc)?;
-    Ok(Devices {
-        talk,
-        place,
-        helpers,
-        keeper,
     })
 }

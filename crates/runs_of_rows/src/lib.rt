@@ -19,6 +19,7 @@ mod sweeps;
 mod texts;
 mod trying;
 mod verdicts;
+mod writing;
 
 pub use comparing::Difference;
 pub use devices::{Devices, Helpers, Place, Talk};

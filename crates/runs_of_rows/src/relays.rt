@@ -1,13 +1,12 @@
 //! What always holds of a relay in which a device fails. The order of its two ways isn't told, so what either side was given
 //! is looked at by itself: where one side fails, the other way goes on to its end.
 
-use crate::comparing::{Difference, Expected, compare};
+use crate::comparing::{Called, Difference, Expected, compare};
 use crate::plan::Plan;
 use crate::runner::Ended;
 use crate::texts::front;
-use crate::verdicts::{log_of, untouched, usual};
+use crate::verdicts::{called_by, log_of, untouched, usual};
 use format_of_rows::Part;
-use fw_types::NoMemory;
 
 /// The most bytes that a way of a relay takes at once.
 const PIECE: usize = 4096;
@@ -19,56 +18,52 @@ fn carried<'a>(plan: &Plan, text: &'a [u8]) -> &'a [u8] {
 }
 
 // As the row says, but for what the client and the server were given, and for this cause of the end.
-fn ends(
-    plan: &Plan,
-    cause: &[u8],
-    output: &[u8],
-    given: &[u8],
-    was: &mut Ended,
-) -> Result<Difference, NoMemory> {
-    let log = log_of(plan.alloc, plan.row, cause)?;
-    let mut expected: Expected = usual(plan.row, plan.records);
-    expected.status = 4;
-    expected.output = output;
-    expected.log = &log;
-    expected.called.given = given;
-    compare(plan.alloc, &expected, was)
+fn ends(plan: &Plan, cause: &[u8], output: &[u8], given: &[u8], was: &mut Ended) -> Difference {
+    let log = log_of(plan.row, cause);
+    let row = plan.row;
+    let called = Called {
+        given,
+        ..called_by(&row.wanted)
+    };
+    let expected = Expected {
+        status: 4,
+        output,
+        log: log.as_slice(),
+        called,
+        ..usual(row, plan.records)
+    };
+    compare(&expected, was)
 }
 
 // Where the way to the server ends early: this much was given.
-fn up_ends(
-    plan: &Plan,
-    cause: &[u8],
-    given: &[u8],
-    was: &mut Ended,
-) -> Result<Difference, NoMemory> {
+fn up_ends(plan: &Plan, cause: &[u8], given: &[u8], was: &mut Ended) -> Difference {
     ends(plan, cause, &plan.row.wanted.output, given, was)
 }
 
 // Where the way to the client ends early: this much was told.
-fn down_ends(
-    plan: &Plan,
-    cause: &[u8],
-    output: &[u8],
-    was: &mut Ended,
-) -> Result<Difference, NoMemory> {
+fn down_ends(plan: &Plan, cause: &[u8], output: &[u8], was: &mut Ended) -> Difference {
     ends(plan, cause, output, &plan.row.wanted.called.given, was)
 }
 
 /// Where the link is refused: nothing is heard, told or given.
-pub(crate) fn refused_differs(plan: &Plan, was: &mut Ended) -> Result<Difference, NoMemory> {
-    let log = log_of(plan.alloc, plan.row, b"noroute")?;
-    let mut expected = untouched(plan.row, plan.records, &log);
-    expected.called.asked = &plan.row.wanted.called.asked;
-    compare(plan.alloc, &expected, was)
+pub(crate) fn refused_differs(plan: &Plan, was: &mut Ended) -> Difference {
+    let log = log_of(plan.row, b"noroute");
+    let row = plan.row;
+    let called = Called {
+        started: &[],
+        asked: &row.wanted.called.asked,
+        given: &[],
+        hung_up: 0,
+    };
+    let expected = Expected {
+        called,
+        ..untouched(row, plan.records, log.as_slice())
+    };
+    compare(&expected, was)
 }
 
 /// What differs where a side of the relay fails.
-pub(crate) fn relay_differs(
-    plan: &Plan,
-    part: Part,
-    was: &mut Ended,
-) -> Result<Difference, NoMemory> {
+pub(crate) fn relay_differs(plan: &Plan, part: Part, was: &mut Ended) -> Difference {
     let output: &[u8] = &plan.row.wanted.output;
     let given: &[u8] = &plan.row.wanted.called.given;
     match part {

@@ -1,10 +1,10 @@
 //! Who runs a row.
 
 use crate::comparing::Difference;
-use crate::devices::{Devices, Helpers, Place, Talk};
+use crate::devices::Devices;
 use format_of_rows::{Row, Setting};
 use fw_memory::MemKeeper;
-use fw_types::{NoMemory, Octets};
+use fw_types::NoMemory;
 use std::alloc::Global;
 use std::thread::Threads;
 
@@ -12,31 +12,21 @@ use std::thread::Threads;
 #[derive(Drop)]
 pub struct Ended {
     pub status: u8,
-    pub talk: Talk,
-    pub place: Place,
-    pub helpers: Helpers,
+    pub devices: Devices,
     /// What the run gives back of its keeper.
     pub keeper: Option<MemKeeper>,
 }
 
 /// What the program under test does with a row.
 pub trait Runner {
-    /// Runs what the setting says over the devices.
+    /// Runs what the setting says over the devices and the keeper.
     fn run<H: Threads + Sync>(
         &self,
         rt: &H,
         alloc: Global,
         setting: &Setting,
         devices: Devices,
-    ) -> Ended;
-
-    /// Runs this command line over the devices.
-    fn run_words<H: Threads + Sync>(
-        &self,
-        rt: &H,
-        alloc: Global,
-        words: &[Octets],
-        devices: Devices,
+        keeper: MemKeeper,
     ) -> Ended;
 
     /// The first thing in which the row's words are read otherwise than as this command.

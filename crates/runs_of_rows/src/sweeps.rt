@@ -1,11 +1,11 @@
 //! Runs in which a device fails at each of its calls in turn.
 
-use crate::broken::broken_differs;
-use crate::comparing::{Difference, compare};
+use crate::comparing::Difference;
+use crate::devices::Records;
 use crate::plan::{Broken, Plan, UNBROKEN, WHOLE};
 use crate::runner::Runner;
-use crate::running::ended_by;
-use crate::verdicts::{is_plug, usual};
+use crate::running::run_plan;
+use crate::verdicts::is_plug;
 use format_of_rows::{Part, Row, Tried};
 use fw_types::{Name, NoMemory, Octets};
 use std::alloc::Global;
@@ -16,78 +16,8 @@ use std::thread::Threads;
 pub(crate) struct Swept {
     pub(crate) runs: u64,
     pub(crate) difference: Difference,
-}
-
-fn name_of(part: Part) -> &'static [u8] {
-    match part {
-        Part::Table => b"the table fails at call ",
-        Part::TableIdle => b"the table is idle at call ",
-        Part::Client => b"the client fails at call ",
-        Part::ClientIdle => b"the client is idle at call ",
-        Part::Output => b"the output fails at call ",
-        Part::OutputRoom => b"the output has bytes of room, ",
-        Part::Log => b"the log fails at call ",
-        Part::LogRoom => b"the log has bytes of room, ",
-        Part::Keeper => b"the keeper fails at call ",
-        Part::Program => b"a program can't be started at call ",
-        Part::Dialer => b"the dialer refuses call ",
-        Part::Server => b"the server fails at call ",
-        Part::ServerIdle => b"the server is idle at call ",
-        Part::Given => b"the server takes nothing at call ",
-        Part::GivenRoom => b"the server has bytes of room, ",
-    }
-}
-
-fn say_piece(difference: &mut Difference, piece: usize) -> Result<(), NoMemory> {
-    if piece == WHOLE {
-        return Ok(());
-    }
-    difference.say(b", in pieces of ")?;
-    difference.say_number(piece as u64)
-}
-
-fn say_broken(difference: &mut Difference, part: Part, at: u64) -> Result<(), NoMemory> {
-    difference.say(b", where ")?;
-    difference.say(name_of(part))?;
-    difference.say_number(at)
-}
-
-/// Says how a run in which something differs was cut, and what failed in it.
-pub(crate) fn say_where(difference: &mut Difference, plan: &Plan) -> Result<(), NoMemory> {
-    if difference.is_none() {
-        return Ok(());
-    }
-    say_piece(difference, plan.piece)?;
-    match plan.broken.part {
-        Some(part) => say_broken(difference, part, plan.broken.at),
-        None => Ok(()),
-    }
-}
-
-// What differs in one run. A call past those that are made changes nothing.
-fn ended_differs<H: Threads + Sync, R: Runner>(
-    rt: &H,
-    runner: &R,
-    plan: &Plan,
-    calls: u64,
-) -> Result<Difference, NoMemory> {
-    let mut was = ended_by(rt, runner, plan)?;
-    if plan.broken.at < calls {
-        return broken_differs(plan, &mut was);
-    }
-    compare(plan.alloc, &usual(plan.row, plan.records), &mut was)
-}
-
-// The same, with how the run was cut and what failed in it.
-fn run_differs<H: Threads + Sync, R: Runner>(
-    rt: &H,
-    runner: &R,
-    plan: &Plan,
-    calls: u64,
-) -> Result<Difference, NoMemory> {
-    let mut difference = ended_differs(rt, runner, plan, calls)?;
-    say_where(&mut difference, plan)?;
-    Ok(difference)
+    /// What the keeper has after the last run.
+    pub(crate) after: Records,
 }
 
 // One more run, unless something differs already.
@@ -99,7 +29,7 @@ fn sweep_call<H: Threads + Sync, R: Runner>(
     swept: &mut Swept,
 ) -> Result<(), NoMemory> {
     if swept.difference.is_none() {
-        swept.difference = run_differs(rt, runner, plan, calls)?;
+        swept.difference = run_plan(rt, runner, plan, calls, &mut swept.after)?;
         swept.runs = swept.runs.saturating_add(1);
     }
     Ok(())

@@ -1,37 +1,42 @@
 //! The rows of a file, one after the other.
 
-use crate::comparing::{Difference, compare};
+use crate::comparing::Difference;
 use crate::devices::{Records, copy_of};
 use crate::plan::{Plan, UNBROKEN, WHOLE};
 use crate::report::{Counts, Report};
-use crate::runner::{Ended, Runner};
-use crate::running::{at_console, ended_by};
-use crate::seen::records_of;
-use crate::sweeps::{Swept, say_where, sweep};
-use crate::texts::count_lines;
-use crate::verdicts::{at_ease, usual};
+use crate::runner::Runner;
+use crate::running::run_plan;
+use crate::sweeps::{Swept, sweep};
 use format_of_rows::Row;
 use fw_types::{Name, NoMemory, Octets};
 use std::alloc::Global;
 use std::thread::Threads;
 
-// What is told at the console where each line is answered by `ok`.
-fn answers(alloc: Global, lines: u64) -> Result<Vec<u8>, NoMemory> {
-    let mut text = Vec::from_slice(alloc, b"authsrv ready\n")?;
-    for _ in 0..lines {
-        text.extend_from_slice(b"ok\n")?;
+// The run of a row as it is said.
+fn plan_of<'a>(
+    alloc: Global,
+    row: &'a Row,
+    records: &'a [(Name, Octets)],
+    piece: usize,
+) -> Plan<'a> {
+    Plan {
+        alloc,
+        row,
+        records,
+        piece,
+        broken: UNBROKEN,
     }
-    Ok(text)
 }
 
-// What differs in a run at the console that said these lines.
-fn console_differs(alloc: Global, said: &[u8], was: &mut Ended) -> Result<Difference, NoMemory> {
-    let output = answers(alloc, count_lines(said))?;
-    compare(alloc, &at_ease(&output), was)
+fn console_row(alloc: Global, said: &[u8]) -> Result<Row, NoMemory> {
+    match Row::console(alloc, said) {
+        Ok(row) => Ok(row),
+        Err(_) => Err(NoMemory),
+    }
 }
 
-// Says the lines at the console. The records are those that are there afterwards.
-fn say_at_console<H: Threads + Sync, R: Runner>(
+// Runs what is said at the console. The records are those that are there afterwards.
+fn run_console<H: Threads + Sync, R: Runner>(
     rt: &H,
     runner: &R,
     alloc: Global,
@@ -39,23 +44,23 @@ fn say_at_console<H: Threads + Sync, R: Runner>(
     records: &mut Records,
 ) -> Result<Difference, NoMemory> {
     let before = copy_of(alloc, records)?;
-    let mut was = at_console(rt, runner, alloc, said, before)?;
-    *records = records_of(alloc, &was.keeper)?;
-    console_differs(alloc, said, &mut was)
+    let row = console_row(alloc, said)?;
+    let plan = plan_of(alloc, &row, &before, WHOLE);
+    run_plan(rt, runner, &plan, 0, records)
 }
 
-// Says all that the row's runs at the console say, up to the first in which something differs.
-fn say_all<H: Threads + Sync, R: Runner>(
+// Runs all that is said at the console before the row, up to the first run in which something differs.
+fn run_consoles<H: Threads + Sync, R: Runner>(
     rt: &H,
     runner: &R,
     alloc: Global,
     row: &Row,
     records: &mut Records,
-    difference: &mut Difference,
+    swept: &mut Swept,
 ) -> Result<(), NoMemory> {
     for said in &row.setting.console {
-        if difference.is_none() {
-            *difference = say_at_console(rt, runner, alloc, said, records)?;
+        if swept.difference.is_none() {
+            swept.difference = run_console(rt, runner, alloc, said, records)?;
         }
     }
     Ok(())
@@ -77,20 +82,6 @@ fn first_records(alloc: Global, row: &Row, earlier: &[Records]) -> Result<Record
     }
 }
 
-// What differs where the row is run in pieces of this length. The records are those that the keeper then has.
-fn run_piece<H: Threads + Sync, R: Runner>(
-    rt: &H,
-    runner: &R,
-    plan: &Plan,
-    after: &mut Records,
-) -> Result<Difference, NoMemory> {
-    let mut was = ended_by(rt, runner, plan)?;
-    *after = records_of(plan.alloc, &was.keeper)?;
-    let mut difference = compare(plan.alloc, &usual(plan.row, plan.records), &mut was)?;
-    say_where(&mut difference, plan)?;
-    Ok(difference)
-}
-
 fn pieces_of(row: &Row) -> &[usize] {
     if row.trial.pieces.is_empty() {
         return &[1, 3, WHOLE];
@@ -105,63 +96,45 @@ fn run_pieces<H: Threads + Sync, R: Runner>(
     alloc: Global,
     row: &Row,
     records: &[(Name, Octets)],
-    after: &mut Records,
-    difference: &mut Difference,
+    swept: &mut Swept,
 ) -> Result<(), NoMemory> {
     for piece in pieces_of(row) {
-        let plan = Plan {
-            alloc,
-            row,
-            records,
-            piece: *piece,
-            broken: UNBROKEN,
-        };
-        if difference.is_none() {
-            *difference = run_piece(rt, runner, &plan, after)?;
+        if swept.difference.is_none() {
+            let plan = plan_of(alloc, row, records, *piece);
+            swept.difference = run_plan(rt, runner, &plan, 0, &mut swept.after)?;
         }
     }
     Ok(())
 }
 
-// Runs the row over these records, and then its sweeps. The records are then those that its keeper has after it.
-fn run_over<H: Threads + Sync, R: Runner>(
-    rt: &H,
-    runner: &R,
-    alloc: Global,
-    row: &Row,
-    records: &[(Name, Octets)],
-    after: &mut Records,
-    swept: &mut Swept,
-) -> Result<(), NoMemory> {
-    if !swept.difference.is_none() {
-        return Ok(());
-    }
-    let difference = &mut swept.difference;
-    run_pieces(rt, runner, alloc, row, records, after, difference)?;
-    if !swept.difference.is_none() {
-        return Ok(());
-    }
-    sweep(rt, runner, alloc, row, records, swept)
-}
-
-// Runs what the row says at the console, and then the row.
+// Runs the row over the records that it begins with.
 fn run_row<H: Threads + Sync, R: Runner>(
     rt: &H,
     runner: &R,
     alloc: Global,
     row: &Row,
     records: &mut Records,
-    after: &mut Records,
     swept: &mut Swept,
 ) -> Result<(), NoMemory> {
-    if row.setting.after.is_none() {
-        let difference = &mut swept.difference;
-        say_all(rt, runner, alloc, row, records, difference)?;
-    }
-    run_over(rt, runner, alloc, row, records, after, swept)
+    run_consoles(rt, runner, alloc, row, records, swept)?;
+    run_pieces(rt, runner, alloc, row, records, swept)
 }
 
-// Runs the row, and keeps what its keeper has after it.
+// Keeps what the row left, and sweeps.
+fn sweep_row<H: Threads + Sync, R: Runner>(
+    rt: &H,
+    runner: &R,
+    alloc: Global,
+    row: &Row,
+    records: &[(Name, Octets)],
+    left: &mut Vec<Records>,
+    swept: &mut Swept,
+) -> Result<(), NoMemory> {
+    left.push(copy_of(alloc, &swept.after)?)?;
+    sweep(rt, runner, alloc, row, records, swept)
+}
+
+// Runs the row, keeps what its keeper has after it, and sweeps.
 fn try_run<H: Threads + Sync, R: Runner>(
     rt: &H,
     runner: &R,
@@ -171,10 +144,8 @@ fn try_run<H: Threads + Sync, R: Runner>(
     swept: &mut Swept,
 ) -> Result<(), NoMemory> {
     let mut records = first_records(alloc, row, left)?;
-    let mut after = Vec::new(alloc);
-    run_row(rt, runner, alloc, row, &mut records, &mut after, swept)?;
-    left.push(after)?;
-    Ok(())
+    run_row(rt, runner, alloc, row, &mut records, swept)?;
+    sweep_row(rt, runner, alloc, row, &records, left, swept)
 }
 
 // Looks at how the row's words are read.
@@ -217,11 +188,11 @@ fn tell_row<H: Threads + Sync, R: Runner>(
 ) -> Result<(), NoMemory> {
     let mut swept = Swept {
         runs: 0,
-        difference: Difference::none(alloc),
+        difference: Difference::none(),
+        after: Vec::new(alloc),
     };
     try_row(rt, runner, alloc, row, left, &mut swept)?;
-    let what = swept.difference.text();
-    report.tell(alloc, counts, row.name.bytes(), swept.runs, what)
+    report.tell(counts, row.name.bytes(), &swept)
 }
 
 /// Tries each of the rows, and tells of each.

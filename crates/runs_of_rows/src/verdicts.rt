@@ -1,11 +1,18 @@
 //! What is expected of a row, and what always holds of a run in which a device fails.
 
-use crate::comparing::{ANY, Called, Expected, Rest, UNCALLED};
+use crate::comparing::{Called, Expected, Rest, UNCALLED};
 use crate::devices::NEXT;
 use crate::texts::{first_lines, later_lines, with_last_word};
+use crate::writing::Text;
 use format_of_rows::{Row, Wanted};
-use fw_types::{Name, NoMemory, Octets};
-use std::alloc::Global;
+use fw_types::{Name, Octets};
+
+fn next_by(row: &Row) -> Option<u64> {
+    if row.trial.untimed {
+        return None;
+    }
+    Some(NEXT)
+}
 
 fn left_by(row: &Row) -> Option<&[u8]> {
     if row.wanted.untaken {
@@ -24,7 +31,8 @@ fn kept_by<'a>(row: &'a Row, records: &'a [(Name, Octets)]) -> Option<&'a [(Name
     None
 }
 
-fn called_by(wanted: &Wanted) -> Called<'_> {
+/// What is expected of those whom the row's run calls.
+pub(crate) fn called_by(wanted: &Wanted) -> Called<'_> {
     Called {
         started: &wanted.called.started,
         asked: &wanted.called.asked,
@@ -46,7 +54,7 @@ pub(crate) fn usual<'a>(row: &'a Row, records: &'a [(Name, Octets)]) -> Expected
         log: &row.wanted.log,
         called: called_by(&row.wanted),
         rest: Rest {
-            next: Some(NEXT),
+            next: next_by(row),
             left: left_by(row),
             records: kept_by(row, records),
         },
@@ -99,17 +107,6 @@ pub(crate) fn lasting<'a>(row: &'a Row, output: &'a [u8]) -> Expected<'a> {
             left: Some(&[]),
             records: None,
         },
-    }
-}
-
-/// What is expected of a run at the console that ends well.
-pub(crate) fn at_ease(output: &[u8]) -> Expected<'_> {
-    Expected {
-        status: 0,
-        output,
-        log: b"end authsrv unknown/127.0.0.1 done\n",
-        called: UNCALLED,
-        rest: ANY,
     }
 }
 
@@ -187,6 +184,6 @@ fn last_line(row: &Row) -> &[u8] {
 }
 
 /// The log of a session that ended for this cause.
-pub(crate) fn log_of(alloc: Global, row: &Row, cause: &[u8]) -> Result<Vec<u8>, NoMemory> {
-    with_last_word(alloc, &row.wanted.log, cause)
+pub(crate) fn log_of(row: &Row, cause: &[u8]) -> Text {
+    with_last_word(&row.wanted.log, cause)
 }

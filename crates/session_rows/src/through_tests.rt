@@ -1,0 +1,43 @@
+use crate::run::run_through;
+use crate::scenes::{check, scene};
+use fw_memory::Calls;
+use fw_types::Ending;
+use std::test::Fail;
+
+#[test]
+fn what_follows_the_line_goes_to_the_server(rt: HostRuntime) -> Result<(), Fail> {
+    let scene = scene(&rt, b"hello\r\nrest\nand more", b"bye")?;
+    let after = run_through(&rt, rt.alloc(), scene)?;
+    check(
+        &rt,
+        &after,
+        Ending::Done,
+        b"through\nbye",
+        b"rest\nand more",
+    );
+    assert!(rt; after.asked == 1);
+    assert!(rt; after.ended == 1);
+    Ok(())
+}
+
+#[test]
+fn a_client_that_says_no_line_is_not_put_through(rt: HostRuntime) -> Result<(), Fail> {
+    let scene = scene(&rt, b"hello", b"bye")?;
+    let after = run_through(&rt, rt.alloc(), scene)?;
+    check(&rt, &after, Ending::Done, b"", b"");
+    assert!(rt; after.ended == 1);
+    Ok(())
+}
+
+#[test]
+fn a_relay_ends_by_its_ways(rt: HostRuntime) -> Result<(), Fail> {
+    let mut narrow = scene(&rt, b"hello\nrest", b"bye")?;
+    narrow.server_room = 3;
+    let after = run_through(&rt, rt.alloc(), narrow)?;
+    check(&rt, &after, Ending::ServerFault, b"through\nbye", b"res");
+    let mut idle = scene(&rt, b"hello\nrest", b"bye")?;
+    idle.server_idles = Calls::onward(0);
+    let after = run_through(&rt, rt.alloc(), idle)?;
+    check(&rt, &after, Ending::Idle, b"through\n", b"rest");
+    Ok(())
+}
