@@ -65,11 +65,11 @@ fn name_or<'a>(name: &'a Option<Vec<u8>>, other: &'static str) -> &'a [u8] {
 pub(crate) fn misread(alloc: Global, row: &Row, command: &[u8]) -> Result<Difference, NoMemory> {
     let words = &row.setting.words;
     let reading = &row.wanted.reading;
-    let mut difference = Difference::none(alloc);
-    difference.text_of(b"the command", command, &told_of(alloc, words)?)?;
+    let mut difference = Difference::none();
+    difference.text_of(b"the command", command, &told_of(alloc, words)?);
     let table = name_or(&reading.table, TABLE);
-    difference.text_of(b"the table's name", table, table_named(words))?;
+    difference.text_of(b"the table's name", table, table_named(words));
     let records = name_or(&reading.records, RECORDS);
-    difference.text_of(b"the records' name", records, places(words).db)?;
+    difference.text_of(b"the records' name", records, places(words).db);
     Ok(difference)
 }

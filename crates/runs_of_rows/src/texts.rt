@@ -1,7 +1,6 @@
 //! Lines of texts.
 
-use fw_types::NoMemory;
-use std::alloc::Global;
+use crate::writing::{Text, add};
 
 /// How many line ends the text has.
 pub(crate) fn count_lines(text: &[u8]) -> u64 {
@@ -47,28 +46,37 @@ pub(crate) fn later_lines(text: &[u8], line: u64) -> &[u8] {
 }
 
 /// The text but for this line, counted from 0.
-pub(crate) fn without_line(alloc: Global, text: &[u8], line: u64) -> Result<Vec<u8>, NoMemory> {
-    let mut rest = Vec::from_slice(alloc, first_lines(text, line))?;
-    rest.extend_from_slice(later_lines(text, line.saturating_add(1)))?;
-    Ok(rest)
+pub(crate) fn without_line(text: &[u8], line: u64) -> Text {
+    let mut rest = Text::new();
+    add(&mut rest, first_lines(text, line));
+    add(&mut rest, later_lines(text, line.saturating_add(1)));
+    rest
+}
+
+// The text up to its last blank.
+fn without_last_word(text: &[u8]) -> &[u8] {
+    let mut end = 0;
+    for (at, byte) in text.iter().enumerate() {
+        if *byte == b' ' {
+            end = at.saturating_add(1);
+        }
+    }
+    text.get(..end).unwrap_or(&[])
 }
 
 /// The text with this for its last word.
-pub(crate) fn with_last_word(alloc: Global, text: &[u8], word: &[u8]) -> Result<Vec<u8>, NoMemory> {
-    let end = match text.iter().rposition(|byte| *byte == b' ') {
-        Some(at) => at.saturating_add(1),
-        None => 0,
-    };
-    let mut out = Vec::from_slice(alloc, text.get(..end).unwrap_or(&[]))?;
-    out.extend_from_slice(word)?;
-    out.push(b'\n')?;
-    Ok(out)
+pub(crate) fn with_last_word(text: &[u8], word: &[u8]) -> Text {
+    let mut out = Text::new();
+    add(&mut out, without_last_word(text));
+    add(&mut out, word);
+    add(&mut out, b"\n");
+    out
 }
 
-/// Whether one of the lines is this one.
+/// Whether one of the lines begins with this one, which has its end.
 pub(crate) fn has_line(text: &[u8], line: &[u8]) -> bool {
-    for each in text.split(|byte| *byte == b'\n') {
-        if each == line {
+    for at in 0..count_lines(text) {
+        if later_lines(text, at).starts_with(line) {
             return true;
         }
     }
