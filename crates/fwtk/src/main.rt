@@ -124,7 +124,7 @@ fn run_with<D: Dice>(
         clock: SystemClock::new(rt),
         dice,
         keeper: Some(Records::new(rt, db)?),
-        dialer: TcpDialer::new(rt),
+        dialer: TcpDialer::new(rt, rt.alloc()),
         launcher: Programs::new(rt, rt.alloc()),
     };
     Ok(run(&rt, rt.alloc(), words, &mut world))
