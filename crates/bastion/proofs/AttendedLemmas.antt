@@ -20,7 +20,7 @@ use Rattle.session_acts.specs.Serverless.{CausedAlone, TakesExactly}
 use Rattle.session_acts.specs.Dummies.{nowhere}
 use Rattle.session_acts.specs.World.{Devices, most_taken}
 use Rattle.session_acts.proofs.DeviceLemmas.{by_nothing}
-use Rattle.bastion.specs.Conn.{Causes, IsRefused}
+use Rattle.client_service.specs.Conn.{Causes, IsRefused}
 use Rattle.bastion.specs.Inputs.{Inputs}
 use Rattle.bastion.specs.Outcome.{CountRose, EndingRose, status_of}
 use Rattle.bastion.specs.Serving.{Attended, Serves, book_at_first, devices_at, most_entries, origin_of}
@@ -29,13 +29,13 @@ use Rattle.bastion.specs.WorldView.{WorldView}
 use Rattle.bastion.specs.declared.outcome.Outcome.{Outcome}
 use Rattle.bastion.specs.declared.outcome.Outcome.TheVariants.{Ended}
 use Rattle.bastion.specs.declared.words.Client.{Client}
-use Rattle.bastion.proofs.ConnLemmas.{conn_caused, conn_refused, conn_spent, console_caused, console_spent}
+use Rattle.client_service.proofs.ConnLemmas.{conn_caused, conn_refused, conn_spent, console_caused, console_spent}
 use Rattle.bastion.proofs.SessionLemmas.{serves_takes}
 
 no_rise : {A : Type 0} → Rose 0 0 → A
 no_rise rose = let late = rose.1 in absurd (omega (arith, late))
 
-port_rose : {A : Type 0} → Rose 0 0 ⊎ Rose 0 0 → A
+pub port_rose : {A : Type 0} → Rose 0 0 ⊎ Rose 0 0 → A
 port_rose (inl rose) = no_rise rose
 port_rose (inr rose) = no_rise rose
 
@@ -53,7 +53,7 @@ caused_rose NoRoute old new first last dialer h = h
 caused_rose Spent old new first last dialer h = tt
 caused_rose NoMemory old new first last dialer h = tt
 
-causes_rose : (verdict : Verdict) (ending : Ending) (old new : WorldView) (first last : BookView) (dialer : DialerView) → Causes verdict ending (devices_at old first nowhere) (devices_at new last dialer) → EndingRose ending old new
+causes_rose : (verdict : Verdict) (ending : Ending) (old new : WorldView) (first last : BookView) (dialer : DialerView) → Causes false verdict ending (devices_at old first nowhere) (devices_at new last dialer) → EndingRose ending old new
 causes_rose verdict (Denied line) old new first last dialer h = tt
 causes_rose verdict ending old new first last dialer h = caused_rose ending old new first last dialer h
 
@@ -71,7 +71,7 @@ attended_rose client inputs out old new h =
 
 -- ---- bytes
 
-spent_is : (ending : Ending) → is_spent_ending ending ≡ true → ending ≡ Spent
+pub spent_is : (ending : Ending) → is_spent_ending ending ≡ true → ending ≡ Spent
 spent_is Spent is = refl
 spent_is Done is = absurd (cc)
 spent_is (Denied line) is = absurd (cc)
@@ -124,7 +124,7 @@ denied_status : (line : ℕ) (ending : Ending) (refused : Bool) (old new : World
 denied_status line ending refused old new (inl denied) = inr (ap (λ (e : Ending). status_of (Ended e refused)) denied)
 denied_status line ending refused old new (inr fault) = inl (inl (ap (λ (e : Ending). status_of (Ended e refused)) fault))
 
-causes_permit : (line : ℕ) (ending : Ending) (old new : Devices BookOrigin) → Causes (Permit line) ending old new → CausedAlone ending old new
+causes_permit : (line : ℕ) (ending : Ending) (old new : Devices BookOrigin) → Causes false (Permit line) ending old new → CausedAlone ending old new
 causes_permit line (Denied other) old new h = absurd (cc)
 causes_permit line Done old new h = h
 causes_permit line ClientFault old new h = h
@@ -137,7 +137,7 @@ causes_permit line Spent old new h = h
 causes_permit line NoMemory old new h = h
 
 verdict_by : (verdict : Verdict) (ending : Ending) (book : BookView) (old new : WorldView) (first : BookView) (dialer : DialerView) → (book.refused ≡ true → IsFull old.inputs new.inputs)
-    → Causes verdict ending (devices_at old first nowhere) (devices_at new book dialer) → IsRefused verdict ending → ((status_of (Ended ending book.refused) ≡ 4) ⊎ (status_of (Ended ending book.refused) ≡ 5)) ⊎ IsServed false verdict (status_of (Ended ending book.refused)) old.inputs new.inputs
+    → Causes false verdict ending (devices_at old first nowhere) (devices_at new book dialer) → IsRefused verdict ending → ((status_of (Ended ending book.refused) ≡ 4) ⊎ (status_of (Ended ending book.refused) ≡ 5)) ⊎ IsServed false verdict (status_of (Ended ending book.refused)) old.inputs new.inputs
 verdict_by (Permit line) ending book old new first dialer full h refused = ending_by ending book old new first dialer full (causes_permit line ending (devices_at old first nowhere) (devices_at new book dialer) h)
 verdict_by (Deny line) ending book old new first dialer full h refused = denied_status line ending book.refused old new refused
 

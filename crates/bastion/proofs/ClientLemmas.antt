@@ -15,7 +15,7 @@ use Rattle.gate_rules.specs.declared.service.Service.TheVariants.{Authsrv}
 use Rattle.gate_rules.specs.declared.verdict.Verdict.{Verdict}
 use Rattle.gate_rules.specs.declared.verdict.Verdict.TheVariants.{Permit, Deny}
 use Rattle.session_acts.specs.Dummies.{nowhere}
-use Rattle.bastion.specs.Conn.{dialer_then}
+use Rattle.client_service.specs.Meeting.{dialer_then}
 use Rattle.bastion.specs.Inputs.{Inputs}
 use Rattle.bastion.specs.Serving.{Serves, UntouchedAt, book_at_first, devices_at, most_entries, origin_of}
 use Rattle.bastion.specs.SessionSteps.{GivesBack, HoldsOver, IsUndialed, OfRecords, Opened, Proceeds}
@@ -24,7 +24,7 @@ use Rattle.bastion.specs.declared.outcome.Outcome.{Outcome}
 use Rattle.bastion.specs.declared.outcome.Outcome.TheVariants.{Ended}
 use Rattle.bastion.specs.declared.server_rules.ServerRules.{ServerRules}
 use Rattle.bastion.specs.declared.words.Client.{Client}
-use Rattle.bastion.proofs.ConnLemmas.{conn_origin, console_origin}
+use Rattle.client_service.proofs.ConnLemmas.{conn_origin, console_origin}
 
 -- what the keeper is doesn't matter to those who meet
 with_keeper_back : (client : Client) (rules : RuleBook) (first book : BookView) (before dialer : DialerView) (ending : Ending) (old mid new : WorldView) (keeper : Option KeeperView) → new ≡ record mid { inputs = record (mid.inputs) { keeper = keeper } }
@@ -38,9 +38,9 @@ on_true false P h is = absurd (cc)
 
 -- the session was held, and then the keeper given back
 pub held_over : (client : Client) (rules : RuleBook) (first book : BookView) (dialer : DialerView) (ending : Ending) (refused : Bool) (old mid new : WorldView)
-    → Serves client.console rules client.peer (devices_at old first nowhere) (devices_at mid book dialer) ending → IsUndialed nowhere dialer → UntouchedAt client.console (verdict_of rules client.peer) first book → mid.files ≡ old.files → mid.inputs.launcher ≡ old.inputs.launcher
+    → Serves client.console rules client.peer (devices_at old first nowhere) (devices_at mid book dialer) ending → IsUndialed nowhere dialer → UntouchedAt client.console (verdict_of rules client.peer) first book → mid.files ≡ old.files → mid.inputs.dialer ≡ old.inputs.dialer → mid.inputs.launcher ≡ old.inputs.launcher
     → refused ≡ book.refused → OnTrue refused (length book.history ≡ book.limit) → GivesBack book mid new → HoldsOver client rules first (Ended ending refused) old new
-held_over client rules first book dialer ending refused old mid new serves undialed untouched files launcher refused_is full back = record {
+held_over client rules first book dialer ending refused old mid new serves undialed untouched files links launcher refused_is full back = record {
   book = book;
   ending = ending;
   dialer = dialer;
@@ -56,6 +56,7 @@ held_over client rules first book dialer ending refused old mid new serves undia
   comes = ap (Ended ending) refused_is;
   kept = ap (λ (d : WorldView). d.inputs.keeper) back.is;
   files = ap (λ (d : WorldView). d.files) back.is ∙ files;
+  links = ap (λ (d : WorldView). d.inputs.dialer) back.is ∙ links;
   launcher = ap (λ (d : WorldView). d.inputs.launcher) back.is ∙ launcher;
 }
 
@@ -113,6 +114,7 @@ of_records client server_rules first outcome old mid new opened over =
         comes = refl;
         kept = over.kept;
         files = over.files ∙ ap (λ (d : WorldView). d.files) opened.is;
+        links = over.links ∙ ap (λ (d : WorldView). d.inputs.dialer) opened.is;
         launcher = over.launcher ∙ ap (λ (d : WorldView). d.inputs.launcher) opened.is;
       };
     }

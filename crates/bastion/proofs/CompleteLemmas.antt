@@ -10,12 +10,13 @@ use Rattle.fw_outside.specs.declared.started.Started.TheVariants as program
 use Rattle.gate_rules.specs.Verdict.{verdict_of}
 use Rattle.gate_rules.specs.declared.verdict.Verdict.{Verdict}
 use Rattle.session_acts.proofs.ToldLemmas.{by_both, by_nothing}
-use Rattle.bastion.specs.Complete.{AllDone, IsComplete, IsLaunchedWhole, IsStartedWhole, IsWhole}
-use Rattle.bastion.specs.Inputs.{Inputs}
+use Rattle.bastion.specs.Complete.{AllDone, IsComplete, IsLaunchedWhole, IsLinkedWhole, IsStartedWhole, IsWhole}
+use Rattle.bastion.specs.Inputs.{HasInputs, Inputs}
 use Rattle.bastion.specs.Outcome.{fault_line_of, refusal_text, status_of, verdict_status}
-use Rattle.bastion.specs.Run.{DoesLine, Run, Stops, TellsIf, Worked}
-use Rattle.bastion.specs.Status.{IsServed, SomeRose}
-use Rattle.bastion.specs.Texts.{decision_text, ended_text, print_text, program_of}
+use Rattle.bastion.specs.Run.{DoesLine, Run, Stops, TellsIf, Worked, verdict_for}
+use Rattle.bastion.specs.Status.{IsServed, RoseBy, RoseOf, SomeRose}
+use Rattle.client_service.specs.Decision.{decision_text}
+use Rattle.bastion.specs.Texts.{ended_text, print_text, program_of}
 use Rattle.bastion.specs.Words.{LineView}
 use Rattle.bastion.specs.Works.{LaunchesIf, PrintsAfter, PrintsEnd, StaysSo, announced, shown, with_given}
 use Rattle.bastion.specs.WorldView.{SessionInputs, WorldView}
@@ -23,15 +24,17 @@ use Rattle.bastion.specs.declared.outcome.Device.TheVariants as device
 use Rattle.bastion.specs.declared.outcome.Outcome.{Outcome}
 use Rattle.bastion.specs.declared.outcome.Outcome.TheVariants.{Usage, Unread, Failed, NoMemory, Decided, Ended}
 use Rattle.bastion.specs.declared.words.Command.{Command}
-use Rattle.bastion.specs.declared.words.Command.TheVariants.{Netacl, NetaclRun, Table, Authsrv}
+use Rattle.bastion.specs.declared.words.Command.TheVariants.{Netacl, NetaclRun, Table, Authsrv, PlugGw}
+use Rattle.bastion.specs.declared.words.Caller.{Caller}
 use Rattle.bastion.specs.declared.words.Client.{Client}
 use Rattle.bastion.specs.declared.words.Query.{Query}
 use Rattle.bastion.proofs.AttendedLemmas.{attended_status}
 use Rattle.bastion.proofs.LaunchLemmas.{Launching, launched}
-use Rattle.bastion.proofs.RunLemmas.{calls_launcher, count_some, only_left, served_then, some_later, stops_left, stops_rose, tells_later, worked_rose}
+use Rattle.bastion.proofs.RunLemmas.{by_later, calls_launcher, count_some, only_left, rose_some, served_then, some_by, some_later, stops_left, stops_rose, tells_later, worked_rose}
+use Rattle.bastion.proofs.LinkedLemmas.{linked_whole}
 use Rattle.bastion.proofs.QuietLemmas.{Quiet, gave_whole, quiet, same_from, same_to}
 use Rattle.bastion.proofs.ServedLemmas.{attended_whole}
-use Rattle.bastion.proofs.SinkLemmas.{cut_rose, gives_most, same_low}
+use Rattle.client_service.proofs.SinkLemmas.{cut_rose, gives_most, same_low}
 
 grown_from : (text : List ℕ) (a b c : SinkView) → b ≡ a → c ≡ with_given b text → c.given ≡ grown a.given text
 grown_from text a b c same is = ap (λ (s : SinkView). s.given) is ∙ ap (λ (s : SinkView). grown s.given text) same
@@ -45,14 +48,14 @@ told_whole text old mid new q logs output tells =
     let whole : new.logs ≡ with_given mid.logs text = gave_whole tells.told text mid.logs new.logs (q.logs mid.logs.faults new.logs.faults (same_from old.logs mid.logs logs) (same_to new.logs new.logs refl)) tells.logged in
     (grown_from text old.logs mid.logs new.logs logs whole, grown_none old.output new.output (tells.output ∙ output))
 
-stops_complete : (name : List ℕ) (command : Command) (outcome : Outcome) (old mid new : WorldView) → (SomeRose old new → ⊥) → Stops name command outcome old mid → TellsIf (fault_line_of outcome) mid new
+stops_complete : (name : List ℕ) (command : Command) (outcome : Outcome) (old mid new : WorldView) → (RoseBy command old new → ⊥) → Stops name command outcome old mid → TellsIf (fault_line_of outcome) mid new
     → (status_of outcome ≡ 5) ⊎ AllDone name command (status_of outcome) old new
 stops_complete name command (Unread refusal) old mid new none h tells =
     let left = stops_left name command (Unread refusal) old mid h in
-    let told = told_whole (codes "fault " ++ refusal_text refusal ++ codes "\n") old mid new (quiet old new none) left.logs left.output tells in
+    let told = told_whole (codes "fault " ++ refusal_text refusal ++ codes "\n") old mid new (quiet old new (λ some. none (some_by command old new some))) left.logs left.output tells in
     inr (record { read = Err refusal; inputs = h.read; does = record { logs = told.0; output = told.1; status_is = refl } })
 stops_complete name command (Failed which) old mid new none h tells =
-    absurd (none (some_later old mid new (tells_later (fault_line_of (Failed which)) mid new tells) (count_some (Failed which) old mid (stops_rose name command (Failed which) old mid h) refl)))
+    absurd (none (some_by command old new (some_later old mid new (tells_later (fault_line_of (Failed which)) mid new tells) (count_some (Failed which) old mid (stops_rose name command (Failed which) old mid h) refl))))
 stops_complete name command (NoMemory step) old mid new none h tells = inl refl
 stops_complete name command Usage old mid new none h tells = absurd h
 stops_complete name command (Decided verdict) old mid new none h tells = absurd h
@@ -210,7 +213,12 @@ served_whole name client outcome old mid new none h tells (inr served) =
           (served_then client.console (verdict_of h.inputs.rules client.peer) (status_of outcome) h.middle.inputs mid.inputs old.inputs new.inputs left.input left.clock later.inputs served);
     })
 
-worked_complete : (name : List ℕ) (command : Command) (outcome : Outcome) (old mid new : WorldView) → (SomeRose old new → ⊥) → Worked name command outcome old mid → TellsIf (fault_line_of outcome) mid new
+linked_done : (name : List ℕ) (caller : Caller) (inputs : Inputs) (outcome : Outcome) (old new : WorldView) → HasInputs name (PlugGw caller) (Ok inputs) old
+    → (status_of outcome ≡ 5) ⊎ IsLinkedWhole (verdict_for (PlugGw caller) inputs) caller inputs (status_of outcome) old new → (status_of outcome ≡ 5) ⊎ AllDone name (PlugGw caller) (status_of outcome) old new
+linked_done name caller inputs outcome old new read (inl five) = inl five
+linked_done name caller inputs outcome old new read (inr whole) = inr (record { read = Ok inputs; inputs = read; does = whole })
+
+worked_complete : (name : List ℕ) (command : Command) (outcome : Outcome) (old mid new : WorldView) → (RoseBy command old new → ⊥) → Worked name command outcome old mid → TellsIf (fault_line_of outcome) mid new
     → (status_of outcome ≡ 5) ⊎ AllDone name command (status_of outcome) old new
 worked_complete name (Netacl query) outcome old mid new none h tells =
     inr (record {
@@ -237,8 +245,12 @@ worked_complete name (Table query) outcome old mid new none h tells =
           table_whole (verdict_of h.inputs.rules query.peer) _ outcome old h.middle mid new (quiet old new none) h.only.logs h.only.output h.works.logs h.works.printed.printing h.works.printed.is h.works.printed.gives tells;
     })
 worked_complete name (Authsrv client) outcome old mid new none h tells = served_whole name client outcome old mid new none h tells (attended_status client h.inputs outcome h.middle mid h.works)
+worked_complete name (PlugGw caller) outcome old mid new none h tells =
+    let later = tells_later (fault_line_of outcome) mid new tells in
+    let never : status_of outcome ≡ 4 → ⊥ = λ four. none (by_later (PlugGw caller) old mid new later (rose_some (PlugGw caller) outcome old mid (worked_rose name (PlugGw caller) outcome old mid h) four)) in
+    linked_done name caller h.inputs outcome old new h.read (linked_whole name caller h.inputs outcome old h.middle mid new (quiet old new (λ some. none (inl some))) never h.only h.works tells)
 
-does_complete : (line : Option LineView) (outcome : Outcome) (old mid new : WorldView) → (SomeRose old new → ⊥) → DoesLine line outcome old mid → TellsIf (fault_line_of outcome) mid new → IsComplete line (status_of outcome) old new
+does_complete : (line : Option LineView) (outcome : Outcome) (old mid new : WorldView) → (RoseOf line old new → ⊥) → DoesLine line outcome old mid → TellsIf (fault_line_of outcome) mid new → IsComplete line (status_of outcome) old new
 does_complete None outcome old mid new none h tells =
     let usage : TellsIf (fault_line_of Usage) mid new = subst (λ (o : Outcome). TellsIf (fault_line_of o) mid new) h.usage tells in
     let told = told_whole (codes "fault usage\n") old mid new (quiet old new none) (ap (λ (w : WorldView). w.logs) h.is) (ap (λ (w : WorldView). w.output) h.is) usage in
@@ -246,6 +258,6 @@ does_complete None outcome old mid new none h tells =
 does_complete (Some line) outcome old mid new none (inl h) tells = stops_complete line.table line.command outcome old mid new none h tells
 does_complete (Some line) outcome old mid new none (inr h) tells = worked_complete line.table line.command outcome old mid new none h tells
 
-pub run_complete : (line : Option LineView) (status : ℕ) (old new : WorldView) → Run line status old new → (SomeRose old new → ⊥) → IsComplete line status old new
+pub run_complete : (line : Option LineView) (status : ℕ) (old new : WorldView) → Run line status old new → (RoseOf line old new → ⊥) → IsComplete line status old new
 run_complete line status old new ran none =
     subst (λ (s : ℕ). IsComplete line s old new) (sym ran.status_is) (does_complete line ran.outcome old ran.middle new none ran.does ran.tells)

@@ -9,7 +9,7 @@ use Rattle.bastion.specs.Outcome.{CountRose, status_of, verdict_status}
 use Rattle.bastion.specs.Works.{PrintsAfter, announced, shown}
 use Rattle.bastion.specs.WorldView.{WorldView}
 use Rattle.bastion.specs.declared.outcome.Outcome.{Outcome}
-use Rattle.bastion.proofs.SinkLemmas.{cut_rose}
+use Rattle.client_service.proofs.SinkLemmas.{cut_rose}
 
 announced_rose : (verdict : Verdict) (printing : Result (Unit {0}) sink.Failed) (text : List ℕ) (old new : WorldView) → Gives printing text old.output new.output → CountRose (announced verdict printing) old new
 announced_rose verdict (Ok done) text old new gives = tt

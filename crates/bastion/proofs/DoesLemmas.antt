@@ -6,11 +6,13 @@ use Rattle.fw_outside.specs.KeeperView.{IsCalled, KeeperView}
 use Rattle.gate_rules.specs.Reading.{RuleBook, rules_of}
 use Rattle.gate_rules.specs.Verdict.{verdict_of}
 use Rattle.gate_rules.specs.declared.service.Service.{Service}
+use Rattle.gate_rules.specs.declared.service.Service.TheVariants as services
 use Rattle.gate_rules.specs.declared.verdict.Verdict.{Verdict}
 use Rattle.gate_rules.specs.declared.verdict.Verdict.TheVariants.{Permit, Deny}
 use Rattle.bastion.specs.Deciding.{Decides, DecidesRun, Reports, RunsBy}
-use Rattle.bastion.specs.Inputs.{HasInputs, Inputs, needs_records}
+use Rattle.bastion.specs.Inputs.{HasInputs, Inputs, needs_records, no_inputs}
 use Rattle.bastion.specs.Outcome.{verdict_status}
+use Rattle.bastion.specs.Linking.{Linked}
 use Rattle.bastion.specs.Reading.{Unfound, Finds, is_early, ruling_in, server_rules_of}
 use Rattle.bastion.specs.Run.{AsksTable, DoesFor, Lacks, ReadsOnly, Stops, verdict_for}
 use Rattle.bastion.specs.SessionSteps.{Proceeds, Unopened}
@@ -26,6 +28,7 @@ use Rattle.bastion.specs.declared.outcome.Refusal.TheVariants.{Record}
 use Rattle.bastion.specs.declared.outcome.Step.{Step}
 use Rattle.bastion.specs.declared.outcome.Step.TheVariants as steps
 use Rattle.bastion.specs.declared.server_rules.ServerRules.{ServerRules}
+use Rattle.bastion.specs.declared.words.Caller.{Caller}
 use Rattle.bastion.specs.declared.words.Client.{Client}
 use Rattle.bastion.specs.declared.words.Command.{Command}
 use Rattle.bastion.specs.declared.words.Command.TheVariants as commands
@@ -114,6 +117,20 @@ needs_netacl_run query = record { only = refl; no_records = refl }
 
 pub needs_table : (query : Query) → NeedsRules (commands.Table query) query.service
 needs_table query = record { only = refl; no_records = refl }
+
+pub needs_plug : (caller : Caller) → NeedsRules (commands.PlugGw caller) (services.PlugGw caller.port)
+needs_plug caller = record { only = refl; no_records = refl }
+
+pub linked_does : (name : List ℕ) (caller : Caller) (rules : RuleBook) (outcome : Outcome) (old mid new : WorldView) → Finds (ruling_in (rules_of (services.PlugGw caller.port))) name (Ok rules) old.files mid.files → AskedFiles old mid
+    → Linked caller (record no_inputs { rules = rules }) outcome mid new → DoesFor name (commands.PlugGw caller) outcome old new
+linked_does name caller rules outcome old mid new found asked linked =
+    inr (record {
+      inputs = record no_inputs { rules = rules };
+      read = inputs_rules (commands.PlugGw caller) (services.PlugGw caller.port) (needs_plug caller) name rules old found.of_text;
+      middle = mid;
+      only = only_files name old mid found.asks asked;
+      works = linked;
+    })
 
 pub netacl_does : (name : List ℕ) (query : Query) (rules : RuleBook) (outcome : Outcome) (old mid new : WorldView) → Finds (ruling_in (rules_of query.service)) name (Ok rules) old.files mid.files → AskedFiles old mid
     → Decides query (verdict_of rules query.peer) rules outcome mid new → DoesFor name (commands.Netacl query) outcome old new

@@ -45,30 +45,35 @@ use Rattle.session_acts.proofs.DeedLemmas.{all_gain, held_deeds}
 use Rattle.session_acts.proofs.EntryLemmas.{whole_talk}
 use Rattle.session_acts.proofs.TalkLemmas.{entered_gains}
 use Rattle.session_acts.proofs.ToldLemmas.{told_gains}
-use Rattle.bastion.specs.Conn.{NotedIf, denied_by}
-use Rattle.bastion.specs.Endings.{denied_text, ending_line}
-use Rattle.bastion.specs.Headline.{Headline, HeadlineFor, IsDenied, IsPermitted, IsSilent, IsToldOff, IsUnserved, OfHistory, begins, lent_to, table_kept, talk_of}
+use Rattle.client_service.specs.Conn.{NotedIf}
+use Rattle.client_service.specs.Meeting.{denied_by}
+use Rattle.client_service.specs.Endings.{denied_text, ending_line}
+use Rattle.bastion.specs.Asking.{IsUndecided}
+use Rattle.bastion.specs.Headline.{Headline, HeadlineFor, IsDenied, IsPermitted, IsSilent, IsToldOff, IsUnserved, LogsDenial, OfHistory, begins, lent_to, table_kept, talk_of}
 use Rattle.bastion.specs.Inputs.{Inputs}
 use Rattle.bastion.specs.Outcome.{fault_line_of, status_of, verdict_status}
 use Rattle.bastion.specs.Run.{DoesLine, ReadsOnly, Run, Stops, TellsIf, Worked, verdict_for}
 use Rattle.bastion.specs.Serving.{Attended, UntouchedAt, book_at_first, devices_at, most_entries, origin_of}
 use Rattle.bastion.specs.Status.{IsHeld, IsServed}
 use Rattle.bastion.specs.Words.{LineView}
-use Rattle.bastion.specs.Texts.{decision_text, print_text, program_of}
+use Rattle.client_service.specs.Decision.{decision_text}
+use Rattle.bastion.specs.Texts.{print_text, program_of}
 use Rattle.bastion.specs.Works.{Announced, AnnouncedRun, PrintsAfter, StaysSo, announced, with_given}
 use Rattle.bastion.specs.WorldView.{SessionInputs, WorldView}
 use Rattle.bastion.specs.declared.outcome.Device.TheVariants as device
 use Rattle.bastion.specs.declared.outcome.Outcome.{Outcome}
 use Rattle.bastion.specs.declared.outcome.Outcome.TheVariants.{Usage, Unread, Failed, NoMemory, Decided, Ended}
+use Rattle.bastion.specs.declared.words.Caller.{Caller}
 use Rattle.bastion.specs.declared.words.Client.{Client}
 use Rattle.bastion.specs.declared.words.Command.{Command}
-use Rattle.bastion.specs.declared.words.Command.TheVariants.{Netacl, NetaclRun, Table, Authsrv}
+use Rattle.bastion.specs.declared.words.Command.TheVariants.{Netacl, NetaclRun, Table, Authsrv, PlugGw}
 use Rattle.bastion.specs.declared.words.Query.{Query}
 use Rattle.bastion.proofs.AttendedLemmas.{attended_status}
 use Rattle.bastion.proofs.DecidedLemmas.{ByVerdict}
 use Rattle.bastion.proofs.LaunchLemmas.{Launching, launched, run_status_by}
+use Rattle.bastion.proofs.LinkedLemmas.{linked_headline}
 use Rattle.bastion.proofs.SessionLemmas.{OfDenial, OfSession, called_in, lent_outlet, lent_port, serves_so, tells_noted}
-use Rattle.bastion.proofs.RunLemmas.{Later, only_left, stops_left, tells_later}
+use Rattle.bastion.proofs.RunLemmas.{Later, only_left, stops_left, tells_later, worked_unasked}
 
 -- ---- nothing was done
 
@@ -83,11 +88,25 @@ stops_undenied name command (Ended ending refused) old new h is = h
 stops_silent : (name : List ℕ) (command : Command) (outcome : Outcome) (old mid new : WorldView) → Stops name command outcome old mid → Later mid new → IsSilent (status_of outcome) old new
 stops_silent name command outcome old mid new h later = record { output = later.output ∙ (stops_left name command outcome old mid h).output; undenied = stops_undenied name command outcome old mid h }
 
-silent_headline : (name : List ℕ) (command : Command) (status : ℕ) (old new : WorldView) → IsUnserved status old new → HeadlineFor name command status old new
-silent_headline name (Netacl query) status old new h = record { replies_legal = tt; denials_logged = inl h.silent }
-silent_headline name (NetaclRun query) status old new h = record { replies_legal = tt; denials_logged = inl h.silent }
-silent_headline name (Table query) status old new h = record { replies_legal = tt; denials_logged = tt }
-silent_headline name (Authsrv client) status old new h = record { replies_legal = inl h; denials_logged = inl h.silent }
+silent_headline : (name : List ℕ) (command : Command) (status : ℕ) (old new : WorldView) → IsUnserved status old new → IsUndecided status old new → HeadlineFor name command status old new
+silent_headline name (Netacl query) status old new h none = record { replies_legal = tt; asks_permitted = none.dialer; denials_logged = inl h.silent }
+silent_headline name (NetaclRun query) status old new h none = record { replies_legal = tt; asks_permitted = none.dialer; denials_logged = inl h.silent }
+silent_headline name (Table query) status old new h none = record { replies_legal = tt; asks_permitted = none.dialer; denials_logged = tt }
+silent_headline name (Authsrv client) status old new h none = record { replies_legal = inl h; asks_permitted = none.dialer; denials_logged = inl h.silent }
+silent_headline name (PlugGw caller) status old new h none = record { replies_legal = tt; asks_permitted = inl none; denials_logged = (inl h.silent, λ denied. none.output) }
+
+stops_undone : (name : List ℕ) (command : Command) (outcome : Outcome) (old new : WorldView) → Stops name command outcome old new → status_of outcome ≢ 0
+stops_undone name command (Unread refusal) old new h is = omega (arith, is)
+stops_undone name command (Failed which) old new h is = omega (arith, is)
+stops_undone name command (NoMemory step) old new h is = omega (arith, is)
+stops_undone name command Usage old new h is = omega (arith, is)
+stops_undone name command (Decided verdict) old new h is = h
+stops_undone name command (Ended ending refused) old new h is = h
+
+stops_undecided : (name : List ℕ) (command : Command) (outcome : Outcome) (old mid new : WorldView) → Stops name command outcome old mid → Later mid new → IsUndecided (status_of outcome) old new
+stops_undecided name command outcome old mid new h later =
+    let left = stops_left name command outcome old mid h in
+    record { dialer = ap (λ (i : SessionInputs). i.dialer) later.inputs ∙ left.dialer; output = later.output ∙ left.output; undone = stops_undone name command outcome old mid h }
 
 stops_unserved : (name : List ℕ) (command : Command) (outcome : Outcome) (old mid new : WorldView) → Stops name command outcome old mid → Later mid new → IsUnserved (status_of outcome) old new
 stops_unserved name command outcome old mid new h later = record {
@@ -397,38 +416,55 @@ silent_from status old mid new is h = record { output = h.output ∙ is; undenie
 unserved_from : (name : List ℕ) (status : ℕ) (old mid new : WorldView) → ReadsOnly name true old mid → IsUnserved status mid new → IsUnserved status old new
 unserved_from name status old mid new only h = record { silent = silent_from status old mid new only.output h.silent; kept = h.kept ∙ (only_left name true old mid only).table }
 
-netacl_headline : (name : List ℕ) (query : Query) (outcome : Outcome) (status : ℕ) (old mid new : WorldView) (h : Worked name (Netacl query) outcome old mid)
+netacl_headline : (name : List ℕ) (query : Query) (outcome : Outcome) (status : ℕ) (old mid new : WorldView) (h : Worked name (Netacl query) outcome old mid) → new.inputs.dialer ≡ old.inputs.dialer
     → IsSilent status h.middle new ⊎ (IsPermitted (Netacl query) h.inputs status ⊎ IsDenied (Netacl query) query.service query.peer h.inputs status h.middle new) → HeadlineFor name (Netacl query) status old new
-netacl_headline name query outcome status old mid new h (inl silent) = record { replies_legal = tt; denials_logged = inl (silent_from status old h.middle new h.only.output silent) }
-netacl_headline name query outcome status old mid new h (inr so) = record { replies_legal = tt; denials_logged = inr (record { inputs = h.inputs; read = h.read; middle = h.middle; only = h.only; so = so }) }
+netacl_headline name query outcome status old mid new h same (inl silent) = record { replies_legal = tt; asks_permitted = same; denials_logged = inl (silent_from status old h.middle new h.only.output silent) }
+netacl_headline name query outcome status old mid new h same (inr so) = record { replies_legal = tt; asks_permitted = same; denials_logged = inr (record { inputs = h.inputs; read = h.read; middle = h.middle; only = h.only; so = so }) }
 
-netacl_run_headline : (name : List ℕ) (query : Query) (outcome : Outcome) (status : ℕ) (old mid new : WorldView) (h : Worked name (NetaclRun query) outcome old mid)
+netacl_run_headline : (name : List ℕ) (query : Query) (outcome : Outcome) (status : ℕ) (old mid new : WorldView) (h : Worked name (NetaclRun query) outcome old mid) → new.inputs.dialer ≡ old.inputs.dialer
     → IsSilent status h.middle new ⊎ (IsPermitted (NetaclRun query) h.inputs status ⊎ IsDenied (NetaclRun query) query.service query.peer h.inputs status h.middle new) → HeadlineFor name (NetaclRun query) status old new
-netacl_run_headline name query outcome status old mid new h (inl silent) = record { replies_legal = tt; denials_logged = inl (silent_from status old h.middle new h.only.output silent) }
-netacl_run_headline name query outcome status old mid new h (inr so) = record { replies_legal = tt; denials_logged = inr (record { inputs = h.inputs; read = h.read; middle = h.middle; only = h.only; so = so }) }
+netacl_run_headline name query outcome status old mid new h same (inl silent) = record { replies_legal = tt; asks_permitted = same; denials_logged = inl (silent_from status old h.middle new h.only.output silent) }
+netacl_run_headline name query outcome status old mid new h same (inr so) = record { replies_legal = tt; asks_permitted = same; denials_logged = inr (record { inputs = h.inputs; read = h.read; middle = h.middle; only = h.only; so = so }) }
 
-client_headline : (name : List ℕ) (client : Client) (outcome : Outcome) (status : ℕ) (old mid new : WorldView) (h : Worked name (Authsrv client) outcome old mid) → ClientHeadline client h.inputs status h.middle new → HeadlineFor name (Authsrv client) status old new
-client_headline name client outcome status old mid new h (inl unserved) =
-    let so = unserved_from name status old h.middle new h.only unserved in record { replies_legal = inl so; denials_logged = inl so.silent }
-client_headline name client outcome status old mid new h (inr so) = record {
+client_headline : (name : List ℕ) (client : Client) (outcome : Outcome) (status : ℕ) (old mid new : WorldView) (h : Worked name (Authsrv client) outcome old mid) → new.inputs.dialer ≡ old.inputs.dialer → ClientHeadline client h.inputs status h.middle new → HeadlineFor name (Authsrv client) status old new
+client_headline name client outcome status old mid new h same (inl unserved) =
+    let so = unserved_from name status old h.middle new h.only unserved in record { replies_legal = inl so; asks_permitted = same; denials_logged = inl so.silent }
+client_headline name client outcome status old mid new h same (inr so) = record {
+  asks_permitted = same;
   replies_legal = inr (record { inputs = h.inputs; read = h.read; middle = h.middle; only = h.only; so = so.0 });
   denials_logged = inr (record { inputs = h.inputs; read = h.read; middle = h.middle; only = h.only; so = so.1 });
 }
 
+caller_denials : (name : List ℕ) (caller : Caller) (outcome : Outcome) (status : ℕ) (old mid new : WorldView) (h : Worked name (PlugGw caller) outcome old mid)
+    → IsSilent status h.middle new ⊎ (IsPermitted (PlugGw caller) h.inputs status ⊎ IsDenied (PlugGw caller) (services.PlugGw caller.port) caller.peer h.inputs status h.middle new)
+    → LogsDenial name (PlugGw caller) (services.PlugGw caller.port) caller.peer status old new
+caller_denials name caller outcome status old mid new h (inl silent) = inl (silent_from status old h.middle new h.only.output silent)
+caller_denials name caller outcome status old mid new h (inr so) = inr (record { inputs = h.inputs; read = h.read; middle = h.middle; only = h.only; so = so })
+
 worked_headline : (name : List ℕ) (command : Command) (outcome : Outcome) (old mid new : WorldView) → Worked name command outcome old mid → TellsIf (fault_line_of outcome) mid new → HeadlineFor name command (status_of outcome) old new
 worked_headline name (Netacl query) outcome old mid new h tells =
-    netacl_headline name query outcome (status_of outcome) old mid new h
+    netacl_headline name query outcome (status_of outcome) old mid new h (worked_unasked name (Netacl query) outcome old mid new h (tells_later (fault_line_of outcome) mid new tells))
     (netacl_by (Netacl query) query h.inputs (verdict_of h.inputs.rules query.peer) _ outcome h.middle mid new refl h.works.logging h.works.logged h.works.printed tells)
 worked_headline name (NetaclRun query) outcome old mid new h tells =
-    netacl_run_headline name query outcome (status_of outcome) old mid new h (netacl_run_by query h.inputs outcome h.middle mid new h.works tells)
-worked_headline name (Table query) outcome old mid new h tells = record { replies_legal = tt; denials_logged = tt }
+    netacl_run_headline name query outcome (status_of outcome) old mid new h (worked_unasked name (NetaclRun query) outcome old mid new h (tells_later (fault_line_of outcome) mid new tells))
+    (netacl_run_by query h.inputs outcome h.middle mid new h.works tells)
+worked_headline name (Table query) outcome old mid new h tells =
+    record { replies_legal = tt; asks_permitted = worked_unasked name (Table query) outcome old mid new h (tells_later (fault_line_of outcome) mid new tells); denials_logged = tt }
 worked_headline name (Authsrv client) outcome old mid new h tells =
-    client_headline name client outcome (status_of outcome) old mid new h (attended_headline client h.inputs outcome h.middle mid new h.works tells)
+    client_headline name client outcome (status_of outcome) old mid new h (worked_unasked name (Authsrv client) outcome old mid new h (tells_later (fault_line_of outcome) mid new tells))
+    (attended_headline client h.inputs outcome h.middle mid new h.works tells)
+worked_headline name (PlugGw caller) outcome old mid new h tells =
+    let so = linked_headline caller h.inputs outcome h.middle mid new h.works tells in
+    record {
+      replies_legal = tt;
+      asks_permitted = inr (record { inputs = h.inputs; read = h.read; middle = h.middle; only = h.only; so = so.asks });
+      denials_logged = (caller_denials name caller outcome (status_of outcome) old mid new h so.denials, λ denied. so.untold denied ∙ h.only.output);
+    }
 
 does_headline : (line : Option LineView) (outcome : Outcome) (old mid new : WorldView) → DoesLine line outcome old mid → TellsIf (fault_line_of outcome) mid new → Headline line (status_of outcome) old new
-does_headline None outcome old mid new h tells = tt
+does_headline None outcome old mid new h tells = ap (λ (i : SessionInputs). i.dialer) (tells_later (fault_line_of outcome) mid new tells).inputs ∙ ap (λ (w : WorldView). w.inputs.dialer) h.is
 does_headline (Some line) outcome old mid new (inl h) tells =
-    silent_headline line.table line.command (status_of outcome) old new (stops_unserved line.table line.command outcome old mid new h (tells_later (fault_line_of outcome) mid new tells))
+    silent_headline line.table line.command (status_of outcome) old new (stops_unserved line.table line.command outcome old mid new h (tells_later (fault_line_of outcome) mid new tells)) (stops_undecided line.table line.command outcome old mid new h (tells_later (fault_line_of outcome) mid new tells))
 does_headline (Some line) outcome old mid new (inr h) tells = worked_headline line.table line.command outcome old mid new h tells
 
 pub run_headline : (line : Option LineView) (status : ℕ) (old new : WorldView) → Run line status old new → Headline line status old new

@@ -21,7 +21,7 @@ use Rattle.bastion.specs.declared.outcome.Outcome.{Outcome}
 use Rattle.bastion.specs.declared.outcome.Outcome.TheVariants.{Usage, Unread, Failed, NoMemory, Decided, Ended}
 use Rattle.bastion.specs.declared.words.Query.{Query}
 use Rattle.bastion.proofs.DecidedLemmas.{ByVerdict, after_rose, after_status, shown_rose, shown_status}
-use Rattle.bastion.proofs.SinkLemmas.{cut_rose, gives_most, same_low}
+use Rattle.client_service.proofs.SinkLemmas.{cut_rose, gives_most, same_low}
 
 -- ---- a program was started, or not
 
@@ -45,17 +45,20 @@ launched [] decided outcome old new h = inl h
 pub record RunLeft (old new : WorldView) : Type 0 where
   pub files : new.files ≡ old.files
   pub input : new.inputs.input ≡ old.inputs.input
+  pub dialer : new.inputs.dialer ≡ old.inputs.dialer
   pub keeper : new.inputs.keeper ≡ old.inputs.keeper
 
 left_by : (words : List (List ℕ)) (decided outcome : Outcome) (old mid new : WorldView) → mid.files ≡ old.files → mid.inputs ≡ old.inputs → StaysSo decided outcome mid new ⊎ Launching words decided outcome mid new → RunLeft old new
 left_by words decided outcome old mid new files inputs (inl stays) = record {
   files = ap (λ (w : WorldView). w.files) stays.same ∙ files;
   input = ap (λ (w : WorldView). w.inputs.input) stays.same ∙ ap (λ (i : SessionInputs). i.input) inputs;
+  dialer = ap (λ (w : WorldView). w.inputs.dialer) stays.same ∙ ap (λ (i : SessionInputs). i.dialer) inputs;
   keeper = ap (λ (w : WorldView). w.inputs.keeper) stays.same ∙ ap (λ (i : SessionInputs). i.keeper) inputs;
 }
 left_by words decided outcome old mid new files inputs (inr h) = record {
   files = h.launches.files ∙ files;
   input = ap (λ (i : SessionInputs). i.input) h.launches.inputs ∙ ap (λ (i : SessionInputs). i.input) inputs;
+  dialer = ap (λ (i : SessionInputs). i.dialer) h.launches.inputs ∙ ap (λ (i : SessionInputs). i.dialer) inputs;
   keeper = ap (λ (i : SessionInputs). i.keeper) h.launches.inputs ∙ ap (λ (i : SessionInputs). i.keeper) inputs;
 }
 

@@ -7,11 +7,11 @@ use Rattle.fw_outside.specs.ToldList.{grown}
 use Rattle.fw_outside.specs.declared.failed.Failed as sink
 use Rattle.session_acts.proofs.DeviceLemmas.{rose_within}
 use Rattle.session_acts.proofs.ToldLemmas.{by_nothing}
-use Rattle.bastion.specs.Conn.{NotedIf}
+use Rattle.client_service.specs.Conn.{NotedIf}
 use Rattle.bastion.specs.Status.{SomeRose}
 use Rattle.bastion.specs.Works.{with_given}
 use Rattle.bastion.specs.WorldView.{WorldView}
-use Rattle.bastion.proofs.SinkLemmas.{cut_rose, gives_most, same_low}
+use Rattle.client_service.proofs.SinkLemmas.{cut_rose, gives_most, same_low}
 
 -- what was given to a sink that counted nothing was given whole
 pub gave_whole : (told : Result (Unit {0}) sink.Failed) (text : List ℕ) (old new : SinkView) → (Rose old.faults new.faults → ⊥) → Gives told text old new → new ≡ with_given old text

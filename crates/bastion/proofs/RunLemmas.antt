@@ -4,6 +4,7 @@ use Rattle.std.specs.Option.{option_map}
 use Rattle.std.specs.Prelude.{Option, Some, None, Result, Ok, Err, IsSome, not}
 use Rattle.fw_outside.specs.ClockView.{ClockView}
 use Rattle.fw_outside.specs.Counts.{Rose}
+use Rattle.fw_outside.specs.DialerView.{DialerView}
 use Rattle.fw_outside.specs.FilesView.{FilesView}
 use Rattle.fw_outside.specs.KeeperView.{KeeperFailed, KeeperView, NamedBytes}
 use Rattle.fw_outside.specs.LauncherView.{LauncherView}
@@ -19,9 +20,9 @@ use Rattle.gate_rules.specs.declared.verdict.Verdict.{Verdict}
 use Rattle.gate_rules.specs.declared.verdict.Verdict.TheVariants.{Permit, Deny}
 use Rattle.bastion.specs.Headline.{table_kept}
 use Rattle.bastion.specs.Inputs.{Inputs, is_of_line, needs_records}
-use Rattle.bastion.specs.Outcome.{CountRose, DeviceRose, EndingRose, KeeperRose, fault_line_of, status_of, verdict_status}
+use Rattle.bastion.specs.Outcome.{CountRose, DeviceRose, EndingRose, KeeperRose, LinkRose, RoseFor, RoseIn, fault_line_of, status_of, verdict_status}
 use Rattle.bastion.specs.Run.{CallsIf, DoesLine, FilesFailed, ReadsOnly, Run, Stops, TellsIf, Worked}
-use Rattle.bastion.specs.Status.{IsFull, IsHeld, IsServed, IsStatus, IsStatusFor, SomeRose, TakesIn}
+use Rattle.bastion.specs.Status.{IsFull, IsHeld, IsLinked, IsServed, IsStatus, IsStatusFor, RoseBy, SomeRose, TakesBy, TakesFor, TakesIn}
 use Rattle.bastion.specs.Words.{LineView}
 use Rattle.bastion.specs.Works.{Works}
 use Rattle.bastion.specs.WorldView.{SessionInputs, WorldView}
@@ -31,20 +32,23 @@ use Rattle.bastion.specs.declared.outcome.Outcome.{Outcome}
 use Rattle.bastion.specs.declared.outcome.Outcome.TheVariants.{Usage, Unread, Failed, NoMemory, Decided, Ended}
 use Rattle.bastion.specs.declared.outcome.Step.{Step}
 use Rattle.bastion.specs.declared.outcome.Step.TheVariants as steps
+use Rattle.bastion.specs.declared.words.Caller.{Caller}
 use Rattle.bastion.specs.declared.words.Command.{Command}
-use Rattle.bastion.specs.declared.words.Command.TheVariants.{Netacl, NetaclRun, Table, Authsrv}
+use Rattle.bastion.specs.declared.words.Command.TheVariants.{Netacl, NetaclRun, Table, Authsrv, PlugGw}
 use Rattle.bastion.proofs.AttendedLemmas.{attended_rose, attended_status, attended_takes, takes_same}
 use Rattle.bastion.proofs.DecidedLemmas.{ByVerdict, after_rose, after_status, shown_rose, shown_status}
 use Rattle.bastion.proofs.LaunchLemmas.{run_left, run_rose, run_status_by}
-use Rattle.bastion.proofs.SinkLemmas.{cut_rose, gives_most, rose_later, same_low}
+use Rattle.bastion.proofs.LinkingLemmas.{linked_rose, linked_status, linked_takes}
+use Rattle.client_service.proofs.SinkLemmas.{cut_rose, gives_most, rose_later, same_low}
 
 -- ---- what reading leaves
 
--- as many sources are out, and nothing was taken, told or logged; the keeper is there, and has what it had
+-- as many sources are out, and nothing was taken, told, asked for or logged; the keeper is there, and has what it had
 pub record Left (old new : WorldView) : Type 0 where
   pub out : new.files.out ≡ old.files.out
   pub input : new.inputs.input ≡ old.inputs.input
   pub clock : new.inputs.clock ≡ old.inputs.clock
+  pub dialer : new.inputs.dialer ≡ old.inputs.dialer
   pub output : new.output ≡ old.output
   pub logs : new.logs ≡ old.logs
   pub keeper : IsSome old.inputs.keeper → IsSome new.inputs.keeper
@@ -60,6 +64,10 @@ calls_input false old new h = ap (λ (i : SessionInputs). i.input) h
 calls_clock : (records : Bool) (old new : SessionInputs) → CallsIf records old new → new.clock ≡ old.clock
 calls_clock true old new h = ap (λ (i : SessionInputs). i.clock) h.is
 calls_clock false old new h = ap (λ (i : SessionInputs). i.clock) h
+
+calls_dialer : (records : Bool) (old new : SessionInputs) → CallsIf records old new → new.dialer ≡ old.dialer
+calls_dialer true old new h = ap (λ (i : SessionInputs). i.dialer) h.is
+calls_dialer false old new h = ap (λ (i : SessionInputs). i.dialer) h
 
 calls_there : (records : Bool) (old new : SessionInputs) → CallsIf records old new → IsSome old.keeper → IsSome new.keeper
 calls_there true old new h there = some_there new.keeper h.after (ap (λ (i : SessionInputs). i.keeper) h.is)
@@ -79,6 +87,7 @@ only_left name records old new h = record {
   out = ap (λ (f : FilesView). f.out) h.files.is;
   input = calls_input records old.inputs new.inputs h.inputs;
   clock = calls_clock records old.inputs new.inputs h.inputs;
+  dialer = calls_dialer records old.inputs new.inputs h.inputs;
   output = h.output;
   logs = h.logs;
   keeper = calls_there records old.inputs new.inputs h.inputs;
@@ -103,6 +112,7 @@ stops_left name command (Failed device.Table) old new h = record {
   out = files_out name old.files new.files h.failed;
   input = ap (λ (i : SessionInputs). i.input) h.inputs;
   clock = ap (λ (i : SessionInputs). i.clock) h.inputs;
+  dialer = ap (λ (i : SessionInputs). i.dialer) h.inputs;
   output = h.output;
   logs = h.logs;
   keeper = λ there. subst (λ (i : SessionInputs). IsSome i.keeper) (sym h.inputs) there;
@@ -112,6 +122,7 @@ stops_left name command (Failed device.Records) old new h = record {
   out = ap (λ (f : FilesView). f.out) h.files.is;
   input = ap (λ (i : SessionInputs). i.input) h.inputs;
   clock = ap (λ (i : SessionInputs). i.clock) h.inputs;
+  dialer = ap (λ (i : SessionInputs). i.dialer) h.inputs;
   output = h.output;
   logs = h.logs;
   keeper = λ there. some_there new.inputs.keeper h.after (ap (λ (i : SessionInputs). i.keeper) h.inputs);
@@ -144,12 +155,38 @@ stops_rose name command (Failed device.Program) old new h = absurd h
 stops_rose name command (Ended ending refused) old new h = absurd h
 stops_rose name command outcome old new h = tt
 
-works_rose : (command : Command) (inputs : Inputs) (outcome : Outcome) (old new : WorldView) → Works command inputs outcome old new → CountRose outcome old new
+-- what counts for every command counts for one that has a link
+ending_link : (ending : Ending) (old new : WorldView) → EndingRose ending old new → LinkRose ending old new
+ending_link endings.Done old new h = h
+ending_link (endings.Denied line) old new h = h
+ending_link endings.ClientFault old new h = h
+ending_link endings.ServerFault old new h = absurd h
+ending_link endings.LogFault old new h = h
+ending_link endings.AuthFault old new h = h
+ending_link endings.Idle old new h = inl h
+ending_link endings.NoRoute old new h = absurd h
+ending_link endings.Spent old new h = h
+ending_link endings.NoMemory old new h = h
+
+pub rose_for : (command : Command) (outcome : Outcome) (old new : WorldView) → CountRose outcome old new → RoseFor command outcome old new
+rose_for (PlugGw caller) (Ended ending refused) old new h = ending_link ending old new h
+rose_for (PlugGw caller) Usage old new h = h
+rose_for (PlugGw caller) (Unread refusal) old new h = h
+rose_for (PlugGw caller) (Failed which) old new h = h
+rose_for (PlugGw caller) (NoMemory step) old new h = h
+rose_for (PlugGw caller) (Decided verdict) old new h = h
+rose_for (Netacl query) outcome old new h = h
+rose_for (NetaclRun query) outcome old new h = h
+rose_for (Table query) outcome old new h = h
+rose_for (Authsrv client) outcome old new h = h
+
+works_rose : (command : Command) (inputs : Inputs) (outcome : Outcome) (old new : WorldView) → Works command inputs outcome old new → RoseFor command outcome old new
 works_rose (Netacl query) inputs outcome old new h = after_rose h.logging (verdict_of inputs.rules query.peer) _ _ outcome old new h.logged h.printed
 works_rose (NetaclRun query) inputs outcome old new h = run_rose query (verdict_of inputs.rules query.peer) _ _ outcome old new h
 works_rose (Table query) inputs outcome old new h =
     subst (λ (o : Outcome). CountRose o old new) (sym h.printed.is) (shown_rose (verdict_of inputs.rules query.peer) h.printed.printing _ old new h.printed.gives)
 works_rose (Authsrv client) inputs outcome old new h = attended_rose client inputs outcome old new h
+works_rose (PlugGw caller) inputs outcome old new h = linked_rose caller inputs outcome old new h
 
 -- ---- from where the work began to where the run did
 
@@ -193,17 +230,48 @@ ending_from endings.NoRoute old mid new input output logs h = h
 ending_from endings.Spent old mid new input output logs h = tt
 ending_from endings.NoMemory old mid new input output logs h = tt
 
+-- the files have no part in it
+link_files : (ending : Ending) (files : FilesView) (old new : WorldView) → LinkRose ending old new → LinkRose ending (record old { files = files }) new
+link_files endings.Done files old new h = h
+link_files (endings.Denied line) files old new h = h
+link_files endings.ClientFault files old new h = h
+link_files endings.ServerFault files old new h = h
+link_files endings.LogFault files old new h = h
+link_files endings.AuthFault files old new h = h
+link_files endings.Idle files old new h = h
+link_files endings.NoRoute files old new h = h
+link_files endings.Spent files old new h = h
+link_files endings.NoMemory files old new h = h
+
+link_from : (ending : Ending) (old mid new : WorldView) → mid.inputs ≡ old.inputs → mid.output ≡ old.output → mid.logs ≡ old.logs → LinkRose ending mid new → LinkRose ending old new
+link_from ending old mid new inputs output logs h =
+    let Rises : SessionInputs → SinkView → SinkView → Type 0 = λ i o l. LinkRose ending (record { files = old.files; output = o; logs = l; inputs = i }) new in
+    let here : LinkRose ending (record { files = old.files; output = mid.output; logs = mid.logs; inputs = mid.inputs }) new = link_files ending old.files mid new h in
+    subst (λ (l : SinkView). Rises old.inputs old.output l) logs (subst (λ (o : SinkView). Rises old.inputs o mid.logs) output (subst (λ (i : SessionInputs). Rises i mid.output mid.logs) inputs here))
+
 count_from : (name : List ℕ) (records : Bool) (outcome : Outcome) (old mid new : WorldView) → ReadsOnly name records old mid → CountRose outcome mid new → CountRose outcome old new
 count_from name records (Failed which) old mid new only h = device_from name records which old mid new only h
 count_from name records (Ended ending refused) old mid new only h = ending_from ending old mid new (only_left name records old mid only).input only.output only.logs h
 count_from name records outcome old mid new only h = tt
 
-pub worked_rose : (name : List ℕ) (command : Command) (outcome : Outcome) (old new : WorldView) → Worked name command outcome old new → CountRose outcome old new
-worked_rose name command outcome old new h = count_from name (needs_records command) outcome old h.middle new h.only (works_rose command h.inputs outcome h.middle new h.works)
+rose_from : (name : List ℕ) (command : Command) (outcome : Outcome) (old mid new : WorldView) → ReadsOnly name (needs_records command) old mid → RoseFor command outcome mid new → RoseFor command outcome old new
+rose_from name (PlugGw caller) (Ended ending refused) old mid new only h = link_from ending old mid new only.inputs only.output only.logs h
+rose_from name (PlugGw caller) Usage old mid new only h = tt
+rose_from name (PlugGw caller) (Unread refusal) old mid new only h = tt
+rose_from name (PlugGw caller) (Failed which) old mid new only h = device_from name false which old mid new only h
+rose_from name (PlugGw caller) (NoMemory step) old mid new only h = tt
+rose_from name (PlugGw caller) (Decided verdict) old mid new only h = tt
+rose_from name (Netacl query) outcome old mid new only h = count_from name false outcome old mid new only h
+rose_from name (NetaclRun query) outcome old mid new only h = count_from name false outcome old mid new only h
+rose_from name (Table query) outcome old mid new only h = count_from name false outcome old mid new only h
+rose_from name (Authsrv client) outcome old mid new only h = count_from name true outcome old mid new only h
 
-pub does_rose : (line : Option LineView) (outcome : Outcome) (old new : WorldView) → DoesLine line outcome old new → CountRose outcome old new
+pub worked_rose : (name : List ℕ) (command : Command) (outcome : Outcome) (old new : WorldView) → Worked name command outcome old new → RoseFor command outcome old new
+worked_rose name command outcome old new h = rose_from name command outcome old h.middle new h.only (works_rose command h.inputs outcome h.middle new h.works)
+
+pub does_rose : (line : Option LineView) (outcome : Outcome) (old new : WorldView) → DoesLine line outcome old new → RoseIn line outcome old new
 does_rose None outcome old new h = subst (λ (o : Outcome). CountRose o old new) (sym h.usage) tt
-does_rose (Some line) outcome old new (inl h) = stops_rose line.table line.command outcome old new h
+does_rose (Some line) outcome old new (inl h) = rose_for line.command outcome old new (stops_rose line.table line.command outcome old new h)
 does_rose (Some line) outcome old new (inr h) = worked_rose line.table line.command outcome old new h
 
 -- ---- the line of an outcome
@@ -231,7 +299,24 @@ some_later old mid new h (inr (inl (inr logs))) = inr (inl (inr (rose_later old.
 some_later old mid new h (inr (inr inputs)) =
     inr (inr (subst (λ (i : SessionInputs). (Rose old.inputs.input.faults i.input.faults ⊎ Rose old.inputs.input.idles i.input.idles) ⊎ (KeeperRose old.inputs.keeper i.keeper ⊎ Rose old.inputs.launcher.faults i.launcher.faults)) (sym h.inputs) inputs))
 
+pub by_later : (command : Command) (old mid new : WorldView) → Later mid new → RoseBy command old mid → RoseBy command old new
+by_later (PlugGw caller) old mid new later (inl some) = inl (some_later old mid new later some)
+by_later (PlugGw caller) old mid new later (inr links) =
+    let Rises : DialerView → Type 0 = λ d. Rose old.inputs.dialer.refusals d.refusals ⊎ (Rose old.inputs.dialer.link_faults d.link_faults ⊎ Rose old.inputs.dialer.link_idles d.link_idles) in
+    inr (subst (λ (i : SessionInputs). Rises i.dialer) (sym later.inputs) links)
+by_later (Netacl query) old mid new later h = some_later old mid new later h
+by_later (NetaclRun query) old mid new later h = some_later old mid new later h
+by_later (Table query) old mid new later h = some_later old mid new later h
+by_later (Authsrv client) old mid new later h = some_later old mid new later h
+
 -- ---- 4 is for a count that rose
+
+pub some_by : (command : Command) (old new : WorldView) → SomeRose old new → RoseBy command old new
+some_by (PlugGw caller) old new h = inl h
+some_by (Netacl query) old new h = h
+some_by (NetaclRun query) old new h = h
+some_by (Table query) old new h = h
+some_by (Authsrv client) old new h = h
 
 client_rose : (old new : WorldView) → Rose old.inputs.input.faults new.inputs.input.faults ⊎ Rose old.output.faults new.output.faults → SomeRose old new
 client_rose old new (inl source) = inr (inr (inl (inl source)))
@@ -272,25 +357,50 @@ count_some (NoMemory step) old new h is = absurd (omega (arith, is))
 count_some (Decided verdict) old new h is = verdict_four verdict is
 count_some (Ended ending refused) old new h is = ending_some ending refused old new h is
 
+link_some : (caller : Caller) (ending : Ending) (refused : Bool) (old new : WorldView) → LinkRose ending old new → status_of (Ended ending refused) ≡ 4 → RoseBy (PlugGw caller) old new
+link_some caller endings.Done refused old new h is = inl (ending_some endings.Done refused old new h is)
+link_some caller (endings.Denied line) refused old new h is = inl (ending_some (endings.Denied line) refused old new h is)
+link_some caller endings.ClientFault refused old new h is = inl (client_rose old new h)
+link_some caller endings.ServerFault refused old new h is = inr (inr (inl h))
+link_some caller endings.LogFault refused old new h is = inl (ending_some endings.LogFault refused old new h is)
+link_some caller endings.AuthFault refused old new h is = absurd h
+link_some caller endings.Idle refused old new (inl source) is = inl (ending_some endings.Idle refused old new source is)
+link_some caller endings.Idle refused old new (inr link) is = inr (inr (inr link))
+link_some caller endings.NoRoute refused old new h is = inr (inl h)
+link_some caller endings.Spent refused old new h is = inl (ending_some endings.Spent refused old new h is)
+link_some caller endings.NoMemory refused old new h is = inl (ending_some endings.NoMemory refused old new h is)
+
+pub rose_some : (command : Command) (outcome : Outcome) (old new : WorldView) → RoseFor command outcome old new → status_of outcome ≡ 4 → RoseBy command old new
+rose_some (PlugGw caller) (Ended ending refused) old new h is = link_some caller ending refused old new h is
+rose_some (PlugGw caller) Usage old new h is = inl (count_some Usage old new h is)
+rose_some (PlugGw caller) (Unread refusal) old new h is = inl (count_some (Unread refusal) old new h is)
+rose_some (PlugGw caller) (Failed which) old new h is = inl (count_some (Failed which) old new h is)
+rose_some (PlugGw caller) (NoMemory step) old new h is = inl (count_some (NoMemory step) old new h is)
+rose_some (PlugGw caller) (Decided verdict) old new h is = inl (count_some (Decided verdict) old new h is)
+rose_some (Netacl query) outcome old new h is = count_some outcome old new h is
+rose_some (NetaclRun query) outcome old new h is = count_some outcome old new h is
+rose_some (Table query) outcome old new h is = count_some outcome old new h is
+rose_some (Authsrv client) outcome old new h is = count_some outcome old new h is
+
 -- ---- the status
 
-by_count : (name : List ℕ) (command : Command) (outcome : Outcome) (old mid new : WorldView) → CountRose outcome old mid → Later mid new → status_of outcome ≡ 4 → IsStatusFor name command (status_of outcome) old new
-by_count name command outcome old mid new rose later is = inl (inl (record { is = is; rose = some_later old mid new later (count_some outcome old mid rose is) }))
+by_count : (name : List ℕ) (command : Command) (outcome : Outcome) (old mid new : WorldView) → RoseFor command outcome old mid → Later mid new → status_of outcome ≡ 4 → IsStatusFor name command (status_of outcome) old new
+by_count name command outcome old mid new rose later is = inl (inl (record { is = is; rose = by_later command old mid new later (rose_some command outcome old mid rose is) }))
 
 stops_status : (name : List ℕ) (command : Command) (outcome : Outcome) (old mid new : WorldView) → Stops name command outcome old mid → Later mid new → IsStatusFor name command (status_of outcome) old new
 stops_status name command (Unread refusal) old mid new h later = inr (record { read = Err refusal; inputs = h.read; is = refl })
-stops_status name command (Failed which) old mid new h later = by_count name command (Failed which) old mid new (stops_rose name command (Failed which) old mid h) later refl
+stops_status name command (Failed which) old mid new h later = by_count name command (Failed which) old mid new (rose_for command (Failed which) old mid (stops_rose name command (Failed which) old mid h)) later refl
 stops_status name command (NoMemory step) old mid new h later = inl (inr refl)
 stops_status name command Usage old mid new h later = absurd h
 stops_status name command (Decided verdict) old mid new h later = absurd h
 stops_status name command (Ended ending refused) old mid new h later = absurd h
 
-by_verdict : (name : List ℕ) (command : Command) (verdict : Verdict) (outcome : Outcome) (old mid new : WorldView) → CountRose outcome old mid → Later mid new → (status_of outcome ≡ verdict_status verdict → IsStatusFor name command (status_of outcome) old new)
+by_verdict : (name : List ℕ) (command : Command) (verdict : Verdict) (outcome : Outcome) (old mid new : WorldView) → RoseFor command outcome old mid → Later mid new → (status_of outcome ≡ verdict_status verdict → IsStatusFor name command (status_of outcome) old new)
     → ByVerdict verdict outcome → IsStatusFor name command (status_of outcome) old new
 by_verdict name command verdict outcome old mid new rose later is (inl four) = by_count name command outcome old mid new rose later four
 by_verdict name command verdict outcome old mid new rose later is (inr same) = is same
 
-served_so : (name : List ℕ) (command : Command) (outcome : Outcome) (old mid new : WorldView) (Served : Type 0) → CountRose outcome old mid → Later mid new → (Served → IsStatusFor name command (status_of outcome) old new)
+served_so : (name : List ℕ) (command : Command) (outcome : Outcome) (old mid new : WorldView) (Served : Type 0) → RoseFor command outcome old mid → Later mid new → (Served → IsStatusFor name command (status_of outcome) old new)
     → ((status_of outcome ≡ 4) ⊎ (status_of outcome ≡ 5)) ⊎ Served → IsStatusFor name command (status_of outcome) old new
 served_so name command outcome old mid new Served rose later is (inl (inl four)) = by_count name command outcome old mid new rose later four
 served_so name command outcome old mid new Served rose later is (inl (inr five)) = inl (inr five)
@@ -336,6 +446,12 @@ worked_status name (Authsrv client) outcome old mid new h later =
     served_so name (Authsrv client) outcome old mid new Served (worked_rose name (Authsrv client) outcome old mid h) later
     (λ served. inr (record { read = Ok h.inputs; inputs = h.read; is = served_then client.console (verdict_of h.inputs.rules client.peer) (status_of outcome) h.middle.inputs mid.inputs old.inputs new.inputs left.input left.clock later.inputs served }))
     (attended_status client h.inputs outcome h.middle mid h.works)
+worked_status name (PlugGw caller) outcome old mid new h later =
+    let verdict : Verdict = verdict_of h.inputs.rules caller.peer in
+    let Linked : SessionInputs → SessionInputs → Type 0 = λ a b. IsLinked verdict (status_of outcome) a b in
+    served_so name (PlugGw caller) outcome old mid new (Linked h.middle.inputs mid.inputs) (worked_rose name (PlugGw caller) outcome old mid h) later
+    (λ linked. inr (record { read = Ok h.inputs; inputs = h.read; is = subst (λ (i : SessionInputs). Linked i new.inputs) h.only.inputs (subst (λ (i : SessionInputs). Linked h.middle.inputs i) (sym later.inputs) linked) }))
+    (linked_status caller h.inputs outcome h.middle mid h.works)
 
 does_status : (line : Option LineView) (outcome : Outcome) (old mid new : WorldView) → DoesLine line outcome old mid → Later mid new → IsStatus line (status_of outcome) old new
 does_status None outcome old mid new h later = ap status_of h.usage
@@ -353,6 +469,30 @@ works_left (Netacl query) inputs outcome old new h = (h.files, λ there. subst (
 works_left (NetaclRun query) inputs outcome old new h = let left = run_left query (verdict_of inputs.rules query.peer) _ _ outcome old new h in (left.files, λ there. subst (λ (k : Option KeeperView). IsSome k) (sym left.keeper) there)
 works_left (Table query) inputs outcome old new h = (h.files, λ there. subst (λ (i : SessionInputs). IsSome i.keeper) (sym h.inputs) there)
 works_left (Authsrv client) inputs outcome old new h = (h.files, λ there. some_there new.inputs.keeper h.book.keeper h.kept)
+works_left (PlugGw caller) inputs outcome old new h = (h.files, λ there. subst (λ (k : Option KeeperView). IsSome k) (sym h.keeper) there)
+
+-- a command without a link leaves the dialer as it was
+abbrev pub StaysUnasked : Command → WorldView → WorldView → Type 0
+StaysUnasked (PlugGw caller) old new = Unit {0}
+StaysUnasked command old new = new.inputs.dialer ≡ old.inputs.dialer
+
+works_unasked : (command : Command) (inputs : Inputs) (outcome : Outcome) (old new : WorldView) → Works command inputs outcome old new → StaysUnasked command old new
+works_unasked (Netacl query) inputs outcome old new h = ap (λ (i : SessionInputs). i.dialer) h.inputs
+works_unasked (NetaclRun query) inputs outcome old new h = (run_left query (verdict_of inputs.rules query.peer) _ _ outcome old new h).dialer
+works_unasked (Table query) inputs outcome old new h = ap (λ (i : SessionInputs). i.dialer) h.inputs
+works_unasked (Authsrv client) inputs outcome old new h = h.links
+works_unasked (PlugGw caller) inputs outcome old new h = tt
+
+unasked_through : (command : Command) (old middle mid new : WorldView) → middle.inputs.dialer ≡ old.inputs.dialer → new.inputs.dialer ≡ mid.inputs.dialer → StaysUnasked command middle mid → StaysUnasked command old new
+unasked_through (Netacl query) old middle mid new before after h = after ∙ h ∙ before
+unasked_through (NetaclRun query) old middle mid new before after h = after ∙ h ∙ before
+unasked_through (Table query) old middle mid new before after h = after ∙ h ∙ before
+unasked_through (Authsrv client) old middle mid new before after h = after ∙ h ∙ before
+unasked_through (PlugGw caller) old middle mid new before after h = tt
+
+pub worked_unasked : (name : List ℕ) (command : Command) (outcome : Outcome) (old mid new : WorldView) → Worked name command outcome old mid → Later mid new → StaysUnasked command old new
+worked_unasked name command outcome old mid new h later =
+    unasked_through command old h.middle mid new (only_left name (needs_records command) old h.middle h.only).dialer (ap (λ (i : SessionInputs). i.dialer) later.inputs) (works_unasked command h.inputs outcome h.middle mid h.works)
 
 -- as many sources are out, and the keeper is there
 pub record GivesBackAll (old new : WorldView) : Type 0 where
@@ -375,21 +515,30 @@ run_back line status old new ran =
 
 -- ---- bytes
 
-works_takes : (command : Command) (inputs : Inputs) (outcome : Outcome) (old new : WorldView) → Works command inputs outcome old new → TakesIn (status_of outcome) old.inputs.input new.inputs.input
+works_takes : (command : Command) (inputs : Inputs) (outcome : Outcome) (old new : WorldView) → Works command inputs outcome old new → TakesFor command (status_of outcome) old.inputs.input new.inputs.input
 works_takes (Netacl query) inputs outcome old new h = takes_same (status_of outcome) old.inputs.input new.inputs.input (ap (λ (i : SessionInputs). i.input) h.inputs)
 works_takes (NetaclRun query) inputs outcome old new h = takes_same (status_of outcome) old.inputs.input new.inputs.input (run_left query (verdict_of inputs.rules query.peer) _ _ outcome old new h).input
 works_takes (Table query) inputs outcome old new h = takes_same (status_of outcome) old.inputs.input new.inputs.input (ap (λ (i : SessionInputs). i.input) h.inputs)
 works_takes (Authsrv client) inputs outcome old new h = attended_takes client inputs outcome old new h
+works_takes (PlugGw caller) inputs outcome old new h = linked_takes caller inputs outcome old new h
 
-does_takes : (line : Option LineView) (outcome : Outcome) (old new : WorldView) → DoesLine line outcome old new → TakesIn (status_of outcome) old.inputs.input new.inputs.input
+takes_for : (command : Command) (status : ℕ) (old new : SourceView) → TakesIn status old new → TakesFor command status old new
+takes_for (PlugGw caller) status old new h = record { took = h.took; all = λ long. inl (h.all long) }
+takes_for (Netacl query) status old new h = h
+takes_for (NetaclRun query) status old new h = h
+takes_for (Table query) status old new h = h
+takes_for (Authsrv client) status old new h = h
+
+does_takes : (line : Option LineView) (outcome : Outcome) (old new : WorldView) → DoesLine line outcome old new → TakesBy line (status_of outcome) old.inputs.input new.inputs.input
 does_takes None outcome old new h = takes_same (status_of outcome) old.inputs.input new.inputs.input (ap (λ (w : WorldView). w.inputs.input) h.is)
-does_takes (Some line) outcome old new (inl h) = takes_same (status_of outcome) old.inputs.input new.inputs.input (stops_left line.table line.command outcome old new h).input
+does_takes (Some line) outcome old new (inl h) =
+    takes_for line.command (status_of outcome) old.inputs.input new.inputs.input (takes_same (status_of outcome) old.inputs.input new.inputs.input (stops_left line.table line.command outcome old new h).input)
 does_takes (Some line) outcome old new (inr h) =
     let left = only_left line.table (needs_records line.command) old h.middle h.only in
-    subst (λ (s : _). TakesIn (status_of outcome) s new.inputs.input) left.input (works_takes line.command h.inputs outcome h.middle new h.works)
+    subst (λ (s : SourceView). TakesFor line.command (status_of outcome) s new.inputs.input) left.input (works_takes line.command h.inputs outcome h.middle new h.works)
 
-pub run_takes : (line : Option LineView) (status : ℕ) (old new : WorldView) → Run line status old new → TakesIn status old.inputs.input new.inputs.input
+pub run_takes : (line : Option LineView) (status : ℕ) (old new : WorldView) → Run line status old new → TakesBy line status old.inputs.input new.inputs.input
 run_takes line status old new ran =
     let later = tells_later (fault_line_of ran.outcome) ran.middle new ran.tells in
-    subst (λ (s : ℕ). TakesIn s old.inputs.input new.inputs.input) (sym ran.status_is)
-    (subst (λ (i : SessionInputs). TakesIn (status_of ran.outcome) old.inputs.input i.input) (sym later.inputs) (does_takes line ran.outcome old ran.middle ran.does))
+    subst (λ (s : ℕ). TakesBy line s old.inputs.input new.inputs.input) (sym ran.status_is)
+    (subst (λ (i : SessionInputs). TakesBy line (status_of ran.outcome) old.inputs.input i.input) (sym later.inputs) (does_takes line ran.outcome old ran.middle ran.does))

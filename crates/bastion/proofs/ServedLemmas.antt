@@ -24,15 +24,16 @@ use Rattle.session_acts.specs.World.{Devices}
 use Rattle.session_acts.proofs.ClientLemmas.{denies, logs_first}
 use Rattle.session_acts.proofs.ToldLemmas.{by_both, by_nothing}
 use Rattle.bastion.specs.Complete.{IsHeldWhole, IsServedWhole, IsWhole, opening_text}
-use Rattle.bastion.specs.Conn.{NotedIf, denied_by, logged_row, patient, timeout_of}
-use Rattle.bastion.specs.Endings.{denied_text, ending_line}
+use Rattle.client_service.specs.Conn.{NotedIf}
+use Rattle.client_service.specs.Meeting.{denied_by, logged_row, patient, timeout_of}
+use Rattle.client_service.specs.Endings.{denied_text, ending_line}
 use Rattle.bastion.specs.Headline.{OfHistory, begins, lent_to, talk_of}
 use Rattle.bastion.specs.Inputs.{Inputs}
 use Rattle.bastion.specs.Outcome.{fault_line_of, status_of}
 use Rattle.bastion.specs.Run.{ReadsOnly, TellsIf, verdict_for}
 use Rattle.bastion.specs.Serving.{Attended, book_at_first, devices_at, most_entries, origin_of}
 use Rattle.bastion.specs.Status.{IsHeld, IsServed}
-use Rattle.bastion.specs.Texts.{decision_text}
+use Rattle.client_service.specs.Decision.{decision_text}
 use Rattle.bastion.specs.WorldView.{WorldView}
 use Rattle.bastion.specs.declared.outcome.Outcome.{Outcome}
 use Rattle.bastion.specs.declared.outcome.Outcome.TheVariants.{Ended}
@@ -43,7 +44,7 @@ use Rattle.bastion.proofs.LoglessLemmas.{server_logless}
 use Rattle.bastion.proofs.QuietLemmas.{Quiet, noted_later, noted_whole}
 use Rattle.bastion.proofs.RunLemmas.{tells_later}
 use Rattle.bastion.proofs.SessionLemmas.{OfDenial, OfSession, serves_so}
-use Rattle.bastion.proofs.SinkLemmas.{same_low}
+use Rattle.client_service.proofs.SinkLemmas.{same_low}
 
 -- ---- the lines of a session
 

@@ -39,12 +39,13 @@ use Rattle.session_acts.proofs.ClientLemmas.{denies}
 use Rattle.session_acts.proofs.DeedLemmas.{all_gain, held_deeds}
 use Rattle.session_acts.proofs.EntryLemmas.{whole_talk}
 use Rattle.session_acts.proofs.TalkLemmas.{entered_gains}
-use Rattle.bastion.specs.Conn.{NotedIf, Treats, denied_by}
-use Rattle.bastion.specs.Endings.{denied_text, ending_line}
+use Rattle.client_service.specs.Conn.{NotedIf, Treats}
+use Rattle.client_service.specs.Meeting.{denied_by}
+use Rattle.client_service.specs.Endings.{denied_text, ending_line}
 use Rattle.bastion.specs.Headline.{begins, lent_to}
 use Rattle.bastion.specs.Run.{TellsIf}
 use Rattle.bastion.specs.Serving.{Serves, book_at_first, devices_at, most_entries}
-use Rattle.bastion.specs.Texts.{decision_text}
+use Rattle.client_service.specs.Decision.{decision_text}
 use Rattle.bastion.specs.WorldView.{WorldView}
 
 -- a session was held

@@ -13,22 +13,25 @@ use Rattle.gate_rules.specs.declared.verdict.Verdict.{Verdict}
 use Rattle.gate_rules.specs.declared.verdict.Verdict.TheVariants.{Permit, Deny}
 use Rattle.session_acts.specs.Session.{deeds_of}
 use Rattle.session_acts.specs.Talk.{is_refused_as_full}
-use Rattle.bastion.specs.Endings.{denied_text, ending_line}
+use Rattle.client_service.specs.Endings.{denied_text, ending_line}
+use Rattle.bastion.specs.Asking.{IsAsked, linking_text}
 use Rattle.bastion.specs.Headline.{OfHistory, talk_of}
 use Rattle.bastion.specs.Inputs.{HasInputs, Inputs}
 use Rattle.bastion.specs.Outcome.{fault_line_of, refusal_text, verdict_status}
 use Rattle.bastion.specs.Run.{ReadsOnly, verdict_for}
 use Rattle.bastion.specs.Status.{IsHeld}
 use Rattle.bastion.specs.TableReport.{report_text}
-use Rattle.bastion.specs.Texts.{decision_text, ended_text, print_text, program_of}
+use Rattle.client_service.specs.Decision.{decision_text}
+use Rattle.bastion.specs.Texts.{ended_text, print_text, program_of}
 use Rattle.bastion.specs.Words.{LineView}
 use Rattle.bastion.specs.WorldView.{WorldView}
 use Rattle.bastion.specs.declared.outcome.Outcome.TheVariants.{Ended}
 use Rattle.bastion.specs.declared.outcome.Refusal.{Refusal}
+use Rattle.bastion.specs.declared.words.Caller.{Caller}
 use Rattle.bastion.specs.declared.words.Client.{Client}
 use Rattle.bastion.specs.declared.words.Command.{Command}
 use Rattle.bastion.specs.declared.words.Query.{Query}
-use Rattle.bastion.specs.declared.words.Command.TheVariants.{Netacl, NetaclRun, Table, Authsrv}
+use Rattle.bastion.specs.declared.words.Command.TheVariants.{Netacl, NetaclRun, Table, Authsrv, PlugGw}
 
 -- the log and the output have taken these texts whole, and nothing else; and the status is this
 pub record IsWhole (logged printed : List ℕ) (comes status : ℕ) (old new : WorldView) : Type 0 where
@@ -83,6 +86,20 @@ pub record IsStartedWhole (query : Query) (inputs : Inputs) (status : ℕ) (old 
   pub launched : IsLaunchedWhole (program_of inputs.rules (verdict_of inputs.rules query.peer)) printed old.inputs.launcher new.inputs.launcher
   pub whole : IsWhole (decision_text (verdict_of inputs.rules query.peer) query.service query.peer) (print_text inputs.rules (verdict_of inputs.rules query.peer) ++ printed) (verdict_status (verdict_of inputs.rules query.peer)) status old new
 
+-- ---- a link
+
+-- The destination was asked for, as the headline has it, and the session came to its end, or to the most bytes that it may
+-- take. The log has taken its lines whole, and nothing else.
+pub record IsPutThrough (caller : Caller) (inputs : Inputs) (status : ℕ) (old new : WorldView) : Type 0 where
+  pub asked : IsAsked caller inputs status old new
+  pub ends : (asked.ending ≡ Done) ⊎ (asked.ending ≡ Spent)
+  pub logs : new.logs.given ≡ grown old.logs.given (linking_text caller asked.line asked.dest ++ unwrap_or (ending_line (services.PlugGw caller.port) caller.peer asked.ending) [])
+
+-- a client whom the rules deny is told nothing
+abbrev pub IsLinkedWhole : Verdict → Caller → Inputs → ℕ → WorldView → WorldView → Type 0
+IsLinkedWhole (Permit line) caller inputs status old new = IsPutThrough caller inputs status old new
+IsLinkedWhole (Deny line) caller inputs status old new = IsWhole (decision_text (Deny line) (services.PlugGw caller.port) caller.peer) [] 1 status old new
+
 -- ---- all commands
 
 -- what can't be read is told to the log; the verdict's line is logged, and its text printed; a client is denied, or its session
@@ -95,6 +112,7 @@ IsAllDone name (NetaclRun query) (Ok inputs) status old new = IsStartedWhole que
 IsAllDone name (Table query) (Ok inputs) status old new =
     IsWhole [] (report_text inputs.rules (verdict_for (Table query) inputs)) (verdict_status (verdict_for (Table query) inputs)) status old new
 IsAllDone name (Authsrv client) (Ok inputs) status old new = IsServedWhole client.console (verdict_for (Authsrv client) inputs) name client inputs status old new
+IsAllDone name (PlugGw caller) (Ok inputs) status old new = IsLinkedWhole (verdict_for (PlugGw caller) inputs) caller inputs status old new
 
 -- by the inputs of the command, or by what can't be read
 pub record AllDone (name : List ℕ) (command : Command) (status : ℕ) (old new : WorldView) : Type 0 where

@@ -1,5 +1,6 @@
 -- The headline, a field a sentence, as far as there are commands for it: the replies of the authentication server are those
--- of one legal history; every denial logs its line.
+-- of one legal history; a destination is asked for exactly if the table permits it; every denial logs its line; what is
+-- relayed is a front of what was taken.
 use Rattle.std.specs.Prelude.{◌≡◌, ◌≢◌, ℕ, ◌⊎◌, Bool, true, false, List, [], ◌∷◌, Option, Some, None, Ok, filter, length, map, Result}
 use Rattle.std.specs.List.{list_any}
 use Rattle.std.specs.Option.{option_map}
@@ -33,20 +34,22 @@ use Rattle.session_acts.specs.Met.{acts}
 use Rattle.session_acts.specs.Session.{Session, deeds_of}
 use Rattle.session_acts.specs.Talk.{answered, asked, is_entered, is_refused_as_full, said_of}
 use Rattle.session_acts.specs.World.{Devices}
-use Rattle.bastion.specs.Conn.{NotedIf, logged_row, patient, timeout_of}
-use Rattle.bastion.specs.Endings.{denied_text, ending_line}
+use Rattle.client_service.specs.Conn.{NotedIf}
+use Rattle.client_service.specs.Meeting.{logged_row, patient, timeout_of}
+use Rattle.client_service.specs.Endings.{denied_text, ending_line}
+use Rattle.bastion.specs.Asking.{AsksPermitted}
 use Rattle.bastion.specs.Inputs.{HasInputs, Inputs, needs_records}
 use Rattle.bastion.specs.Outcome.{fault_line_of, status_of, verdict_status}
 use Rattle.bastion.specs.Run.{ReadsOnly, verdict_for}
 use Rattle.bastion.specs.Serving.{book_at_first, devices_at, most_entries, origin_of}
-use Rattle.bastion.specs.Texts.{decision_text}
+use Rattle.client_service.specs.Decision.{decision_text}
 use Rattle.bastion.specs.Words.{LineView}
 use Rattle.bastion.specs.Works.{with_given}
 use Rattle.bastion.specs.WorldView.{SessionInputs, WorldView}
 use Rattle.bastion.specs.declared.outcome.Outcome.TheVariants.{Ended}
 use Rattle.bastion.specs.declared.words.Client.{Client}
 use Rattle.bastion.specs.declared.words.Command.{Command}
-use Rattle.bastion.specs.declared.words.Command.TheVariants.{Netacl, NetaclRun, Table, Authsrv}
+use Rattle.bastion.specs.declared.words.Command.TheVariants.{Netacl, NetaclRun, Table, Authsrv, PlugGw}
 
 -- ---- every denial logs its line
 
@@ -79,7 +82,7 @@ pub record IsDecided (name : List ℕ) (command : Command) (service : Service) (
   pub only : ReadsOnly name (needs_records command) old middle
   pub so : IsPermitted command inputs status ⊎ IsDenied command service peer inputs status middle new
 
--- a command that logs its verdict
+-- a command that logs its verdict; a client of the plug that is denied is told nothing
 abbrev pub LogsDenial : List ℕ → Command → Service → Peer → ℕ → WorldView → WorldView → Type 0
 LogsDenial name command service peer status old new = IsSilent status old new ⊎ IsDecided name command service peer status old new
 
@@ -88,6 +91,7 @@ DenialLogged name (Netacl query) status old new = LogsDenial name (Netacl query)
 DenialLogged name (NetaclRun query) status old new = LogsDenial name (NetaclRun query) query.service query.peer status old new
 DenialLogged name (Table query) status old new = Unit {0}
 DenialLogged name (Authsrv client) status old new = LogsDenial name (Authsrv client) services.Authsrv client.peer status old new
+DenialLogged name (PlugGw caller) status old new = LogsDenial name (PlugGw caller) (services.PlugGw caller.port) caller.peer status old new × (status ≡ 1 → new.output ≡ old.output)
 
 -- ---- the replies are those of one legal history
 
@@ -173,6 +177,7 @@ abbrev pub IsReplying : List ℕ → Command → ℕ → WorldView → WorldView
 IsReplying name (Netacl query) status old new = Unit {0}
 IsReplying name (NetaclRun query) status old new = Unit {0}
 IsReplying name (Table query) status old new = Unit {0}
+IsReplying name (PlugGw caller) status old new = Unit {0}
 IsReplying name (Authsrv client) status old new = IsUnserved status old new ⊎ IsReplied name client status old new
 
 -- ---- the headline
@@ -181,9 +186,12 @@ pub record HeadlineFor (name : List ℕ) (command : Command) (status : ℕ) (old
   -- a client of `authsrv` is told nothing, and the keeper has what it had; or that it is denied; or the replies of one legal
   -- history
   pub replies_legal : IsReplying name command status old new
+  -- `plug-gw` asks for the target of the first line that fits, if that permits, once both lines stand whole in the log, and
+  -- relays fronts of what was taken; no other command asks for a destination
+  pub asks_permitted : AsksPermitted name command status old new
   -- nobody is told anything, or the rules permit, or the log has the whole line of the denial
   pub denials_logged : DenialLogged name command status old new
 
 abbrev pub Headline : Option LineView → ℕ → WorldView → WorldView → Type 0
-Headline None status old new = Unit {0}
+Headline None status old new = new.inputs.dialer ≡ old.inputs.dialer
 Headline (Some line) status old new = HeadlineFor line.table line.command status old new

@@ -34,6 +34,7 @@ needs (commands.Netacl query) = RulesOf query.service ∷ []
 needs (commands.NetaclRun query) = RulesOf query.service ∷ []
 needs (commands.Table query) = RulesOf query.service ∷ []
 needs (commands.Authsrv client) = RulesOf services.Authsrv ∷ ThePolicy ∷ TheRecords ∷ []
+needs (commands.PlugGw caller) = RulesOf (services.PlugGw caller.port) ∷ []
 
 abbrev pub is_of_records : Need → Bool
 is_of_records TheRecords = true

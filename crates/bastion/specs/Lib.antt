@@ -1,9 +1,9 @@
+pub mod Asking
 pub mod Complete
-pub mod Conn
 pub mod Deciding
-pub mod Endings
 pub mod Headline
 pub mod Inputs
+pub mod Linking
 pub mod Outcome
 pub mod Places
 pub mod Reading
@@ -13,7 +13,6 @@ pub mod SessionSteps
 pub mod Status
 pub mod TableReport
 pub mod Texts
-pub mod TurningAway
 pub mod Words
 pub mod Works
 pub mod WorldView

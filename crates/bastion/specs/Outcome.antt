@@ -9,6 +9,7 @@ use Rattle.gate_rules.specs.declared.verdict.Verdict.{Verdict}
 use Rattle.gate_rules.specs.declared.verdict.Verdict.TheVariants.{Permit, Deny}
 use Rattle.gate_rules.specs.Why as rule
 use Rattle.netperm_table.specs.Fault as table
+use Rattle.bastion.specs.Words.{LineView}
 use Rattle.bastion.specs.WorldView.{WorldView}
 use Rattle.bastion.specs.declared.outcome.Device.{Device}
 use Rattle.bastion.specs.declared.outcome.Device.TheVariants as device
@@ -16,6 +17,8 @@ use Rattle.bastion.specs.declared.outcome.Outcome.{Outcome}
 use Rattle.bastion.specs.declared.outcome.Outcome.TheVariants.{Usage, Unread, Failed, NoMemory, Decided, Ended}
 use Rattle.bastion.specs.declared.outcome.Refusal.{Refusal}
 use Rattle.bastion.specs.declared.outcome.Refusal.TheVariants.{Table, Rule, Record}
+use Rattle.bastion.specs.declared.words.Command.{Command}
+use Rattle.bastion.specs.declared.words.Command.TheVariants.{PlugGw}
 
 -- ---- the status
 
@@ -111,3 +114,19 @@ abbrev pub CountRose : Outcome → WorldView → WorldView → Type 0
 CountRose (Failed which) old new = DeviceRose which old new
 CountRose (Ended ending refused) old new = EndingRose ending old new
 CountRose _ old new = Unit {0}
+
+-- the same of a session over a link: a link failed, or nothing came over it in time, or none came up
+abbrev pub LinkRose : Ending → WorldView → WorldView → Type 0
+LinkRose endings.ServerFault old new = Rose old.inputs.dialer.link_faults new.inputs.dialer.link_faults
+LinkRose endings.Idle old new = Rose old.inputs.input.idles new.inputs.input.idles ⊎ Rose old.inputs.dialer.link_idles new.inputs.dialer.link_idles
+LinkRose endings.NoRoute old new = Rose old.inputs.dialer.refusals new.inputs.dialer.refusals
+LinkRose ending old new = EndingRose ending old new
+
+-- only a session of the plug has a link
+abbrev pub RoseFor : Command → Outcome → WorldView → WorldView → Type 0
+RoseFor (PlugGw caller) (Ended ending refused) old new = LinkRose ending old new
+RoseFor command outcome old new = CountRose outcome old new
+
+abbrev pub RoseIn : Option LineView → Outcome → WorldView → WorldView → Type 0
+RoseIn None outcome old new = CountRose outcome old new
+RoseIn (Some line) outcome old new = RoseFor line.command outcome old new

@@ -10,7 +10,7 @@ use Rattle.fw_types.specs.declared.peer.Peer.{Peer}
 use Rattle.gate_rules.specs.Verdict.{verdict_of}
 use Rattle.gate_rules.specs.declared.verdict.Verdict.{Verdict}
 use Rattle.bastion.specs.Inputs.{HasInputs, Inputs, is_of_line, needs_records}
-use Rattle.bastion.specs.Outcome.{CountRose, fault_line_of, status_of, verdict_status}
+use Rattle.bastion.specs.Outcome.{RoseIn, fault_line_of, status_of, verdict_status}
 use Rattle.bastion.specs.Words.{LineView}
 use Rattle.bastion.specs.Works.{Works}
 use Rattle.bastion.specs.WorldView.{SessionInputs, WorldView}
@@ -21,7 +21,7 @@ use Rattle.bastion.specs.declared.outcome.Refusal.{Refusal}
 use Rattle.bastion.specs.declared.outcome.Step.{Step}
 use Rattle.bastion.specs.declared.outcome.Step.TheVariants as steps
 use Rattle.bastion.specs.declared.words.Command.{Command}
-use Rattle.bastion.specs.declared.words.Command.TheVariants.{Netacl, NetaclRun, Table, Authsrv}
+use Rattle.bastion.specs.declared.words.Command.TheVariants.{Netacl, NetaclRun, Table, Authsrv, PlugGw}
 
 -- ---- nothing was done: what the command needs couldn't be had
 
@@ -93,6 +93,7 @@ peer_of (Netacl query) = query.peer
 peer_of (NetaclRun query) = query.peer
 peer_of (Table query) = query.peer
 peer_of (Authsrv client) = client.peer
+peer_of (PlugGw caller) = caller.peer
 
 abbrev pub verdict_for : Command → Inputs → Verdict
 verdict_for command inputs = verdict_of inputs.rules (peer_of command)
@@ -160,6 +161,6 @@ pub record Run (line : Option LineView) (status : ℕ) (old new : WorldView) : T
   pub outcome : Outcome
   pub middle : WorldView
   pub does : DoesLine line outcome old middle
-  pub rose : CountRose outcome old middle
+  pub rose : RoseIn line outcome old middle
   pub tells : TellsIf (fault_line_of outcome) middle new
   pub status_is : status ≡ status_of outcome

@@ -13,7 +13,7 @@ use Rattle.gate_rules.specs.declared.service.Service.TheVariants.{Authsrv}
 use Rattle.gate_rules.specs.declared.verdict.Verdict.{Verdict}
 use Rattle.session_acts.specs.Dummies.{nowhere, refusing}
 use Rattle.session_acts.specs.World.{Devices, devices_with}
-use Rattle.bastion.specs.Conn.{AtConsole, Conn, Untouched}
+use Rattle.client_service.specs.Conn.{AtConsole, Conn, Untouched}
 use Rattle.bastion.specs.Inputs.{Inputs}
 use Rattle.bastion.specs.WorldView.{WorldView}
 use Rattle.bastion.specs.declared.outcome.Outcome as outcomes
@@ -32,7 +32,7 @@ Serves false rules peer old new ending = Conn Authsrv rules peer old new ending
 -- where the verdict denies a client that isn't at the console, this is left as it was
 abbrev pub UntouchedAt : {A : Type 0} → Bool → Verdict → A → A → Type 0
 UntouchedAt true verdict old new = Unit {0}
-UntouchedAt false verdict old new = Untouched verdict old new
+UntouchedAt false verdict old new = Untouched Authsrv verdict old new
 
 -- a book of these records, of which nothing was asked yet
 abbrev pub book_at_first : Origin → ℕ → KeeperView → BookView
@@ -67,4 +67,5 @@ pub record Attended (client : Client) (inputs : Inputs) (out : outcomes.Outcome)
   pub comes : out ≡ outcome.Ended ending book.refused
   pub kept : new.inputs.keeper ≡ Some book.keeper
   pub files : new.files ≡ old.files
+  pub links : new.inputs.dialer ≡ old.inputs.dialer
   pub launcher : new.inputs.launcher ≡ old.inputs.launcher

@@ -102,6 +102,7 @@ pub record HoldsOver (client : Client) (rules : RuleBook) (first : BookView) (ou
   pub comes : out ≡ outcome.Ended ending book.refused
   pub kept : new.inputs.keeper ≡ Some book.keeper
   pub files : new.files ≡ old.files
+  pub links : new.inputs.dialer ≡ old.inputs.dialer
   pub launcher : new.inputs.launcher ≡ old.inputs.launcher
 
 -- the book was opened of these records, and the session held over it

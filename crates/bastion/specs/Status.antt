@@ -1,9 +1,10 @@
 -- What the status of a run says, and when it comes.
 use Rattle.std.specs.Prelude.{◌≡◌, ℕ, ◌<◌, ◌⊎◌, Bool, true, false, List, length, Option, Some, None, Result, Ok, Err}
-use Rattle.session_acts.specs.Causes.{TookAtMost, TookMost}
+use Rattle.session_acts.specs.Causes.{IsLast, TookAtMost, TookMost}
 use Rattle.session_acts.specs.Laws.{Adds}
 use Rattle.session_acts.specs.World.{most_taken}
 use Rattle.fw_outside.specs.Counts.{Rose}
+use Rattle.fw_outside.specs.DialerView.{DialerView, LinkView}
 use Rattle.fw_outside.specs.SourceView.{SourceView}
 use Rattle.gate_rules.specs.declared.verdict.Verdict.{Verdict}
 use Rattle.gate_rules.specs.declared.verdict.Verdict.TheVariants.{Permit, Deny}
@@ -15,15 +16,28 @@ use Rattle.bastion.specs.Words.{LineView}
 use Rattle.bastion.specs.WorldView.{SessionInputs, WorldView}
 use Rattle.bastion.specs.declared.outcome.Refusal.{Refusal}
 use Rattle.bastion.specs.declared.words.Command.{Command}
-use Rattle.bastion.specs.declared.words.Command.TheVariants.{Netacl, NetaclRun, Table, Authsrv}
+use Rattle.bastion.specs.declared.words.Command.TheVariants.{Netacl, NetaclRun, Table, Authsrv, PlugGw}
 
--- a device's own count rose
+-- a device's own count rose, but for the dialer's
 abbrev pub SomeRose : WorldView → WorldView → Type 0
 SomeRose old new =
     (Rose old.files.missing new.files.missing ⊎ Rose old.files.read_faults new.files.read_faults)
     ⊎ (Rose old.output.faults new.output.faults ⊎ Rose old.logs.faults new.logs.faults)
     ⊎ (Rose old.inputs.input.faults new.inputs.input.faults ⊎ Rose old.inputs.input.idles new.inputs.input.idles)
     ⊎ (KeeperRose old.inputs.keeper new.inputs.keeper ⊎ Rose old.inputs.launcher.faults new.inputs.launcher.faults)
+
+-- a link was refused, or one that was hung up had failed or been idle
+abbrev pub LinksRose : DialerView → DialerView → Type 0
+LinksRose old new = Rose old.refusals new.refusals ⊎ (Rose old.link_faults new.link_faults ⊎ Rose old.link_idles new.link_idles)
+
+-- a device's own count rose: the dialer's, too, where the command has a link
+abbrev pub RoseBy : Command → WorldView → WorldView → Type 0
+RoseBy (PlugGw caller) old new = SomeRose old new ⊎ LinksRose old.inputs.dialer new.inputs.dialer
+RoseBy command old new = SomeRose old new
+
+abbrev pub RoseOf : Option LineView → WorldView → WorldView → Type 0
+RoseOf None old new = SomeRose old new
+RoseOf (Some line) old new = RoseBy line.command old new
 
 -- more requests were asked than fit in a history: each took a moment of the clock
 pub record IsFull (old new : SessionInputs) : Type 0 where
@@ -45,6 +59,17 @@ IsServed true verdict status old new = IsHeld status old new
 IsServed false (Permit line) status old new = IsHeld status old new
 IsServed false (Deny line) status old new = status ≡ 1
 
+-- as many bytes as may be were taken of the link that was hung up last, where that is told
+pub record LinkSpent (dialer : DialerView) : Type 0 where
+  pub link : LinkView
+  pub last : IsLast link dialer.ended
+  pub all : link.from.amount ≡ most_taken
+
+-- a session over a link: 0, or 6 where all that may be was taken of the input or of the link; 1 where the rules deny the peer
+abbrev pub IsLinked : Verdict → ℕ → SessionInputs → SessionInputs → Type 0
+IsLinked (Permit line) status old new = (status ≡ 0) ⊎ ((status ≡ 6) × (TookMost old.input new.input ⊎ LinkSpent new.dialer))
+IsLinked (Deny line) status old new = status ≡ 1
+
 -- 3 where something can't be read; 0 or 1 as the rules permit or deny the peer
 abbrev pub IsBy : Command → Result Inputs Refusal → ℕ → SessionInputs → SessionInputs → Type 0
 IsBy command (Err refusal) status old new = status ≡ 3
@@ -52,6 +77,7 @@ IsBy (Netacl query) (Ok inputs) status old new = status ≡ verdict_status (verd
 IsBy (NetaclRun query) (Ok inputs) status old new = status ≡ verdict_status (verdict_for (NetaclRun query) inputs)
 IsBy (Table query) (Ok inputs) status old new = status ≡ verdict_status (verdict_for (Table query) inputs)
 IsBy (Authsrv client) (Ok inputs) status old new = IsServed client.console (verdict_for (Authsrv client) inputs) status old new
+IsBy (PlugGw caller) (Ok inputs) status old new = IsLinked (verdict_for (PlugGw caller) inputs) status old new
 
 -- the status is by the inputs of the command, or by what can't be read
 pub record ByInputs (name : List ℕ) (command : Command) (status : ℕ) (old new : WorldView) : Type 0 where
@@ -60,13 +86,13 @@ pub record ByInputs (name : List ℕ) (command : Command) (status : ℕ) (old ne
   pub is : IsBy command read status old.inputs new.inputs
 
 -- a device failed, which its own count shows
-pub record ByCount (status : ℕ) (old new : WorldView) : Type 0 where
+pub record ByCount (command : Command) (status : ℕ) (old new : WorldView) : Type 0 where
   pub is : status ≡ 4
-  pub rose : SomeRose old new
+  pub rose : RoseBy command old new
 
 -- the status of a command is 4, for a count that rose; 5, for want of memory; or by its inputs
 abbrev pub IsStatusFor : List ℕ → Command → ℕ → WorldView → WorldView → Type 0
-IsStatusFor name command status old new = (ByCount status old new ⊎ (status ≡ 5)) ⊎ ByInputs name command status old new
+IsStatusFor name command status old new = (ByCount command status old new ⊎ (status ≡ 5)) ⊎ ByInputs name command status old new
 
 -- 2 is for words that are no command
 abbrev pub IsStatus : Option LineView → ℕ → WorldView → WorldView → Type 0
@@ -77,3 +103,16 @@ IsStatus (Some line) status old new = IsStatusFor line.table line.command status
 pub record TakesIn (status : ℕ) (old new : SourceView) : Type 0 where
   pub took : TookAtMost old new
   pub all : length took.bytes ≡ most_taken → status ≡ 6
+
+-- The same of a session over a link; after so many a failure or idleness, which come first, make the status 4.
+pub record TakesOver (status : ℕ) (old new : SourceView) : Type 0 where
+  pub took : TookAtMost old new
+  pub all : length took.bytes ≡ most_taken → (status ≡ 6) ⊎ (status ≡ 4)
+
+abbrev pub TakesFor : Command → ℕ → SourceView → SourceView → Type 0
+TakesFor (PlugGw caller) status old new = TakesOver status old new
+TakesFor command status old new = TakesIn status old new
+
+abbrev pub TakesBy : Option LineView → ℕ → SourceView → SourceView → Type 0
+TakesBy None status old new = TakesIn status old new
+TakesBy (Some line) status old new = TakesFor line.command status old new

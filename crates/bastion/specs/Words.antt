@@ -3,6 +3,7 @@ use Rattle.std.specs.Prelude.{ℕ, Bool, true, false, ◌&&◌, ◌||◌, ◌==�
 use Rattle.std.specs.Option.{option_map}
 use Rattle.std.specs.Str.{bytes_eq}
 use Rattle.fw_types.specs.HostName.{host_name_of}
+use Rattle.fw_types.specs.Port.{numbered_port}
 use Rattle.fw_types.specs.Quad.{quad_of}
 use Rattle.fw_types.specs.declared.peer.Peer.{Peer}
 use Rattle.gate_rules.specs.Label.{label_of}
@@ -10,8 +11,9 @@ use Rattle.gate_rules.specs.Service.{service_of}
 use Rattle.gate_rules.specs.declared.service.Service.{Service}
 use Rattle.gate_rules.specs.declared.service.Service.TheVariants as service
 use Rattle.bastion.specs.declared.words.Command.{Command}
-use Rattle.bastion.specs.declared.words.Command.TheVariants.{Netacl, NetaclRun, Table, Authsrv}
+use Rattle.bastion.specs.declared.words.Command.TheVariants.{Netacl, NetaclRun, Table, Authsrv, PlugGw}
 use Rattle.bastion.specs.declared.words.Query.{Query}
+use Rattle.bastion.specs.declared.words.Caller.{Caller}
 use Rattle.bastion.specs.declared.words.Client.{Client}
 
 -- the options that there are
@@ -93,12 +95,24 @@ abbrev pub client_in : List (List ℕ) → Option Client
 client_in (word ∷ words) = if bytes_eq word (codes "-console") then client_of true (peer_in words) else client_of false (peer_in (word ∷ words))
 client_in [] = None
 
--- `netacl [-run] DAEMON ADDR [NAME]`, `table SERVICE ADDR [NAME]` and `authsrv [-console] ADDR [NAME]`
+abbrev pub caller_of : Option ℕ → Option Peer → Option Caller
+caller_of (Some port) (Some peer) = Some (record { port = port; peer = peer })
+caller_of None _ = None
+caller_of (Some port) None = None
+
+-- `PORT ADDR [NAME]`: the port is a decimal number from 1 to 65,535
+abbrev pub caller_in : List (List ℕ) → Option Caller
+caller_in (port ∷ words) = caller_of (numbered_port port) (peer_in words)
+caller_in [] = None
+
+-- `netacl [-run] DAEMON ADDR [NAME]`, `table SERVICE ADDR [NAME]`, `authsrv [-console] ADDR [NAME]` and
+-- `plug-gw PORT ADDR [NAME]`
 abbrev pub command_in : List (List ℕ) → Option Command
 command_in (name ∷ words) =
     if bytes_eq name (codes "netacl") then netacl_by (netacl_in words) (run_in words)
     else if bytes_eq name (codes "table") then option_map Table (table_in words)
     else if bytes_eq name (codes "authsrv") then option_map Authsrv (client_in words)
+    else if bytes_eq name (codes "plug-gw") then option_map PlugGw (caller_in words)
     else None
 command_in [] = None
 

@@ -3,18 +3,20 @@ use Rattle.std.specs.Prelude.{Option}
 use Rattle.fw_outside.specs.FilesView.{FilesView}
 use Rattle.fw_outside.specs.SinkView.{SinkView}
 use Rattle.fw_outside.specs.ClockView.{ClockView}
+use Rattle.fw_outside.specs.DialerView.{DialerView}
 use Rattle.fw_outside.specs.SourceView.{SourceView}
 use Rattle.fw_outside.specs.DiceView.{DiceView}
 use Rattle.fw_outside.specs.KeeperView.{KeeperView}
 use Rattle.fw_outside.specs.LauncherView.{LauncherView}
 
 -- what a run meets besides the files, the output and the log: what the client says, the clock, the dice, the keeper of the
--- users' records, where one is there, and who starts programs
+-- users' records, where one is there, who makes links to servers, and who starts programs
 pub record SessionInputs : Type 0 where
   pub input : SourceView
   pub clock : ClockView
   pub dice : DiceView
   pub keeper : Option KeeperView
+  pub dialer : DialerView
   pub launcher : LauncherView
 
 -- the files that the table is read from, standard output, the log, and what else a run meets

@@ -1,36 +1,17 @@
 //! What the rules of a service decide, logged and printed.
-ghost use Rattle.std.specs.Prelude.{◌≡◌, ◌<◌};
+ghost use Rattle.std.specs.Prelude.{◌≡◌};
 ghost use Rattle.gate_rules.specs.Verdict.{verdict_of};
 ghost use Rattle.gate_rules.specs.declared.verdict.Verdict.TheVariants.{Permit};
 ghost use Rattle.bastion.specs.Deciding.{Decides, Permits, Reports, Reveals};
 ghost use Rattle.bastion.specs.Works.{Announced, Shown, announced, shown};
 
 use crate::table_report::{denial_report, permit_report};
-use crate::texts::{decision_line, permit_print, verdict_text};
+use crate::texts::{permit_print, verdict_text};
 use crate::{Device, Kit, Outcome, Query, Step, World};
+use client_service::{decision_line, verdict_of};
 use fw_outside::Failed;
-use fw_types::Peer;
 use gate_rules::{Rules, Verdict};
-use host_pattern::Steps;
 use std::alloc::Global;
-use std::marker::Brand;
-use std::sync::ledger::{Blank, Ledger};
-
-fn verdict_in<L: Ledger>(blank: Blank, rules: &Rules, peer: &Peer) -> Verdict
-    requires name { blank.name ≡ L.name }
-    requires parts { blank.parts ≡ L.parts }
-    requires some { 0 < blank.parts }
-    ensures { result ≡ verdict_of rules.now peer.now }
-{
-    rules.verdict(peer, &mut Steps::<L>::new(blank))
-}
-
-// The verdict, whose steps nobody counts.
-pub(crate) fn verdict_of(rules: &Rules, peer: &Peer) -> Verdict
-    ensures { result ≡ verdict_of rules.now peer.now }
-{
-    verdict_in::<Brand>(Blank::new(1), rules, peer)
-}
 
 // What comes of a verdict that was logged: a denial stands, since the log has it.
 fn announced(verdict: Verdict, printing: Result<(), Failed>) -> Outcome

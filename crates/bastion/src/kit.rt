@@ -2,7 +2,7 @@ ghost use Rattle.std.specs.Prelude.{◌≡◌};
 ghost use Rattle.fw_outside.specs.LauncherView.{Starts};
 ghost use Rattle.fw_outside.specs.SinkView.{Gives};
 
-use fw_outside::{Clock, Dice, Failed, Files, Keeper, Launcher, Sink, Source, Started};
+use fw_outside::{Clock, Dialer, Dice, Failed, Files, Keeper, Launcher, Sink, Source, Started};
 use fw_types::OctetsList;
 use std::marker::Model;
 
@@ -10,9 +10,9 @@ use std::marker::Model;
 pub trait Kit {
     type Files: Files;
 
-    type Input: Source;
+    type Input: Source + Send;
 
-    type Output: Sink;
+    type Output: Sink + Send;
 
     type Logs: Sink;
 
@@ -21,6 +21,8 @@ pub trait Kit {
     type Dice: Dice;
 
     type Keeper: Keeper;
+
+    type Dial: Dialer;
 
     type Launch: Launcher;
 }
@@ -42,6 +44,8 @@ pub struct World<T: Kit> {
     pub dice: T::Dice,
     /// Who keeps the users' records. It is there whenever a run begins or ends.
     pub keeper: Option<T::Keeper>,
+    /// Who makes links to servers.
+    pub dialer: T::Dial,
     /// Who starts programs.
     pub launcher: T::Launch,
 }
@@ -61,6 +65,7 @@ impl<T: Kit> Model for World<T> {
         clock = T.Tick.clock_view w.clock;
         dice = T.Dice.dice_view w.dice;
         keeper = option_map T.Keeper.keeper_view w.keeper;
+        dialer = T.Dial.dialer_view w.dialer;
         launcher = T.Launch.launcher_view w.launcher;
       };
     } };

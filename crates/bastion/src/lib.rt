@@ -12,26 +12,23 @@
 
 mod authsrv;
 mod deciding;
-mod endings;
 mod kit;
 mod obeying;
 mod outcome;
 mod place_names;
+mod plug;
 mod reading;
 mod running;
 mod server_rules;
-mod serving;
 mod starting;
 mod table_report;
 mod texts;
 mod words;
 
-pub use endings::{denied_line, ending_line};
+pub use client_service::{LogLine, conn, decision_line, denied_line, ending_line};
 pub use kit::{Kit, World};
 pub use outcome::{Device, Outcome, Refusal, Step, ending_status};
 pub use place_names::Places;
 pub use running::run;
 pub use server_rules::ServerRules;
-pub use serving::conn;
-pub use texts::LogLine;
-pub use words::{Client, Command, CommandLine, Query, places, read_command, table_named};
+pub use words::{Caller, Client, Command, CommandLine, Query, places, read_command, table_named};

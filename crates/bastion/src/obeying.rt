@@ -1,41 +1,25 @@
 //! What the words ask for, by the table: a row for each command.
 ghost use Rattle.std.specs.Prelude.{◌≡◌, IsSome};
 ghost use Rattle.bastion.specs.Outcome.{fault_line_of};
-ghost use Rattle.bastion.specs.Reading.{Finds, ruling_in};
 ghost use Rattle.bastion.specs.Run.{DoesFor, DoesLine, TellsIf};
 ghost use Rattle.bastion.specs.Words.{line_of};
-ghost use Rattle.bastion.specs.declared.words.Command.TheVariants.{Netacl, NetaclRun, Table, Authsrv};
-ghost use Rattle.gate_rules.specs.Reading.{rules_of};
+ghost use Rattle.bastion.specs.declared.words.Command.TheVariants.{Netacl, NetaclRun, Table};
 
 use crate::authsrv::attend;
 use crate::deciding::{decide, show};
-use crate::reading::find_rules;
+use crate::plug::plug;
+use crate::reading::rules_for;
 use crate::starting::decide_run;
 use crate::{Command, CommandLine, Kit, Outcome, Query, World};
 use fw_types::Octets;
-use gate_rules::Rules;
 use std::alloc::Global;
-
-// The rules of the query's service, which only the files are asked for.
-fn rules_for<T: Kit>(
-    alloc: Global,
-    name: &[u8],
-    query: &Query,
-    world: &mut World<T>,
-) -> Result<Rules, Outcome>
-    ensures found { Finds (ruling_in (rules_of query.now.service)) name.now result world.old.files world.new.files }
-    ensures output { world.new.output ≡ world.old.output }
-    ensures logs { world.new.logs ≡ world.old.logs }
-    ensures inputs { world.new.inputs ≡ world.old.inputs }
-{
-    find_rules(alloc, &mut world.files, name, &query.service)
-}
+use std::thread::Threads;
 
 // Decides for one service and peer.
 fn netacl<T: Kit>(alloc: Global, name: &[u8], query: &Query, world: &mut World<T>) -> Outcome
     ensures { DoesFor name.now (Netacl query.now) result world.old world.new }
 {
-    match rules_for(alloc, name, query, world) {
+    match rules_for(alloc, name, &query.service, world) {
         Ok(rules) => decide(alloc, &rules, query, world),
         Err(outcome) => outcome,
     }
@@ -45,7 +29,7 @@ fn netacl<T: Kit>(alloc: Global, name: &[u8], query: &Query, world: &mut World<T
 fn netacl_run<T: Kit>(alloc: Global, name: &[u8], query: &Query, world: &mut World<T>) -> Outcome
     ensures { DoesFor name.now (NetaclRun query.now) result world.old world.new }
 {
-    match rules_for(alloc, name, query, world) {
+    match rules_for(alloc, name, &query.service, world) {
         Ok(rules) => decide_run(alloc, &rules, query, world),
         Err(outcome) => outcome,
     }
@@ -55,14 +39,23 @@ fn netacl_run<T: Kit>(alloc: Global, name: &[u8], query: &Query, world: &mut Wor
 fn table<T: Kit>(alloc: Global, name: &[u8], query: &Query, world: &mut World<T>) -> Outcome
     ensures { DoesFor name.now (Table query.now) result world.old world.new }
 {
-    match rules_for(alloc, name, query, world) {
+    match rules_for(alloc, name, &query.service, world) {
         Ok(rules) => show(alloc, &rules, query, world),
         Err(outcome) => outcome,
     }
 }
 
 // Does the work of a command, by the table with this name.
-fn work<T: Kit>(alloc: Global, name: &[u8], command: &Command, world: &mut World<T>) -> Outcome
+fn work<H, T>(
+    rt: &H,
+    alloc: Global,
+    name: &[u8],
+    command: &Command,
+    world: &mut World<T>,
+) -> Outcome
+where
+    H: Threads + Sync,
+    T: Kit,
     requires keeper { IsSome world.old.inputs.keeper }
     ensures { DoesFor name.now command.now result world.old world.new }
 {
@@ -70,17 +63,21 @@ fn work<T: Kit>(alloc: Global, name: &[u8], command: &Command, world: &mut World
         Command::Netacl(query) => netacl(alloc, name, query, world),
         Command::NetaclRun(query) => netacl_run(alloc, name, query, world),
         Command::Table(query) => table(alloc, name, query, world),
-        Command::Authsrv(client) => attend(alloc, name, client, world),
+        Command::Authsrv(client) => attend(rt, alloc, name, client, world),
+        Command::PlugGw(caller) => plug(rt, alloc, name, caller, world),
     }
 }
 
 /// Does what the words ask for.
-pub(crate) fn obey<T: Kit>(alloc: Global, words: &[Octets], world: &mut World<T>) -> Outcome
+pub(crate) fn obey<H, T>(rt: &H, alloc: Global, words: &[Octets], world: &mut World<T>) -> Outcome
+where
+    H: Threads + Sync,
+    T: Kit,
     requires keeper { IsSome world.old.inputs.keeper }
     ensures { DoesLine (line_of words.now) result world.old world.new }
 {
     match CommandLine::read(words) {
-        Some(line) => work(alloc, line.table, &line.command, world),
+        Some(line) => work(rt, alloc, line.table, &line.command, world),
         None => Outcome::Usage,
     }
 }

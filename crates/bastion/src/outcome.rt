@@ -6,8 +6,8 @@ ghost use Rattle.bastion.specs.declared.outcome.Outcome.TheVariants as outcomes;
 ghost use Rattle.bastion.specs.declared.outcome.Step.TheVariants as steps;
 ghost use Rattle.bastion.specs.Outcome.{device_text, ending_status, fault_line_of, is_at_limit, line_text, record_text, refusal_text, status_of, verdict_status};
 
-use crate::texts::LogLine;
 use arrayvec::ArrayVec;
+use client_service::LogLine;
 use fw_types::{Ending, Name, NoMemory, append, append_decimal, append_u32};
 use gate_rules::{RuleFault, Verdict};
 use netperm_table::TableFault;

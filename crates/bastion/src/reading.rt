@@ -1,12 +1,13 @@
 //! From the files to the rules of a service.
-ghost use Rattle.std.specs.Prelude.{◌≡◌, Ok};
+ghost use Rattle.std.specs.Prelude.{◌≡◌, IfOk, Ok};
+ghost use Rattle.client_service.specs.PlugService.{AreRulesOf};
 ghost use Rattle.auth_machine.specs.Policy.{policy_of};
 ghost use Rattle.bastion.specs.Reading.{Finds, ReadsLines, ReadsTable, reading_fault, ruling_in, server_rules_of};
 ghost use Rattle.gate_rules.specs.Reading.{rules_of};
 ghost use Rattle.gate_rules.specs.declared.service.Service.TheVariants.{Authsrv};
 
 use crate::server_rules::ServerRules;
-use crate::{Device, Outcome, Refusal, Step};
+use crate::{Device, Kit, Outcome, Refusal, Step, World};
 use auth_machine::Policy;
 use fw_outside::Files;
 use fw_types::NoMemory;
@@ -39,7 +40,8 @@ fn read_table<F: Files>(alloc: Global, files: &mut F, name: &[u8]) -> Result<Tab
 }
 
 fn read_rules(alloc: Global, table: &Table, service: &Service) -> Result<Rules, Outcome>
-    ensures { ReadsLines (rules_of service.now table.now) result }
+    ensures lines { ReadsLines (rules_of service.now table.now) result }
+    ensures ruled { IfOk result (AreRulesOf service.now) }
 {
     match Rules::of(alloc, table, service) {
         Ok(rules) => Ok(rules),
@@ -79,20 +81,37 @@ fn read_both(alloc: Global, table: &Table) -> Result<ServerRules, Outcome>
     }
 }
 
-/// The rules that the table with this name has for a service.
-pub(crate) fn find_rules<F: Files>(
+// The rules that the table with this name has for a service.
+fn find_rules<F: Files>(
     alloc: Global,
     files: &mut F,
     name: &[u8],
     service: &Service,
 ) -> Result<Rules, Outcome>
-    ensures { Finds (ruling_in (rules_of service.now)) name.now result (F.files_view files.old) (F.files_view
+    ensures found { Finds (ruling_in (rules_of service.now)) name.now result (F.files_view files.old) (F.files_view
         files.new) }
+    ensures ruled { IfOk result (AreRulesOf service.now) }
 {
     match read_table(alloc, files, name) {
         Ok(table) => read_rules(alloc, &table, service),
         Err(outcome) => Err(outcome),
     }
+}
+
+/// The rules of a service, which only the files are asked for.
+pub(crate) fn rules_for<T: Kit>(
+    alloc: Global,
+    name: &[u8],
+    service: &Service,
+    world: &mut World<T>,
+) -> Result<Rules, Outcome>
+    ensures found { Finds (ruling_in (rules_of service.now)) name.now result world.old.files world.new.files }
+    ensures ruled { IfOk result (AreRulesOf service.now) }
+    ensures output { world.new.output ≡ world.old.output }
+    ensures logs { world.new.logs ≡ world.old.logs }
+    ensures inputs { world.new.inputs ≡ world.old.inputs }
+{
+    find_rules(alloc, &mut world.files, name, service)
 }
 
 /// What the table with this name says to the authentication server.

@@ -3,13 +3,14 @@ ghost use Rattle.std.specs.Prelude.{◌≡◌, ◌↔◌, IsSome, None, Some};
 ghost use Rattle.bastion.specs.Complete.{IsComplete};
 ghost use Rattle.bastion.specs.Headline.{Headline};
 ghost use Rattle.bastion.specs.Run.{Run};
-ghost use Rattle.bastion.specs.Status.{IsStatus, SomeRose, TakesIn};
+ghost use Rattle.bastion.specs.Status.{IsStatus, RoseOf, TakesBy};
 ghost use Rattle.bastion.specs.Words.{line_of};
 
 use crate::obeying::{obey, tell};
 use crate::{Kit, World};
 use fw_types::Octets;
 use std::alloc::Global;
+use std::thread::Threads;
 
 /// Runs a command line over the devices of a world, and answers the exit status:
 ///
@@ -25,7 +26,10 @@ use std::alloc::Global;
 /// full. A session's ending has its own line, but for a denial, which the verdict's line tells, and a log that failed.
 /// If the log fails within the verdict's line, `netacl` prints nothing and `authsrv` tells the client nothing. A denial
 /// that was logged stands even if it couldn't be printed. `table` prints alone.
-pub fn run<T: Kit>(alloc: Global, words: &[Octets], world: &mut World<T>) -> u8
+pub fn run<H, T>(rt: &H, alloc: Global, words: &[Octets], world: &mut World<T>) -> u8
+where
+    H: Threads + Sync,
+    T: Kit,
     requires keeper { IsSome world.old.inputs.keeper }
     // What the run came to and did; a failure that it names was counted; its line in the log, and its status.
     ensures ran { Run (line_of words.now) result world.old world.new }
@@ -34,17 +38,18 @@ pub fn run<T: Kit>(alloc: Global, words: &[Octets], world: &mut World<T>) -> u8
     // 2 is for words that are no command; for a command the status is what its inputs say, unless a device failed or
     // there was no memory; 4 is only for a device whose own count rose.
     ensures status { IsStatus (line_of words.now) result world.old world.new }
-    // At most 2^40 bytes are taken of the input; after so many the status is 6.
-    ensures taken { TakesIn result world.old.inputs.input world.new.inputs.input }
+    // At most 2^40 bytes are taken of the input; after so many the status is 6, or 4 where a link or its client failed
+    // first.
+    ensures taken { TakesBy (line_of words.now) result world.old.inputs.input world.new.inputs.input }
     // Where no count rose, all that the inputs call for was logged and printed whole, and the status is by them; or there
     // was no memory.
-    ensures complete { ¬ (SomeRose world.old world.new) → IsComplete (line_of words.now) result world.old world.new }
+    ensures complete { ¬ (RoseOf (line_of words.now) world.old world.new) → IsComplete (line_of words.now) result world.old world.new }
     // Each source that the run got was given back: as many are out as before.
     ensures returned { world.new.files.out ≡ world.old.files.out }
     // The keeper is there again.
     ensures kept { IsSome world.new.inputs.keeper }
 {
-    let outcome = obey(alloc, words, world);
+    let outcome = obey(rt, alloc, words, world);
     tell(world, &outcome);
     outcome.status()
 }

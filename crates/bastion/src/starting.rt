@@ -5,9 +5,10 @@ ghost use Rattle.gate_rules.specs.declared.verdict.Verdict.TheVariants.{Permit};
 ghost use Rattle.bastion.specs.Deciding.{DecidesRun, OrLacks, PermitsRun};
 ghost use Rattle.bastion.specs.Works.{AnnouncedRun, Launches, LaunchesIf};
 
-use crate::deciding::{announce, shown, verdict_of};
+use crate::deciding::{announce, shown};
 use crate::texts::{ended_line, exec_at, permit_print, verdict_text};
 use crate::{Device, Kit, Outcome, Query, Step, World};
+use client_service::verdict_of;
 use fw_outside::Started;
 use fw_types::{NoMemory, Octets, OctetsList};
 use gate_rules::{Rules, Verdict};

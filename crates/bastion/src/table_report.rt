@@ -7,8 +7,9 @@ ghost use Rattle.gate_rules.specs.declared.verdict.Verdict.TheVariants.{Permit, 
 ghost use Rattle.bastion.specs.TableReport.{auth_text, dest_text, flag_text, options_shown, options_text, plug_text, set_text, setting_name, setting_text, settings_text, report_text};
 ghost use Rattle.bastion.specs.Texts.{some_line, words_line};
 
-use crate::texts::{LogLine, push_exec, push_words, verdict_text};
+use crate::texts::{push_exec, push_words, verdict_text};
 use arrayvec::ArrayVec;
+use client_service::LogLine;
 use fw_types::{Dest, NoMemory, Octets, Verb, VerbList, append, append_decimal, append_u32};
 use gate_rules::{Options, Rules, Setting, Verdict};
 use host_pattern::PatternList;

@@ -1,74 +1,14 @@
-ghost use Rattle.std.specs.Prelude.{◌≡◌, ◌+◌, ◌≤◌, ◌++◌, ◌∷◌, length, flat_map, codes, IfOk, OnOk};
-ghost use Rattle.std.specs.Fmt.{decimal};
+ghost use Rattle.std.specs.Prelude.{◌≡◌, ◌≤◌, ◌++◌, ◌∷◌, flat_map, codes, IfOk, OnOk};
 ghost use Rattle.arrayvec.specs.ArrayVec.{array_vec_len};
-ghost use Rattle.fw_types.specs.Peer.{peer_text};
-ghost use Rattle.gate_rules.specs.Service.{service_text};
 ghost use Rattle.gate_rules.specs.Verdict.{options_at};
 ghost use Rattle.gate_rules.specs.declared.verdict.Verdict.TheVariants.{Permit};
-ghost use Rattle.bastion.specs.Texts.{decision_text, ended_text, exec_in, print_text, some_line, verdict_line, verdict_text, verdict_word};
+ghost use Rattle.bastion.specs.Texts.{ended_text, exec_in, print_text, some_line, verdict_text};
 
 use arrayvec::ArrayVec;
-use fw_types::{NoMemory, Octets, Peer, append, append_u32};
-use gate_rules::{Rules, Service, Verdict};
+use client_service::{LogLine, verdict_line, verdict_word};
+use fw_types::{NoMemory, Octets, append, append_u32};
+use gate_rules::{Rules, Verdict};
 use std::alloc::Global;
-
-/// A line of the log.
-pub type LogLine = ArrayVec<u8, 512>;
-
-fn verdict_word(verdict: Verdict) -> &'static [u8]
-    ensures word { result.now ≡ verdict_word verdict }
-    ensures short { length result.now ≤ 6 }
-{
-    match verdict {
-        Verdict::Permit { .. } => b"permit",
-        Verdict::Deny { .. } => b"deny",
-    }
-}
-
-fn verdict_line(verdict: Verdict) -> u32
-    ensures { result ≡ verdict_line verdict }
-{
-    match verdict {
-        Verdict::Permit { line } => line,
-        Verdict::Deny { line } => line,
-    }
-}
-
-pub(crate) fn append_service(out: &mut LogLine, service: &Service)
-    requires { array_vec_len out.old ≤ 441 }
-    ensures items { out.new.items ≡ out.old.items ++ service_text service.now }
-    ensures room { array_vec_len out.new ≤ array_vec_len out.old + 71 }
-{
-    let mut text = ArrayVec::new();
-    service.write(&mut text);
-    append(out, text.as_slice());
-}
-
-pub(crate) fn append_peer(out: &mut LogLine, peer: &Peer)
-    requires { array_vec_len out.old ≤ 224 }
-    ensures items { out.new.items ≡ out.old.items ++ peer_text peer.now }
-    ensures room { array_vec_len out.new ≤ array_vec_len out.old + 288 }
-{
-    let mut text = ArrayVec::new();
-    peer.write(&mut text);
-    append(out, text.as_slice());
-}
-
-/// The log's line of a verdict.
-pub fn decision_line(verdict: Verdict, service: &Service, peer: &Peer) -> LogLine
-    ensures { result.items ≡ decision_text verdict service.now peer.now }
-{
-    let mut out = ArrayVec::new();
-    append(&mut out, verdict_word(verdict));
-    append(&mut out, b" ");
-    append_service(&mut out, service);
-    append(&mut out, b" ");
-    append_peer(&mut out, peer);
-    append(&mut out, b" line ");
-    append_u32(&mut out, verdict_line(verdict));
-    append(&mut out, b"\n");
-    out
-}
 
 pub(crate) fn push_words(out: &mut Vec<u8>, words: &[Octets]) -> Result<(), NoMemory>
     ensures { OnOk result (out.new.items ≡ out.old.items ++ flat_map (λ w. 32 ∷ w) words.now) }

@@ -3,10 +3,10 @@ ghost use Rattle.std.specs.Option.{option_copied, option_map};
 ghost use Rattle.std.specs.Str.{bytes_eq};
 ghost use Rattle.gate_rules.specs.Label.{label_of};
 ghost use Rattle.bastion.specs.Places.{places_of};
-ghost use Rattle.bastion.specs.Words.{after_options, any_twice, command_in, command_of, is_option_pair, is_option_name, line_of, name_in, netacl_by, netacl_in, peer_by, peer_in, query_of, run_in, stands, table_in, table_named, client_in, client_of, word_after, word_or};
+ghost use Rattle.bastion.specs.Words.{after_options, any_twice, caller_in, caller_of, command_in, command_of, is_option_pair, is_option_name, line_of, name_in, netacl_by, netacl_in, peer_by, peer_in, query_of, run_in, stands, table_in, table_named, client_in, client_of, word_after, word_or};
 
 use crate::Places;
-use fw_types::{HostName, Octets, Peer, read_quad};
+use fw_types::{HostName, Octets, Peer, read_numbered_port, read_quad};
 use gate_rules::{Label, Service};
 use std::marker::Model;
 
@@ -25,6 +25,14 @@ pub struct Client {
     pub peer: Peer,
 }
 
+/// Who speaks to a port of the plug.
+#[derive(Drop)]
+pub struct Caller {
+    /// From 1 on.
+    pub port: u16,
+    pub peer: Peer,
+}
+
 /// What the words of a command line ask for.
 #[derive(Drop)]
 pub enum Command {
@@ -36,6 +44,8 @@ pub enum Command {
     Table(Query),
     /// `authsrv [-console] ADDR [NAME]`: answer a peer's questions about users.
     Authsrv(Client),
+    /// `plug-gw PORT ADDR [NAME]`: link a peer to the server that the table names for this port.
+    PlugGw(Caller),
 }
 
 const DEFAULT_TABLE: &[u8] = b"/usr/local/etc/netperm-table";
@@ -221,6 +231,23 @@ fn client_in(words: &[Octets]) -> Option<Client>
     }
 }
 
+fn caller_of(port: Option<u16>, peer: Option<Peer>) -> Option<Caller>
+    ensures { result ≡ caller_of port peer }
+{
+    let port = port?;
+    let peer = peer?;
+    Some(Caller { port, peer })
+}
+
+fn caller_in(words: &[Octets]) -> Option<Caller>
+    ensures { result ≡ caller_in words.now }
+{
+    match words {
+        [port, words @ ..] => caller_of(read_numbered_port(port.bytes()), peer_in(words)),
+        [] => None,
+    }
+}
+
 fn command_in(words: &[Octets]) -> Option<Command>
     ensures { result ≡ command_in words.now }
 {
@@ -234,6 +261,9 @@ fn command_in(words: &[Octets]) -> Option<Command>
             }
             if is_word(name, b"authsrv") {
                 return client_in(words).map(Command::Authsrv);
+            }
+            if is_word(name, b"plug-gw") {
+                return caller_in(words).map(Command::PlugGw);
             }
             None
         }

@@ -3,15 +3,15 @@
 //! `main` has no contract of its own. It answers `--help` and `--version`.
 #![tactic(auto)]
 
-use bastion::{Command, Device, Outcome, Step, World, places, read_command, run};
+use bastion::{Command, CommandLine, Device, Outcome, Step, World, places, run};
 use fw_memory::MemDice;
 use fw_outside::{Dice, Sink};
 use fw_real::{Paths, Reading, Records, Salts, StandardInput, SystemClock, Writing};
 use fw_types::Octets;
 use process::Process;
-use real_links::Programs;
+use real_links::{LinkSink, Programs, StandardOutput, TcpDialer};
 use std::env;
-use std::io::{ErrorKind, Stdout};
+use std::io::ErrorKind;
 use std::process::ExitCode;
 
 mod process;
@@ -20,10 +20,11 @@ const HELP: &[u8] = b"\
 usage: fwtk [-t FILE] netacl [-run] DAEMON ADDRESS [NAME]
        fwtk [-t FILE] table SERVICE ADDRESS [NAME]
        fwtk [-t FILE] [-r FILE] authsrv [-console] ADDRESS [NAME]
+       fwtk [-t FILE] plug-gw PORT ADDRESS [NAME]
        fwtk --help | --version
   -t FILE  the permission table, /usr/local/etc/netperm-table by default
   -r FILE  the records of users, authdb in the current directory by default
-fwtk(8) lists the exit statuses; netacl(8), authsrv(8) and netperm-table(5) have the rest.
+fwtk(8) lists the exit statuses; netacl(8), authsrv(8), plug-gw(8) and netperm-table(5) have the rest.
 ";
 
 const VERSION: &[u8] = b"fwtk 2.1\n";
@@ -84,15 +85,35 @@ fn tell(rt: &HostRuntime, stop: &Stop) -> u8 {
     }
 }
 
-// Whether the words ask for a session. No other command draws salts.
-fn is_session(words: &[Octets]) -> bool {
-    matches!(read_command(words), Some(Command::Authsrv(_)))
+// What the words say of the devices.
+#[derive(Drop)]
+struct Needs<'a> {
+    // The file with the records.
+    db: &'a [u8],
+    // Whether salts are drawn.
+    salts: bool,
+}
+
+impl<'a> Needs<'a> {
+    fn of(words: &'a [Octets]) -> Needs<'a> {
+        match CommandLine::read(words) {
+            Some(line) => Needs {
+                db: line.db,
+                salts: matches!(line.command, Command::Authsrv(_)),
+            },
+            None => Needs {
+                db: places(words).db,
+                salts: false,
+            },
+        }
+    }
 }
 
 fn run_with<D: Dice>(
     rt: HostRuntime,
     words: &[Octets],
-    output: Writing<Stdout>,
+    db: &[u8],
+    output: LinkSink<StandardOutput>,
     dice: D,
 ) -> Result<u8, Outcome> {
     let mut world: World<Process<D>> = World {
@@ -102,26 +123,28 @@ fn run_with<D: Dice>(
         logs: Writing::new(rt.stderr()),
         clock: SystemClock::new(rt),
         dice,
-        keeper: Some(Records::new(rt, places(words).db)?),
+        keeper: Some(Records::new(rt, db)?),
+        dialer: TcpDialer::new(rt),
         launcher: Programs::new(rt, rt.alloc()),
     };
-    Ok(run(rt.alloc(), words, &mut world))
+    Ok(run(&rt, rt.alloc(), words, &mut world))
 }
 
 fn serve(rt: HostRuntime) -> Result<u8, Stop> {
     let words = read_words(&rt)?;
-    let mut output = Writing::new(rt.stdout());
+    let mut output = LinkSink::new(StandardOutput::of(rt.stdout()));
     if let Some(text) = answer(&words) {
         return match output.give(text) {
             Ok(()) => Ok(0),
             Err(_) => Err(Stop::Fault(Outcome::Failed(Device::Output))),
         };
     }
-    if !is_session(&words) {
-        return Ok(run_with(rt, &words, output, MemDice::new(0))?);
+    let needs = Needs::of(&words);
+    if !needs.salts {
+        return Ok(run_with(rt, &words, needs.db, output, MemDice::new(0))?);
     }
     match Salts::new(&rt) {
-        Ok(salts) => Ok(run_with(rt, &words, output, salts)?),
+        Ok(salts) => Ok(run_with(rt, &words, needs.db, output, salts)?),
         Err(_) => Err(Stop::NoRandomBytes),
     }
 }

@@ -3,8 +3,8 @@
 use bastion::Kit;
 use fw_outside::Dice;
 use fw_real::{Paths, Reading, Records, StandardInput, SystemClock, Writing};
-use real_links::Programs;
-use std::io::{Stderr, Stdout};
+use real_links::{LinkSink, Programs, StandardOutput, TcpDialer};
+use std::io::Stderr;
 use std::marker::PhantomData;
 
 /// The kinds of device that a process has, with dice of this kind.
@@ -18,7 +18,7 @@ impl<D: Dice> Kit for Process<D> {
 
     type Input = Reading<StandardInput>;
 
-    type Output = Writing<Stdout>;
+    type Output = LinkSink<StandardOutput>;
 
     type Logs = Writing<Stderr>;
 
@@ -27,6 +27,8 @@ impl<D: Dice> Kit for Process<D> {
     type Dice = D;
 
     type Keeper = Records;
+
+    type Dial = TcpDialer<HostRuntime>;
 
     type Launch = Programs<HostRuntime>;
 }

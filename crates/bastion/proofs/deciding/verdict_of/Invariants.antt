@@ -1,4 +1,0 @@
-use Rattle.bastion.proofs.deciding.verdict_of.Given as goal
-
-abbrev pub ghosts-verdict_in : goal.ghosts-verdict_in
-ghosts-verdict_in a = record { name = a.blank.name; parts = a.blank.parts }

@@ -1,4 +1,0 @@
-use Rattle.bastion.proofs.serving.try_words.Goals as goal
-
-pub returns : goal.returns
-returns g c = record { told = c.give.result; gives = c.give.ensures }

@@ -1,0 +1,421 @@
+-- What a client's ending says.
+use Rattle.std.proofs.Common.{arith, ◌≡◌, ◌≤◌, ◌∙◌, refl, sym, subst, ap, ℕ, Bool, List, [], inl, inr, true, false}
+use Rattle.std.specs.Prelude.{Option, Some, None}
+use Rattle.auth_events.specs.Port.{Port}
+use Rattle.authsrv_gate.specs.Dialogue.{rows, session_row}
+use Rattle.authsrv_gate.proofs.ServerlessLemmas.{keeps_serverless}
+use Rattle.fw_outside.proofs.CountLemmas.{grew_none}
+use Rattle.fw_outside.specs.Counts.{Grew, Rose}
+use Rattle.fw_outside.specs.SinkView.{SinkView}
+use Rattle.fw_outside.specs.SourceView.{SourceView}
+use Rattle.fw_types.specs.declared.ending.Ending.{Ending}
+use Rattle.fw_types.specs.declared.ending.Ending.TheVariants.{Done, Denied, ClientFault, ServerFault, LogFault, AuthFault, Idle, NoRoute, Spent, NoMemory}
+use Rattle.fw_types.specs.declared.peer.Peer.{Peer}
+use Rattle.gate_rules.specs.Reading.{RuleBook}
+use Rattle.gate_rules.specs.Verdict.{verdict_of}
+use Rattle.gate_rules.specs.declared.service.Service.{Service}
+use Rattle.gate_rules.specs.declared.service.Service.TheVariants.{Authsrv, FtpGw, Netacl, PlugGw, Smap, TnGw}
+use Rattle.gate_rules.specs.declared.verdict.Verdict.{Verdict}
+use Rattle.gate_rules.specs.declared.verdict.Verdict.TheVariants.{Permit, Deny}
+use Rattle.session_acts.specs.Causes.{KeepsAs, LinkWaitedInVain, RelayKeeps, RelayTakesFor, SessionKeeps, WaitedInVain, WaitsFor, is_spent_ending}
+use Rattle.session_acts.specs.Client.{Denies, LogFails}
+use Rattle.session_acts.specs.Serverless.{CausedAlone, TakesExactly}
+use Rattle.session_acts.specs.World.{Devices}
+use Rattle.session_acts.proofs.AloneLemmas.{session_alone, session_exact}
+use Rattle.session_acts.proofs.CauseLemmas.{relay_keeps, session_keeps}
+use Rattle.session_acts.proofs.ClientLemmas.{denies}
+use Rattle.session_acts.proofs.DeviceLemmas.{by_nothing}
+use Rattle.session_acts.proofs.ServerlessLemmas.{logged_serverless, session_serverless}
+use Rattle.session_acts.proofs.SpentLemmas.{session_spent}
+use Rattle.session_acts.proofs.WaitedLemmas.{session_waited}
+use Rattle.client_service.specs.Conn.{AtConsole, CausedBy, Causes, Conn, Dials, IsRefused, NotedIf, Permits, TakesBy, Treats, TurnsAway, WaitsAs, WaitsBy, is_linked}
+use Rattle.client_service.specs.Decision.{decision_text}
+use Rattle.client_service.specs.Endings.{denied_text, ending_line}
+use Rattle.client_service.specs.Meeting.{denied_by, dialer_then, lent_by, logged_row, patient, timeout_of}
+use Rattle.client_service.specs.PlugService.{CausedLinked, LinksTo, LogsDenial, plug_devices}
+use Rattle.client_service.proofs.PlugLemmas.{LogsOnly, plug_caused, plug_dials, silent_denial}
+use Rattle.client_service.proofs.SinkLemmas.{gives_most, gives_shut, rose_later, same_low}
+use Rattle.client_service.proofs.WaitLemmas.{session_waits}
+
+noted_most : (line : Option (List ℕ)) (old new : SinkView) → NotedIf line old new → old.faults ≤ new.faults
+noted_most None old new is = same_low old.faults new.faults (ap (λ (s : SinkView). s.faults) is)
+noted_most (Some line) old new noted = gives_most noted.told line old new noted.gives
+
+noted_shut : (line : Option (List ℕ)) (old new : SinkView) → NotedIf line old new → new.shut ≡ old.shut
+noted_shut None old new is = ap (λ (s : SinkView). s.shut) is
+noted_shut (Some line) old new noted = gives_shut noted.told line old new noted.gives
+
+-- a log that failed is told no ending
+unended : (service : Service) (peer : Peer) (ending : Ending) → ending ≡ LogFault → ending_line service peer ending ≡ None
+unended service peer ending is = ap (ending_line service peer) is
+
+module _ {Origin : Type 0} where
+  abbrev with_logs : Devices Origin → SinkView → Devices Origin
+  with_logs devices logs = record devices { logs = logs }
+
+  -- the ending's line is given to the log alone
+  caused_later : (ending : Ending) (old new : Devices Origin) (logs : SinkView) → logs.faults ≤ new.logs.faults → CausedAlone ending old (with_logs new logs) → CausedAlone ending old new
+  caused_later Done old new logs later h = tt
+  caused_later (Denied line) old new logs later h = h
+  caused_later ClientFault old new logs later h = h
+  caused_later ServerFault old new logs later h = h
+  caused_later LogFault old new logs later h = rose_later old.logs.faults logs.faults new.logs.faults h later
+  caused_later AuthFault old new logs later h = h
+  caused_later Idle old new logs later h = h
+  caused_later NoRoute old new logs later h = h
+  caused_later Spent old new logs later h = h
+  caused_later NoMemory old new logs later h = tt
+
+  -- how long the devices wait counts for nothing
+  caused_patient : (seconds : ℕ) (ending : Ending) (old new : Devices Origin) → CausedAlone ending (patient seconds old) new → CausedAlone ending old new
+  caused_patient seconds Done old new h = tt
+  caused_patient seconds (Denied line) old new h = h
+  caused_patient seconds ClientFault old new h = h
+  caused_patient seconds ServerFault old new h = h
+  caused_patient seconds LogFault old new h = h
+  caused_patient seconds AuthFault old new h = h
+  caused_patient seconds Idle old new h = h
+  caused_patient seconds NoRoute old new h = h
+  caused_patient seconds Spent old new h = record { took = record { bytes = h.took.bytes; most = h.took.most; grew = h.took.grew; is = h.took.is }; all = h.all }
+  caused_patient seconds NoMemory old new h = tt
+
+  -- ---- causes
+
+  causes_of : (linked : Bool) (verdict : Verdict) (ending : Ending) (old new : Devices Origin) → CausedBy linked ending old new → Causes linked verdict ending old new
+  causes_of linked verdict Done old new h = h
+  causes_of true verdict (Denied line) old new h = absurd h
+  causes_of false verdict (Denied line) old new h = absurd h
+  causes_of linked verdict ClientFault old new h = h
+  causes_of linked verdict ServerFault old new h = h
+  causes_of linked verdict LogFault old new h = h
+  causes_of linked verdict AuthFault old new h = h
+  causes_of linked verdict Idle old new h = h
+  causes_of linked verdict NoRoute old new h = h
+  causes_of linked verdict Spent old new h = h
+  causes_of linked verdict NoMemory old new h = h
+
+  linked_later : (ending : Ending) (old new : Devices Origin) (logs : SinkView) → logs.faults ≤ new.logs.faults → CausedLinked ending old (with_logs new logs) → CausedLinked ending old new
+  linked_later Done old new logs later h = tt
+  linked_later (Denied line) old new logs later h = h
+  linked_later ClientFault old new logs later h = h
+  linked_later ServerFault old new logs later h = h
+  linked_later LogFault old new logs later h = rose_later old.logs.faults logs.faults new.logs.faults h later
+  linked_later AuthFault old new logs later h = h
+  linked_later Idle old new logs later h = h
+  linked_later NoRoute old new logs later h = h
+  linked_later Spent old new logs later (inl h) = inl h
+  linked_later Spent old new logs later (inr h) = inr (record { link = h.link; last = h.last; all = h.all })
+  linked_later NoMemory old new logs later h = h
+
+  caused_by_later : (linked : Bool) (ending : Ending) (old new : Devices Origin) (logs : SinkView) → logs.faults ≤ new.logs.faults → CausedBy linked ending old (with_logs new logs) → CausedBy linked ending old new
+  caused_by_later true ending old new logs later h = linked_later ending old new logs later h
+  caused_by_later false ending old new logs later h = caused_later ending old new logs later h
+
+  causes_later : (linked : Bool) (verdict : Verdict) (ending : Ending) (old new : Devices Origin) (logs : SinkView) → logs.faults ≤ new.logs.faults → Causes linked verdict ending old (with_logs new logs) → Causes linked verdict ending old new
+  causes_later linked verdict (Denied line) old new logs later h = h
+  causes_later linked verdict Done old new logs later h = caused_by_later linked Done old new logs later h
+  causes_later linked verdict ClientFault old new logs later h = caused_by_later linked ClientFault old new logs later h
+  causes_later linked verdict ServerFault old new logs later h = caused_by_later linked ServerFault old new logs later h
+  causes_later linked verdict LogFault old new logs later h = caused_by_later linked LogFault old new logs later h
+  causes_later linked verdict AuthFault old new logs later h = caused_by_later linked AuthFault old new logs later h
+  causes_later linked verdict Idle old new logs later h = caused_by_later linked Idle old new logs later h
+  causes_later linked verdict NoRoute old new logs later h = caused_by_later linked NoRoute old new logs later h
+  causes_later linked verdict Spent old new logs later h = caused_by_later linked Spent old new logs later h
+  causes_later linked verdict NoMemory old new logs later h = caused_by_later linked NoMemory old new logs later h
+
+  -- ---- bytes
+
+  -- who is turned away is asked for none
+  takes_none : (ending : Ending) (old new : Devices Origin) → is_spent_ending ending ≡ false → new.inlet ≡ old.inlet → TakesExactly ending old new
+  takes_none ending old new never is = record { took = record { bytes = []; most = omega (arith); grew = subst (λ (s : SourceView). Grew 0 old.inlet.amount s.amount) (sym is) (grew_none old.inlet.amount); is = ap (λ (s : SourceView). s.taken) is ∙ by_nothing old.inlet.taken }; all = never }
+
+  takes_patient : (seconds : ℕ) (ending : Ending) (old new : Devices Origin) → TakesExactly ending (patient seconds old) new → TakesExactly ending old new
+  takes_patient seconds ending old new h = record { took = record { bytes = h.took.bytes; most = h.took.most; grew = h.took.grew; is = h.took.is }; all = h.all }
+
+  relay_takes : (seconds : ℕ) (ending : Ending) (old new : Devices Origin) → RelayTakesFor ending (patient seconds (plug_devices old)) (plug_devices new) → RelayTakesFor ending old new
+  relay_takes seconds ending old new h = record { took = record { bytes = h.took.bytes; most = h.took.most; grew = h.took.grew; is = h.took.is }; all = h.all }
+
+  takes_later : (linked : Bool) (ending : Ending) (old new : Devices Origin) (logs : SinkView) → TakesBy linked ending old (with_logs new logs) → TakesBy linked ending old new
+  takes_later true ending old new logs h = record { took = h.took; all = h.all }
+  takes_later false ending old new logs h = record { took = h.took; all = h.all }
+
+  -- ---- the wait
+
+  relay_waits : (seconds : ℕ) (ending : Ending) (old new : Devices Origin) → WaitsFor ending (patient seconds (plug_devices old)) (plug_devices new) → WaitsFor ending (patient seconds old) new
+  relay_waits seconds Idle old new (inl h) = inl h
+  relay_waits seconds Idle old new (inr h) = inr (record { rose = h.rose; link = h.link; last = h.last; waited = h.waited })
+  relay_waits seconds Done old new h = tt
+  relay_waits seconds (Denied line) old new h = tt
+  relay_waits seconds ClientFault old new h = tt
+  relay_waits seconds ServerFault old new h = tt
+  relay_waits seconds LogFault old new h = tt
+  relay_waits seconds AuthFault old new h = tt
+  relay_waits seconds NoRoute old new h = tt
+  relay_waits seconds Spent old new h = tt
+  relay_waits seconds NoMemory old new h = tt
+
+  -- the log has no part in how long anybody was waited for
+  waits_for_with : (ending : Ending) (old new : Devices Origin) (logs : SinkView) → WaitsFor ending old (with_logs new logs) → WaitsFor ending old new
+  waits_for_with Idle old new logs (inl h) = inl h
+  waits_for_with Idle old new logs (inr h) = inr (record { rose = h.rose; link = h.link; last = h.last; waited = h.waited })
+  waits_for_with Done old new logs h = tt
+  waits_for_with (Denied line) old new logs h = tt
+  waits_for_with ClientFault old new logs h = tt
+  waits_for_with ServerFault old new logs h = tt
+  waits_for_with LogFault old new logs h = tt
+  waits_for_with AuthFault old new logs h = tt
+  waits_for_with NoRoute old new logs h = tt
+  waits_for_with Spent old new logs h = tt
+  waits_for_with NoMemory old new logs h = tt
+
+  waits_with : (linked : Bool) (verdict : Verdict) (rules : RuleBook) (ending : Ending) (old new : Devices Origin) (logs : SinkView) → WaitsAs linked verdict rules ending old (with_logs new logs) → WaitsAs linked verdict rules ending old new
+  waits_with linked (Deny line) rules ending old new logs h = tt
+  waits_with true (Permit line) rules ending old new logs h = waits_for_with ending (patient (timeout_of rules) old) new logs h
+  waits_with false (Permit line) rules ending old new logs h = h
+
+  -- ---- no count falls
+
+  keeps_later : (linked : Bool) (old new : Devices Origin) (logs : SinkView) → logs.faults ≤ new.logs.faults → new.logs.shut ≡ logs.shut → KeepsAs linked old (with_logs new logs) → KeepsAs linked old new
+  keeps_later linked old new logs later shut h =
+      let before : old.logs.faults ≤ logs.faults = h.log_drops in
+      record {
+        faults = h.faults;
+        idles = h.idles;
+        amount = h.amount;
+        drops = h.drops;
+        log_drops = omega (arith, before, later);
+        breaks = h.breaks;
+        strays = h.strays;
+        asks = h.asks;
+        refusals = h.refusals;
+        link_faults = h.link_faults;
+        link_idles = h.link_idles;
+        waits = h.waits;
+        link_waits = h.link_waits;
+        shut = h.shut;
+        log_shut = shut ∙ h.log_shut;
+        origin = h.origin;
+        home = h.home;
+      }
+
+  -- a session over the devices that a client of the plug meets keeps them, and the port stays
+  relay_keeps_all : (seconds : ℕ) (old new : Devices Origin) → new.port ≡ old.port → RelayKeeps (patient seconds (plug_devices old)) (plug_devices new) → RelayKeeps (patient seconds old) new
+  relay_keeps_all seconds old new port h = record {
+    faults = h.faults;
+    idles = h.idles;
+    amount = h.amount;
+    drops = h.drops;
+    log_drops = h.log_drops;
+    breaks = same_low old.port.faults new.port.faults (ap (λ (p : Port Origin). p.faults) port);
+    strays = same_low old.port.odd new.port.odd (ap (λ (p : Port Origin). p.odd) port);
+    asks = same_low old.port.asks new.port.asks (ap (λ (p : Port Origin). p.asks) port);
+    refusals = h.refusals;
+    link_faults = h.link_faults;
+    link_idles = h.link_idles;
+    waits = h.waits;
+    link_waits = h.link_waits;
+    shut = h.shut;
+    log_shut = h.log_shut;
+    origin = ap (λ (p : Port Origin). p.origin) port;
+    home = ap (λ (p : Port Origin). p.home) port;
+  }
+
+  -- ---- all that is said of a client, by whether it was linked
+
+  record Facts (linked : Bool) (verdict : Verdict) (rules : RuleBook) (ending : Ending) (old new : Devices Origin) : Type 0 where
+    caused : Causes linked verdict ending old new
+    spent : TakesBy linked ending old new
+    waited : WaitsAs linked verdict rules ending old new
+    refused : IsRefused verdict ending
+    keeps : KeepsAs linked (lent_by verdict rules old) new
+    origin : new.port.origin ≡ old.port.origin
+    home : new.port.home ≡ old.port.home
+
+  -- whom the rules deny, where the log failed and where it has the line
+  denied_fails : (line : ℕ) (text : List ℕ) (rules : RuleBook) (told ending : Ending) (old new : Devices Origin) → ending ≡ denied_by line told → SessionKeeps old new → LogFails text old new told → Facts false (Deny line) rules ending old new
+  denied_fails line text rules told ending old new ends keeps fails =
+      let is : ending ≡ LogFault = ends ∙ ap (denied_by line) fails.ends in
+      record {
+        caused = subst (λ (e : Ending). Causes false (Deny line) e old new) (sym is) (subst (λ (s : SinkView). Rose old.logs.faults s.faults) (sym fails.cut.is) fails.cut.rose);
+        spent = takes_none ending old new (ap is_spent_ending is) (ap (λ (d : Devices Origin). d.inlet) fails.same);
+        waited = tt;
+        refused = inr is;
+        keeps = keeps;
+        origin = keeps.origin;
+        home = keeps.home;
+      }
+
+  denied_done : (line : ℕ) (rules : RuleBook) (told ending : Ending) (old new : Devices Origin) → ending ≡ denied_by line told → SessionKeeps old new → told ≡ Done → new.inlet ≡ old.inlet → Facts false (Deny line) rules ending old new
+  denied_done line rules told ending old new ends keeps done inlet =
+      let is : ending ≡ Denied line = ends ∙ ap (denied_by line) done in
+      record {
+        caused = subst (λ (e : Ending). Causes false (Deny line) e old new) (sym is) refl;
+        spent = takes_none ending old new (ap is_spent_ending is) inlet;
+        waited = tt;
+        refused = inl is;
+        keeps = keeps;
+        origin = keeps.origin;
+        home = keeps.home;
+      }
+
+  words_by : (line : ℕ) (text words : List ℕ) (rules : RuleBook) (told ending : Ending) (old new : Devices Origin) → ending ≡ denied_by line told → SessionKeeps old new → Denies text words old new told → Facts false (Deny line) rules ending old new
+  words_by line text words rules told ending old new ends keeps (inl fails) = denied_fails line text rules told ending old new ends keeps fails
+  words_by line text words rules told ending old new ends keeps (inr away) = denied_done line rules told ending old new ends keeps away.ends (ap (λ (d : Devices Origin). d.inlet) away.same)
+
+  words_facts : (line : ℕ) (service : Service) (rules : RuleBook) (peer : Peer) (ending : Ending) (old new : Devices Origin) → TurnsAway line service peer ending old new → Facts false (Deny line) rules ending old new
+  words_facts line service rules peer ending old new h =
+      let text = decision_text (Deny line) service peer in
+      words_by line text (denied_text line) rules h.told ending old new h.ends (session_keeps h.session) (denies text (denied_text line) old new h.told h.session)
+
+  silent_by : (line : ℕ) (text : List ℕ) (rules : RuleBook) (told ending : Ending) (old new : Devices Origin) → ending ≡ denied_by line told → SessionKeeps old new → LogsOnly text old new told → Facts false (Deny line) rules ending old new
+  silent_by line text rules told ending old new ends keeps (inl fails) = denied_fails line text rules told ending old new ends keeps fails
+  silent_by line text rules told ending old new ends keeps (inr alone) = denied_done line rules told ending old new ends keeps alone.ends (ap (λ (d : Devices Origin). d.inlet) alone.same)
+
+  silent_facts : (line : ℕ) (service : Service) (rules : RuleBook) (peer : Peer) (ending : Ending) (old new : Devices Origin) → LogsDenial line service peer ending old new → Facts false (Deny line) rules ending old new
+  silent_facts line service rules peer ending old new h =
+      let text = decision_text (Deny line) service peer in
+      silent_by line text rules h.told ending old new h.ends (session_keeps h.session) (silent_denial text old new h.told h.session)
+
+  -- a session of `authsrv`
+  held_facts : (line : ℕ) (service : Service) (rules : RuleBook) (peer : Peer) (ending : Ending) (old new : Devices Origin) → Permits line service rules peer ending old new → Facts false (Permit line) rules ending old new
+  held_facts line service rules peer ending old new h =
+      let first = logged_row (decision_text (Permit line) service peer) (session_row false) in
+      let lent = patient (timeout_of rules) old in
+      let alone = logged_serverless (decision_text (Permit line) service peer) (keeps_serverless Origin false) in
+      let keeps = session_keeps h in
+      record {
+        caused = causes_of false (Permit line) ending old new (caused_patient (timeout_of rules) ending old new (session_alone rows first lent new ending h alone));
+        spent = takes_patient (timeout_of rules) ending old new (session_exact rows first lent new ending h alone);
+        waited = session_waits rows first lent new ending h alone;
+        refused = tt;
+        keeps = keeps;
+        origin = keeps.origin;
+        home = keeps.home;
+      }
+
+  -- one of the plug
+  linked_facts : (at line : ℕ) (rules : RuleBook) (peer : Peer) (ending : Ending) (old new : Devices Origin) → LinksTo at line rules peer ending old new → Facts true (Permit line) rules ending old new
+  linked_facts at line rules peer ending old new h =
+      let seconds = timeout_of rules in
+      record {
+        caused = causes_of true (Permit line) ending old new (plug_caused at line rules peer ending old new h);
+        spent = relay_takes seconds ending old new (session_spent h.over.session);
+        waited = relay_waits seconds ending old new (session_waited h.over.session);
+        refused = tt;
+        keeps = relay_keeps_all seconds old new h.port (relay_keeps h.over.session);
+        origin = ap (λ (p : Port Origin). p.origin) h.port;
+        home = ap (λ (p : Port Origin). p.home) h.port;
+      }
+
+  treats_facts : (verdict : Verdict) (service : Service) (rules : RuleBook) (peer : Peer) (ending : Ending) (old new : Devices Origin) → Treats verdict service rules peer ending old new → Facts (is_linked service verdict) verdict rules ending old new
+  treats_facts (Deny line) (PlugGw at) rules peer ending old new h = silent_facts line (PlugGw at) rules peer ending old new h
+  treats_facts (Deny line) Authsrv rules peer ending old new h = words_facts line Authsrv rules peer ending old new h
+  treats_facts (Deny line) (Netacl label) rules peer ending old new h = words_facts line (Netacl label) rules peer ending old new h
+  treats_facts (Deny line) TnGw rules peer ending old new h = words_facts line TnGw rules peer ending old new h
+  treats_facts (Deny line) FtpGw rules peer ending old new h = words_facts line FtpGw rules peer ending old new h
+  treats_facts (Deny line) Smap rules peer ending old new h = words_facts line Smap rules peer ending old new h
+  treats_facts (Permit line) (PlugGw at) rules peer ending old new h = linked_facts at line rules peer ending old new h
+  treats_facts (Permit line) Authsrv rules peer ending old new h = held_facts line Authsrv rules peer ending old new h
+  treats_facts (Permit line) (Netacl label) rules peer ending old new h = held_facts line (Netacl label) rules peer ending old new h
+  treats_facts (Permit line) TnGw rules peer ending old new h = held_facts line TnGw rules peer ending old new h
+  treats_facts (Permit line) FtpGw rules peer ending old new h = held_facts line FtpGw rules peer ending old new h
+  treats_facts (Permit line) Smap rules peer ending old new h = held_facts line Smap rules peer ending old new h
+
+  conn_facts : (service : Service) (rules : RuleBook) (peer : Peer) (old new : Devices Origin) (ending : Ending) → Conn service rules peer old new ending → Facts (is_linked service (verdict_of rules peer)) (verdict_of rules peer) rules ending old new
+  conn_facts service rules peer old new ending conn =
+      let verdict = verdict_of rules peer in
+      let linked = is_linked service verdict in
+      let most = noted_most (ending_line service peer ending) conn.logs new.logs conn.noted in
+      let so = treats_facts verdict service rules peer ending old (with_logs new conn.logs) conn.treats in
+      record {
+        caused = causes_later linked verdict ending old new conn.logs most so.caused;
+        spent = takes_later linked ending old new conn.logs so.spent;
+        waited = waits_with linked verdict rules ending old new conn.logs so.waited;
+        refused = so.refused;
+        keeps = keeps_later linked (lent_by verdict rules old) new conn.logs most (noted_shut (ending_line service peer ending) conn.logs new.logs conn.noted) so.keeps;
+        origin = so.origin;
+        home = so.home;
+      }
+
+  -- each ending has its cause
+  pub conn_caused : (service : Service) (rules : RuleBook) (peer : Peer) (old new : Devices Origin) (ending : Ending) → Conn service rules peer old new ending → Causes (is_linked service (verdict_of rules peer)) (verdict_of rules peer) ending old new
+  conn_caused service rules peer old new ending conn = (conn_facts service rules peer old new ending conn).caused
+
+  pub conn_spent : (service : Service) (rules : RuleBook) (peer : Peer) (old new : Devices Origin) (ending : Ending) → Conn service rules peer old new ending → TakesBy (is_linked service (verdict_of rules peer)) ending old new
+  conn_spent service rules peer old new ending conn = (conn_facts service rules peer old new ending conn).spent
+
+  pub conn_waited : (service : Service) (rules : RuleBook) (peer : Peer) (old new : Devices Origin) (ending : Ending) → Conn service rules peer old new ending → WaitsAs (is_linked service (verdict_of rules peer)) (verdict_of rules peer) rules ending old new
+  conn_waited service rules peer old new ending conn = (conn_facts service rules peer old new ending conn).waited
+
+  pub conn_refused : (service : Service) (rules : RuleBook) (peer : Peer) (old new : Devices Origin) (ending : Ending) → Conn service rules peer old new ending → IsRefused (verdict_of rules peer) ending
+  conn_refused service rules peer old new ending conn = (conn_facts service rules peer old new ending conn).refused
+
+  pub conn_keeps : (service : Service) (rules : RuleBook) (peer : Peer) (old new : Devices Origin) (ending : Ending) → Conn service rules peer old new ending → KeepsAs (is_linked service (verdict_of rules peer)) (lent_by (verdict_of rules peer) rules old) new
+  conn_keeps service rules peer old new ending conn = (conn_facts service rules peer old new ending conn).keeps
+
+  -- what the port's answers stand on stays
+  pub conn_origin : (service : Service) (rules : RuleBook) (peer : Peer) (old new : Devices Origin) (ending : Ending) → Conn service rules peer old new ending → new.port.origin ≡ old.port.origin
+  conn_origin service rules peer old new ending conn = (conn_facts service rules peer old new ending conn).origin
+
+  pub conn_home : (service : Service) (rules : RuleBook) (peer : Peer) (old new : Devices Origin) (ending : Ending) → Conn service rules peer old new ending → new.port.home ≡ old.port.home
+  conn_home service rules peer old new ending conn = (conn_facts service rules peer old new ending conn).home
+
+  -- ---- what the dialer is asked
+
+  words_undialed : (line words : List ℕ) (told : Ending) (old new : Devices Origin) → Denies line words old new told → new.dialer ≡ old.dialer
+  words_undialed line words told old new (inl fails) = ap (λ (d : Devices Origin). d.dialer) fails.same
+  words_undialed line words told old new (inr away) = ap (λ (d : Devices Origin). d.dialer) away.same
+
+  turned_undialed : (line : ℕ) (service : Service) (peer : Peer) (ending : Ending) (old new : Devices Origin) → TurnsAway line service peer ending old new → new.dialer ≡ old.dialer
+  turned_undialed line service peer ending old new h =
+      let text = decision_text (Deny line) service peer in
+      words_undialed text (denied_text line) h.told old new (denies text (denied_text line) old new h.told h.session)
+
+  logged_undialed : (line : List ℕ) (told : Ending) (old new : Devices Origin) → LogsOnly line old new told → new.dialer ≡ old.dialer
+  logged_undialed line told old new (inl fails) = ap (λ (d : Devices Origin). d.dialer) fails.same
+  logged_undialed line told old new (inr alone) = ap (λ (d : Devices Origin). d.dialer) alone.same
+
+  silent_undialed : (line : ℕ) (service : Service) (peer : Peer) (ending : Ending) (old new : Devices Origin) → LogsDenial line service peer ending old new → new.dialer ≡ old.dialer
+  silent_undialed line service peer ending old new h =
+      let text = decision_text (Deny line) service peer in
+      logged_undialed text h.told old new (silent_denial text old new h.told h.session)
+
+  held_undialed : (line : ℕ) (service : Service) (rules : RuleBook) (peer : Peer) (ending : Ending) (old new : Devices Origin) → Permits line service rules peer ending old new → new.dialer ≡ dialer_then (Permit line) rules old.dialer
+  held_undialed line service rules peer ending old new h =
+      session_serverless rows (logged_row (decision_text (Permit line) service peer) (session_row false)) (patient (timeout_of rules) old) new ending h
+      (logged_serverless (decision_text (Permit line) service peer) (keeps_serverless Origin false))
+
+  treats_dialed : (verdict : Verdict) (service : Service) (rules : RuleBook) (peer : Peer) (ending : Ending) (old new : Devices Origin) (logs : SinkView) → Treats verdict service rules peer ending old (with_logs new logs)
+      → NotedIf (ending_line service peer ending) logs new.logs → Dials service verdict rules peer ending old new
+  treats_dialed (Deny line) (PlugGw at) rules peer ending old new logs h noted = silent_undialed line (PlugGw at) peer ending old (with_logs new logs) h
+  treats_dialed (Deny line) Authsrv rules peer ending old new logs h noted = turned_undialed line Authsrv peer ending old (with_logs new logs) h
+  treats_dialed (Deny line) (Netacl label) rules peer ending old new logs h noted = turned_undialed line (Netacl label) peer ending old (with_logs new logs) h
+  treats_dialed (Deny line) TnGw rules peer ending old new logs h noted = turned_undialed line TnGw peer ending old (with_logs new logs) h
+  treats_dialed (Deny line) FtpGw rules peer ending old new logs h noted = turned_undialed line FtpGw peer ending old (with_logs new logs) h
+  treats_dialed (Deny line) Smap rules peer ending old new logs h noted = turned_undialed line Smap peer ending old (with_logs new logs) h
+  treats_dialed (Permit line) (PlugGw at) rules peer ending old new logs h noted = plug_dials at line rules peer ending old new logs (ending_line (PlugGw at) peer ending) (unended (PlugGw at) peer ending) h noted
+  treats_dialed (Permit line) Authsrv rules peer ending old new logs h noted = held_undialed line Authsrv rules peer ending old (with_logs new logs) h
+  treats_dialed (Permit line) (Netacl label) rules peer ending old new logs h noted = held_undialed line (Netacl label) rules peer ending old (with_logs new logs) h
+  treats_dialed (Permit line) TnGw rules peer ending old new logs h noted = held_undialed line TnGw rules peer ending old (with_logs new logs) h
+  treats_dialed (Permit line) FtpGw rules peer ending old new logs h noted = held_undialed line FtpGw rules peer ending old (with_logs new logs) h
+  treats_dialed (Permit line) Smap rules peer ending old new logs h noted = held_undialed line Smap rules peer ending old (with_logs new logs) h
+
+  pub conn_dialed : (service : Service) (rules : RuleBook) (peer : Peer) (old new : Devices Origin) (ending : Ending) → Conn service rules peer old new ending → Dials service (verdict_of rules peer) rules peer ending old new
+  conn_dialed service rules peer old new ending conn = treats_dialed (verdict_of rules peer) service rules peer ending old new conn.logs conn.treats conn.noted
+
+  -- ---- at the console
+
+  pub console_caused : (service : Service) (peer : Peer) (old new : Devices Origin) (ending : Ending) → AtConsole service peer old new ending → CausedAlone ending old new
+  console_caused service peer old new ending h =
+      caused_later ending old new h.logs (noted_most (ending_line service peer ending) h.logs new.logs h.noted)
+      (session_alone rows (session_row true) old (with_logs new h.logs) ending h.session (keeps_serverless Origin true))
+
+  pub console_spent : (service : Service) (peer : Peer) (old new : Devices Origin) (ending : Ending) → AtConsole service peer old new ending → TakesExactly ending old new
+  console_spent service peer old new ending h =
+      takes_later false ending old new h.logs (session_exact rows (session_row true) old (with_logs new h.logs) ending h.session (keeps_serverless Origin true))
+
+  pub console_undialed : (service : Service) (peer : Peer) (old new : Devices Origin) (ending : Ending) → AtConsole service peer old new ending → new.dialer ≡ old.dialer
+  console_undialed service peer old new ending h = session_serverless rows (session_row true) old (with_logs new h.logs) ending h.session (keeps_serverless Origin true)
+
+  pub console_origin : (service : Service) (peer : Peer) (old new : Devices Origin) (ending : Ending) → AtConsole service peer old new ending → new.port.origin ≡ old.port.origin
+  console_origin service peer old new ending h = (session_keeps h.session).origin

@@ -1,0 +1,6 @@
+pub mod Conn
+pub mod Decision
+pub mod Endings
+pub mod Meeting
+pub mod PlugService
+pub mod TurningAway
