@@ -28,7 +28,13 @@ impl Runner for BastionRunner {
         }
     }
 
-    fn misread(&self, alloc: Global, row: &Row, command: &[u8]) -> Result<Difference, NoMemory> {
-        commands::misread(alloc, row, command)
+    fn misread(
+        &self,
+        alloc: Global,
+        row: &Row,
+        command: &[u8],
+        difference: &mut Difference,
+    ) -> Result<(), NoMemory> {
+        commands::misread(alloc, row, command, difference)
     }
 }

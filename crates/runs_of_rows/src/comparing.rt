@@ -1,9 +1,10 @@
 //! Whether a run came to what is expected.
 
 use crate::devices::{Helpers, Place, Talk};
+use crate::parts::{Parts, whole};
 use crate::runner::Ended;
-use crate::seen::{asked_of, given_over, left_of, started_by, table_of, told_of};
-use crate::writing::{Text, add, add_number, add_quoted};
+use crate::seen::{add_asked, add_given, add_left, add_records, add_started, table_of};
+use crate::writing::{Text, add, add_number};
 use fw_outside::Clock;
 use fw_types::{Name, Octets};
 
@@ -35,8 +36,9 @@ pub(crate) struct Rest<'a> {
 #[derive(Clone, Copy)]
 pub(crate) struct Expected<'a> {
     pub(crate) status: u8,
-    pub(crate) output: &'a [u8],
-    pub(crate) log: &'a [u8],
+    /// What was printed, or told to the client. `None` may be anything.
+    pub(crate) output: Option<&'a [u8]>,
+    pub(crate) log: Parts<'a>,
     pub(crate) called: Called<'a>,
     pub(crate) rest: Rest<'a>,
 }
@@ -49,16 +51,48 @@ pub(crate) const UNCALLED: Called<'static> = Called {
     hung_up: 0,
 };
 
+// Says that a text isn't the one that was expected, unless something is said already.
+fn add_difference(out: &mut Text, what: &[u8], wanted: Parts, was: &[u8]) {
+    if out.is_empty() && !wanted.are(was) {
+        add(out, what);
+        add(out, b", expected ");
+        wanted.add_quoted(out);
+        add(out, b", was ");
+        whole(was).add_quoted(out);
+    }
+}
+
+fn is_twin(one: &(Name, Octets), other: &(Name, Octets)) -> bool {
+    one.0.text() == other.0.text() && one.1.bytes() == other.1.bytes()
+}
+
+fn are_same(wanted: &[(Name, Octets)], was: &[(Name, Octets)]) -> bool {
+    if wanted.len() != was.len() {
+        return false;
+    }
+    for (one, other) in wanted.iter().zip(was) {
+        if !is_twin(one, other) {
+            return false;
+        }
+    }
+    true
+}
+
 /// The first thing that differs, in words; empty where nothing does.
 #[derive(Drop)]
 pub struct Difference {
     text: Text,
+    /// What a device shows.
+    shown: Text,
 }
 
 impl Difference {
     /// Nothing.
-    pub fn none() -> Difference {
-        Difference { text: Text::new() }
+    pub(crate) fn none() -> Difference {
+        Difference {
+            text: Text::new(),
+            shown: Text::new(),
+        }
     }
 
     /// Whether nothing differs.
@@ -83,13 +117,12 @@ impl Difference {
 
     /// Compares two texts, unless something differs already.
     pub fn text_of(&mut self, what: &[u8], wanted: &[u8], was: &[u8]) {
-        if self.is_none() && wanted != was {
-            self.say(what);
-            self.say(b", expected ");
-            add_quoted(&mut self.text, wanted);
-            self.say(b", was ");
-            add_quoted(&mut self.text, was);
-        }
+        add_difference(&mut self.text, what, whole(wanted), was);
+    }
+
+    // Compares a text with what is shown.
+    fn shown_of(&mut self, what: &[u8], wanted: &[u8]) {
+        add_difference(&mut self.text, what, whole(wanted), self.shown.as_slice());
     }
 
     /// Compares two numbers, unless something differs already.
@@ -103,56 +136,86 @@ impl Difference {
         }
     }
 
+    fn started_of(&mut self, expected: &Called, helpers: &Helpers) {
+        self.shown.clear();
+        add_started(&mut self.shown, &helpers.launcher);
+        self.shown_of(b"what was started", expected.started);
+    }
+
+    fn asked_of(&mut self, expected: &Called, helpers: &Helpers) {
+        self.shown.clear();
+        add_asked(&mut self.shown, &helpers.dialer);
+        self.shown_of(b"what was asked for", expected.asked);
+    }
+
+    fn given_of(&mut self, expected: &Called, helpers: &Helpers) {
+        self.shown.clear();
+        add_given(&mut self.shown, &helpers.dialer);
+        self.shown_of(b"what servers were given", expected.given);
+    }
+
     // Compares what those were told whom the run called.
     fn called_of(&mut self, expected: &Called, helpers: &Helpers) {
-        let started = started_by(&helpers.launcher);
-        self.text_of(b"what was started", expected.started, started.as_slice());
-        let asked = asked_of(&helpers.dialer);
-        self.text_of(b"what was asked for", expected.asked, asked.as_slice());
-        let given = given_over(&helpers.dialer);
-        self.text_of(b"what servers were given", expected.given, given.as_slice());
+        self.started_of(expected, helpers);
+        self.asked_of(expected, helpers);
+        self.given_of(expected, helpers);
         let hung_up = helpers.dialer.ended().len() as u64;
         self.number_of(b"the links hung up", expected.hung_up, hung_up);
     }
 
     fn records_of(&mut self, wanted: &[(Name, Octets)], was: &[(Name, Octets)]) {
-        let (wanted, was) = (told_of(wanted), told_of(was));
-        self.text_of(b"the records", wanted.as_slice(), was.as_slice());
+        if !self.is_none() || are_same(wanted, was) {
+            return;
+        }
+        self.say(b"the records, expected ");
+        self.shown.clear();
+        add_records(&mut self.shown, wanted);
+        whole(self.shown.as_slice()).add_quoted(&mut self.text);
+        self.say(b", was ");
+        self.shown.clear();
+        add_records(&mut self.shown, was);
+        whole(self.shown.as_slice()).add_quoted(&mut self.text);
     }
 
-    fn unsaid_of(&mut self, wanted: &[u8], talk: &mut Talk) {
-        let left = left_of(&mut talk.input);
-        self.text_of(b"what the client would still say", wanted, left.as_slice());
-    }
-
-    fn next_of(&mut self, wanted: u64, place: &mut Place) {
-        let next = place.clock.now();
-        self.number_of(b"the moment of the next request", wanted, next);
+    fn left_of(&mut self, wanted: &[u8], talk: &mut Talk) {
+        self.shown.clear();
+        add_left(&mut self.shown, &mut talk.input);
+        self.shown_of(b"what the client would still say", wanted);
     }
 
     // Compares what is left of the devices.
     fn rest_of(&mut self, expected: &Rest, was: &mut Ended) {
         if let Some(next) = expected.next {
-            self.next_of(next, &mut was.devices.place);
+            let now = was.devices.place.clock.now();
+            self.number_of(b"the moment of the next request", next, now);
         }
         if let Some(left) = expected.left {
-            self.unsaid_of(left, &mut was.devices.talk);
+            self.left_of(left, &mut was.devices.talk);
         }
         if let Some(records) = expected.records {
             self.records_of(records, table_of(&was.keeper));
         }
     }
-}
 
-/// The first thing in which a run came out otherwise than expected.
-pub(crate) fn compare(expected: &Expected, was: &mut Ended) -> Difference {
-    let mut difference = Difference::none();
-    let (wanted, status) = (u64::from(expected.status), u64::from(was.status));
-    difference.number_of(b"the status", wanted, status);
-    let output = was.devices.talk.output.bytes();
-    difference.text_of(b"the output", expected.output, output);
-    difference.text_of(b"the log", expected.log, was.devices.place.logs.bytes());
-    difference.called_of(&expected.called, &was.devices.helpers);
-    difference.rest_of(&expected.rest, was);
-    difference
+    // Compares what was told, where that is any matter.
+    fn output_of(&mut self, expected: &Expected, talk: &Talk) {
+        if let Some(output) = expected.output {
+            self.text_of(b"the output", output, talk.output.bytes());
+        }
+    }
+
+    // Compares what was logged.
+    fn log_of(&mut self, expected: &Expected, place: &Place) {
+        add_difference(&mut self.text, b"the log", expected.log, place.logs.bytes());
+    }
+
+    /// Looks for the first thing in which a run came out otherwise than expected.
+    pub(crate) fn compare(&mut self, expected: &Expected, was: &mut Ended) {
+        let (wanted, status) = (u64::from(expected.status), u64::from(was.status));
+        self.number_of(b"the status", wanted, status);
+        self.output_of(expected, &was.devices.talk);
+        self.log_of(expected, &was.devices.place);
+        self.called_of(&expected.called, &was.devices.helpers);
+        self.rest_of(&expected.rest, was);
+    }
 }

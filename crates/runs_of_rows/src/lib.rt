@@ -9,6 +9,7 @@ mod broken;
 mod calls;
 mod comparing;
 mod devices;
+mod parts;
 mod plan;
 mod relays;
 mod report;

@@ -1,11 +1,12 @@
 //! What always holds of a relay in which a device fails. The order of its two ways isn't told, so what either side was given
 //! is looked at by itself: where one side fails, the other way goes on to its end.
 
-use crate::comparing::{Called, Difference, Expected, compare};
+use crate::comparing::{Called, Difference, Expected};
+use crate::parts::with_last_word;
 use crate::plan::Plan;
 use crate::runner::Ended;
 use crate::texts::front;
-use crate::verdicts::{called_by, log_of, untouched, usual};
+use crate::verdicts::{called_by, untouched, usual};
 use format_of_rows::Part;
 
 /// The most bytes that a way of a relay takes at once.
@@ -17,9 +18,26 @@ fn carried<'a>(plan: &Plan, text: &'a [u8]) -> &'a [u8] {
     front(text, plan.broken.at.saturating_mul(piece))
 }
 
-// As the row says, but for what the client and the server were given, and for this cause of the end.
-fn ends(plan: &Plan, cause: &[u8], output: &[u8], given: &[u8], was: &mut Ended) -> Difference {
-    let log = log_of(plan.row, cause);
+// As the row says, but for what the client was told, and for this cause of the end.
+fn down_ends(
+    plan: &Plan,
+    cause: &[u8],
+    output: &[u8],
+    was: &mut Ended,
+    difference: &mut Difference,
+) {
+    let row = plan.row;
+    let expected = Expected {
+        status: 4,
+        output: Some(output),
+        log: with_last_word(&row.wanted.log, cause),
+        ..usual(row, plan.records)
+    };
+    difference.compare(&expected, was);
+}
+
+// As the row says, but for what the server was given, and for this cause of the end.
+fn up_ends(plan: &Plan, cause: &[u8], given: &[u8], was: &mut Ended, difference: &mut Difference) {
     let row = plan.row;
     let called = Called {
         given,
@@ -27,27 +45,15 @@ fn ends(plan: &Plan, cause: &[u8], output: &[u8], given: &[u8], was: &mut Ended)
     };
     let expected = Expected {
         status: 4,
-        output,
-        log: log.as_slice(),
+        log: with_last_word(&row.wanted.log, cause),
         called,
         ..usual(row, plan.records)
     };
-    compare(&expected, was)
-}
-
-// Where the way to the server ends early: this much was given.
-fn up_ends(plan: &Plan, cause: &[u8], given: &[u8], was: &mut Ended) -> Difference {
-    ends(plan, cause, &plan.row.wanted.output, given, was)
-}
-
-// Where the way to the client ends early: this much was told.
-fn down_ends(plan: &Plan, cause: &[u8], output: &[u8], was: &mut Ended) -> Difference {
-    ends(plan, cause, output, &plan.row.wanted.called.given, was)
+    difference.compare(&expected, was);
 }
 
 /// Where the link is refused: nothing is heard, told or given.
-pub(crate) fn refused_differs(plan: &Plan, was: &mut Ended) -> Difference {
-    let log = log_of(plan.row, b"noroute");
+pub(crate) fn refused_differs(plan: &Plan, was: &mut Ended, difference: &mut Difference) {
     let row = plan.row;
     let called = Called {
         started: &[],
@@ -55,25 +61,40 @@ pub(crate) fn refused_differs(plan: &Plan, was: &mut Ended) -> Difference {
         given: &[],
         hung_up: 0,
     };
+    let log = with_last_word(&row.wanted.log, b"noroute");
     let expected = Expected {
         called,
-        ..untouched(row, plan.records, log.as_slice())
+        ..untouched(row, plan.records, log)
     };
-    compare(&expected, was)
+    difference.compare(&expected, was);
 }
 
-/// What differs where a side of the relay fails.
-pub(crate) fn relay_differs(plan: &Plan, part: Part, was: &mut Ended) -> Difference {
+/// Looks for what differs where a side of the relay fails.
+pub(crate) fn relay_differs(plan: &Plan, part: Part, was: &mut Ended, difference: &mut Difference) {
     let output: &[u8] = &plan.row.wanted.output;
     let given: &[u8] = &plan.row.wanted.called.given;
     match part {
-        Part::Client => up_ends(plan, b"client", carried(plan, given), was),
-        Part::ClientIdle => up_ends(plan, b"idle", carried(plan, given), was),
-        Part::Given => up_ends(plan, b"server", carried(plan, given), was),
-        Part::GivenRoom => up_ends(plan, b"server", front(given, plan.broken.at), was),
-        Part::Server => down_ends(plan, b"server", carried(plan, output), was),
-        Part::ServerIdle => down_ends(plan, b"idle", carried(plan, output), was),
-        Part::Output => down_ends(plan, b"client", carried(plan, output), was),
-        _ => down_ends(plan, b"client", front(output, plan.broken.at), was),
+        Part::Client => up_ends(plan, b"client", carried(plan, given), was, difference),
+        Part::ClientIdle => up_ends(plan, b"idle", carried(plan, given), was, difference),
+        Part::Given => up_ends(plan, b"server", carried(plan, given), was, difference),
+        Part::GivenRoom => {
+            up_ends(
+                plan,
+                b"server",
+                front(given, plan.broken.at),
+                was,
+                difference,
+            );
+        }
+        Part::Server => down_ends(plan, b"server", carried(plan, output), was, difference),
+        Part::ServerIdle => down_ends(plan, b"idle", carried(plan, output), was, difference),
+        Part::Output => down_ends(plan, b"client", carried(plan, output), was, difference),
+        _ => down_ends(
+            plan,
+            b"client",
+            front(output, plan.broken.at),
+            was,
+            difference,
+        ),
     }
 }

@@ -29,10 +29,16 @@ pub trait Runner {
         keeper: MemKeeper,
     ) -> Ended;
 
-    /// The first thing in which the row's words are read otherwise than as this command.
+    /// Looks for the first thing in which the row's words are read otherwise than as this command.
     ///
     /// # Errors
     ///
     /// `NoMemory` where memory was wanting.
-    fn misread(&self, alloc: Global, row: &Row, command: &[u8]) -> Result<Difference, NoMemory>;
+    fn misread(
+        &self,
+        alloc: Global,
+        row: &Row,
+        command: &[u8],
+        difference: &mut Difference,
+    ) -> Result<(), NoMemory>;
 }

@@ -1,7 +1,7 @@
 //! One run of a row.
 
 use crate::broken::broken_differs;
-use crate::comparing::{Difference, compare};
+use crate::comparing::Difference;
 use crate::devices::{Records, copy_of, devices_of, keeper_of};
 use crate::plan::{Plan, WHOLE};
 use crate::runner::{Ended, Runner};
@@ -44,21 +44,21 @@ fn say_where(difference: &mut Difference, plan: &Plan) {
     }
 }
 
-// What differs in a run. A call past those that are made changes nothing.
-fn was_differs(plan: &Plan, calls: u64, was: &mut Ended) -> Difference {
+// Looks for what differs in a run. A call past those that are made changes nothing.
+fn was_differs(plan: &Plan, calls: u64, was: &mut Ended, difference: &mut Difference) {
     if plan.broken.at < calls {
-        return broken_differs(plan, was);
+        broken_differs(plan, was, difference);
+    } else {
+        difference.compare(&usual(plan.row, plan.records), was);
     }
-    compare(&usual(plan.row, plan.records), was)
 }
 
 // The same, with how the run was cut and what failed in it.
-fn run_differs(plan: &Plan, calls: u64, was: &mut Ended) -> Difference {
-    let mut difference = was_differs(plan, calls, was);
+fn run_differs(plan: &Plan, calls: u64, was: &mut Ended, difference: &mut Difference) {
+    was_differs(plan, calls, was, difference);
     if !difference.is_none() {
-        say_where(&mut difference, plan);
+        say_where(difference, plan);
     }
-    difference
 }
 
 // Runs the plan.
@@ -72,26 +72,29 @@ fn ended_by<H: Threads + Sync, R: Runner>(
     Ok(runner.run(rt, plan.alloc, &plan.row.setting, devices, keeper))
 }
 
-// What differs in a run, and the records that its keeper has.
-fn judged(
+// Looks for what differs in a run. The records are then those that its keeper has.
+fn judge(
     plan: &Plan,
     calls: u64,
-    after: &mut Records,
     was: &mut Ended,
-) -> Result<Difference, NoMemory> {
+    after: &mut Records,
+    difference: &mut Difference,
+) -> Result<(), NoMemory> {
     *after = copy_of(plan.alloc, table_of(&was.keeper))?;
-    Ok(run_differs(plan, calls, was))
+    run_differs(plan, calls, was, difference);
+    Ok(())
 }
 
-/// What differs where the plan is run, in which something fails at one of so many calls. The records are those that its
-/// keeper then has.
+/// Looks for what differs where the plan is run, in which something fails at one of so many calls. The records are then
+/// those that its keeper has.
 pub(crate) fn run_plan<H: Threads + Sync, R: Runner>(
     rt: &H,
     runner: &R,
     plan: &Plan,
     calls: u64,
     after: &mut Records,
-) -> Result<Difference, NoMemory> {
+    difference: &mut Difference,
+) -> Result<(), NoMemory> {
     let mut was = ended_by(rt, runner, plan)?;
-    judged(plan, calls, after, &mut was)
+    judge(plan, calls, &mut was, after, difference)
 }

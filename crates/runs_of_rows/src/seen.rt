@@ -9,18 +9,16 @@ use fw_types::{Dest, Name, Octets, OctetsList};
 /// More calls than it takes to hear a client to its end.
 const MOST_TAKES: u32 = 8192;
 
-/// The bytes that a source would still give.
-pub(crate) fn left_of(input: &mut MemSource) -> Text {
-    let mut left = Text::new();
+/// Adds the bytes that a source would still give.
+pub(crate) fn add_left(out: &mut Text, input: &mut MemSource) {
     let mut buffer = [0u8; 1024];
     for _ in 0..MOST_TAKES {
         match input.take(&mut buffer) {
-            Ok(Got::Bytes(count)) => add(&mut left, buffer.get(..count).unwrap_or(&[])),
+            Ok(Got::Bytes(count)) => add(out, buffer.get(..count).unwrap_or(&[])),
             Ok(Got::End) => break,
             _ => {}
         }
     }
-    left
 }
 
 /// The records that are kept: none where there is no keeper.
@@ -31,16 +29,14 @@ pub(crate) fn table_of(keeper: &Option<MemKeeper>) -> &[(Name, Octets)] {
     }
 }
 
-/// A name and the bytes of its record, for each of the records.
-pub(crate) fn told_of(records: &[(Name, Octets)]) -> Text {
-    let mut out = Text::new();
+/// Adds a name and the bytes of its record, for each of the records.
+pub(crate) fn add_records(out: &mut Text, records: &[(Name, Octets)]) {
     for (name, bytes) in records {
-        add(&mut out, name.text());
-        add(&mut out, b" ");
-        add_hex(&mut out, bytes.bytes());
-        add(&mut out, b"\n");
+        add(out, name.text());
+        add(out, b" ");
+        add_hex(out, bytes.bytes());
+        add(out, b"\n");
     }
-    out
 }
 
 fn add_program(out: &mut Text, program: &Octets, args: &OctetsList) {
@@ -52,13 +48,11 @@ fn add_program(out: &mut Text, program: &Octets, args: &OctetsList) {
     add(out, b"\n");
 }
 
-/// The programs that were started, each with its arguments in a line.
-pub(crate) fn started_by(launcher: &MemLauncher) -> Text {
-    let mut out = Text::new();
+/// Adds the programs that were started, each with its arguments in a line.
+pub(crate) fn add_started(out: &mut Text, launcher: &MemLauncher) {
     for (program, args, _) in launcher.started() {
-        add_program(&mut out, program, args);
+        add_program(out, program, args);
     }
-    out
 }
 
 fn add_dest(out: &mut Text, dest: &Dest) {
@@ -70,22 +64,18 @@ fn add_dest(out: &mut Text, dest: &Dest) {
     add(out, b"\n");
 }
 
-/// The destinations that were asked for, each in a line.
-pub(crate) fn asked_of(dialer: &MemDialer) -> Text {
-    let mut out = Text::new();
+/// Adds the destinations that were asked for, each in a line.
+pub(crate) fn add_asked(out: &mut Text, dialer: &MemDialer) {
     for ask in dialer.asked() {
         match ask {
-            Ask::Main(dest) => add_dest(&mut out, dest),
+            Ask::Main(dest) => add_dest(out, dest),
         }
     }
-    out
 }
 
-/// What the servers were given whose links were hung up, one behind the other.
-pub(crate) fn given_over(dialer: &MemDialer) -> Text {
-    let mut out = Text::new();
+/// Adds what the servers were given whose links were hung up, one behind the other.
+pub(crate) fn add_given(out: &mut Text, dialer: &MemDialer) {
     for (_, to) in dialer.ended() {
-        add(&mut out, to.bytes());
+        add(out, to.bytes());
     }
-    out
 }

@@ -29,7 +29,8 @@ fn sweep_call<H: Threads + Sync, R: Runner>(
     swept: &mut Swept,
 ) -> Result<(), NoMemory> {
     if swept.difference.is_none() {
-        swept.difference = run_plan(rt, runner, plan, calls, &mut swept.after)?;
+        let (after, difference) = (&mut swept.after, &mut swept.difference);
+        run_plan(rt, runner, plan, calls, after, difference)?;
         swept.runs = swept.runs.saturating_add(1);
     }
     Ok(())

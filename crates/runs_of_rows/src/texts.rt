@@ -1,7 +1,5 @@
 //! Lines of texts.
 
-use crate::writing::{Text, add};
-
 /// How many line ends the text has.
 pub(crate) fn count_lines(text: &[u8]) -> u64 {
     let mut lines: u64 = 0;
@@ -43,34 +41,6 @@ pub(crate) fn first_lines(text: &[u8], lines: u64) -> &[u8] {
 /// The text from this line on, counted from 0.
 pub(crate) fn later_lines(text: &[u8], line: u64) -> &[u8] {
     text.get(end_of(text, line)..).unwrap_or(&[])
-}
-
-/// The text but for this line, counted from 0.
-pub(crate) fn without_line(text: &[u8], line: u64) -> Text {
-    let mut rest = Text::new();
-    add(&mut rest, first_lines(text, line));
-    add(&mut rest, later_lines(text, line.saturating_add(1)));
-    rest
-}
-
-// The text up to its last blank.
-fn without_last_word(text: &[u8]) -> &[u8] {
-    let mut end = 0;
-    for (at, byte) in text.iter().enumerate() {
-        if *byte == b' ' {
-            end = at.saturating_add(1);
-        }
-    }
-    text.get(..end).unwrap_or(&[])
-}
-
-/// The text with this for its last word.
-pub(crate) fn with_last_word(text: &[u8], word: &[u8]) -> Text {
-    let mut out = Text::new();
-    add(&mut out, without_last_word(text));
-    add(&mut out, word);
-    add(&mut out, b"\n");
-    out
 }
 
 /// Whether one of the lines begins with this one, which has its end.

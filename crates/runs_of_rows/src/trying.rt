@@ -42,11 +42,12 @@ fn run_console<H: Threads + Sync, R: Runner>(
     alloc: Global,
     said: &[u8],
     records: &mut Records,
-) -> Result<Difference, NoMemory> {
+    difference: &mut Difference,
+) -> Result<(), NoMemory> {
     let before = copy_of(alloc, records)?;
     let row = console_row(alloc, said)?;
     let plan = plan_of(alloc, &row, &before, WHOLE);
-    run_plan(rt, runner, &plan, 0, records)
+    run_plan(rt, runner, &plan, 0, records, difference)
 }
 
 // Runs all that is said at the console before the row, up to the first run in which something differs.
@@ -60,7 +61,7 @@ fn run_consoles<H: Threads + Sync, R: Runner>(
 ) -> Result<(), NoMemory> {
     for said in &row.setting.console {
         if swept.difference.is_none() {
-            swept.difference = run_console(rt, runner, alloc, said, records)?;
+            run_console(rt, runner, alloc, said, records, &mut swept.difference)?;
         }
     }
     Ok(())
@@ -101,7 +102,8 @@ fn run_pieces<H: Threads + Sync, R: Runner>(
     for piece in pieces_of(row) {
         if swept.difference.is_none() {
             let plan = plan_of(alloc, row, records, *piece);
-            swept.difference = run_plan(rt, runner, &plan, 0, &mut swept.after)?;
+            let (after, difference) = (&mut swept.after, &mut swept.difference);
+            run_plan(rt, runner, &plan, 0, after, difference)?;
         }
     }
     Ok(())
@@ -158,8 +160,7 @@ fn try_words<R: Runner>(
     swept: &mut Swept,
 ) -> Result<(), NoMemory> {
     left.push(Vec::new(alloc))?;
-    swept.difference = runner.misread(alloc, row, command)?;
-    Ok(())
+    runner.misread(alloc, row, command, &mut swept.difference)
 }
 
 fn try_row<H: Threads + Sync, R: Runner>(

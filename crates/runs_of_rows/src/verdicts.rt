@@ -2,8 +2,8 @@
 
 use crate::comparing::{Called, Expected, Rest, UNCALLED};
 use crate::devices::NEXT;
-use crate::texts::{first_lines, later_lines, with_last_word};
-use crate::writing::Text;
+use crate::parts::{Parts, whole};
+use crate::texts::{first_lines, later_lines};
 use format_of_rows::{Row, Wanted};
 use fw_types::{Name, Octets};
 
@@ -50,8 +50,8 @@ pub(crate) fn status_of(row: &Row) -> u8 {
 pub(crate) fn usual<'a>(row: &'a Row, records: &'a [(Name, Octets)]) -> Expected<'a> {
     Expected {
         status: status_of(row),
-        output: &row.wanted.output,
-        log: &row.wanted.log,
+        output: Some(&row.wanted.output),
+        log: whole(&row.wanted.log),
         called: called_by(&row.wanted),
         rest: Rest {
             next: next_by(row),
@@ -65,11 +65,11 @@ pub(crate) fn usual<'a>(row: &'a Row, records: &'a [(Name, Octets)]) -> Expected
 pub(crate) fn untouched<'a>(
     row: &'a Row,
     records: &'a [(Name, Octets)],
-    log: &'a [u8],
+    log: Parts<'a>,
 ) -> Expected<'a> {
     Expected {
         status: 4,
-        output: &[],
+        output: Some(&[]),
         log,
         called: UNCALLED,
         rest: Rest {
@@ -81,10 +81,10 @@ pub(crate) fn untouched<'a>(
 }
 
 /// What is expected of a session that ends early with this log, after these texts.
-pub(crate) fn stopped<'a>(output: &'a [u8], log: &'a [u8], next: Option<u64>) -> Expected<'a> {
+pub(crate) fn stopped<'a>(output: &'a [u8], log: Parts<'a>, next: Option<u64>) -> Expected<'a> {
     Expected {
         status: 4,
-        output,
+        output: Some(output),
         log,
         called: UNCALLED,
         rest: Rest {
@@ -95,12 +95,12 @@ pub(crate) fn stopped<'a>(output: &'a [u8], log: &'a [u8], next: Option<u64>) ->
     }
 }
 
-/// What is expected of a session that goes on to its end, in which this was told.
-pub(crate) fn lasting<'a>(row: &'a Row, output: &'a [u8]) -> Expected<'a> {
+/// What is expected of a session that goes on to its end, whatever is told in it.
+pub(crate) fn lasting(row: &Row) -> Expected<'_> {
     Expected {
         status: status_of(row),
-        output,
-        log: &row.wanted.log,
+        output: None,
+        log: whole(&row.wanted.log),
         called: UNCALLED,
         rest: Rest {
             next: None,
@@ -181,9 +181,4 @@ pub(crate) fn is_plug(row: &Row) -> bool {
 fn last_line(row: &Row) -> &[u8] {
     let verdict = verdict(row);
     later_lines(&row.wanted.log, if verdict.is_empty() { 0 } else { 1 })
-}
-
-/// The log of a session that ended for this cause.
-pub(crate) fn log_of(row: &Row, cause: &[u8]) -> Text {
-    with_last_word(&row.wanted.log, cause)
 }

@@ -35,7 +35,7 @@ pub(crate) fn add_hex(out: &mut Text, bytes: &[u8]) {
     }
 }
 
-fn add_escaped(out: &mut Text, byte: u8) {
+fn add_byte(out: &mut Text, byte: u8) {
     match byte {
         b'\n' => add(out, b"\\n"),
         b'\\' => add(out, b"\\\\"),
@@ -47,11 +47,9 @@ fn add_escaped(out: &mut Text, byte: u8) {
     }
 }
 
-/// Adds a text with its quotes, and a line's end and what is no printing character as an escape.
-pub(crate) fn add_quoted(out: &mut Text, text: &[u8]) {
-    add(out, b"\"");
+/// Adds a text, in which a line's end and what is no printing character stands as an escape.
+pub(crate) fn add_escaped(out: &mut Text, text: &[u8]) {
     for byte in text {
-        add_escaped(out, *byte);
+        add_byte(out, *byte);
     }
-    add(out, b"\"");
 }
