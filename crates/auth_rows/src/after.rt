@@ -1,6 +1,6 @@
 //! What is there after a scene.
 
-use crate::asking::row_of;
+use crate::asking::{Row, row_of};
 use crate::fault::{Fault, Line, check};
 use crate::stage::{Stage, load};
 use auth_events::{Entry, Request};
@@ -76,12 +76,35 @@ fn are_at(history: &[Entry], sid: u64, moments: &[u64]) -> bool {
     true
 }
 
+// Whether the lines say why the book isn't opened.
+fn says_unopened(lines: &[Line<'_>]) -> bool {
+    for line in lines {
+        if line.word() == "unopened" {
+            return true;
+        }
+    }
+    false
+}
+
 fn told_moments(history: &[Entry]) -> Told {
     let mut told = Told::new();
     for entry in history {
         add_number(&mut told, entry.at);
     }
     told
+}
+
+// Compares the entry of a request that was asked with what the line says.
+fn compare_asked(line: &Line<'_>, row: &Row, entry: &Entry, place: u64) -> Result<(), Fault> {
+    let sid = if row.opens() { place } else { row.sid };
+    check(line, entry.sid == sid, b"another session in the history")?;
+    check(line, entry.at == row.at, b"another moment in the history")?;
+    check(
+        line,
+        row.is_told(&entry.reply),
+        b"another reply in the history",
+    )?;
+    check(line, entry.kept != row.is_unkept(), b"kept otherwise")
 }
 
 impl After {
@@ -98,7 +121,8 @@ impl After {
     fn compare_moments(&self, alloc: Global, line: &Line<'_>) -> Result<(), Fault> {
         let text = line.rest(alloc)?;
         let (sid, moments) = cut_word(&text);
-        let is_so = are_at(&self.history, number_of(sid), &numbers_of(alloc, moments)?);
+        let moments = numbers_of(alloc, moments)?;
+        let is_so = are_at(&self.history, number_of(sid), &moments);
         check(line, is_so, told_moments(&self.history).as_slice())
     }
 
@@ -117,18 +141,10 @@ impl After {
     // Compares the entry of a request that was asked, by its place.
     fn compare_row(&self, alloc: Global, line: &Line<'_>, place: u64) -> Result<(), Fault> {
         let row = row_of(alloc, line)?;
-        let Some(entry) = self.history.get(place as usize) else {
-            return Err(line.differs(b"no entry"));
-        };
-        let sid = if row.opens() { place } else { row.sid };
-        check(line, entry.sid == sid, b"another session in the history")?;
-        check(line, entry.at == row.at, b"another moment in the history")?;
-        check(
-            line,
-            row.is_told(&entry.reply),
-            b"another reply in the history",
-        )?;
-        check(line, entry.kept != row.is_unkept(), b"kept otherwise")
+        match self.history.get(place as usize) {
+            Some(entry) => compare_asked(line, &row, entry, place),
+            None => Err(line.differs(b"no entry")),
+        }
     }
 
     // Compares the history with the requests.
@@ -159,6 +175,13 @@ impl After {
         check(line, told.as_slice() == text.as_slice(), told.as_slice())
     }
 
+    // Compares why the book wasn't opened.
+    fn compare_reason(&self, alloc: Global, line: &Line<'_>) -> Result<(), Fault> {
+        let says = line.rest(alloc)?;
+        let opening = self.opening.as_slice();
+        check(line, opening == says.as_slice(), opening)
+    }
+
     // Compares a line other than `keeps`.
     fn compare_line(
         &self,
@@ -171,18 +194,14 @@ impl After {
             "moments" => self.compare_moments(alloc, line),
             "response" => self.compare_entry(alloc, line),
             "password" => self.compare_entry(alloc, line),
-            "unopened" => {
-                let says = line.rest(alloc)?;
-                let opening = self.opening.as_slice();
-                check(line, opening == says.as_slice(), opening)
-            }
+            "unopened" => self.compare_reason(alloc, line),
             _ => Ok(()),
         }
     }
 
     // Where the book wasn't opened, a scene says so.
     fn compare_opening(&self, lines: &[Line<'_>]) -> Result<(), Fault> {
-        let is_told = lines.iter().any(|line| line.word() == "unopened");
+        let is_told = says_unopened(lines);
         match lines.first() {
             Some(line) => check(
                 line,
@@ -199,9 +218,8 @@ impl After {
         check(line, is_so, b"other records are kept")
     }
 
-    /// Compares what is there with what the lines say.
-    pub(crate) fn compare(&self, alloc: Global, lines: &[Line<'_>]) -> Result<(), Fault> {
-        self.compare_opening(lines)?;
+    // Compares each line, and counts those that say what is kept.
+    fn compare_lines(&self, alloc: Global, lines: &[Line<'_>]) -> Result<usize, Fault> {
         let mut kept = 0usize;
         for line in lines {
             if line.word() == "keeps" {
@@ -211,6 +229,13 @@ impl After {
                 self.compare_line(alloc, line, lines)?;
             }
         }
+        Ok(kept)
+    }
+
+    /// Compares what is there with what the lines say.
+    pub(crate) fn compare(&self, alloc: Global, lines: &[Line<'_>]) -> Result<(), Fault> {
+        self.compare_opening(lines)?;
+        let kept = self.compare_lines(alloc, lines)?;
         match lines.first() {
             Some(line) => self.compare_count(line, kept),
             None => Ok(()),

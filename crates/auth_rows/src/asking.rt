@@ -71,19 +71,34 @@ fn told_of(reply: &Reply) -> Told {
     told
 }
 
-/// What the line asks.
-pub(crate) fn row_of(alloc: Global, line: &Line<'_>) -> Result<Row, NoMemory> {
-    let (left, right) = line.text.split_once(" =>").unwrap_or((line.text, ""));
+// What a line asks and says, before and behind the arrow.
+fn sides_of<'a>(line: &Line<'a>) -> (&'a str, &'a str) {
+    let Some((left, right)) = line.text.split_once(" =>") else {
+        return (line.text, "");
+    };
     let right = right.strip_prefix("*").unwrap_or(right);
-    let left = unescape(alloc, left)?;
-    let (sid, rest) = cut_word(&left);
+    (left, right.strip_prefix(" ").unwrap_or(right))
+}
+
+// A row of these.
+fn new_row(alloc: Global, left: &[u8], told: Vec<u8>) -> Result<Row, NoMemory> {
+    let (sid, rest) = cut_word(left);
     let (at, asked) = cut_word(rest);
+    let asked = Vec::from_slice(alloc, asked)?;
     Ok(Row {
         sid: number_of(sid),
         at: number_of(at),
-        asked: Vec::from_slice(alloc, asked)?,
-        told: unescape(alloc, right.strip_prefix(" ").unwrap_or(right))?,
+        asked,
+        told,
     })
+}
+
+/// What the line asks.
+pub(crate) fn row_of(alloc: Global, line: &Line<'_>) -> Result<Row, NoMemory> {
+    let (left, right) = sides_of(line);
+    let left = unescape(alloc, left)?;
+    let told = unescape(alloc, right)?;
+    new_row(alloc, &left, told)
 }
 
 impl Row {
@@ -103,12 +118,17 @@ impl Row {
     }
 }
 
+// Asks this of the book, and compares the reply with what the row says.
+fn ask_row(line: &Line<'_>, stage: &mut Stage, row: &Row, request: Request) -> Result<(), Fault> {
+    let reply = stage.ask(row.sid, row.at, request)?;
+    check(line, row.is_told(&reply), told_of(&reply).as_slice())
+}
+
 /// Asks what the line asks.
 pub(crate) fn ask(alloc: Global, line: &Line<'_>, stage: &mut Stage) -> Result<(), Fault> {
     let row = row_of(alloc, line)?;
-    let Some(request) = request_of(&row.asked) else {
-        return Err(line.differs(b"no request"));
-    };
-    let reply = stage.ask(row.sid, row.at, request)?;
-    check(line, row.is_told(&reply), told_of(&reply).as_slice())
+    match request_of(&row.asked) {
+        Some(request) => ask_row(line, stage, &row, request),
+        None => Err(line.differs(b"no request")),
+    }
 }

@@ -80,19 +80,32 @@ fn play_scene(rt: &HostRuntime, lines: &[Line<'_>]) -> io::Result<Count> {
     }
 }
 
-// Plays the scenes of a text.
-fn play_text(rt: &HostRuntime, text: &str) -> io::Result<Count> {
+// Takes a line in, behind the lines of the scene that goes on. Where it begins a scene, plays those first.
+fn take_line<'a>(rt: &HostRuntime, lines: &mut Vec<Line<'a>>, line: Line<'a>) -> io::Result<Count> {
     let mut count = Count::none();
-    let mut lines: Vec<Line<'_>> = Vec::new(rt.alloc());
+    if line.text.starts_with("scene ") {
+        count = play_scene(rt, lines.as_slice())?;
+        lines.clear();
+    }
+    lines.push(line)?;
+    Ok(count)
+}
+
+// Plays the scenes of a text but the last one, whose lines are then left.
+fn play_lines<'a>(rt: &HostRuntime, text: &'a str, lines: &mut Vec<Line<'a>>) -> io::Result<Count> {
+    let mut count = Count::none();
     let mut number = 0u64;
     for line in text.lines() {
         number = number.saturating_add(1);
-        if line.starts_with("scene ") {
-            count.add(play_scene(rt, lines.as_slice())?);
-            lines.clear();
-        }
-        lines.push(Line { number, text: line })?;
+        count.add(take_line(rt, lines, Line { number, text: line })?);
     }
+    Ok(count)
+}
+
+// Plays the scenes of a text.
+fn play_text(rt: &HostRuntime, text: &str) -> io::Result<Count> {
+    let mut lines: Vec<Line<'_>> = Vec::new(rt.alloc());
+    let mut count = play_lines(rt, text, &mut lines)?;
     count.add(play_scene(rt, lines.as_slice())?);
     Ok(count)
 }

@@ -3,37 +3,63 @@
 use crate::after::{After, told_fault};
 use crate::asking::ask;
 use crate::fault::{Fault, Line, check};
-use crate::setup::{Setup, setup_of};
-use crate::stage::{Stage, load, open_book};
+use crate::setup::{Setup, policy_of, setup_of};
+use crate::stage::{Stage, keeper_of, load, open};
 use crate::sweeps::sweep;
 use crate::talk::{Break, Talk};
-use lines_of_rows::Told;
+use auth_machine::{OpenFault, Policy};
+use fw_memory::MemKeeper;
+use fw_types::{Name, NoMemory, Octets};
+use lines_of_rows::{Told, add};
 use std::alloc::Global;
 
-/// A book of the setup, whose keeper fails at these calls.
-pub(crate) fn book_of(
+/// A book at work, or what is there where it isn't opened.
+#[derive(Drop)]
+pub(crate) enum Opening {
+    Open(Stage),
+    Shut(After),
+}
+
+// What is there where the book isn't opened, for this reason.
+fn shut(alloc: Global, opening: Told, loaded: Vec<(Name, Octets)>) -> Opening {
+    Opening::Shut(After {
+        opening,
+        history: Vec::new(alloc),
+        loaded,
+    })
+}
+
+// What is there where the keeper or its records refuse the book.
+fn refused(alloc: Global, keeper: MemKeeper, fault: &OpenFault) -> Opening {
+    let opening = told_fault(fault);
+    shut(alloc, opening, load(alloc, keeper))
+}
+
+// A book by this policy.
+fn opened_by(
     alloc: Global,
     setup: &Setup,
+    policy: Policy,
     fails: &[u64],
-) -> Result<Result<Stage, After>, Fault> {
-    match open_book(alloc, setup, fails)? {
-        Some(Ok(stage)) => Ok(Ok(stage)),
-        Some(Err((keeper, fault))) => Ok(Err(After {
-            opening: told_fault(&fault),
-            history: Vec::new(alloc),
-            loaded: load(alloc, keeper),
-        })),
-        None => Ok(Err(After {
-            opening: no_policy(),
-            history: Vec::new(alloc),
-            loaded: Vec::new(alloc),
-        })),
+) -> Result<Opening, NoMemory> {
+    let keeper = keeper_of(alloc, setup, fails)?;
+    match open(alloc, keeper, policy, setup.limit) {
+        Ok(stage) => Ok(Opening::Open(stage)),
+        Err((keeper, fault)) => Ok(refused(alloc, keeper, &fault)),
+    }
+}
+
+/// A book of the setup, whose keeper fails at these calls.
+pub(crate) fn book_of(alloc: Global, setup: &Setup, fails: &[u64]) -> Result<Opening, NoMemory> {
+    match policy_of(alloc, &setup.table) {
+        Some(policy) => opened_by(alloc, setup, policy, fails),
+        None => Ok(shut(alloc, no_policy(), Vec::new(alloc))),
     }
 }
 
 fn no_policy() -> Told {
     let mut told = Told::new();
-    lines_of_rows::add(&mut told, b"no policy");
+    add(&mut told, b"no policy");
     told
 }
 
@@ -55,6 +81,12 @@ pub(crate) fn act(
     Ok(())
 }
 
+// Takes in what is said of a session.
+fn take(alloc: Global, line: &Line<'_>, word: &str, talk: &mut Talk) -> Result<(), NoMemory> {
+    let text = line.rest(alloc)?;
+    talk.take(alloc, word, &text)
+}
+
 // Takes in a line of a session, or holds it.
 fn step(
     alloc: Global,
@@ -66,7 +98,7 @@ fn step(
     match line.word() {
         "session" => *talk = Talk::new(alloc, line.text == "session console"),
         "ends" => talk.hold(alloc, line, stage, broken)?,
-        word => talk.take(alloc, word, &line.rest(alloc)?)?,
+        word => take(alloc, line, word, talk)?,
     }
     Ok(())
 }
@@ -77,10 +109,19 @@ const WORDS: [&str; 20] = [
     "unopened",
 ];
 
+fn is_listed(word: &str) -> bool {
+    for known in WORDS {
+        if known == word {
+            return true;
+        }
+    }
+    false
+}
+
 // Whether the line is one of those that a scene may have.
 fn is_known(line: &Line<'_>) -> bool {
     let word = line.word();
-    line.is_blank() || line.is_row() || word == "sweep" || WORDS.iter().any(|known| *known == word)
+    line.is_blank() || line.is_row() || word == "sweep" || is_listed(word)
 }
 
 fn know(lines: &[Line<'_>]) -> Result<(), Fault> {
@@ -90,17 +131,31 @@ fn know(lines: &[Line<'_>]) -> Result<(), Fault> {
     Ok(())
 }
 
+// What is there after the scene of these lines, over this book.
+fn acted(alloc: Global, lines: &[Line<'_>], mut stage: Stage) -> Result<After, Fault> {
+    act(alloc, lines, &mut stage, None)?;
+    Ok(After::of(alloc, stage))
+}
+
+// What is there after the scene of these lines.
+fn after(alloc: Global, lines: &[Line<'_>], opening: Opening) -> Result<After, Fault> {
+    match opening {
+        Opening::Open(stage) => acted(alloc, lines, stage),
+        Opening::Shut(after) => Ok(after),
+    }
+}
+
+// Plays the scene of these lines over its setup, and compares what is there.
+fn play_over(alloc: Global, lines: &[Line<'_>], setup: &Setup) -> Result<(), Fault> {
+    let opening = book_of(alloc, setup, &setup.fails)?;
+    let after = after(alloc, lines, opening)?;
+    after.compare(alloc, lines)
+}
+
 /// Plays the scene of these lines.
 pub(crate) fn play(alloc: Global, lines: &[Line<'_>]) -> Result<(), Fault> {
     know(lines)?;
     let setup = setup_of(alloc, lines)?;
-    let after = match book_of(alloc, &setup, &setup.fails)? {
-        Ok(mut stage) => {
-            act(alloc, lines, &mut stage, None)?;
-            After::of(alloc, stage)
-        }
-        Err(after) => after,
-    };
-    after.compare(alloc, lines)?;
+    play_over(alloc, lines, &setup)?;
     sweep(alloc, lines, &setup)
 }

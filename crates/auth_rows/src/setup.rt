@@ -68,28 +68,33 @@ fn group_of(text: &[u8]) -> Option<Name> {
     Name::read(text)
 }
 
+fn proto_of(password: &[u8]) -> Proto {
+    if password == b"-".as_slice() {
+        return Proto::Otp;
+    }
+    Proto::Plain
+}
+
 // The record of a line `user`.
 fn record_of(text: &[u8]) -> Option<Record> {
     let (name, rest) = cut_word(text);
     let (group, rest) = cut_word(rest);
     let (wiz, rest) = cut_word(rest);
     let (password, long) = cut_word(rest);
-    let otp = otp_of(password);
+    let name = Name::read(name)?;
+    let long = LongName::read(long)?;
+    let wiz = wiz_of(wiz)?;
     Some(Record {
-        name: Name::read(name)?,
-        long: LongName::read(long)?,
+        name,
+        long,
         group: group_of(group),
-        proto: if otp.is_some() {
-            Proto::Otp
-        } else {
-            Proto::Plain
-        },
+        proto: proto_of(password),
         enabled: true,
-        wiz: wiz_of(wiz)?,
+        wiz,
         fails: 0,
         since: 0,
         plain: plain_of(password),
-        otp,
+        otp: otp_of(password),
     })
 }
 
@@ -105,10 +110,14 @@ fn entry_of(alloc: Global, text: &[u8]) -> Result<Option<(Name, Octets)>, NoMemo
 
 impl Setup {
     fn user(&mut self, alloc: Global, line: &Line<'_>, text: &[u8]) -> Result<(), Fault> {
-        let Some(record) = record_of(text) else {
-            return Err(line.differs(b"no user"));
-        };
-        let bytes = encode(alloc, &record)?;
+        match record_of(text) {
+            Some(record) => Ok(self.add_record(alloc, &record)?),
+            None => Err(line.differs(b"no user")),
+        }
+    }
+
+    fn add_record(&mut self, alloc: Global, record: &Record) -> Result<(), NoMemory> {
+        let bytes = encode(alloc, record)?;
         self.entries.push((record.name.twin(), bytes))?;
         Ok(())
     }
@@ -146,6 +155,13 @@ impl Setup {
     }
 }
 
+fn take_all(alloc: Global, lines: &[Line<'_>], setup: &mut Setup) -> Result<(), Fault> {
+    for line in lines {
+        setup.take(alloc, line)?;
+    }
+    Ok(())
+}
+
 /// What the lines of a scene begin with.
 pub(crate) fn setup_of(alloc: Global, lines: &[Line<'_>]) -> Result<Setup, Fault> {
     let mut setup = Setup {
@@ -154,9 +170,7 @@ pub(crate) fn setup_of(alloc: Global, lines: &[Line<'_>]) -> Result<Setup, Fault
         limit: 1000,
         fails: Vec::new(alloc),
     };
-    for line in lines {
-        setup.take(alloc, line)?;
-    }
+    take_all(alloc, lines, &mut setup)?;
     Ok(setup)
 }
 

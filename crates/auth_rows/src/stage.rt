@@ -1,6 +1,6 @@
 //! The book, and what is done with it.
 
-use crate::setup::{Setup, policy_of};
+use crate::setup::Setup;
 use auth_events::{Entry, Reply, Request};
 use auth_machine::{Book, OpenFault, Policy};
 use authsrv_gate::authsrv_session;
@@ -23,41 +23,42 @@ pub(crate) struct Devices {
     pub(crate) clock: MemClock,
 }
 
-// Opens a book.
-fn open(
+/// Opens the book, or says why it isn't opened.
+pub(crate) fn open(
     alloc: Global,
     keeper: MemKeeper,
     policy: Policy,
     limit: u64,
-) -> Result<Book<MemKeeper>, (MemKeeper, OpenFault)> {
-    Book::open(alloc, keeper, policy, limit)
+) -> Result<Stage, (MemKeeper, OpenFault)> {
+    match Book::open(alloc, keeper, policy, limit) {
+        Ok(book) => Ok(Stage { book }),
+        Err(refused) => Err(refused),
+    }
+}
+
+fn twin_of(alloc: Global, name: &Name, bytes: &Octets) -> Result<(Name, Octets), NoMemory> {
+    let bytes = Octets::copy(alloc, bytes.bytes())?;
+    Ok((name.twin(), bytes))
 }
 
 fn copy_of(alloc: Global, entries: &[(Name, Octets)]) -> Result<Vec<(Name, Octets)>, NoMemory> {
     let mut copy = Vec::new(alloc);
-    for entry in entries {
-        let bytes = Octets::copy(alloc, entry.1.bytes())?;
-        copy.push((entry.0.twin(), bytes))?;
+    for (name, bytes) in entries {
+        let twin = twin_of(alloc, name, bytes)?;
+        copy.push(twin)?;
     }
     Ok(copy)
 }
 
-/// Opens the book whose keeper fails at these calls, or says why it isn't opened. Nothing where the table gives
-/// no policy.
-pub(crate) fn open_book(
+/// The keeper of the setup, which fails at these calls.
+pub(crate) fn keeper_of(
     alloc: Global,
     setup: &Setup,
     fails: &[u64],
-) -> Result<Option<Result<Stage, (MemKeeper, OpenFault)>>, NoMemory> {
-    let Some(policy) = policy_of(alloc, &setup.table) else {
-        return Ok(None);
-    };
+) -> Result<MemKeeper, NoMemory> {
+    let fails = Calls::of(alloc, fails)?;
     let entries = copy_of(alloc, &setup.entries)?;
-    let keeper = MemKeeper::new(alloc, entries, Calls::of(alloc, fails)?);
-    match open(alloc, keeper, policy, setup.limit) {
-        Ok(book) => Ok(Some(Ok(Stage { book }))),
-        Err(refused) => Ok(Some(Err(refused))),
-    }
+    Ok(MemKeeper::new(alloc, entries, fails))
 }
 
 impl Stage {

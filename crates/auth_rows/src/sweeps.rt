@@ -1,19 +1,20 @@
 //! A scene played again with a device that breaks.
 
 use crate::fault::{Fault, Line, check};
-use crate::play::{act, book_of};
+use crate::play::{Opening, act, book_of};
 use crate::setup::Setup;
 use crate::stage::Stage;
 use crate::talk::{Break, Device};
 use auth_events::{Entry, Request};
+use fw_types::NoMemory;
 use lines_of_rows::{cut_word, number_of};
 use std::alloc::Global;
 
 // A book of the setup, whose keeper fails at these calls, or the line differs.
 fn stage_of(alloc: Global, line: &Line<'_>, setup: &Setup, fails: &[u64]) -> Result<Stage, Fault> {
     match book_of(alloc, setup, fails)? {
-        Ok(stage) => Ok(stage),
-        Err(_) => Err(line.differs(b"the book isn't opened")),
+        Opening::Open(stage) => Ok(stage),
+        Opening::Shut(_) => Err(line.differs(b"the book isn't opened")),
     }
 }
 
@@ -25,6 +26,22 @@ fn is_closed(history: &[Entry]) -> bool {
     }
 }
 
+// Plays the scene over this book with a break in its session.
+fn break_over(
+    alloc: Global,
+    lines: &[Line<'_>],
+    line: &Line<'_>,
+    stage: &mut Stage,
+    at: Break,
+) -> Result<(), Fault> {
+    act(alloc, lines, stage, Some(at))?;
+    check(
+        line,
+        is_closed(stage.history()),
+        b"the session isn't closed",
+    )
+}
+
 // Plays the scene with a break in its session.
 fn break_session(
     alloc: Global,
@@ -34,12 +51,7 @@ fn break_session(
     at: Break,
 ) -> Result<(), Fault> {
     let mut stage = stage_of(alloc, line, setup, &setup.fails)?;
-    act(alloc, lines, &mut stage, Some(at))?;
-    check(
-        line,
-        is_closed(stage.history()),
-        b"the session isn't closed",
-    )
+    break_over(alloc, lines, line, &mut stage, at)
 }
 
 // Breaks the device at each of its first calls.
@@ -77,6 +89,47 @@ fn is_last_kept(history: &[Entry]) -> bool {
     }
 }
 
+// The calls at which the keeper fails, with one more.
+fn one_more(alloc: Global, setup: &Setup, call: u64) -> Result<Vec<u64>, NoMemory> {
+    let mut fails = Vec::from_slice(alloc, &setup.fails)?;
+    fails.push(call)?;
+    Ok(fails)
+}
+
+// Compares where the scene differed: at the line of this number, for a change that isn't kept.
+fn compare_break(
+    line: &Line<'_>,
+    stage: &Stage,
+    wanted: Option<u64>,
+    number: u64,
+    is_unkept: bool,
+) -> Result<(), Fault> {
+    check(
+        line,
+        wanted == Some(number),
+        b"another request calls the keeper",
+    )?;
+    check(
+        line,
+        is_unkept && !is_last_kept(stage.history()),
+        b"a change that isn't kept is answered otherwise",
+    )
+}
+
+// Plays the scene over this book, and compares where it differs: at the line of this number, or nowhere.
+fn differ_over(
+    alloc: Global,
+    lines: &[Line<'_>],
+    line: &Line<'_>,
+    stage: &mut Stage,
+    wanted: Option<u64>,
+) -> Result<(), Fault> {
+    match difference(act(alloc, lines, stage, None))? {
+        None => check(line, wanted.is_none(), b"a call of the keeper isn't made"),
+        Some((number, is_unkept)) => compare_break(line, stage, wanted, number, is_unkept),
+    }
+}
+
 // Plays the scene with a keeper that fails at one call more, and compares where it differs: at this line, or
 // nowhere.
 fn break_call(
@@ -87,25 +140,9 @@ fn break_call(
     call: u64,
     wanted: Option<u64>,
 ) -> Result<(), Fault> {
-    let mut fails = Vec::from_slice(alloc, &setup.fails)?;
-    fails.push(call)?;
+    let fails = one_more(alloc, setup, call)?;
     let mut stage = stage_of(alloc, line, setup, &fails)?;
-    match difference(act(alloc, lines, &mut stage, None))? {
-        None => check(line, wanted.is_none(), b"a call of the keeper isn't made"),
-        Some((number, is_unkept)) => {
-            check(
-                line,
-                wanted == Some(number),
-                b"another request calls the keeper",
-            )?;
-            let is_so = is_unkept && !is_last_kept(stage.history());
-            check(
-                line,
-                is_so,
-                b"a change that isn't kept is answered otherwise",
-            )
-        }
-    }
+    differ_over(alloc, lines, line, &mut stage, wanted)
 }
 
 // Fails each of the keeper's calls in turn, and one more.

@@ -34,10 +34,15 @@ pub(crate) struct Talk {
     sink: Calls,
 }
 
+fn listed(alloc: Global, text: &[u8]) -> Result<Calls, NoMemory> {
+    let numbers = numbers_of(alloc, text)?;
+    Calls::of(alloc, &numbers)
+}
+
 fn calls_of(alloc: Global, text: &[u8]) -> Result<Calls, NoMemory> {
     match text {
         [digits @ .., b'+'] => Ok(Calls::onward(number_of(digits))),
-        _ => Calls::of(alloc, &numbers_of(alloc, text)?),
+        _ => listed(alloc, text),
     }
 }
 
@@ -101,14 +106,28 @@ impl Talk {
         Ok(())
     }
 
-    fn devices(&self, alloc: Global) -> Result<Devices, NoMemory> {
+    fn source(&self, alloc: Global) -> Result<MemSource, NoMemory> {
+        let source = self.source.copy(alloc)?;
+        let idle = self.idle.copy(alloc)?;
         let said = Octets::copy(alloc, &self.said)?;
-        let (source, idle) = (self.source.copy(alloc)?, self.idle.copy(alloc)?);
-        Ok(Devices {
-            from: MemSource::new(said, 1, source, idle),
-            to: MemSink::new(alloc, 4096, self.sink.copy(alloc)?)?,
-            clock: MemClock::new(Vec::from_slice(alloc, &self.clock)?),
-        })
+        Ok(MemSource::new(said, 1, source, idle))
+    }
+
+    fn sink(&self, alloc: Global) -> Result<MemSink, NoMemory> {
+        let fails = self.sink.copy(alloc)?;
+        MemSink::new(alloc, 4096, fails)
+    }
+
+    fn clock(&self, alloc: Global) -> Result<MemClock, NoMemory> {
+        let moments = Vec::from_slice(alloc, &self.clock)?;
+        Ok(MemClock::new(moments))
+    }
+
+    fn devices(&self, alloc: Global) -> Result<Devices, NoMemory> {
+        let clock = self.clock(alloc)?;
+        let to = self.sink(alloc)?;
+        let from = self.source(alloc)?;
+        Ok(Devices { from, to, clock })
     }
 
     // Whether the client was given what the scene says, or a front of that where a device broke.
@@ -117,6 +136,33 @@ impl Talk {
             return self.given.as_slice().starts_with(given);
         }
         self.given.as_slice() == given
+    }
+
+    // Compares how the session ended with what the line says, or with what the break says.
+    fn compare(
+        &self,
+        alloc: Global,
+        line: &Line<'_>,
+        ending: &[u8],
+        given: &[u8],
+        broken: Option<Break>,
+    ) -> Result<(), Fault> {
+        let says = line.rest(alloc)?;
+        check(line, ending == wanted(&says, broken), ending)?;
+        check(line, self.is_given(given, broken.is_some()), given)
+    }
+
+    // Holds the session over these devices, and compares how it ends.
+    fn hold_over(
+        &self,
+        alloc: Global,
+        line: &Line<'_>,
+        stage: &mut Stage,
+        broken: Option<Break>,
+        devices: &mut Devices,
+    ) -> Result<(), Fault> {
+        let ending = name_of(stage.hold(self.console, devices));
+        self.compare(alloc, line, ending, devices.to.bytes(), broken)
     }
 
     /// Holds the session, and compares how it ends with what the line says, or with what the break says.
@@ -131,11 +177,7 @@ impl Talk {
             self.break_at(alloc, at)?;
         }
         let mut devices = self.devices(alloc)?;
-        let ending = name_of(stage.hold(self.console, &mut devices));
-        let says = line.rest(alloc)?;
-        check(line, ending == wanted(&says, broken), ending)?;
-        let given = devices.to.bytes();
-        check(line, self.is_given(given, broken.is_some()), given)
+        self.hold_over(alloc, line, stage, broken, &mut devices)
     }
 }
 

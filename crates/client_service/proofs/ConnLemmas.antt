@@ -28,44 +28,22 @@ use Rattle.session_acts.proofs.DeviceLemmas.{by_nothing}
 use Rattle.session_acts.proofs.ServerlessLemmas.{logged_serverless, session_serverless}
 use Rattle.session_acts.proofs.SpentLemmas.{session_spent}
 use Rattle.session_acts.proofs.WaitedLemmas.{session_waited}
-use Rattle.client_service.specs.Conn.{AtConsole, CausedBy, Causes, Conn, Dials, IsRefused, NotedIf, Permits, TakesBy, Treats, TurnsAway, WaitsAs, WaitsBy, is_linked}
+use Rattle.client_service.specs.Conn.{AtConsole, CausedBy, Causes, Conn, Dials, FrontsBy, IsRefused, NotedIf, Permits, TakesBy, Treats, TurnsAway, WaitsAs, WaitsBy, is_linked}
 use Rattle.client_service.specs.Decision.{decision_text}
 use Rattle.client_service.specs.Endings.{denied_text, ending_line}
 use Rattle.client_service.specs.Meeting.{denied_by, dialer_then, lent_by, logged_row, patient, timeout_of}
 use Rattle.client_service.specs.PlugService.{CausedLinked, LinksTo, LogsDenial, plug_devices}
+use Rattle.client_service.proofs.FrontsLemmas.{fronts_later, plug_gives}
+use Rattle.client_service.proofs.LaterLemmas.{caused_later, causes_later, keeps_later, noted_most, noted_shut, takes_later, waits_with, with_logs}
 use Rattle.client_service.proofs.PlugLemmas.{LogsOnly, plug_caused, plug_dials, silent_denial}
-use Rattle.client_service.proofs.SinkLemmas.{gives_most, gives_shut, rose_later, same_low}
+use Rattle.client_service.proofs.SinkLemmas.{same_low}
 use Rattle.client_service.proofs.WaitLemmas.{session_waits}
-
-noted_most : (line : Option (List ℕ)) (old new : SinkView) → NotedIf line old new → old.faults ≤ new.faults
-noted_most None old new is = same_low old.faults new.faults (ap (λ (s : SinkView). s.faults) is)
-noted_most (Some line) old new noted = gives_most noted.told line old new noted.gives
-
-noted_shut : (line : Option (List ℕ)) (old new : SinkView) → NotedIf line old new → new.shut ≡ old.shut
-noted_shut None old new is = ap (λ (s : SinkView). s.shut) is
-noted_shut (Some line) old new noted = gives_shut noted.told line old new noted.gives
 
 -- a log that failed is told no ending
 unended : (service : Service) (peer : Peer) (ending : Ending) → ending ≡ LogFault → ending_line service peer ending ≡ None
 unended service peer ending is = ap (ending_line service peer) is
 
 module _ {Origin : Type 0} where
-  abbrev with_logs : Devices Origin → SinkView → Devices Origin
-  with_logs devices logs = record devices { logs = logs }
-
-  -- the ending's line is given to the log alone
-  caused_later : (ending : Ending) (old new : Devices Origin) (logs : SinkView) → logs.faults ≤ new.logs.faults → CausedAlone ending old (with_logs new logs) → CausedAlone ending old new
-  caused_later Done old new logs later h = tt
-  caused_later (Denied line) old new logs later h = h
-  caused_later ClientFault old new logs later h = h
-  caused_later ServerFault old new logs later h = h
-  caused_later LogFault old new logs later h = rose_later old.logs.faults logs.faults new.logs.faults h later
-  caused_later AuthFault old new logs later h = h
-  caused_later Idle old new logs later h = h
-  caused_later NoRoute old new logs later h = h
-  caused_later Spent old new logs later h = h
-  caused_later NoMemory old new logs later h = tt
-
   -- how long the devices wait counts for nothing
   caused_patient : (seconds : ℕ) (ending : Ending) (old new : Devices Origin) → CausedAlone ending (patient seconds old) new → CausedAlone ending old new
   caused_patient seconds Done old new h = tt
@@ -94,35 +72,6 @@ module _ {Origin : Type 0} where
   causes_of linked verdict Spent old new h = h
   causes_of linked verdict NoMemory old new h = h
 
-  linked_later : (ending : Ending) (old new : Devices Origin) (logs : SinkView) → logs.faults ≤ new.logs.faults → CausedLinked ending old (with_logs new logs) → CausedLinked ending old new
-  linked_later Done old new logs later h = tt
-  linked_later (Denied line) old new logs later h = h
-  linked_later ClientFault old new logs later h = h
-  linked_later ServerFault old new logs later h = h
-  linked_later LogFault old new logs later h = rose_later old.logs.faults logs.faults new.logs.faults h later
-  linked_later AuthFault old new logs later h = h
-  linked_later Idle old new logs later h = h
-  linked_later NoRoute old new logs later h = h
-  linked_later Spent old new logs later (inl h) = inl h
-  linked_later Spent old new logs later (inr h) = inr (record { link = h.link; last = h.last; all = h.all })
-  linked_later NoMemory old new logs later h = h
-
-  caused_by_later : (linked : Bool) (ending : Ending) (old new : Devices Origin) (logs : SinkView) → logs.faults ≤ new.logs.faults → CausedBy linked ending old (with_logs new logs) → CausedBy linked ending old new
-  caused_by_later true ending old new logs later h = linked_later ending old new logs later h
-  caused_by_later false ending old new logs later h = caused_later ending old new logs later h
-
-  causes_later : (linked : Bool) (verdict : Verdict) (ending : Ending) (old new : Devices Origin) (logs : SinkView) → logs.faults ≤ new.logs.faults → Causes linked verdict ending old (with_logs new logs) → Causes linked verdict ending old new
-  causes_later linked verdict (Denied line) old new logs later h = h
-  causes_later linked verdict Done old new logs later h = caused_by_later linked Done old new logs later h
-  causes_later linked verdict ClientFault old new logs later h = caused_by_later linked ClientFault old new logs later h
-  causes_later linked verdict ServerFault old new logs later h = caused_by_later linked ServerFault old new logs later h
-  causes_later linked verdict LogFault old new logs later h = caused_by_later linked LogFault old new logs later h
-  causes_later linked verdict AuthFault old new logs later h = caused_by_later linked AuthFault old new logs later h
-  causes_later linked verdict Idle old new logs later h = caused_by_later linked Idle old new logs later h
-  causes_later linked verdict NoRoute old new logs later h = caused_by_later linked NoRoute old new logs later h
-  causes_later linked verdict Spent old new logs later h = caused_by_later linked Spent old new logs later h
-  causes_later linked verdict NoMemory old new logs later h = caused_by_later linked NoMemory old new logs later h
-
   -- ---- bytes
 
   -- who is turned away is asked for none
@@ -134,10 +83,6 @@ module _ {Origin : Type 0} where
 
   relay_takes : (seconds : ℕ) (ending : Ending) (old new : Devices Origin) → RelayTakesFor ending (patient seconds (plug_devices old)) (plug_devices new) → RelayTakesFor ending old new
   relay_takes seconds ending old new h = record { took = record { bytes = h.took.bytes; most = h.took.most; grew = h.took.grew; is = h.took.is }; all = h.all }
-
-  takes_later : (linked : Bool) (ending : Ending) (old new : Devices Origin) (logs : SinkView) → TakesBy linked ending old (with_logs new logs) → TakesBy linked ending old new
-  takes_later true ending old new logs h = record { took = h.took; all = h.all }
-  takes_later false ending old new logs h = record { took = h.took; all = h.all }
 
   -- ---- the wait
 
@@ -154,49 +99,7 @@ module _ {Origin : Type 0} where
   relay_waits seconds Spent old new h = tt
   relay_waits seconds NoMemory old new h = tt
 
-  -- the log has no part in how long anybody was waited for
-  waits_for_with : (ending : Ending) (old new : Devices Origin) (logs : SinkView) → WaitsFor ending old (with_logs new logs) → WaitsFor ending old new
-  waits_for_with Idle old new logs (inl h) = inl h
-  waits_for_with Idle old new logs (inr h) = inr (record { rose = h.rose; link = h.link; last = h.last; waited = h.waited })
-  waits_for_with Done old new logs h = tt
-  waits_for_with (Denied line) old new logs h = tt
-  waits_for_with ClientFault old new logs h = tt
-  waits_for_with ServerFault old new logs h = tt
-  waits_for_with LogFault old new logs h = tt
-  waits_for_with AuthFault old new logs h = tt
-  waits_for_with NoRoute old new logs h = tt
-  waits_for_with Spent old new logs h = tt
-  waits_for_with NoMemory old new logs h = tt
-
-  waits_with : (linked : Bool) (verdict : Verdict) (rules : RuleBook) (ending : Ending) (old new : Devices Origin) (logs : SinkView) → WaitsAs linked verdict rules ending old (with_logs new logs) → WaitsAs linked verdict rules ending old new
-  waits_with linked (Deny line) rules ending old new logs h = tt
-  waits_with true (Permit line) rules ending old new logs h = waits_for_with ending (patient (timeout_of rules) old) new logs h
-  waits_with false (Permit line) rules ending old new logs h = h
-
   -- ---- no count falls
-
-  keeps_later : (linked : Bool) (old new : Devices Origin) (logs : SinkView) → logs.faults ≤ new.logs.faults → new.logs.shut ≡ logs.shut → KeepsAs linked old (with_logs new logs) → KeepsAs linked old new
-  keeps_later linked old new logs later shut h =
-      let before : old.logs.faults ≤ logs.faults = h.log_drops in
-      record {
-        faults = h.faults;
-        idles = h.idles;
-        amount = h.amount;
-        drops = h.drops;
-        log_drops = omega (arith, before, later);
-        breaks = h.breaks;
-        strays = h.strays;
-        asks = h.asks;
-        refusals = h.refusals;
-        link_faults = h.link_faults;
-        link_idles = h.link_idles;
-        waits = h.waits;
-        link_waits = h.link_waits;
-        shut = h.shut;
-        log_shut = shut ∙ h.log_shut;
-        origin = h.origin;
-        home = h.home;
-      }
 
   -- a session over the devices that a client of the plug meets keeps them, and the port stays
   relay_keeps_all : (seconds : ℕ) (old new : Devices Origin) → new.port ≡ old.port → RelayKeeps (patient seconds (plug_devices old)) (plug_devices new) → RelayKeeps (patient seconds old) new
@@ -227,6 +130,7 @@ module _ {Origin : Type 0} where
     spent : TakesBy linked ending old new
     waited : WaitsAs linked verdict rules ending old new
     refused : IsRefused verdict ending
+    fronts : FrontsBy linked ending old new
     keeps : KeepsAs linked (lent_by verdict rules old) new
     origin : new.port.origin ≡ old.port.origin
     home : new.port.home ≡ old.port.home
@@ -240,6 +144,7 @@ module _ {Origin : Type 0} where
         spent = takes_none ending old new (ap is_spent_ending is) (ap (λ (d : Devices Origin). d.inlet) fails.same);
         waited = tt;
         refused = inr is;
+        fronts = tt;
         keeps = keeps;
         origin = keeps.origin;
         home = keeps.home;
@@ -253,6 +158,7 @@ module _ {Origin : Type 0} where
         spent = takes_none ending old new (ap is_spent_ending is) inlet;
         waited = tt;
         refused = inl is;
+        fronts = tt;
         keeps = keeps;
         origin = keeps.origin;
         home = keeps.home;
@@ -288,6 +194,7 @@ module _ {Origin : Type 0} where
         spent = takes_patient (timeout_of rules) ending old new (session_exact rows first lent new ending h alone);
         waited = session_waits rows first lent new ending h alone;
         refused = tt;
+        fronts = tt;
         keeps = keeps;
         origin = keeps.origin;
         home = keeps.home;
@@ -302,6 +209,7 @@ module _ {Origin : Type 0} where
         spent = relay_takes seconds ending old new (session_spent h.over.session);
         waited = relay_waits seconds ending old new (session_waited h.over.session);
         refused = tt;
+        fronts = plug_gives at line rules peer ending old new h;
         keeps = relay_keeps_all seconds old new h.port (relay_keeps h.over.session);
         origin = ap (λ (p : Port Origin). p.origin) h.port;
         home = ap (λ (p : Port Origin). p.home) h.port;
@@ -332,6 +240,7 @@ module _ {Origin : Type 0} where
         spent = takes_later linked ending old new conn.logs so.spent;
         waited = waits_with linked verdict rules ending old new conn.logs so.waited;
         refused = so.refused;
+        fronts = fronts_later linked ending old new conn.logs so.fronts;
         keeps = keeps_later linked (lent_by verdict rules old) new conn.logs most (noted_shut (ending_line service peer ending) conn.logs new.logs conn.noted) so.keeps;
         origin = so.origin;
         home = so.home;
@@ -349,6 +258,9 @@ module _ {Origin : Type 0} where
 
   pub conn_refused : (service : Service) (rules : RuleBook) (peer : Peer) (old new : Devices Origin) (ending : Ending) → Conn service rules peer old new ending → IsRefused (verdict_of rules peer) ending
   conn_refused service rules peer old new ending conn = (conn_facts service rules peer old new ending conn).refused
+
+  pub conn_fronts : (service : Service) (rules : RuleBook) (peer : Peer) (old new : Devices Origin) (ending : Ending) → Conn service rules peer old new ending → FrontsBy (is_linked service (verdict_of rules peer)) ending old new
+  conn_fronts service rules peer old new ending conn = (conn_facts service rules peer old new ending conn).fronts
 
   pub conn_keeps : (service : Service) (rules : RuleBook) (peer : Peer) (old new : Devices Origin) (ending : Ending) → Conn service rules peer old new ending → KeepsAs (is_linked service (verdict_of rules peer)) (lent_by (verdict_of rules peer) rules old) new
   conn_keeps service rules peer old new ending conn = (conn_facts service rules peer old new ending conn).keeps

@@ -1,5 +1,7 @@
 pub mod ConnLemmas
 pub mod DenialLemmas
+pub mod FrontsLemmas
+pub mod LaterLemmas
 pub mod NoMemoryLemmas
 pub mod PlugLemmas
 pub mod ServiceLemmas

@@ -120,7 +120,7 @@ front_second {second} first some front = record {
   short = λ any. front.short some;
 }
 
-adds_none : {A : Type 0} (told : Option (List A)) → Adds [] told told
+pub adds_none : {A : Type 0} (told : Option (List A)) → Adds [] told told
 adds_none None = tt
 adds_none (Some all) = ap (λ (l : List _). Some l) (append-nil all)
 

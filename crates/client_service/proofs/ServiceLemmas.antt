@@ -10,12 +10,12 @@ use Rattle.gate_rules.specs.declared.service.Service.TheVariants.{Authsrv, FtpGw
 use Rattle.gate_rules.specs.declared.verdict.Verdict.{Verdict}
 use Rattle.gate_rules.specs.declared.verdict.Verdict.TheVariants.{Permit, Deny}
 use Rattle.session_acts.specs.World.{Devices}
-use Rattle.client_service.specs.Conn.{HasTarget, Permits, PermitsBy, TargetFor, Treats, DeniesBy, Untouched}
-use Rattle.client_service.specs.PlugService.{LinksTo, plug_in}
+use Rattle.client_service.specs.Conn.{DeniesBy, Permits, PermitsBy, Treats, Untouched}
+use Rattle.client_service.specs.PlugService.{plug_in}
 use Rattle.client_service.specs.TurningAway.{IsDeniedAs, LogsOffAlone, TellsOff}
 
 -- the service is the plug at this port
-pub is_plug_at : (service : Service) (at : ℕ) → plug_in service ≡ Some at → service ≡ PlugGw at
+is_plug_at : (service : Service) (at : ℕ) → plug_in service ≡ Some at → service ≡ PlugGw at
 is_plug_at (PlugGw port) at is = let same : port ≡ at = cc in ap PlugGw same
 is_plug_at Authsrv at is = absurd (cc)
 is_plug_at (Netacl label) at is = absurd (cc)
@@ -36,25 +36,7 @@ denied_other TnGw line peer ending to told logs noted is h = h
 denied_other FtpGw line peer ending to told logs noted is h = h
 denied_other Smap line peer ending to told logs noted is h = h
 
--- the destination that the plug needs
-pub plug_target : (service : Service) (at : ℕ) (rules : RuleBook) (line : ℕ) → plug_in service ≡ Some at → HasTarget service rules line → HasTarget (PlugGw at) rules line
-plug_target service at rules line is h = subst (λ (s : Service). HasTarget s rules line) (is_plug_at service at is) h
-
-pub permitted_target : (verdict : Verdict) (line : ℕ) (service : Service) (rules : RuleBook) → verdict ≡ Permit line → TargetFor verdict service rules → HasTarget service rules line
-permitted_target verdict line service rules is h = subst (λ (v : Verdict). TargetFor v service rules) is h
-
 -- nothing of the caller's was touched
-pub plug_untouched : {A : Type 0} (service : Service) (at : ℕ) (verdict : Verdict) (old new : A) → plug_in service ≡ Some at → new ≡ old → Untouched service verdict old new
-plug_untouched {A} service at verdict old new is same = subst (λ (s : Service). Untouched s verdict old new) (sym (is_plug_at service at is)) same
-
-pub other_untouched : {A : Type 0} (service : Service) (line : ℕ) (old new : A) → plug_in service ≡ None → Untouched service (Permit line) old new
-other_untouched (PlugGw port) line old new is = absurd (cc)
-other_untouched Authsrv line old new is = tt
-other_untouched (Netacl label) line old new is = tt
-other_untouched TnGw line old new is = tt
-other_untouched FtpGw line old new is = tt
-other_untouched Smap line old new is = tt
-
 pub denied_untouched : {A : Type 0} (service : Service) (verdict : Verdict) (line : ℕ) (old new : A) → verdict ≡ Deny line → new ≡ old → Untouched service verdict old new
 denied_untouched {A} service verdict line old new is same = subst (λ (v : Verdict). Untouched service v old new) (sym is) (by service)
   where
@@ -70,9 +52,6 @@ pub permitted_untouched : {A : Type 0} (service : Service) (verdict : Verdict) (
 permitted_untouched {A} service verdict line old new is h = subst (λ (v : Verdict). Untouched service v old new) (sym is) h
 
 module _ {Origin : Type 0} where
-  pub permitted_plug : (service : Service) (at line : ℕ) (rules : RuleBook) (peer : Peer) (ending : Ending) (old new : Devices Origin) → plug_in service ≡ Some at → LinksTo at line rules peer ending old new → PermitsBy service line rules peer ending old new
-  permitted_plug service at line rules peer ending old new is h = subst (λ (s : Service). PermitsBy s line rules peer ending old new) (sym (is_plug_at service at is)) h
-
   pub permitted_other : (service : Service) (line : ℕ) (rules : RuleBook) (peer : Peer) (ending : Ending) (old new : Devices Origin) → plug_in service ≡ None → Permits line service rules peer ending old new → PermitsBy service line rules peer ending old new
   permitted_other (PlugGw port) line rules peer ending old new is h = absurd (cc)
   permitted_other Authsrv line rules peer ending old new is h = h

@@ -32,8 +32,9 @@ use Rattle.gate_rules.specs.declared.service.Service.TheVariants.{Authsrv, FtpGw
 use Rattle.gate_rules.specs.declared.setting.Setting.{Setting}
 use Rattle.gate_rules.specs.declared.verdict.Verdict.{Verdict}
 use Rattle.gate_rules.specs.declared.verdict.Verdict.TheVariants.{Permit, Deny}
-use Rattle.client_service.specs.Conn.{HasTarget, IsServed, TargetFor}
+use Rattle.client_service.specs.Conn.{IsServed}
 use Rattle.client_service.specs.PlugService.{target_in, target_of}
+use Rattle.client_service.specs.Targets.{TargetFor}
 
 -- a rule that permits has a destination
 abbrev IsTargeted : Rule → Type 0

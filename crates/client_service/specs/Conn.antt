@@ -1,5 +1,5 @@
 -- One client of a service: the line of its verdict, its session or its denial, and the line of its ending.
-use Rattle.std.specs.Prelude.{◌≡◌, ℕ, ◌⊎◌, Bool, true, false, List, Option, Some, None, Result, IsSome}
+use Rattle.std.specs.Prelude.{◌≡◌, ℕ, ◌⊎◌, Bool, true, false, List, Option, Some, None, Result}
 use Rattle.authsrv_gate.specs.Dialogue.{rows, session_row}
 use Rattle.fw_outside.specs.SinkView.{Gives, SinkView}
 use Rattle.fw_outside.specs.SourceView.{SourceView, waiting}
@@ -13,6 +13,7 @@ use Rattle.gate_rules.specs.declared.service.Service.{Service}
 use Rattle.gate_rules.specs.declared.service.Service.TheVariants.{Authsrv, PlugGw}
 use Rattle.gate_rules.specs.declared.verdict.Verdict.{Verdict}
 use Rattle.gate_rules.specs.declared.verdict.Verdict.TheVariants.{Permit, Deny}
+use Rattle.plug_gate.specs.Laws.{GivesFronts}
 use Rattle.session_acts.specs.Causes.{RelayTakesFor, WaitedInVain, WaitsFor}
 use Rattle.session_acts.specs.Denying.{denying_row, no_rows}
 use Rattle.session_acts.specs.Serverless.{CausedAlone, TakesExactly}
@@ -21,22 +22,13 @@ use Rattle.session_acts.specs.World.{Devices}
 use Rattle.client_service.specs.Decision.{decision_text}
 use Rattle.client_service.specs.Endings.{denied_text, ending_line}
 use Rattle.client_service.specs.Meeting.{denied_by, dialer_then, logged_row, patient, timeout_of}
-use Rattle.client_service.specs.PlugService.{AreRulesOf, AsksLogged, CausedLinked, LinksTo, LogsDenial, target_of}
+use Rattle.client_service.specs.PlugService.{AreRulesOf, AsksLogged, CausedLinked, LinksTo, LogsDenial}
 
 -- the services whose clients are served; the rules are the plug's, so that a line that permits has a destination
 abbrev pub IsServed : Service → RuleBook → Type 0
 IsServed Authsrv rules = Unit {0}
 IsServed (PlugGw port) rules = AreRulesOf (PlugGw port) rules
 IsServed service rules = ⊥
-
--- a line that permits has a destination, where the service is the plug
-abbrev pub HasTarget : Service → RuleBook → ℕ → Type 0
-HasTarget (PlugGw port) rules line = IsSome (target_of rules line)
-HasTarget service rules line = Unit {0}
-
-abbrev pub TargetFor : Verdict → Service → RuleBook → Type 0
-TargetFor (Permit line) service rules = HasTarget service rules line
-TargetFor (Deny line) service rules = Unit {0}
 
 -- ---- the session
 
@@ -139,6 +131,12 @@ WaitsAs linked (Deny line) rules ending old new = Unit {0}
 abbrev pub Dials : {Origin : Type 0} → Service → Verdict → RuleBook → Peer → Ending → Devices Origin → Devices Origin → Type 0
 Dials (PlugGw port) (Permit line) rules peer ending old new = AsksLogged port line rules peer ending old new
 Dials service verdict rules peer ending old new = new.dialer ≡ dialer_then verdict rules old.dialer
+
+-- where a client is linked, what its server was given is a front of what was taken of the client, and what the client was
+-- given a front of what was taken of the server
+abbrev pub FrontsBy : {Origin : Type 0} → (linked : Bool) → Ending → Devices Origin → Devices Origin → Type 0
+FrontsBy true ending old new = GivesFronts old new ending
+FrontsBy false ending old new = Unit {0}
 
 -- where the verdict denies, and for each client of the plug, this is left as it was
 abbrev pub Untouched : {A : Type 0} → Service → Verdict → A → A → Type 0

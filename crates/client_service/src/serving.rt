@@ -1,9 +1,10 @@
 //! One client of a service: the verdict, the session, and how it ended.
 ghost use Rattle.std.specs.Prelude.{◌≡◌, true, false};
 ghost use Rattle.authsrv_gate.specs.Dialogue.{rows, session_row};
-ghost use Rattle.client_service.specs.Conn.{AtConsole, Causes, Conn, Dials, HasTarget, IsRefused, IsServed, NotedIf, PermitsBy, TakesBy, TargetFor, Treats, Untouched, WaitsAs, is_linked};
+ghost use Rattle.client_service.specs.Conn.{AtConsole, Causes, Conn, Dials, FrontsBy, IsRefused, IsServed, NotedIf, PermitsBy, TakesBy, Treats, Untouched, WaitsAs, is_linked};
 ghost use Rattle.client_service.specs.Endings.{ending_line};
 ghost use Rattle.client_service.specs.Meeting.{lent_by, logged_row, patient, timeout_of};
+ghost use Rattle.client_service.specs.Targets.{HasTarget, TargetFor};
 ghost use Rattle.gate_rules.specs.Verdict.{verdict_of};
 ghost use Rattle.gate_rules.specs.declared.verdict.Verdict.TheVariants.{Permit};
 ghost use Rattle.session_acts.specs.Causes.{KeepsAs};
@@ -320,6 +321,13 @@ where
     // The dialer is asked for nothing, but for a client of the plug whom the rules permit: then for the destination of the
     // line, exactly where the log has the connect line whole. It is told how long to wait, for whom the rules permit.
     ensures dialed { Dials service.now (verdict_of rules.now peer.now) rules.now peer.now result
+        (devices_with (P.port port.old) (S.source_view from.old) (K.sink_view to.old) (G.sink_view logs.old)
+        (D.dialer_view dialer.old) (C.clock_view clock.old) (R.dice_view dice.old))
+        (devices_with (P.port port.new) (S.source_view from.new) (K.sink_view to.new) (G.sink_view logs.new)
+        (D.dialer_view dialer.new) (C.clock_view clock.new) (R.dice_view dice.new)) }
+    // What was given to the server of a client that was linked is a front of what was taken of the client, and what was given
+    // to the client one of what was taken of the server: all of it, unless a source or a sink failed.
+    ensures fronts { FrontsBy (is_linked service.now (verdict_of rules.now peer.now)) result
         (devices_with (P.port port.old) (S.source_view from.old) (K.sink_view to.old) (G.sink_view logs.old)
         (D.dialer_view dialer.old) (C.clock_view clock.old) (R.dice_view dice.old))
         (devices_with (P.port port.new) (S.source_view from.new) (K.sink_view to.new) (G.sink_view logs.new)

@@ -16,6 +16,9 @@ pub(crate) enum Keyword {
     Client,
     ClientPart,
     Limit,
+    Link,
+    Server,
+    ServerPart,
     Ends,
     Fails,
     Idle,
@@ -29,6 +32,11 @@ pub(crate) enum Keyword {
     LogPart,
     Started,
     NoneStarted,
+    Asked,
+    NoneAsked,
+    Given,
+    GivenPart,
+    HungUp,
     Status,
     Untaken,
     Unchanged,
@@ -54,6 +62,9 @@ const KEYWORDS: &[(&str, Keyword)] = &[
     ("client", Keyword::Client),
     ("client-part", Keyword::ClientPart),
     ("limit", Keyword::Limit),
+    ("link", Keyword::Link),
+    ("server", Keyword::Server),
+    ("server-part", Keyword::ServerPart),
     ("ends", Keyword::Ends),
     ("fails", Keyword::Fails),
     ("idle", Keyword::Idle),
@@ -67,6 +78,11 @@ const KEYWORDS: &[(&str, Keyword)] = &[
     ("log-part", Keyword::LogPart),
     ("started", Keyword::Started),
     ("started-none", Keyword::NoneStarted),
+    ("asked", Keyword::Asked),
+    ("asked-none", Keyword::NoneAsked),
+    ("given", Keyword::Given),
+    ("given-part", Keyword::GivenPart),
+    ("hung-up", Keyword::HungUp),
     ("status", Keyword::Status),
     ("untaken", Keyword::Untaken),
     ("unchanged", Keyword::Unchanged),
@@ -96,8 +112,19 @@ impl Keyword {
             Keyword::OutputPart => Keyword::Output,
             Keyword::LogPart => Keyword::Log,
             Keyword::NoneStarted => Keyword::Started,
+            Keyword::Server | Keyword::ServerPart => Keyword::Link,
+            Keyword::NoneAsked => Keyword::Asked,
+            Keyword::GivenPart => Keyword::Given,
             other => other,
         }
+    }
+
+    /// Whether it is about those whom a run calls.
+    pub(crate) fn is_of_called(self) -> bool {
+        matches!(
+            self.family(),
+            Keyword::Started | Keyword::Asked | Keyword::Given | Keyword::HungUp
+        )
     }
 
     /// Whether a row that is like another one takes over its lines with this keyword.
@@ -115,7 +142,9 @@ impl Keyword {
             Keyword::NoTable
                 | Keyword::ConsoleRun
                 | Keyword::Paced
+                | Keyword::Link
                 | Keyword::NoneStarted
+                | Keyword::NoneAsked
                 | Keyword::Untaken
                 | Keyword::Unchanged
         )

@@ -24,4 +24,4 @@ pub use parsing::parse;
 pub use row::Row;
 pub use setting::{File, Setting, TABLE};
 pub use trial::{Break, Part, Times, Trial, Tried};
-pub use wanted::{Reading, Wanted};
+pub use wanted::{Called, Reading, Wanted};

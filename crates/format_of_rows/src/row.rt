@@ -1,6 +1,7 @@
 use crate::keyword::Keyword;
 use crate::line::Line;
 use crate::section::{Section, place_of};
+use crate::values::words_of;
 use crate::{Fault, Setting, Trial, Wanted, Why};
 use fw_types::Octets;
 use std::alloc::Global;
@@ -30,6 +31,21 @@ impl Row {
         }
     }
 
+    fn sit_at_console(&mut self, alloc: Global, said: &[u8]) -> Result<(), Why> {
+        self.setting.words = words_of(alloc, b"authsrv -console 127.0.0.1")?;
+        self.setting.client.extend_from_slice(said)?;
+        self.trial.untimed = true;
+        self.wanted.want_ease(said)
+    }
+
+    /// A run at the server's console that says these lines, with an empty table, and is answered `ok` to each. The moments of
+    /// its requests are no matter.
+    pub fn console(alloc: Global, said: &[u8]) -> Result<Row, Why> {
+        let mut row = Row::new(alloc, b"console")?;
+        row.sit_at_console(alloc, said)?;
+        Ok(row)
+    }
+
     fn add_after(&mut self, earlier: &[Section], name: &[u8]) -> Result<(), Why> {
         match place_of(earlier, name) {
             Some(place) => {
@@ -56,6 +72,11 @@ impl Row {
             | Keyword::LogPart
             | Keyword::Started
             | Keyword::NoneStarted
+            | Keyword::Asked
+            | Keyword::NoneAsked
+            | Keyword::Given
+            | Keyword::GivenPart
+            | Keyword::HungUp
             | Keyword::Status
             | Keyword::Untaken
             | Keyword::Unchanged

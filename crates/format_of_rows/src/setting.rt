@@ -37,6 +37,8 @@ pub struct Setting {
     pub client: Vec<u8>,
     /// So many requests fit in the history, where not as many as ever fit.
     pub limit: Option<u64>,
+    /// What the servers say, each over a link of its own, in the order in which the links come up.
+    pub links: Vec<Vec<u8>>,
     /// The statuses with which programs end, in the order in which they are started; 0 past these.
     pub ends: Vec<u8>,
 }
@@ -62,6 +64,7 @@ impl Setting {
             moments: Vec::new(alloc),
             client: Vec::new(alloc),
             limit: None,
+            links: Vec::new(alloc),
             ends: Vec::new(alloc),
         })
     }
@@ -93,6 +96,30 @@ impl Setting {
         match self.console.last_mut() {
             Some(said) => add_unescaped(alloc, said, text, b"\r\n"),
             None => Err(Why::NoMemory),
+        }
+    }
+
+    fn begin_link(&mut self, alloc: Global) -> Result<(), Why> {
+        self.links.push(Vec::new(alloc))?;
+        Ok(())
+    }
+
+    fn add_server(&mut self, alloc: Global, text: &[u8], end: &[u8]) -> Result<(), Why> {
+        if self.links.is_empty() {
+            self.begin_link(alloc)?;
+        }
+        match self.links.last_mut() {
+            Some(said) => add_unescaped(alloc, said, text, end),
+            None => Err(Why::NoMemory),
+        }
+    }
+
+    // Adds a line about the servers.
+    fn add_link_line(&mut self, alloc: Global, line: &Line) -> Result<(), Why> {
+        match line.keyword {
+            Keyword::Server => self.add_server(alloc, line.text, b"\r\n"),
+            Keyword::ServerPart => self.add_server(alloc, line.text, b""),
+            _ => self.begin_link(alloc),
         }
     }
 
@@ -139,6 +166,7 @@ impl Setting {
                 self.limit = Some(number_of(line.text)?);
                 Ok(())
             }
+            Keyword::Link => self.add_link_line(alloc, line),
             Keyword::Ends => add_statuses(&mut self.ends, line.text),
             _ => self.add_record_line(alloc, line),
         }

@@ -29,6 +29,16 @@ pub enum Part {
     Keeper,
     /// A program can't be started.
     Program,
+    /// The dialer refuses a destination.
+    Dialer,
+    /// The source of a server fails.
+    Server,
+    /// Nothing comes of a server.
+    ServerIdle,
+    /// The sink of what a server is given fails.
+    Given,
+    /// There is room for so many bytes in it.
+    GivenRoom,
 }
 
 const PARTS: &[(Keyword, &str, Part)] = &[
@@ -38,10 +48,15 @@ const PARTS: &[(Keyword, &str, Part)] = &[
     (Keyword::Fails, "log", Part::Log),
     (Keyword::Fails, "keeper", Part::Keeper),
     (Keyword::Fails, "program", Part::Program),
+    (Keyword::Fails, "dialer", Part::Dialer),
+    (Keyword::Fails, "server", Part::Server),
+    (Keyword::Fails, "given", Part::Given),
     (Keyword::Idle, "table", Part::TableIdle),
     (Keyword::Idle, "client", Part::ClientIdle),
+    (Keyword::Idle, "server", Part::ServerIdle),
     (Keyword::Room, "output", Part::OutputRoom),
     (Keyword::Room, "log", Part::LogRoom),
+    (Keyword::Room, "given", Part::GivenRoom),
 ];
 
 /// Calls of a device, numbered from 0; for a sink's room the count of bytes.
@@ -78,6 +93,8 @@ pub struct Trial {
     pub sweep: Vec<Tried>,
     /// Whether each text that the client is given answers one request, which has its own moment.
     pub paced: bool,
+    /// Whether it is no matter how many requests are made.
+    pub untimed: bool,
 }
 
 fn part_of(keyword: Keyword, device: &[u8]) -> Result<Part, Why> {
@@ -105,6 +122,7 @@ impl Trial {
             pieces: Vec::new(alloc),
             sweep: Vec::new(alloc),
             paced: false,
+            untimed: false,
         }
     }
 

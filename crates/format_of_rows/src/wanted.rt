@@ -4,7 +4,7 @@ use crate::Why;
 use crate::escapes::{add_unescaped, unescaped};
 use crate::keyword::Keyword;
 use crate::line::Line;
-use crate::values::{record_of, status_of};
+use crate::values::{number_of, record_of, status_of};
 use fw_types::{Name, Octets};
 use std::alloc::Global;
 
@@ -19,6 +19,19 @@ pub struct Reading {
     pub records: Option<Vec<u8>>,
 }
 
+/// What is expected of those whom a run calls.
+#[derive(Drop)]
+pub struct Called {
+    /// The programs that are started, each with its arguments in a line.
+    pub started: Vec<u8>,
+    /// The destinations that are asked for, each in a line.
+    pub asked: Vec<u8>,
+    /// What servers are given, one behind the other.
+    pub given: Vec<u8>,
+    /// How many links are hung up.
+    pub hung_up: u64,
+}
+
 /// What is expected of a run.
 #[derive(Drop)]
 pub struct Wanted {
@@ -26,8 +39,7 @@ pub struct Wanted {
     pub output: Vec<u8>,
     /// The whole log.
     pub log: Vec<u8>,
-    /// The programs that are started, each with its arguments in a line.
-    pub started: Vec<u8>,
+    pub called: Called,
     pub status: Option<u8>,
     /// Whether nothing is taken from the client.
     pub untaken: bool,
@@ -38,22 +50,76 @@ pub struct Wanted {
     pub reading: Reading,
 }
 
+impl Reading {
+    fn new() -> Reading {
+        Reading {
+            command: None,
+            table: None,
+            records: None,
+        }
+    }
+}
+
+impl Called {
+    fn new(alloc: Global) -> Called {
+        Called {
+            started: Vec::new(alloc),
+            asked: Vec::new(alloc),
+            given: Vec::new(alloc),
+            hung_up: 0,
+        }
+    }
+
+    // Adds a line about links.
+    fn add_link_line(&mut self, alloc: Global, line: &Line) -> Result<(), Why> {
+        match line.keyword {
+            Keyword::Asked => add_unescaped(alloc, &mut self.asked, line.text, b"\n"),
+            Keyword::Given => add_unescaped(alloc, &mut self.given, line.text, b"\r\n"),
+            Keyword::GivenPart => add_unescaped(alloc, &mut self.given, line.text, b""),
+            Keyword::HungUp => {
+                self.hung_up = number_of(line.text)?;
+                Ok(())
+            }
+            _ => Ok(()),
+        }
+    }
+
+    // Adds a line about those whom the run calls.
+    fn add(&mut self, alloc: Global, line: &Line) -> Result<(), Why> {
+        match line.keyword {
+            Keyword::NoneStarted => Ok(()),
+            Keyword::Started => add_unescaped(alloc, &mut self.started, line.text, b"\n"),
+            _ => self.add_link_line(alloc, line),
+        }
+    }
+}
+
 impl Wanted {
     pub(crate) fn new(alloc: Global) -> Wanted {
         Wanted {
             output: Vec::new(alloc),
             log: Vec::new(alloc),
-            started: Vec::new(alloc),
+            called: Called::new(alloc),
             status: None,
             untaken: false,
             unchanged: false,
             keeper: None,
-            reading: Reading {
-                command: None,
-                table: None,
-                records: None,
-            },
+            reading: Reading::new(),
         }
+    }
+
+    /// What is expected of a run at the console that says these lines.
+    pub(crate) fn want_ease(&mut self, said: &[u8]) -> Result<(), Why> {
+        self.status = Some(0);
+        self.log
+            .extend_from_slice(b"end authsrv unknown/127.0.0.1 done\n")?;
+        self.output.extend_from_slice(b"authsrv ready\n")?;
+        for byte in said {
+            if *byte == b'\n' {
+                self.output.extend_from_slice(b"ok\n")?;
+            }
+        }
+        Ok(())
     }
 
     /// Whether the row says what its run or its words come to.
@@ -104,8 +170,7 @@ impl Wanted {
             Keyword::OutputPart => add_unescaped(alloc, &mut self.output, line.text, b""),
             Keyword::Log => add_unescaped(alloc, &mut self.log, line.text, b"\n"),
             Keyword::LogPart => add_unescaped(alloc, &mut self.log, line.text, b""),
-            Keyword::NoneStarted => Ok(()),
-            Keyword::Started => add_unescaped(alloc, &mut self.started, line.text, b"\n"),
+            keyword if keyword.is_of_called() => self.called.add(alloc, line),
             _ => self.add_rest(alloc, line),
         }
     }

@@ -130,7 +130,7 @@ where
         clock: SystemClock::new(rt),
         dice,
         keeper: Some(Records::new(rt, db)?),
-        dialer: TcpDialer::new(rt),
+        dialer: TcpDialer::new(rt, rt.alloc()),
         launcher: Programs::new(rt, rt.alloc()),
     };
     Ok(run(threads, rt.alloc(), words, &mut world))

@@ -4,26 +4,37 @@ use crate::commands;
 use crate::running::run_over;
 use crate::serving::serve_over;
 use format_of_rows::{Row, Setting};
-use fw_types::{NoMemory, Octets};
+use fw_memory::MemKeeper;
+use fw_types::NoMemory;
 use runs_of_rows::{Devices, Difference, Ended, Runner};
 use std::alloc::Global;
+use std::thread::Threads;
 
 /// Runs a row by `bastion`: by `run`, or by `conn` where the row limits the history.
 pub(crate) struct BastionRunner;
 
 impl Runner for BastionRunner {
-    fn run(&self, alloc: Global, setting: &Setting, devices: Devices) -> Ended {
+    fn run<H: Threads + Sync>(
+        &self,
+        rt: &H,
+        alloc: Global,
+        setting: &Setting,
+        devices: Devices,
+        keeper: MemKeeper,
+    ) -> Ended {
         match setting.limit {
-            Some(limit) => serve_over(alloc, &setting.words, limit, devices),
-            None => run_over(alloc, &setting.words, devices),
+            Some(limit) => serve_over(alloc, &setting.words, limit, devices, keeper),
+            None => run_over(rt, alloc, &setting.words, devices, keeper),
         }
     }
 
-    fn run_words(&self, alloc: Global, words: &[Octets], devices: Devices) -> Ended {
-        run_over(alloc, words, devices)
-    }
-
-    fn misread(&self, alloc: Global, row: &Row, command: &[u8]) -> Result<Difference, NoMemory> {
-        commands::misread(alloc, row, command)
+    fn misread(
+        &self,
+        alloc: Global,
+        row: &Row,
+        command: &[u8],
+        difference: &mut Difference,
+    ) -> Result<(), NoMemory> {
+        commands::misread(alloc, row, command, difference)
     }
 }

@@ -61,15 +61,20 @@ fn name_or<'a>(name: &'a Option<Vec<u8>>, other: &'static str) -> &'a [u8] {
     }
 }
 
-/// The first thing in which the words are read otherwise than the row says.
-pub(crate) fn misread(alloc: Global, row: &Row, command: &[u8]) -> Result<Difference, NoMemory> {
+/// Looks for the first thing in which the words are read otherwise than the row says.
+pub(crate) fn misread(
+    alloc: Global,
+    row: &Row,
+    command: &[u8],
+    difference: &mut Difference,
+) -> Result<(), NoMemory> {
     let words = &row.setting.words;
     let reading = &row.wanted.reading;
-    let mut difference = Difference::none(alloc);
-    difference.text_of(b"the command", command, &told_of(alloc, words)?)?;
+    let told = told_of(alloc, words)?;
+    difference.text_of(b"the command", command, &told);
     let table = name_or(&reading.table, TABLE);
-    difference.text_of(b"the table's name", table, table_named(words))?;
+    difference.text_of(b"the table's name", table, table_named(words));
     let records = name_or(&reading.records, RECORDS);
-    difference.text_of(b"the records' name", records, places(words).db)?;
-    Ok(difference)
+    difference.text_of(b"the records' name", records, places(words).db);
+    Ok(())
 }

@@ -11,6 +11,7 @@ use bastion_runner::BastionRunner;
 use format_of_rows::parse;
 use runs_of_rows::{Counts, Report, try_rows};
 use std::process::ExitCode;
+use std::thread::Threads;
 use std::{env, fs, io};
 
 mod bastion_runner;
@@ -19,7 +20,13 @@ mod running;
 mod serving;
 
 // The rows of a file are tried; its text, or what is wrong with it, is printed.
-fn try_file(rt: HostRuntime, name: &str, differ: bool, counts: &mut Counts) -> io::Result<u8> {
+fn try_file<H: Threads + Sync>(
+    threads: &H,
+    rt: HostRuntime,
+    name: &str,
+    differ: bool,
+    counts: &mut Counts,
+) -> io::Result<u8> {
     let alloc = rt.alloc();
     let Ok(bytes) = fs::read(&rt, name) else {
         eprintln!(rt; "fwtk_rows: {name} can't be read: give the names of row files")?;
@@ -34,7 +41,7 @@ fn try_file(rt: HostRuntime, name: &str, differ: bool, counts: &mut Counts) -> i
         }
     };
     let mut report = Report::new(alloc, differ);
-    let tried = try_rows(&BastionRunner, alloc, &rows, &mut report, counts);
+    let tried = try_rows(threads, &BastionRunner, alloc, &rows, &mut report, counts);
     let mut out = io::writer(&rt);
     io::Write::write_all(&mut out, report.bytes())?;
     if tried.is_err() {
@@ -44,7 +51,11 @@ fn try_file(rt: HostRuntime, name: &str, differ: bool, counts: &mut Counts) -> i
     Ok(0)
 }
 
-fn try_files(rt: HostRuntime, counts: &mut Counts) -> io::Result<u8> {
+fn try_files<H: Threads + Sync>(
+    threads: &H,
+    rt: HostRuntime,
+    counts: &mut Counts,
+) -> io::Result<u8> {
     let mut differ = false;
     let mut files: u64 = 0;
     for name in env::args(&rt)?.skip(1) {
@@ -52,7 +63,7 @@ fn try_files(rt: HostRuntime, counts: &mut Counts) -> io::Result<u8> {
             differ = true;
         } else {
             files = files.saturating_add(1);
-            let status = try_file(rt, name.as_str(), differ, counts)?;
+            let status = try_file(threads, rt, name.as_str(), differ, counts)?;
             if status != 0 {
                 return Ok(status);
             }
@@ -67,7 +78,7 @@ fn try_files(rt: HostRuntime, counts: &mut Counts) -> io::Result<u8> {
 
 fn main(rt: HostRuntime) -> io::Result<ExitCode> {
     let mut counts = Counts::new();
-    let status = try_files(rt, &mut counts)?;
+    let status = try_files(&rt, rt, &mut counts)?;
     if status != 0 {
         return Ok(ExitCode::from(status));
     }

@@ -1,10 +1,13 @@
 //! The one call of `run`.
 
 use bastion::{Kit, World, run};
-use fw_memory::{MemClock, MemDice, MemFiles, MemKeeper, MemLauncher, MemSink, MemSource};
+use fw_memory::{
+    MemClock, MemDialer, MemDice, MemFiles, MemKeeper, MemLauncher, MemSink, MemSource,
+};
 use fw_types::Octets;
-use runs_of_rows::{Devices, Ended};
+use runs_of_rows::{Devices, Ended, Helpers, Place, Talk};
 use std::alloc::Global;
+use std::thread::Threads;
 
 /// The kinds of device in memory.
 #[derive(Drop)]
@@ -28,9 +31,9 @@ impl Kit for Memory {
     type Launch = MemLauncher;
 }
 
-/// Runs the command line over the devices.
-pub(crate) fn run_over(alloc: Global, words: &[Octets], devices: Devices) -> Ended {
-    let Devices {
+// The status, and the devices after the run.
+fn ended_of(status: u8, world: World<Memory>, dialer: MemDialer) -> Ended {
+    let World {
         files,
         input,
         output,
@@ -39,7 +42,46 @@ pub(crate) fn run_over(alloc: Global, words: &[Octets], devices: Devices) -> End
         dice,
         keeper,
         launcher,
+    } = world;
+    let place = Place {
+        files,
+        logs,
+        clock,
+        dice,
+    };
+    let devices = Devices {
+        talk: Talk { input, output },
+        place,
+        helpers: Helpers { dialer, launcher },
+    };
+    Ended {
+        status,
+        devices,
+        keeper,
+    }
+}
+
+/// Runs the command line over the devices and the keeper.
+pub(crate) fn run_over<H: Threads + Sync>(
+    _rt: &H,
+    alloc: Global,
+    words: &[Octets],
+    devices: Devices,
+    keeper: MemKeeper,
+) -> Ended {
+    let Devices {
+        talk,
+        place,
+        helpers,
     } = devices;
+    let Talk { input, output } = talk;
+    let Place {
+        files,
+        logs,
+        clock,
+        dice,
+    } = place;
+    let Helpers { dialer, launcher } = helpers;
     let mut world: World<Memory> = World {
         files,
         input,
@@ -51,23 +93,5 @@ pub(crate) fn run_over(alloc: Global, words: &[Octets], devices: Devices) -> End
         launcher,
     };
     let status = run(alloc, words, &mut world);
-    let World {
-        files: _files,
-        input,
-        output,
-        logs,
-        clock,
-        dice: _dice,
-        keeper,
-        launcher,
-    } = world;
-    Ended {
-        status,
-        input,
-        output,
-        logs,
-        clock,
-        keeper,
-        launcher,
-    }
+    ended_of(status, world, dialer)
 }

@@ -2,7 +2,7 @@
 
 use auth_machine::{Book, Policy};
 use bastion::{Command, Outcome, conn, read_command, table_named};
-use fw_memory::{MemDice, MemFiles, MemKeeper, MemSource};
+use fw_memory::{MemFiles, MemKeeper, MemSource};
 use fw_outside::Files;
 use fw_types::{Ending, Octets, Peer};
 use gate_rules::{Rules, Service};
@@ -15,12 +15,11 @@ use std::alloc::Global;
 /// history had more entries than fit.
 const UNSERVED: u8 = 255;
 
-/// Who is served, and by what.
+/// Who is served, and by which rules.
 #[derive(Drop)]
 struct Server {
     peer: Peer,
     rules: Rules,
-    policy: Policy,
 }
 
 fn peer_of(words: &[Octets]) -> Option<Peer> {
@@ -34,16 +33,12 @@ fn table_in(alloc: Global, mut source: MemSource) -> Option<Table> {
     Table::read(alloc, &mut source).ok()
 }
 
-fn server_in(alloc: Global, words: &[Octets], mut files: MemFiles) -> Option<Server> {
+fn server_in(alloc: Global, words: &[Octets], files: &mut MemFiles) -> Option<(Server, Policy)> {
     let peer = peer_of(words)?;
     let table = table_in(alloc, files.source(table_named(words))?)?;
     let rules = Rules::of(alloc, &table, &Service::Authsrv).ok()?;
     let policy = Policy::of(alloc, &table).ok()?;
-    Some(Server {
-        peer,
-        rules,
-        policy,
-    })
+    Some((Server { peer, rules }, policy))
 }
 
 // Ends the book, and says what it came to.
@@ -57,62 +52,47 @@ fn close(book: Book<MemKeeper>, limit: u64, ending: Ending) -> (u8, MemKeeper) {
 }
 
 // The one call of `conn`.
-fn conn_over(
-    rules: &Rules,
-    peer: &Peer,
-    mut book: Book<MemKeeper>,
-    limit: u64,
-    ended: &mut Ended,
-    dice: &mut MemDice,
-) {
-    let ending = conn(
+fn conn_over(server: &Server, book: &mut Book<MemKeeper>, ended: &mut Ended) -> Ending {
+    conn(
         &Service::Authsrv,
-        rules,
-        peer,
-        &mut book,
-        &mut ended.input,
-        &mut ended.output,
-        &mut ended.logs,
+        &server.rules,
+        &server.peer,
+        book,
+        &mut ended.devices.talk.input,
+        &mut ended.devices.talk.output,
+        &mut ended.devices.place.logs,
         &mut Nowhere::new(),
-        &mut ended.clock,
-        dice,
-    );
+        &mut ended.devices.place.clock,
+        &mut ended.devices.place.dice,
+    )
+}
+
+// Serves the client, and says what it came to.
+fn hold(server: &Server, mut book: Book<MemKeeper>, limit: u64, ended: &mut Ended) {
+    let ending = conn_over(server, &mut book, ended);
     let (status, keeper) = close(book, limit, ending);
     ended.status = status;
     ended.keeper = Some(keeper);
 }
 
 /// Serves the client of the command line over a history with room for so many requests.
-pub(crate) fn serve_over(alloc: Global, words: &[Octets], limit: u64, devices: Devices) -> Ended {
-    let Devices {
-        files,
-        input,
-        output,
-        logs,
-        clock,
-        mut dice,
-        keeper,
-        launcher,
-    } = devices;
+pub(crate) fn serve_over(
+    alloc: Global,
+    words: &[Octets],
+    limit: u64,
+    devices: Devices,
+    keeper: MemKeeper,
+) -> Ended {
     let mut ended = Ended {
         status: UNSERVED,
-        input,
-        output,
-        logs,
-        clock,
+        devices,
         keeper: None,
-        launcher,
     };
-    let Some(server) = server_in(alloc, words, files) else {
+    let Some((server, policy)) = server_in(alloc, words, &mut ended.devices.place.files) else {
         return ended;
     };
-    let Server {
-        peer,
-        rules,
-        policy,
-    } = server;
     if let Ok(book) = Book::open(alloc, keeper, policy, limit) {
-        conn_over(&rules, &peer, book, limit, &mut ended, &mut dice);
+        hold(&server, book, limit, &mut ended);
     }
     ended
 }

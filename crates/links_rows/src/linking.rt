@@ -32,7 +32,7 @@ fn loopback(port: u16) -> Dest {
 // What a dialer that waits a second answers to a server of its own.
 fn call(rt: HostRuntime) -> io::Result<Option<Called>> {
     let (door, port) = door(rt)?;
-    let mut dialer = TcpDialer::new(rt);
+    let mut dialer = TcpDialer::new(rt, rt.alloc());
     dialer.patience(1);
     match dialer.dial(&loopback(port)) {
         Dialed::Up(from, to) => {
@@ -130,7 +130,7 @@ pub(crate) fn tell_host(rt: HostRuntime, asked: &[u8], out: &mut Told) {
     if word == b"gone".as_slice() {
         held = None;
     }
-    let mut dialer = TcpDialer::new(rt);
+    let mut dialer = TcpDialer::new(rt, rt.alloc());
     dialer.patience(5);
     match dialer.dial(&Dest { host, port }) {
         Dialed::Up(from, to) => {

@@ -1,6 +1,8 @@
 -- The bytes that a reader has left and a writer holds, where those are known; and what links tell.
-use Rattle.std.specs.Prelude.{ℕ, List, [], take, Option, None, Result, Ok, Err}
+use Rattle.std.specs.Prelude.{◌≡◌, ℕ, List, [], take, Option, None, Result, Ok, Err}
+use Rattle.std.specs.Io.Buffered.{reader_buffer, reader_capacity}
 use Rattle.std.specs.Io.KnownBytes.{Appends, Consumes, IsAtEnd, Keeps}
+use Rattle.std.specs.declared.io.buffered.BufReader.{BufReader}
 use Rattle.fw_outside.specs.SinkView.{SinkView}
 use Rattle.fw_outside.specs.SourceView.{SourceView}
 use Rattle.fw_outside.specs.declared.source.Got.{Got}
@@ -35,3 +37,7 @@ HandsOn (Err _) buf old new = Keeps old new
 abbrev pub Writes : Result (Unit {0}) Failed → List ℕ → Option (List ℕ) → Option (List ℕ) → Type 0
 Writes (Ok _) piece old new = Appends old new piece
 Writes (Err _) piece old new = Unit {0}
+
+-- nothing was read ahead yet, and 65,536 bytes can be. A reader that can read nothing ahead tells nothing of what is left in it
+abbrev pub ReadsAhead : {S A : Type 0} → BufReader S A → Type 0
+ReadsAhead reader = (reader_buffer reader ≡ []) × (reader_capacity reader ≡ 65536)

@@ -4,7 +4,7 @@ ghost use Rattle.fw_outside.specs.DialerView.{ComesUp, HangsUp, IfRefused, IfUp,
 ghost use Rattle.fw_outside.specs.declared.ask.Ask.TheVariants.{Main};
 ghost use Rattle.fw_types.specs.declared.host.Host.TheVariants.{Name};
 ghost use Rattle.real_links.specs.Dialing.{LeadsTo, LeadsToHost, untold_dialer};
-ghost use Rattle.real_links.specs.Links.{untold_sink, untold_source};
+ghost use Rattle.real_links.specs.Links.{ReadsAhead, untold_sink, untold_source};
 ghost use Rattle.real_links.specs.Names.{can_be_looked_up};
 ghost use Rattle.real_links.specs.NewLinks.{IsNewLink};
 
@@ -13,6 +13,7 @@ use crate::names::{can_be_looked_up, without_last_period};
 use crate::{Address, LinkSink, LinkSource};
 use fw_outside::{Dialed, Dialer};
 use fw_types::{Dest, Host, HostName};
+use std::alloc::Global;
 use std::io::{self, ErrorKind};
 use std::net::{HostAddrs, Net, SocketAddr, ToSocketAddrs};
 use std::str;
@@ -41,6 +42,7 @@ fn has_broken<S>(from: &LinkSource<S>, to: &LinkSink<S>) -> bool
 #[derive(Drop)]
 pub struct TcpDialer<R> {
     net: R,
+    alloc: Global,
     waits: u32,
     refusals: u64,
     link_faults: u64,
@@ -48,8 +50,9 @@ pub struct TcpDialer<R> {
 }
 
 impl<R> TcpDialer<R> {
-    /// A dialer over this net. Nothing is counted yet, and its links wait an hour.
-    pub fn new(net: R) -> TcpDialer<R>
+    /// A dialer over this net. Nothing is counted yet, and its links wait an hour. Each takes 65,536 bytes, by which it reads
+    /// ahead, and is refused if there is no memory for them.
+    pub fn new(net: R, alloc: Global) -> TcpDialer<R>
         ensures waits { result.waits ≡ 3600 }
         ensures refusals { result.refusals ≡ 0 }
         ensures link_faults { result.link_faults ≡ 0 }
@@ -57,6 +60,7 @@ impl<R> TcpDialer<R> {
     {
         TcpDialer {
             net,
+            alloc,
             waits: 3600,
             refusals: 0,
             link_faults: 0,
@@ -108,7 +112,7 @@ impl<R: Net> TcpDialer<R> {
                 continue;
             };
             let host = at.ip().octets();
-            if let Ok(link) = open(&self.net, Address { host, port }, self.waits) {
+            if let Ok(link) = open(&self.net, self.alloc, Address { host, port }, self.waits) {
                 return Some(link);
             }
         }
@@ -133,7 +137,13 @@ impl<R: Net> TcpDialer<R> {
     {
         let port = dest.port;
         match &dest.host {
-            Host::Addr(host) => open(&self.net, Address { host: *host, port }, self.waits).ok(),
+            Host::Addr(host) => open(
+                &self.net,
+                self.alloc,
+                Address { host: *host, port },
+                self.waits,
+            )
+            .ok(),
             Host::Name(name) => self.reach_name(name, port),
         }
     }
@@ -158,6 +168,7 @@ where
             (untold_dialer self.old.refusals self.old.link_faults self.old.link_idles self.old.waits)
             (untold_dialer self.new.refusals self.new.link_faults self.new.link_idles self.new.waits)) }
         ensures leads { IfUp result (λ from to. LeadsTo dest.now from.to) }
+        ensures ahead { IfUp result (λ from to. ReadsAhead from.socket) }
     {
         match self.reach(dest) {
             Some(Link { from, to }) => Dialed::Up(from, to),

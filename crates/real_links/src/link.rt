@@ -3,8 +3,12 @@ ghost use Rattle.real_links.specs.NewLinks.{IsNewLink};
 
 use crate::wait::{set_wait, time_of};
 use crate::{Address, LinkSink, LinkSource};
-use std::io::{self, Read, Write};
+use std::alloc::Global;
+use std::io::{self, BufReader, Read, Write};
 use std::net::{Ipv4Addr, Net, OpenStream, SocketAddr, SocketAddrV4, TcpStream};
+
+// How many bytes a link reads ahead at most.
+const AHEAD: usize = 65536;
 
 /// The two ends of a link.
 #[derive(Drop)]
@@ -31,6 +35,7 @@ fn connect<R: Net>(net: &R, to: Address, seconds: u32) -> io::Result<Connected<R
 
 // The two ends of a link over the socket, each with a handle of its own, which wait so many seconds.
 fn link_over<S: Read + Write + OpenStream + Drop>(
+    alloc: Global,
     connected: Connected<S>,
     seconds: u32,
 ) -> io::Result<Link<S>>
@@ -39,8 +44,8 @@ fn link_over<S: Read + Write + OpenStream + Drop>(
 {
     let Connected { socket, to } = connected;
     set_wait(&socket, seconds)?;
-    let _ = socket.set_nodelay(true);
     let other = socket.try_clone()?;
+    let socket = BufReader::with_capacity(alloc, AHEAD, socket)?;
     Ok(Link {
         from: LinkSource::new(socket, to, seconds),
         to: LinkSink::new(other),
@@ -48,9 +53,14 @@ fn link_over<S: Read + Write + OpenStream + Drop>(
 }
 
 /// A link to this address, which waits so many seconds, as long as it may take to come up.
-pub(crate) fn open<R: Net>(net: &R, to: Address, seconds: u32) -> io::Result<Link<R::Stream>>
+pub(crate) fn open<R: Net>(
+    net: &R,
+    alloc: Global,
+    to: Address,
+    seconds: u32,
+) -> io::Result<Link<R::Stream>>
     ensures to { IfOk result (λ link. link.from.to ≡ to) }
     ensures new { IfOk result (IsNewLink seconds) }
 {
-    link_over(connect(net, to, seconds)?, seconds)
+    link_over(alloc, connect(net, to, seconds)?, seconds)
 }

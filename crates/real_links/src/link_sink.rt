@@ -7,11 +7,16 @@ use fw_outside::{Failed, Sink};
 use std::io::Write;
 use std::net::{OpenStream, Shutdown};
 
-/// What goes over a link. A write that a signal interrupts goes on; one whose reader doesn't read fails after the time
-/// for which the link waits. Its end is told to the other side, which can go on giving.
+// The most bytes of a piece of a relay.
+const PIECE: usize = 4096;
+
+/// What goes over a link. Each piece is written as it is given: a short one is sent at once, and of those of 4,096 bytes
+/// the system may send several together, since more may follow. A write that a signal interrupts goes on; one whose reader
+/// doesn't read fails after the time for which the link waits. Its end is told to the other side, which can go on giving.
 #[derive(Drop)]
 pub struct LinkSink<S> {
     socket: S,
+    is_hurried: bool,
     faults: u64,
 }
 
@@ -20,7 +25,11 @@ impl<S> LinkSink<S> {
     pub fn new(socket: S) -> LinkSink<S>
         ensures { result.faults ≡ 0 }
     {
-        LinkSink { socket, faults: 0 }
+        LinkSink {
+            socket,
+            is_hurried: false,
+            faults: 0,
+        }
     }
 
     /// How many writes failed.
@@ -39,10 +48,42 @@ impl<S> LinkSink<S> {
     }
 }
 
-impl<S: Write + OpenStream + Drop> Sink for LinkSink<S> {
-    ghost sink_view = { λ s. untold_sink s.faults };
+impl<S: OpenStream> LinkSink<S> {
+    // Has the system send what it holds, and each piece from now on, at once; or lets it hold pieces back until it has more
+    // to send. A refusal changes only when bytes are sent.
+    fn hurry(&mut self, is_hurried: bool)
+        ensures socket { self.new.socket ≡ self.old.socket }
+        ensures faults { self.new.faults ≡ self.old.faults }
+    {
+        if self.is_hurried != is_hurried {
+            let _ = self.socket.set_nodelay(is_hurried);
+            self.is_hurried = is_hurried;
+        }
+    }
 
-    fn give(&mut self, piece: &[u8]) -> Result<(), Failed>
+    // Lets the system hold back a piece behind which more may follow.
+    fn unhurry_for(&mut self, piece: &[u8])
+        ensures socket { self.new.socket ≡ self.old.socket }
+        ensures faults { self.new.faults ≡ self.old.faults }
+    {
+        if piece.len() >= PIECE {
+            self.hurry(false);
+        }
+    }
+
+    // Has the system send a piece behind which nothing may follow.
+    fn hurry_after(&mut self, piece: &[u8])
+        ensures socket { self.new.socket ≡ self.old.socket }
+        ensures faults { self.new.faults ≡ self.old.faults }
+    {
+        if piece.len() < PIECE {
+            self.hurry(true);
+        }
+    }
+}
+
+impl<S: Write + OpenStream> LinkSink<S> {
+    fn write(&mut self, piece: &[u8]) -> Result<(), Failed>
         ensures gives { Gives result piece.now (untold_sink self.old.faults) (untold_sink self.new.faults) }
         ensures bytes { Writes result piece.now (S.contents self.old.socket) (S.contents self.new.socket) }
     {
@@ -50,6 +91,20 @@ impl<S: Write + OpenStream + Drop> Sink for LinkSink<S> {
             Ok(()) => Ok(()),
             Err(_) => Err(self.fail()),
         }
+    }
+}
+
+impl<S: Write + OpenStream + Drop> Sink for LinkSink<S> {
+    ghost sink_view = { λ s. untold_sink s.faults };
+
+    fn give(&mut self, piece: &[u8]) -> Result<(), Failed>
+        ensures gives { Gives result piece.now (untold_sink self.old.faults) (untold_sink self.new.faults) }
+        ensures bytes { Writes result piece.now (S.contents self.old.socket) (S.contents self.new.socket) }
+    {
+        self.unhurry_for(piece);
+        let answer = self.write(piece);
+        self.hurry_after(piece);
+        answer
     }
 
     fn end(&mut self) -> Result<(), Failed>

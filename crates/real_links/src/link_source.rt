@@ -1,4 +1,5 @@
 ghost use Rattle.std.specs.Prelude.{◌≡◌, ◌<◌, ◌≤◌, true, length, IfOk};
+ghost use Rattle.std.specs.Io.Buffered.{reader_remaining};
 ghost use Rattle.std.specs.Io.KnownBytes.{ReadConsumes};
 ghost use Rattle.fw_outside.specs.Counts.{Grew};
 ghost use Rattle.fw_outside.specs.SourceView.{Takes, waiting};
@@ -7,7 +8,7 @@ ghost use Rattle.real_links.specs.Links.{HandsOn, untold_source};
 use crate::Address;
 use crate::wait::set_wait;
 use fw_outside::{Failed, Got, Source};
-use std::io::{self, ErrorKind, Read};
+use std::io::{self, BufReader, ErrorKind, Read};
 use std::net::OpenStream;
 
 // The count of bytes after so many more came.
@@ -38,11 +39,11 @@ enum Refusal {
     Failed,
 }
 
-/// What comes over a link. It counts the bytes that it gave, the reads that failed, and those for which nothing came in
-/// time. A read that a signal interrupts is tried again.
+/// What comes over a link. It reads ahead, and gives what was read before it reads again. It counts the bytes that it gave,
+/// the reads that failed, and those for which nothing came in time. A read that a signal interrupts is tried again.
 #[derive(Drop)]
 pub struct LinkSource<S> {
-    socket: S,
+    socket: BufReader<S>,
     to: Address,
     is_set: bool,
     amount: u64,
@@ -54,7 +55,8 @@ pub struct LinkSource<S> {
 
 impl<S> LinkSource<S> {
     /// What comes over a socket that leads there and waits so many seconds. Nothing is counted yet.
-    pub(crate) fn new(socket: S, to: Address, waits: u32) -> LinkSource<S>
+    pub(crate) fn new(socket: BufReader<S>, to: Address, waits: u32) -> LinkSource<S>
+        ensures socket { result.socket ≡ socket }
         ensures to { result.to ≡ to }
         ensures amount { result.amount ≡ 0 }
         ensures faults { result.faults ≡ 0 }
@@ -101,11 +103,12 @@ impl<S: Read + OpenStream> LinkSource<S> {
     #[tactic(auto, using(crate::proofs::MovingLemmas::keeps_here))]
     fn read_in_time(&mut self, buf: &mut [u8]) -> Result<usize, Refusal>
         ensures bound { IfOk result (λ n. n ≤ length buf.new) }
-        ensures bytes { ReadConsumes (S.remaining self.old.socket) (S.remaining self.new.socket) result buf.new }
+        ensures bytes { ReadConsumes (reader_remaining S.remaining self.old.socket)
+            (reader_remaining S.remaining self.new.socket) result buf.new }
         ensures same { self.new ≡ record self.old { socket = self.new.socket; is_set = self.new.is_set } }
     {
         if !self.is_set {
-            self.is_set = set_wait(&self.socket, self.waits).is_ok();
+            self.is_set = set_wait(self.socket.get_ref(), self.waits).is_ok();
         }
         if !self.is_set {
             return Err(Refusal::Failed);
@@ -126,7 +129,8 @@ impl<S: Read + OpenStream + Drop> Source for LinkSource<S> {
         ensures takes { Takes result buf.new
             (untold_source self.old.amount self.old.faults self.old.idles self.old.waits self.old.waited)
             (untold_source self.new.amount self.new.faults self.new.idles self.new.waits self.new.waited) }
-        ensures bytes { HandsOn result buf.new (S.remaining self.old.socket) (S.remaining self.new.socket) }
+        ensures bytes { HandsOn result buf.new (reader_remaining S.remaining self.old.socket)
+            (reader_remaining S.remaining self.new.socket) }
         ensures to { self.new.to ≡ self.old.to }
     {
         match self.read_in_time(buf) {
@@ -156,6 +160,6 @@ impl<S: Read + OpenStream + Drop> Source for LinkSource<S> {
         ensures to { self.new.to ≡ self.old.to }
     {
         self.waits = seconds;
-        self.is_set = set_wait(&self.socket, seconds).is_ok();
+        self.is_set = set_wait(self.socket.get_ref(), seconds).is_ok();
     }
 }

@@ -51,4 +51,11 @@ impl OpenStream for StandardOutput {
             StandardOutput::Other(_) => Ok(()),
         }
     }
+
+    fn set_nodelay(&self, nodelay: bool) -> io::Result<()> {
+        match self {
+            StandardOutput::Socket(socket) => socket.set_nodelay(nodelay),
+            StandardOutput::Other(_) => Ok(()),
+        }
+    }
 }

@@ -1,38 +1,70 @@
 //! The devices that a row's run is given.
+ghost use Rattle.std.specs.Prelude.{All, IfOk};
+ghost use Rattle.fw_memory.specs.MemDialerView.{IsNewLink};
 
-use crate::calls::{Broken, ROOM, calls_of, no_calls, room_of};
-use format_of_rows::{File, Part, Row};
-use fw_memory::{MemClock, MemDice, MemFiles, MemKeeper, MemLauncher, MemSink, MemSource};
+use crate::calls::{calls_of, room_of};
+use crate::plan::Plan;
+use format_of_rows::{File, Part};
+use fw_memory::{
+    Calls, MemClock, MemDialer, MemDice, MemFiles, MemKeeper, MemLauncher, MemSink, MemSource,
+};
 use fw_types::{Name, NoMemory, Octets};
 use std::alloc::Global;
 
 /// The names that a keeper has, with their bytes.
 pub(crate) type Records = Vec<(Name, Octets)>;
 
-/// More bytes than come at once.
-pub(crate) const WHOLE: usize = 1_048_576;
-
 /// The moment that follows those of a row.
 pub(crate) const NEXT: u64 = 10_000_000_000;
 
-/// The devices that a run is given.
+/// The number from which the dice count up.
+const FIRST_SALT: u64 = 0x0102_0304_0506_0708;
+
+/// So many destinations may be asked for.
+const MOST_ASKED: usize = 64;
+
+/// What a client says and is told, or what is printed.
 #[derive(Drop)]
-pub struct Devices {
-    pub files: MemFiles,
+pub struct Talk {
     pub input: MemSource,
     pub output: MemSink,
+}
+
+/// What a run reads and logs, and what gives it moments and salts.
+#[derive(Drop)]
+pub struct Place {
+    pub files: MemFiles,
     pub logs: MemSink,
     pub clock: MemClock,
     pub dice: MemDice,
-    pub keeper: MemKeeper,
+}
+
+/// Whom a run calls.
+#[derive(Drop)]
+pub struct Helpers {
+    pub dialer: MemDialer,
     pub launcher: MemLauncher,
+}
+
+/// The devices that a run is given, but for its keeper.
+#[derive(Drop)]
+pub struct Devices {
+    pub talk: Talk,
+    pub place: Place,
+    pub helpers: Helpers,
+}
+
+fn twin_of(alloc: Global, name: &Name, bytes: &Octets) -> Result<(Name, Octets), NoMemory> {
+    let bytes = Octets::copy(alloc, bytes.bytes())?;
+    Ok((name.twin(), bytes))
 }
 
 /// A copy of the records.
 pub(crate) fn copy_of(alloc: Global, records: &[(Name, Octets)]) -> Result<Records, NoMemory> {
     let mut copy = Vec::new(alloc);
     for (name, bytes) in records {
-        copy.push((name.twin(), Octets::copy(alloc, bytes.bytes())?))?;
+        let twin = twin_of(alloc, name, bytes)?;
+        copy.push(twin)?;
     }
     Ok(copy)
 }
@@ -40,98 +72,138 @@ pub(crate) fn copy_of(alloc: Global, records: &[(Name, Octets)]) -> Result<Recor
 // Gives these moments, then the next one, and another one from then on.
 fn clock_of(alloc: Global, moments: &[u64]) -> Result<MemClock, NoMemory> {
     let mut all = Vec::from_slice(alloc, moments)?;
-    all.push(NEXT)?;
-    all.push(NEXT + 1)?;
+    all.extend_from_slice(&[NEXT, NEXT + 1])?;
     Ok(MemClock::new(all))
+}
+
+fn entry_of(alloc: Global, name: &[u8], bytes: &[u8]) -> Result<(Octets, Octets), NoMemory> {
+    let name = Octets::copy(alloc, name)?;
+    let bytes = Octets::copy(alloc, bytes)?;
+    Ok((name, bytes))
 }
 
 fn entries_of(alloc: Global, files: &[File]) -> Result<Vec<(Octets, Octets)>, NoMemory> {
     let mut entries = Vec::new(alloc);
     for file in files {
-        let name = Octets::copy(alloc, &file.name)?;
-        entries.push((name, Octets::copy(alloc, &file.bytes)?))?;
+        let entry = entry_of(alloc, &file.name, &file.bytes)?;
+        entries.push(entry)?;
     }
     Ok(entries)
 }
 
-fn files_of(alloc: Global, row: &Row, piece: usize, broken: Broken) -> Result<MemFiles, NoMemory> {
-    let entries = entries_of(alloc, &row.setting.files)?;
-    let fails = calls_of(alloc, row, Part::Table, broken)?;
-    let idle = calls_of(alloc, row, Part::TableIdle, broken)?;
-    Ok(MemFiles::new(alloc, entries, piece.max(1), fails, idle))
+fn files_of(plan: &Plan) -> Result<MemFiles, NoMemory> {
+    let fails = calls_of(plan, Part::Table)?;
+    let idle = calls_of(plan, Part::TableIdle)?;
+    let entries = entries_of(plan.alloc, &plan.row.setting.files)?;
+    Ok(MemFiles::new(plan.alloc, entries, plan.piece.max(1), fails, idle))
 }
 
-fn input_of(alloc: Global, row: &Row, piece: usize, broken: Broken) -> Result<MemSource, NoMemory> {
-    let said = Octets::copy(alloc, &row.setting.client)?;
-    let fails = calls_of(alloc, row, Part::Client, broken)?;
-    let idle = calls_of(alloc, row, Part::ClientIdle, broken)?;
-    Ok(MemSource::new(said, piece.max(1), fails, idle))
+fn input_of(plan: &Plan) -> Result<MemSource, NoMemory> {
+    let fails = calls_of(plan, Part::Client)?;
+    let idle = calls_of(plan, Part::ClientIdle)?;
+    let said = Octets::copy(plan.alloc, &plan.row.setting.client)?;
+    Ok(MemSource::new(said, plan.piece.max(1), fails, idle))
 }
 
-fn output_of(alloc: Global, row: &Row, broken: Broken) -> Result<MemSink, NoMemory> {
-    let fails = calls_of(alloc, row, Part::Output, broken)?;
-    MemSink::new(alloc, room_of(row, Part::OutputRoom, broken), fails)
+fn output_of(plan: &Plan) -> Result<MemSink, NoMemory> {
+    let fails = calls_of(plan, Part::Output)?;
+    MemSink::new(plan.alloc, room_of(plan, Part::OutputRoom), fails)
 }
 
-fn logs_of(alloc: Global, row: &Row, broken: Broken) -> Result<MemSink, NoMemory> {
-    let fails = calls_of(alloc, row, Part::Log, broken)?;
-    MemSink::new(alloc, room_of(row, Part::LogRoom, broken), fails)
+fn logs_of(plan: &Plan) -> Result<MemSink, NoMemory> {
+    let fails = calls_of(plan, Part::Log)?;
+    MemSink::new(plan.alloc, room_of(plan, Part::LogRoom), fails)
 }
 
-fn keeper_of(
+/// The keeper of a row's run.
+pub(crate) fn keeper_of(plan: &Plan) -> Result<MemKeeper, NoMemory> {
+    let fails = calls_of(plan, Part::Keeper)?;
+    let records = copy_of(plan.alloc, plan.records)?;
+    Ok(MemKeeper::new(plan.alloc, records, fails))
+}
+
+fn launcher_of(plan: &Plan) -> Result<MemLauncher, NoMemory> {
+    let fails = calls_of(plan, Part::Program)?;
+    let ends = Vec::from_slice(plan.alloc, &plan.row.setting.ends)?;
+    Ok(MemLauncher::new(plan.alloc, ends, fails))
+}
+
+// A link of these.
+fn linked(
     alloc: Global,
-    row: &Row,
-    records: &[(Name, Octets)],
-    broken: Broken,
-) -> Result<MemKeeper, NoMemory> {
-    let fails = calls_of(alloc, row, Part::Keeper, broken)?;
-    Ok(MemKeeper::new(alloc, copy_of(alloc, records)?, fails))
-}
-
-fn launcher_of(alloc: Global, row: &Row, broken: Broken) -> Result<MemLauncher, NoMemory> {
-    let ends = Vec::from_slice(alloc, &row.setting.ends)?;
-    let fails = calls_of(alloc, row, Part::Program, broken)?;
-    Ok(MemLauncher::new(alloc, ends, fails))
-}
-
-/// What a row's run meets over a copy of these records, where bytes come in pieces of this length and something fails.
-pub(crate) fn devices_of(
-    alloc: Global,
-    row: &Row,
-    records: &[(Name, Octets)],
+    said: Octets,
     piece: usize,
-    broken: Broken,
-) -> Result<Devices, NoMemory> {
-    Ok(Devices {
-        files: files_of(alloc, row, piece, broken)?,
-        input: input_of(alloc, row, piece, broken)?,
-        output: output_of(alloc, row, broken)?,
-        logs: logs_of(alloc, row, broken)?,
-        clock: clock_of(alloc, &row.setting.moments)?,
-        dice: MemDice::new(0x0102_0304_0506_0708),
-        keeper: keeper_of(alloc, row, records, broken)?,
-        launcher: launcher_of(alloc, row, broken)?,
+    fails: Calls,
+    idle: Calls,
+    room: usize,
+    refuses: Calls,
+) -> Result<(MemSource, MemSink), NoMemory>
+    ensures { IfOk result IsNewLink }
+{
+    let to = MemSink::new(alloc, room, refuses)?;
+    Ok((MemSource::new(said, piece.max(1), fails, idle), to))
+}
+
+// A link to a server that says this.
+fn link_of(plan: &Plan, said: &[u8]) -> Result<(MemSource, MemSink), NoMemory>
+    ensures { IfOk result IsNewLink }
+{
+    let fails = calls_of(plan, Part::Server)?;
+    let idle = calls_of(plan, Part::ServerIdle)?;
+    let refuses = calls_of(plan, Part::Given)?;
+    let said = Octets::copy(plan.alloc, said)?;
+    let room = room_of(plan, Part::GivenRoom);
+    linked(plan.alloc, said, plan.piece, fails, idle, room, refuses)
+}
+
+fn links_of(plan: &Plan) -> Result<Vec<(MemSource, MemSink)>, NoMemory>
+    ensures { IfOk result (λ links. All IsNewLink links.items) }
+{
+    let mut links = Vec::new(plan.alloc);
+    for said in &plan.row.setting.links {
+        links.push(link_of(plan, said)?)?;
+    }
+    Ok(links)
+}
+
+fn dialer_of(plan: &Plan) -> Result<MemDialer, NoMemory> {
+    let fails = calls_of(plan, Part::Dialer)?;
+    let links = links_of(plan)?;
+    MemDialer::new(plan.alloc, links, MOST_ASKED, fails)
+}
+
+fn talk_of(plan: &Plan) -> Result<Talk, NoMemory> {
+    let input = input_of(plan)?;
+    let output = output_of(plan)?;
+    Ok(Talk { input, output })
+}
+
+fn place_of(plan: &Plan) -> Result<Place, NoMemory> {
+    let clock = clock_of(plan.alloc, &plan.row.setting.moments)?;
+    let logs = logs_of(plan)?;
+    let files = files_of(plan)?;
+    Ok(Place {
+        files,
+        logs,
+        clock,
+        dice: MemDice::new(FIRST_SALT),
     })
 }
 
-/// What a run at the console meets that says these lines, over the records.
-pub(crate) fn console_devices(
-    alloc: Global,
-    said: &[u8],
-    records: Records,
-) -> Result<Devices, NoMemory> {
-    let mut entries = Vec::new(alloc);
-    let name = Octets::copy(alloc, format_of_rows::TABLE.as_bytes())?;
-    entries.push((name, Octets::of(Vec::new(alloc))))?;
-    let said = Octets::copy(alloc, said)?;
+fn helpers_of(plan: &Plan) -> Result<Helpers, NoMemory> {
+    let launcher = launcher_of(plan)?;
+    let dialer = dialer_of(plan)?;
+    Ok(Helpers { dialer, launcher })
+}
+
+/// What a row's run meets.
+pub(crate) fn devices_of(plan: &Plan) -> Result<Devices, NoMemory> {
+    let talk = talk_of(plan)?;
+    let place = place_of(plan)?;
+    let helpers = helpers_of(plan)?;
     Ok(Devices {
-        files: MemFiles::new(alloc, entries, WHOLE, no_calls(), no_calls()),
-        input: MemSource::new(said, WHOLE, no_calls(), no_calls()),
-        output: MemSink::new(alloc, ROOM, no_calls())?,
-        logs: MemSink::new(alloc, ROOM, no_calls())?,
-        clock: clock_of(alloc, &[])?,
-        dice: MemDice::new(0x0102_0304_0506_0708),
-        keeper: MemKeeper::new(alloc, records, no_calls()),
-        launcher: MemLauncher::new(alloc, Vec::new(alloc), no_calls()),
+        talk,
+        place,
+        helpers,
     })
 }

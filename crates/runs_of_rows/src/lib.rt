@@ -5,19 +5,25 @@
 //! each in a [`Report`].
 #![tactic(auto)]
 
+mod broken;
 mod calls;
 mod comparing;
 mod devices;
-mod outcome;
+mod parts;
+mod plan;
+mod relays;
 mod report;
 mod runner;
+mod running;
+mod seen;
 mod sweeps;
 mod texts;
 mod trying;
 mod verdicts;
+mod writing;
 
 pub use comparing::Difference;
-pub use devices::Devices;
+pub use devices::{Devices, Helpers, Place, Talk};
 pub use report::{Counts, Report};
 pub use runner::{Ended, Runner};
 pub use trying::try_rows;

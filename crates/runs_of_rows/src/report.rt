@@ -1,7 +1,9 @@
 //! What is printed of the rows.
 
+use crate::sweeps::Swept;
+use crate::writing::{Text, add, add_number};
 use fw_types::NoMemory;
-use std::alloc::{AllocError, Global};
+use std::alloc::Global;
 
 /// How many rows there were.
 #[derive(Clone, Copy)]
@@ -33,9 +35,20 @@ pub struct Report {
     differ: bool,
 }
 
-fn add_number(alloc: Global, text: &mut Vec<u8>, number: u64) -> Result<(), AllocError> {
-    let digits = format!(in alloc; "{number}")?;
-    text.extend_from_slice(digits.as_bytes())
+// Tells of a row that came out as its file says.
+fn add_same(line: &mut Text, differ: bool, sweep: u64) {
+    if differ {
+        add(line, b": it must come out otherwise, and doesn't");
+    } else if sweep != 0 {
+        add(line, b" sweep ");
+        add_number(line, sweep);
+    }
+}
+
+// Tells of a row that came out otherwise.
+fn add_other(line: &mut Text, differ: bool, what: &[u8]) {
+    add(line, if differ { b" differs: " } else { b": " });
+    add(line, what);
 }
 
 impl Report {
@@ -52,47 +65,26 @@ impl Report {
         &self.text
     }
 
-    fn add(&mut self, text: &[u8]) -> Result<(), NoMemory> {
-        self.text.extend_from_slice(text)?;
-        Ok(())
-    }
-
-    // Tells of a row that came out as its file says.
-    fn add_same(&mut self, alloc: Global, name: &[u8], sweep: u64) -> Result<(), NoMemory> {
-        self.add(if self.differ { b"differs " } else { b"ok " })?;
-        self.add(name)?;
-        if self.differ {
-            self.add(b": it must come out otherwise, and doesn't")?;
-        } else if sweep != 0 {
-            self.add(b" sweep ")?;
-            add_number(alloc, &mut self.text, sweep)?;
-        }
-        self.add(b"\n")
-    }
-
-    // Tells of a row that came out otherwise.
-    fn add_other(&mut self, name: &[u8], what: &[u8]) -> Result<(), NoMemory> {
-        self.add(if self.differ { b"ok " } else { b"differs " })?;
-        self.add(name)?;
-        self.add(if self.differ { b" differs: " } else { b": " })?;
-        self.add(what)?;
-        self.add(b"\n")
-    }
-
-    /// Tells what became of a row: so many further runs were as they must be, or this was otherwise.
+    /// Tells what became of a row: so many further runs were as they must be, or something was otherwise.
     pub(crate) fn tell(
         &mut self,
-        alloc: Global,
         counts: &mut Counts,
         name: &[u8],
-        sweep: u64,
-        what: &[u8],
+        swept: &Swept,
     ) -> Result<(), NoMemory> {
-        counts.count(!what.is_empty() == self.differ);
-        if what.is_empty() {
-            self.add_same(alloc, name, sweep)
+        let is_same = swept.difference.is_none();
+        let good = is_same != self.differ;
+        counts.count(good);
+        let mut line = Text::new();
+        add(&mut line, if good { b"ok " } else { b"differs " });
+        add(&mut line, name);
+        if is_same {
+            add_same(&mut line, self.differ, swept.runs);
         } else {
-            self.add_other(name, what)
+            add_other(&mut line, self.differ, swept.difference.text());
         }
+        add(&mut line, b"\n");
+        self.text.extend_from_slice(line.as_slice())?;
+        Ok(())
     }
 }

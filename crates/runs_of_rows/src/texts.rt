@@ -1,8 +1,5 @@
 //! Lines of texts.
 
-use fw_types::NoMemory;
-use std::alloc::Global;
-
 /// How many line ends the text has.
 pub(crate) fn count_lines(text: &[u8]) -> u64 {
     let mut lines: u64 = 0;
@@ -46,29 +43,10 @@ pub(crate) fn later_lines(text: &[u8], line: u64) -> &[u8] {
     text.get(end_of(text, line)..).unwrap_or(&[])
 }
 
-/// The text but for this line, counted from 0.
-pub(crate) fn without_line(alloc: Global, text: &[u8], line: u64) -> Result<Vec<u8>, NoMemory> {
-    let mut rest = Vec::from_slice(alloc, first_lines(text, line))?;
-    rest.extend_from_slice(later_lines(text, line.saturating_add(1)))?;
-    Ok(rest)
-}
-
-/// The text with this for its last word.
-pub(crate) fn with_last_word(alloc: Global, text: &[u8], word: &[u8]) -> Result<Vec<u8>, NoMemory> {
-    let end = match text.iter().rposition(|byte| *byte == b' ') {
-        Some(at) => at.saturating_add(1),
-        None => 0,
-    };
-    let mut out = Vec::from_slice(alloc, text.get(..end).unwrap_or(&[]))?;
-    out.extend_from_slice(word)?;
-    out.push(b'\n')?;
-    Ok(out)
-}
-
-/// Whether one of the lines is this one.
+/// Whether one of the lines begins with this one, which has its end.
 pub(crate) fn has_line(text: &[u8], line: &[u8]) -> bool {
-    for each in text.split(|byte| *byte == b'\n') {
-        if each == line {
+    for at in 0..count_lines(text) {
+        if later_lines(text, at).starts_with(line) {
             return true;
         }
     }

@@ -1,102 +1,86 @@
 //! The rows of a file, one after the other.
 
-use crate::calls::UNBROKEN;
-use crate::comparing::{Difference, Expected, compare};
-use crate::devices::{Records, WHOLE, copy_of};
-use crate::outcome::{at_console, outcome_by};
+use crate::comparing::Difference;
+use crate::devices::{Records, copy_of};
+use crate::plan::{Plan, UNBROKEN, WHOLE};
 use crate::report::{Counts, Report};
 use crate::runner::Runner;
-use crate::sweeps::{Swept, say_where, sweep};
-use crate::texts::count_lines;
-use crate::verdicts::usual;
+use crate::running::run_plan;
+use crate::sweeps::{Swept, sweep};
 use format_of_rows::Row;
 use fw_types::{Name, NoMemory, Octets};
 use std::alloc::Global;
+use std::thread::Threads;
 
-// What is told at the console where each line is answered by `ok`.
-fn answers(alloc: Global, lines: u64) -> Result<Vec<u8>, NoMemory> {
-    let mut text = Vec::from_slice(alloc, b"authsrv ready\n")?;
-    for _ in 0..lines {
-        text.extend_from_slice(b"ok\n")?;
+// The run of a row as it is said.
+fn plan_of<'a>(
+    alloc: Global,
+    row: &'a Row,
+    records: &'a [(Name, Octets)],
+    piece: usize,
+) -> Plan<'a> {
+    Plan {
+        alloc,
+        row,
+        records,
+        piece,
+        broken: UNBROKEN,
     }
-    Ok(text)
 }
 
-// Says the lines at the console. The records are those that are there afterwards.
-fn say_at_console<R: Runner>(
+fn console_row(alloc: Global, said: &[u8]) -> Result<Row, NoMemory> {
+    match Row::console(alloc, said) {
+        Ok(row) => Ok(row),
+        Err(_) => Err(NoMemory),
+    }
+}
+
+// Runs what is said at the console. The records are those that are there afterwards.
+fn run_console<H: Threads + Sync, R: Runner>(
+    rt: &H,
     runner: &R,
     alloc: Global,
     said: &[u8],
     records: &mut Records,
-) -> Result<Difference, NoMemory> {
-    let was = at_console(runner, alloc, said, copy_of(alloc, records)?)?;
-    let output = answers(alloc, count_lines(said))?;
-    let expected = Expected {
-        status: 0,
-        output: &output,
-        log: b"end authsrv unknown/127.0.0.1 done\n",
-        next: None,
-        left: None,
-        records: None,
-        started: &[],
-    };
-    let difference = compare(alloc, &expected, &was)?;
-    *records = was.records;
-    Ok(difference)
-}
-
-// The records that the row's runs begin with, where nothing differs at the console.
-fn records_before<R: Runner>(
-    runner: &R,
-    alloc: Global,
-    row: &Row,
-    earlier: &[Records],
     difference: &mut Difference,
-) -> Result<Records, NoMemory> {
-    if let Some(place) = row.setting.after {
-        return copy_of(
-            alloc,
-            earlier.get(place).map_or(&[], |left| left.as_slice()),
-        );
-    }
-    let mut records = copy_of(alloc, &row.setting.stored)?;
+) -> Result<(), NoMemory> {
+    let before = copy_of(alloc, records)?;
+    let row = console_row(alloc, said)?;
+    let plan = plan_of(alloc, &row, &before, WHOLE);
+    run_plan(rt, runner, &plan, 0, records, difference)
+}
+
+// Runs all that is said at the console before the row, up to the first run in which something differs.
+fn run_consoles<H: Threads + Sync, R: Runner>(
+    rt: &H,
+    runner: &R,
+    alloc: Global,
+    row: &Row,
+    records: &mut Records,
+    swept: &mut Swept,
+) -> Result<(), NoMemory> {
     for said in &row.setting.console {
-        if difference.is_none() {
-            *difference = say_at_console(runner, alloc, said, &mut records)?;
+        if swept.difference.is_none() {
+            run_console(rt, runner, alloc, said, records, &mut swept.difference)?;
         }
     }
-    Ok(records)
+    Ok(())
 }
 
-// What differs where the row is run in pieces of this length, and what the keeper then has.
-fn run_piece<R: Runner>(
-    runner: &R,
-    alloc: Global,
-    row: &Row,
-    records: &[(Name, Octets)],
-    piece: usize,
-) -> Result<(Difference, Records), NoMemory> {
-    let was = outcome_by(runner, alloc, row, records, piece, UNBROKEN)?;
-    let mut difference = compare(alloc, &usual(row, records), &was)?;
-    say_where(&mut difference, piece, UNBROKEN)?;
-    Ok((difference, was.records))
-}
-
-fn run_pieces<R: Runner>(
-    runner: &R,
-    alloc: Global,
-    row: &Row,
-    records: &[(Name, Octets)],
-    pieces: &[usize],
-) -> Result<(Difference, Records), NoMemory> {
-    let mut difference = Difference::none(alloc);
-    let mut left = Vec::new(alloc);
-    for piece in pieces {
-        if difference.is_none() {
-            (difference, left) = run_piece(runner, alloc, row, records, *piece)?;
-        }
+// The records that an earlier row left.
+fn left_at(earlier: &[Records], place: usize) -> &[(Name, Octets)] {
+    match earlier.get(place) {
+        Some(left) => left,
+        None => &[],
     }
-    Ok((difference, left))
+}
+
+// The records that the row has at first, or that an earlier one left.
+fn first_records(alloc: Global, row: &Row, earlier: &[Records]) -> Result<Records, NoMemory> {
+    match row.setting.after {
+        Some(place) => copy_of(alloc, left_at(earlier, place)),
+        None => copy_of(alloc, &row.setting.stored),
+    }
 }
 
 fn pieces_of(row: &Row) -> &[usize] {
@@ -106,48 +90,110 @@ fn pieces_of(row: &Row) -> &[usize] {
     &row.trial.pieces
 }
 
-// Runs the row, and then its sweeps, and keeps what its keeper has after it.
-fn try_run<R: Runner>(
+// Runs the row once for each of its pieces, up to the first run in which something differs.
+fn run_pieces<H: Threads + Sync, R: Runner>(
+    rt: &H,
     runner: &R,
     alloc: Global,
     row: &Row,
-    left: &mut Vec<Records>,
-) -> Result<Swept, NoMemory> {
-    let mut difference = Difference::none(alloc);
-    let records = records_before(runner, alloc, row, left, &mut difference)?;
-    let mut swept = Swept {
-        runs: 0,
-        difference,
-    };
-    if swept.difference.is_none() {
-        let (difference, after) = run_pieces(runner, alloc, row, &records, pieces_of(row))?;
-        left.push(after)?;
-        swept.difference = difference;
-    } else {
-        left.push(Vec::new(alloc))?;
+    records: &[(Name, Octets)],
+    swept: &mut Swept,
+) -> Result<(), NoMemory> {
+    for piece in pieces_of(row) {
+        if swept.difference.is_none() {
+            let plan = plan_of(alloc, row, records, *piece);
+            let (after, difference) = (&mut swept.after, &mut swept.difference);
+            run_plan(rt, runner, &plan, 0, after, difference)?;
+        }
     }
-    if swept.difference.is_none() {
-        return sweep(runner, alloc, row, &records);
-    }
-    Ok(swept)
+    Ok(())
 }
 
-fn try_row<R: Runner>(
+// Runs the row over the records that it begins with.
+fn run_row<H: Threads + Sync, R: Runner>(
+    rt: &H,
+    runner: &R,
+    alloc: Global,
+    row: &Row,
+    records: &mut Records,
+    swept: &mut Swept,
+) -> Result<(), NoMemory> {
+    run_consoles(rt, runner, alloc, row, records, swept)?;
+    run_pieces(rt, runner, alloc, row, records, swept)
+}
+
+// Keeps what the row left, and sweeps.
+fn sweep_row<H: Threads + Sync, R: Runner>(
+    rt: &H,
+    runner: &R,
+    alloc: Global,
+    row: &Row,
+    records: &[(Name, Octets)],
+    left: &mut Vec<Records>,
+    swept: &mut Swept,
+) -> Result<(), NoMemory> {
+    left.push(copy_of(alloc, &swept.after)?)?;
+    sweep(rt, runner, alloc, row, records, swept)
+}
+
+// Runs the row, keeps what its keeper has after it, and sweeps.
+fn try_run<H: Threads + Sync, R: Runner>(
+    rt: &H,
     runner: &R,
     alloc: Global,
     row: &Row,
     left: &mut Vec<Records>,
-) -> Result<Swept, NoMemory> {
+    swept: &mut Swept,
+) -> Result<(), NoMemory> {
+    let mut records = first_records(alloc, row, left)?;
+    run_row(rt, runner, alloc, row, &mut records, swept)?;
+    sweep_row(rt, runner, alloc, row, &records, left, swept)
+}
+
+// Looks at how the row's words are read.
+fn try_words<R: Runner>(
+    runner: &R,
+    alloc: Global,
+    row: &Row,
+    command: &[u8],
+    left: &mut Vec<Records>,
+    swept: &mut Swept,
+) -> Result<(), NoMemory> {
+    left.push(Vec::new(alloc))?;
+    runner.misread(alloc, row, command, &mut swept.difference)
+}
+
+fn try_row<H: Threads + Sync, R: Runner>(
+    rt: &H,
+    runner: &R,
+    alloc: Global,
+    row: &Row,
+    left: &mut Vec<Records>,
+    swept: &mut Swept,
+) -> Result<(), NoMemory> {
     match &row.wanted.reading.command {
-        Some(command) => {
-            left.push(Vec::new(alloc))?;
-            Ok(Swept {
-                runs: 0,
-                difference: runner.misread(alloc, row, command)?,
-            })
-        }
-        None => try_run(runner, alloc, row, left),
+        Some(command) => try_words(runner, alloc, row, command, left, swept),
+        None => try_run(rt, runner, alloc, row, left, swept),
     }
+}
+
+// Tries a row, and tells of it.
+fn tell_row<H: Threads + Sync, R: Runner>(
+    rt: &H,
+    runner: &R,
+    alloc: Global,
+    row: &Row,
+    left: &mut Vec<Records>,
+    report: &mut Report,
+    counts: &mut Counts,
+) -> Result<(), NoMemory> {
+    let mut swept = Swept {
+        runs: 0,
+        difference: Difference::none(),
+        after: Vec::new(alloc),
+    };
+    try_row(rt, runner, alloc, row, left, &mut swept)?;
+    report.tell(counts, row.name.bytes(), &swept)
 }
 
 /// Tries each of the rows, and tells of each.
@@ -155,7 +201,8 @@ fn try_row<R: Runner>(
 /// # Errors
 ///
 /// `NoMemory` where memory was wanting.
-pub fn try_rows<R: Runner>(
+pub fn try_rows<H: Threads + Sync, R: Runner>(
+    rt: &H,
     runner: &R,
     alloc: Global,
     rows: &[Row],
@@ -164,9 +211,7 @@ pub fn try_rows<R: Runner>(
 ) -> Result<(), NoMemory> {
     let mut left = Vec::new(alloc);
     for row in rows {
-        let swept = try_row(runner, alloc, row, &mut left)?;
-        let what = swept.difference.text();
-        report.tell(alloc, counts, row.name.bytes(), swept.runs, what)?;
+        tell_row(rt, runner, alloc, row, &mut left, report, counts)?;
     }
     Ok(())
 }

@@ -1,31 +1,63 @@
-//! What always holds of a run in which a device fails.
+//! What is expected of a row, and what always holds of a run in which a device fails.
 
-use crate::comparing::Expected;
+use crate::comparing::{Called, Expected, Rest, UNCALLED};
 use crate::devices::NEXT;
-use crate::texts::{first_lines, later_lines, with_last_word};
-use format_of_rows::Row;
-use fw_types::{Name, NoMemory, Octets};
-use std::alloc::Global;
+use crate::parts::{Parts, whole};
+use crate::texts::{first_lines, later_lines};
+use format_of_rows::{Row, Wanted};
+use fw_types::{Name, Octets};
+
+fn next_by(row: &Row) -> Option<u64> {
+    if row.trial.untimed {
+        return None;
+    }
+    Some(NEXT)
+}
+
+fn left_by(row: &Row) -> Option<&[u8]> {
+    if row.wanted.untaken {
+        return Some(&row.setting.client);
+    }
+    None
+}
+
+fn kept_by<'a>(row: &'a Row, records: &'a [(Name, Octets)]) -> Option<&'a [(Name, Octets)]> {
+    if let Some(kept) = &row.wanted.keeper {
+        return Some(kept);
+    }
+    if row.wanted.unchanged {
+        return Some(records);
+    }
+    None
+}
+
+/// What is expected of those whom the row's run calls.
+pub(crate) fn called_by(wanted: &Wanted) -> Called<'_> {
+    Called {
+        started: &wanted.called.started,
+        asked: &wanted.called.asked,
+        given: &wanted.called.given,
+        hung_up: wanted.called.hung_up,
+    }
+}
+
+/// The status of a row that is run as its file says.
+pub(crate) fn status_of(row: &Row) -> u8 {
+    row.wanted.status.unwrap_or(0)
+}
 
 /// What is expected of a row that is run as its file says.
 pub(crate) fn usual<'a>(row: &'a Row, records: &'a [(Name, Octets)]) -> Expected<'a> {
-    let wanted = &row.wanted;
     Expected {
-        status: wanted.status.unwrap_or(0),
-        output: &wanted.output,
-        log: &wanted.log,
-        next: Some(NEXT),
-        left: if wanted.untaken {
-            Some(&row.setting.client)
-        } else {
-            None
+        status: status_of(row),
+        output: Some(&row.wanted.output),
+        log: whole(&row.wanted.log),
+        called: called_by(&row.wanted),
+        rest: Rest {
+            next: next_by(row),
+            left: left_by(row),
+            records: kept_by(row, records),
         },
-        records: match &wanted.keeper {
-            Some(kept) => Some(kept),
-            None if wanted.unchanged => Some(records),
-            None => None,
-        },
-        started: &wanted.started,
     }
 }
 
@@ -33,23 +65,58 @@ pub(crate) fn usual<'a>(row: &'a Row, records: &'a [(Name, Octets)]) -> Expected
 pub(crate) fn untouched<'a>(
     row: &'a Row,
     records: &'a [(Name, Octets)],
-    log: &'a [u8],
+    log: Parts<'a>,
 ) -> Expected<'a> {
     Expected {
         status: 4,
-        output: &[],
+        output: Some(&[]),
         log,
-        next: Some(moment_after(row, 0)),
-        left: Some(&row.setting.client),
-        records: Some(records),
-        started: &[],
+        called: UNCALLED,
+        rest: Rest {
+            next: Some(moment_after(row, 0)),
+            left: Some(&row.setting.client),
+            records: Some(records),
+        },
+    }
+}
+
+/// What is expected of a session that ends early with this log, after these texts.
+pub(crate) fn stopped<'a>(output: &'a [u8], log: Parts<'a>, next: Option<u64>) -> Expected<'a> {
+    Expected {
+        status: 4,
+        output: Some(output),
+        log,
+        called: UNCALLED,
+        rest: Rest {
+            next,
+            left: None,
+            records: None,
+        },
+    }
+}
+
+/// What is expected of a session that goes on to its end, whatever is told in it.
+pub(crate) fn lasting(row: &Row) -> Expected<'_> {
+    Expected {
+        status: status_of(row),
+        output: None,
+        log: whole(&row.wanted.log),
+        called: UNCALLED,
+        rest: Rest {
+            next: None,
+            left: Some(&[]),
+            records: None,
+        },
     }
 }
 
 /// The moment that follows so many requests.
 pub(crate) fn moment_after(row: &Row, requests: u64) -> u64 {
     match usize::try_from(requests) {
-        Ok(at) => row.setting.moments.get(at).copied().unwrap_or(NEXT),
+        Ok(at) => match row.setting.moments.get(at) {
+            Some(moment) => *moment,
+            None => NEXT,
+        },
         Err(_) => NEXT,
     }
 }
@@ -73,26 +140,45 @@ pub(crate) fn is_verdict(line: &[u8]) -> bool {
     line.starts_with(b"permit ") || line.starts_with(b"deny ")
 }
 
+/// Whether a line tells of a link that is asked for.
+pub(crate) fn is_connect(line: &[u8]) -> bool {
+    line.starts_with(b"connect ")
+}
+
+/// The lines of the log up to the one that tells of a link that is asked for, which are none where there is no such line.
+pub(crate) fn connect(row: &Row) -> &[u8] {
+    if is_connect(later_lines(&row.wanted.log, 1)) {
+        return first_lines(&row.wanted.log, 2);
+    }
+    &[]
+}
+
 /// Whether a client or a console is served.
 pub(crate) fn is_session(row: &Row) -> bool {
     last_line(row).starts_with(b"end ")
 }
 
+fn has_word(row: &Row, sought: &[u8]) -> bool {
+    for word in &row.setting.words {
+        if word.bytes() == sought {
+            return true;
+        }
+    }
+    false
+}
+
 /// Whether the words ask for the verdict alone, which a fault's line then follows.
 pub(crate) fn is_netacl(row: &Row) -> bool {
-    row.setting
-        .words
-        .iter()
-        .any(|word| word.bytes() == b"netacl".as_slice())
+    has_word(row, b"netacl")
+}
+
+/// Whether the words ask for a relay.
+pub(crate) fn is_plug(row: &Row) -> bool {
+    has_word(row, b"plug-gw")
 }
 
 // The last line of the log.
 fn last_line(row: &Row) -> &[u8] {
     let verdict = verdict(row);
     later_lines(&row.wanted.log, if verdict.is_empty() { 0 } else { 1 })
-}
-
-/// The log of a session that ended for this cause.
-pub(crate) fn log_of(alloc: Global, row: &Row, cause: &[u8]) -> Result<Vec<u8>, NoMemory> {
-    with_last_word(alloc, &row.wanted.log, cause)
 }

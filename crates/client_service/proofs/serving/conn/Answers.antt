@@ -1,8 +1,9 @@
 use Rattle.std.proofs.Common.{subst, sym}
 use Rattle.gate_rules.specs.declared.verdict.Verdict.{Verdict}
 use Rattle.session_acts.specs.World.{Devices, devices_with}
-use Rattle.client_service.specs.Conn.{Conn, TargetFor, Treats, Untouched}
-use Rattle.client_service.proofs.ConnLemmas.{conn_caused, conn_dialed, conn_home, conn_keeps, conn_origin, conn_refused, conn_spent, conn_waited}
+use Rattle.client_service.specs.Conn.{Conn, Treats, Untouched}
+use Rattle.client_service.specs.Targets.{TargetFor}
+use Rattle.client_service.proofs.ConnLemmas.{conn_caused, conn_dialed, conn_fronts, conn_home, conn_keeps, conn_origin, conn_refused, conn_spent, conn_waited}
 use Rattle.client_service.proofs.TargetLemmas.{served_target}
 use Rattle.client_service.proofs.serving.conn.Goals as goal
 
@@ -26,6 +27,7 @@ returns g c =
       waited = conn_waited c.args.service.now c.args.rules.now c.args.peer.now old new c.treat-ending.result conn;
       refused = conn_refused c.args.service.now c.args.rules.now c.args.peer.now old new c.treat-ending.result conn;
       dialed = conn_dialed c.args.service.now c.args.rules.now c.args.peer.now old new c.treat-ending.result conn;
+      fronts = conn_fronts c.args.service.now c.args.rules.now c.args.peer.now old new c.treat-ending.result conn;
       origin = conn_origin c.args.service.now c.args.rules.now c.args.peer.now old new c.treat-ending.result conn;
       home = conn_home c.args.service.now c.args.rules.now c.args.peer.now old new c.treat-ending.result conn;
       untouched = subst (λ (v : Verdict). Untouched c.args.service.now v c.args.port.now c.treat-ending.new.port) c.verdict_of-verdict.ensures c.treat-ending.ensures.untouched;

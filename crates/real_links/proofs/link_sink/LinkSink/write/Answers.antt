@@ -1,5 +1,5 @@
 use Rattle.std.proofs.Common.{[], refl}
-use Rattle.real_links.proofs.link_sink.LinkSinkSink.give.Goals as goal
+use Rattle.real_links.proofs.link_sink.LinkSink.write.Goals as goal
 
 pub returns-in-Err-clause-gives : goal.returns-in-Err-clause-gives
 returns-in-Err-clause-gives g c =

@@ -1,0 +1,81 @@
+//! What the devices show after a run.
+
+use crate::writing::{Text, add, add_hex, add_number};
+use arrayvec::ArrayVec;
+use fw_memory::{MemDialer, MemKeeper, MemLauncher, MemSource};
+use fw_outside::{Ask, Got, Source};
+use fw_types::{Dest, Name, Octets, OctetsList};
+
+/// More calls than it takes to hear a client to its end.
+const MOST_TAKES: u32 = 8192;
+
+/// Adds the bytes that a source would still give.
+pub(crate) fn add_left(out: &mut Text, input: &mut MemSource) {
+    let mut buffer = [0u8; 1024];
+    for _ in 0..MOST_TAKES {
+        match input.take(&mut buffer) {
+            Ok(Got::Bytes(count)) => add(out, buffer.get(..count).unwrap_or(&[])),
+            Ok(Got::End) => break,
+            _ => {}
+        }
+    }
+}
+
+/// The records that are kept: none where there is no keeper.
+pub(crate) fn table_of(keeper: &Option<MemKeeper>) -> &[(Name, Octets)] {
+    match keeper {
+        Some(keeper) => keeper.table(),
+        None => &[],
+    }
+}
+
+/// Adds a name and the bytes of its record, for each of the records.
+pub(crate) fn add_records(out: &mut Text, records: &[(Name, Octets)]) {
+    for (name, bytes) in records {
+        add(out, name.text());
+        add(out, b" ");
+        add_hex(out, bytes.bytes());
+        add(out, b"\n");
+    }
+}
+
+fn add_program(out: &mut Text, program: &Octets, args: &OctetsList) {
+    add(out, program.bytes());
+    for arg in args.as_slice() {
+        add(out, b" ");
+        add(out, arg.bytes());
+    }
+    add(out, b"\n");
+}
+
+/// Adds the programs that were started, each with its arguments in a line.
+pub(crate) fn add_started(out: &mut Text, launcher: &MemLauncher) {
+    for (program, args, _) in launcher.started() {
+        add_program(out, program, args);
+    }
+}
+
+fn add_dest(out: &mut Text, dest: &Dest) {
+    let mut host = ArrayVec::new();
+    dest.host.write(&mut host);
+    add(out, host.as_slice());
+    add(out, b" ");
+    add_number(out, u64::from(dest.port));
+    add(out, b"\n");
+}
+
+/// Adds the destinations that were asked for, each in a line.
+pub(crate) fn add_asked(out: &mut Text, dialer: &MemDialer) {
+    for ask in dialer.asked() {
+        match ask {
+            Ask::Main(dest) => add_dest(out, dest),
+        }
+    }
+}
+
+/// Adds what the servers were given whose links were hung up, one behind the other.
+pub(crate) fn add_given(out: &mut Text, dialer: &MemDialer) {
+    for (_, to) in dialer.ended() {
+        add(out, to.bytes());
+    }
+}
