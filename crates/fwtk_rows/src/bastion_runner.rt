@@ -23,7 +23,7 @@ impl Runner for BastionRunner {
         keeper: MemKeeper,
     ) -> Ended {
         match setting.limit {
-            Some(limit) => serve_over(alloc, &setting.words, limit, devices, keeper),
+            Some(limit) => serve_over(rt, alloc, &setting.words, limit, devices, keeper),
             None => run_over(rt, alloc, &setting.words, devices, keeper),
         }
     }

@@ -1,7 +1,7 @@
 //! Rows whose words are read and not run.
 
 use arrayvec::ArrayVec;
-use bastion::{Command, Query, places, read_command, table_named};
+use bastion::{Caller, Command, Query, places, read_command, table_named};
 use format_of_rows::{Row, TABLE};
 use fw_types::{NoMemory, Octets, Peer};
 use gate_rules::Service;
@@ -37,6 +37,12 @@ fn add_client(out: &mut Vec<u8>, word: &[u8], peer: &Peer) -> Result<(), NoMemor
     add_peer(out, peer)
 }
 
+fn add_caller(alloc: Global, out: &mut Vec<u8>, caller: &Caller) -> Result<(), NoMemory> {
+    let port = caller.port;
+    let word = format!(in alloc; "plug-gw {port} ")?;
+    add_client(out, word.as_bytes(), &caller.peer)
+}
+
 // What the words ask for, with the service and the peer.
 fn told_of(alloc: Global, words: &[Octets]) -> Result<Vec<u8>, NoMemory> {
     let mut out = Vec::new(alloc);
@@ -48,6 +54,7 @@ fn told_of(alloc: Global, words: &[Octets]) -> Result<Vec<u8>, NoMemory> {
         Some(Command::Authsrv(client)) if client.console => {
             add_client(&mut out, b"console ", &client.peer)?;
         }
+        Some(Command::PlugGw(caller)) => add_caller(alloc, &mut out, &caller)?,
         Some(Command::Authsrv(client)) => add_client(&mut out, b"authsrv ", &client.peer)?,
     }
     Ok(out)

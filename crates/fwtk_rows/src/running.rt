@@ -28,11 +28,13 @@ impl Kit for Memory {
 
     type Keeper = MemKeeper;
 
+    type Dial = MemDialer;
+
     type Launch = MemLauncher;
 }
 
 // The status, and the devices after the run.
-fn ended_of(status: u8, world: World<Memory>, dialer: MemDialer) -> Ended {
+fn ended_of(status: u8, world: World<Memory>) -> Ended {
     let World {
         files,
         input,
@@ -41,6 +43,7 @@ fn ended_of(status: u8, world: World<Memory>, dialer: MemDialer) -> Ended {
         clock,
         dice,
         keeper,
+        dialer,
         launcher,
     } = world;
     let place = Place {
@@ -63,7 +66,7 @@ fn ended_of(status: u8, world: World<Memory>, dialer: MemDialer) -> Ended {
 
 /// Runs the command line over the devices and the keeper.
 pub(crate) fn run_over<H: Threads + Sync>(
-    _rt: &H,
+    rt: &H,
     alloc: Global,
     words: &[Octets],
     devices: Devices,
@@ -90,8 +93,9 @@ pub(crate) fn run_over<H: Threads + Sync>(
         clock,
         dice,
         keeper: Some(keeper),
+        dialer,
         launcher,
     };
-    let status = run(alloc, words, &mut world);
-    ended_of(status, world, dialer)
+    let status = run(rt, alloc, words, &mut world);
+    ended_of(status, world)
 }

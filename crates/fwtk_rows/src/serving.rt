@@ -8,8 +8,8 @@ use fw_types::{Ending, Octets, Peer};
 use gate_rules::{Rules, Service};
 use netperm_table::Table;
 use runs_of_rows::{Devices, Ended};
-use session_acts::Nowhere;
 use std::alloc::Global;
+use std::thread::Threads;
 
 /// The status of a row that can't be served: its words are of no client, or its table or records can't be read, or the
 /// history had more entries than fit.
@@ -52,8 +52,14 @@ fn close(book: Book<MemKeeper>, limit: u64, ending: Ending) -> (u8, MemKeeper) {
 }
 
 // The one call of `conn`.
-fn conn_over(server: &Server, book: &mut Book<MemKeeper>, ended: &mut Ended) -> Ending {
+fn conn_over<H: Threads + Sync>(
+    rt: &H,
+    server: &Server,
+    book: &mut Book<MemKeeper>,
+    ended: &mut Ended,
+) -> Ending {
     conn(
+        rt,
         &Service::Authsrv,
         &server.rules,
         &server.peer,
@@ -61,22 +67,29 @@ fn conn_over(server: &Server, book: &mut Book<MemKeeper>, ended: &mut Ended) -> 
         &mut ended.devices.talk.input,
         &mut ended.devices.talk.output,
         &mut ended.devices.place.logs,
-        &mut Nowhere::new(),
+        &mut ended.devices.helpers.dialer,
         &mut ended.devices.place.clock,
         &mut ended.devices.place.dice,
     )
 }
 
 // Serves the client, and says what it came to.
-fn hold(server: &Server, mut book: Book<MemKeeper>, limit: u64, ended: &mut Ended) {
-    let ending = conn_over(server, &mut book, ended);
+fn hold<H: Threads + Sync>(
+    rt: &H,
+    server: &Server,
+    mut book: Book<MemKeeper>,
+    limit: u64,
+    ended: &mut Ended,
+) {
+    let ending = conn_over(rt, server, &mut book, ended);
     let (status, keeper) = close(book, limit, ending);
     ended.status = status;
     ended.keeper = Some(keeper);
 }
 
 /// Serves the client of the command line over a history with room for so many requests.
-pub(crate) fn serve_over(
+pub(crate) fn serve_over<H: Threads + Sync>(
+    rt: &H,
     alloc: Global,
     words: &[Octets],
     limit: u64,
@@ -92,7 +105,7 @@ pub(crate) fn serve_over(
         return ended;
     };
     if let Ok(book) = Book::open(alloc, keeper, policy, limit) {
-        hold(&server, book, limit, &mut ended);
+        hold(rt, &server, book, limit, &mut ended);
     }
     ended
 }
