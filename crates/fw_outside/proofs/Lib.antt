@@ -1,3 +1,4 @@
+pub mod ByteLemmas
 pub mod CountLemmas
 pub mod LineLemmas
 pub mod ListenLemmas

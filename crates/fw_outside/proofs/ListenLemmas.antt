@@ -17,7 +17,7 @@ use Rattle.fw_outside.specs.LineText.{GathersLine, GathersAll, Fills, IsText, mo
 use Rattle.fw_outside.specs.Lines.{is_lf}
 use Rattle.fw_outside.specs.SourceView.{SourceView}
 use Rattle.fw_outside.specs.ToldList.{grown, preceded}
-use Rattle.fw_outside.specs.LineReaderView.{LeavesSource, Listens, TakesNothing, TookBytes, Reads, LineReaderView, stops_at_limit, rest_of}
+use Rattle.fw_outside.specs.LineReaderView.{Halts, LeavesSource, Listens, TakesNothing, TookBytes, Reads, LineReaderView, stops_at_limit, rest_of}
 use Rattle.fw_outside.proofs.LineLemmas.{heard_kept, heard_line, no_first_line, take_twice}
 
 pub grown-append : (told : Option (List ℕ)) (a b : List ℕ) → grown (grown told a) b ≡ grown told (a ++ b)
@@ -32,7 +32,7 @@ preceded-append : (a b : List ℕ) (rest : Option (List ℕ)) → preceded a (pr
 preceded-append a b None = refl
 preceded-append a b (Some rest) = ap Some (sym (append_assoc a b rest))
 
-preceded-nil : (rest : Option (List ℕ)) → rest ≡ preceded [] rest
+pub preceded-nil : (rest : Option (List ℕ)) → rest ≡ preceded [] rest
 preceded-nil None = refl
 preceded-nil (Some bytes) = refl
 
@@ -59,14 +59,14 @@ pub record Going (kept : List ℕ) (old now : LineReaderView) (first at : Source
   pub reads : Reads bytes old now first at
   pub behind : (now ≡ old) ⊎ (length old.pending ≤ length bytes)
 
-reads_none : (old : LineReaderView) (first : SourceView) → Reads [] old old first first
+pub reads_none : (old : LineReaderView) (first : SourceView) → Reads [] old old first first
 reads_none old first = record { taken_now = []; takes = pulled_none first; reader = append-nil old.pending; room = omega arith }
 
 pub going_from : (old : LineReaderView) (first : SourceView) → Going [] old old first first
 going_from old first = record { bytes = []; keeps = refl; unended = refl; reads = reads_none old first; behind = inl refl }
 
 -- the window's bytes were read
-reads_window : (bytes read rest : List ℕ) (old now new : LineReaderView) (first at : SourceView) → Reads bytes old now first at → now.pending ≡ read ++ rest → new.pending ≡ rest → new.room ≡ now.room → Reads (bytes ++ read) old new first at
+pub reads_window : (bytes read rest : List ℕ) (old now new : LineReaderView) (first at : SourceView) → Reads bytes old now first at → now.pending ≡ read ++ rest → new.pending ≡ rest → new.room ≡ now.room → Reads (bytes ++ read) old new first at
 reads_window bytes read rest old now new first at reads cut left room = record {
   taken_now = reads.taken_now;
   takes = reads.takes;
@@ -75,7 +75,7 @@ reads_window bytes read rest old now new first at reads cut left room = record {
 }
 
 -- and the empty window was filled
-reads_filled : (bytes : List ℕ) (old now new : LineReaderView) (first at next : SourceView) → Reads bytes old now first at → now.pending ≡ [] → Fills now new at next → Reads bytes old new first next
+pub reads_filled : (bytes : List ℕ) (old now new : LineReaderView) (first at next : SourceView) → Reads bytes old now first at → now.pending ≡ [] → Fills now new at next → Reads bytes old new first next
 reads_filled bytes old now new first at next reads empty fills = record {
   taken_now = reads.taken_now ++ new.pending;
   takes = pulled_on reads.taken_now new.pending first at next reads.takes fills.takes;
@@ -83,8 +83,17 @@ reads_filled bytes old now new first at next reads empty fills = record {
   room = let long = length-append reads.taken_now new.pending in omega (arith, reads.room, fills.room, long);
 }
 
+-- what was read in two steps was read
+pub reads_both : (one two : List ℕ) (old now new : LineReaderView) (first at next : SourceView) → Reads one old now first at → Reads two now new at next → Reads (one ++ two) old new first next
+reads_both one two old now new first at next a b = record {
+  taken_now = a.taken_now ++ b.taken_now;
+  takes = pulled_on a.taken_now b.taken_now first at next a.takes b.takes;
+  reader = sym (append_assoc old.pending a.taken_now b.taken_now) ∙ ap (λ p. p ++ b.taken_now) a.reader ∙ append_assoc one now.pending b.taken_now ∙ ap (λ p. one ++ p) b.reader ∙ sym (append_assoc one two new.pending);
+  room = let long = length-append a.taken_now b.taken_now in omega (arith, a.room, b.room, long);
+}
+
 -- where the window is empty, all that stood in it before was read
-all_read : (bytes : List ℕ) (old now : LineReaderView) (first at : SourceView) → Reads bytes old now first at → now.pending ≡ [] → length old.pending ≤ length bytes
+pub all_read : (bytes : List ℕ) (old now : LineReaderView) (first at : SourceView) → Reads bytes old now first at → now.pending ≡ [] → length old.pending ≤ length bytes
 all_read bytes old now first at reads empty =
     let left = length-append old.pending reads.taken_now in
     let right = length-append bytes now.pending in
@@ -115,25 +124,25 @@ going_filled kept old now new first at next going empty fills = record {
 }
 
 -- what is left behind the window is what is left of it without the bytes that were read
-rest_is : (bytes : List ℕ) (old new : LineReaderView) (first at : SourceView) → Reads bytes old new first at → rest_of old first ≡ preceded bytes (rest_of new at)
+pub rest_is : (bytes : List ℕ) (old new : LineReaderView) (first at : SourceView) → Reads bytes old new first at → rest_of old first ≡ preceded bytes (rest_of new at)
 rest_is bytes old new first at reads =
     let left : at.left ≡ reads.takes.left = rw reads.takes.is refl in
     ap (preceded old.pending) (reads.takes.next ∙ ap (preceded reads.taken_now) (sym left)) ∙ preceded-append old.pending reads.taken_now at.left
     ∙ ap (λ p. preceded p at.left) reads.reader ∙ sym (preceded-append bytes new.pending at.left)
 
-misses_left : (stop : Stop) (at next : SourceView) → TakesNothing stop at next → next.left ≡ at.left
+pub misses_left : (stop : Stop) (at next : SourceView) → TakesNothing stop at next → next.left ≡ at.left
 misses_left End at next misses = ap (λ (s : SourceView). s.left) misses.is
 misses_left Idle at next misses = ap (λ (s : SourceView). s.left) misses.is
 misses_left Failed at next misses = ap (λ (s : SourceView). s.left) misses.is
 misses_left Spent at next misses = absurd misses
 
-closes_missed : (stop : Stop) (new : LineReaderView) (at next : SourceView) → new.pending ≡ [] → TakesNothing stop at next → LeavesSource (Stopped stop) new at next
-closes_missed End new at next empty misses = (empty, misses)
-closes_missed Idle new at next empty misses = (empty, misses)
-closes_missed Failed new at next empty misses = (empty, misses)
-closes_missed Spent new at next empty misses = absurd misses
+pub halts_missed : (stop : Stop) (new : LineReaderView) (at next : SourceView) → new.pending ≡ [] → TakesNothing stop at next → Halts stop new at next
+halts_missed End new at next empty misses = (empty, misses)
+halts_missed Idle new at next empty misses = (empty, misses)
+halts_missed Failed new at next empty misses = (empty, misses)
+halts_missed Spent new at next empty misses = absurd misses
 
-never : {A : Type 0} {b : Bool} → b ≡ false → b ≡ true → A
+pub never : {A : Type 0} {b : Bool} → b ≡ false → b ≡ true → A
 never not was = absurd (true≢false (sym was ∙ not))
 
 not_spent : (stop : Stop) (at next : SourceView) → TakesNothing stop at next → stops_at_limit (Stopped stop) ≡ false
@@ -150,7 +159,7 @@ listens_at stop kept old new first at next going empty more misses = record {
   is_heard = no_first_line going.bytes going.unended;
   rest = rest_is going.bytes old new first at going.reads ∙ ap (λ l. preceded going.bytes (preceded new.pending l)) (sym (misses_left stop at next misses));
   reads = going.reads;
-  closes = closes_missed stop new at next empty misses;
+  closes = halts_missed stop new at next empty misses;
   spent = not_spent stop at next misses ∙ more;
   behind = λ was. never (not_spent stop at next misses) was;
 }

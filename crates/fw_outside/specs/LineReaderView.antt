@@ -1,5 +1,5 @@
 -- A reader of lines, which takes ahead of what it gives.
-use Rattle.std.specs.Prelude.{◌≡◌, ℕ, ◌==◌, ◌<◌, ◌≤◌, ◌+◌, Bool, true, false, List, [], ◌++◌, length, Option}
+use Rattle.std.specs.Prelude.{◌≡◌, ℕ, ◌==◌, ◌<◌, ◌≤◌, ◌+◌, Bool, true, false, List, [], ◌∷◌, ◌++◌, length, Option, Result, Ok, Err}
 use Rattle.fw_outside.specs.declared.heard.Heard.{Heard}
 use Rattle.fw_outside.specs.declared.heard.Heard.TheVariants.{Line, TooLong, Stopped}
 use Rattle.fw_outside.specs.declared.heard.Stop.{Stop}
@@ -67,3 +67,30 @@ pub record Listens (heard : Heard) (old new : LineReaderView) (before after : So
   pub closes : LeavesSource heard new middle after
   pub spent : stops_at_limit heard ≡ (new.room == 0)
   pub behind : stops_at_limit heard ≡ true → 0 < old.room → length old.pending ≤ length bytes
+
+-- ---- byte by byte
+
+-- the byte that was read, if one was
+abbrev pub byte_read : Result ℕ Stop → List ℕ
+byte_read (Ok byte) = byte ∷ []
+byte_read (Err stop) = []
+
+-- a byte leaves the source as it stands
+abbrev pub ByteLeavesSource : Result ℕ Stop → LineReaderView → SourceView → SourceView → Type 0
+ByteLeavesSource (Ok byte) new before after = after ≡ before
+ByteLeavesSource (Err stop) new before after = Halts stop new before after
+
+-- the limit stopped the reader
+abbrev pub byte_stops_at_limit : Result ℕ Stop → Bool
+byte_stops_at_limit (Err Spent) = true
+byte_stops_at_limit _ = false
+
+-- What is read next: the first byte of what was left, or none. At the limit the reader stops, with nothing in the buffer before;
+-- from then on nothing is read.
+pub record ReadsByte (result : Result ℕ Stop) (old new : LineReaderView) (before after : SourceView) : Type 0 where
+  pub middle : SourceView
+  pub rest : rest_of old before ≡ preceded (byte_read result) (rest_of new after)
+  pub reads : Reads (byte_read result) old new before middle
+  pub closes : ByteLeavesSource result new middle after
+  pub spent : byte_stops_at_limit result ≡ (new.room == 0)
+  pub behind : byte_stops_at_limit result ≡ true → 0 < old.room → old.pending ≡ []

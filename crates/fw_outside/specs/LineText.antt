@@ -39,3 +39,13 @@ pub record Fills (old new : LineReaderView) (before after : SourceView) : Type 0
   pub some : 0 < length new.pending
   pub takes : TookBytes new.pending before after
   pub room : old.room ≡ length new.pending + new.room
+
+-- the first byte of the buffer was read
+pub record Pops (byte : ℕ) (old new : LineReaderView) : Type 0 where
+  pub cut : old.pending ≡ byte ∷ new.pending
+  pub room : new.room ≡ old.room
+
+-- nothing is in the buffer
+pub record IsDrained (old new : LineReaderView) : Type 0 where
+  pub empty : old.pending ≡ []
+  pub same : new ≡ old

@@ -1,7 +1,7 @@
-ghost use Rattle.std.specs.Prelude.{◌≡◌, ◌==◌, ◌+◌, ◌-◌, ◌<◌, ◌≤◌, [], ◌++◌, length, take, IfErr, OnOk, OnErr};
+ghost use Rattle.std.specs.Prelude.{◌≡◌, ◌==◌, ◌+◌, ◌-◌, ◌<◌, ◌≤◌, [], ◌++◌, length, take, IfErr, IfSome, IfNone, OnOk, OnErr};
 ghost use Rattle.std.specs.Bool.{OnTrue, OnFalse};
-ghost use Rattle.fw_outside.specs.LineText.{GathersLine, GathersAll, Fills};
-ghost use Rattle.fw_outside.specs.LineReaderView.{Listens, TakesNothing};
+ghost use Rattle.fw_outside.specs.LineText.{GathersLine, GathersAll, Fills, IsDrained, Pops};
+ghost use Rattle.fw_outside.specs.LineReaderView.{Listens, ReadsByte, TakesNothing};
 
 use crate::line_text::LineText;
 use crate::{Got, Heard, Source, Stop};
@@ -131,6 +131,36 @@ impl LineReader {
             }
             if let Err(stop) = self.fill(from) {
                 return Heard::Stopped(stop);
+            }
+        }
+    }
+
+    // Takes the first byte out of the buffer, unless that is empty.
+    fn pop(&mut self) -> Option<u8>
+        ensures byte { IfSome result (λ byte. Pops byte self.old self.new) }
+        ensures none { IfNone result (IsDrained self.old self.new) }
+        ensures near { length self.new.pending ≤ 4096 }
+    {
+        let byte = self.taken.get(self.at).copied()?;
+        self.at += 1;
+        Some(byte)
+    }
+
+    /// The next byte, if one comes before the source stops. Where as many bytes were taken as may be, the reader stops for
+    /// good, as at `next`: what was taken last, at most 4,096 bytes, isn't read.
+    pub fn next_byte<S: Source>(&mut self, from: &mut S) -> Result<u8, Stop>
+        ensures reads { ReadsByte result self.old self.new (S.source_view from.old) (S.source_view from.new) }
+        ensures near { length self.new.pending ≤ 4096 }
+    {
+        loop {
+            if self.is_spent() {
+                return Err(Stop::Spent);
+            }
+            if let Some(byte) = self.pop() {
+                return Ok(byte);
+            }
+            if let Err(stop) = self.fill(from) {
+                return Err(stop);
             }
         }
     }
