@@ -8,7 +8,7 @@
 //! its cause in one of them.
 //!
 //! [`LineReader`] hears the lines of a source, in whatever pieces it gives: each answer is what the bytes behind those
-//! heard before are heard as, by what a line is in a whole text. It takes no more than a limit, and where it comes to
+//! heard before are heard as, by what a line is in a whole text. It can be read byte by byte too. It takes no more than a limit, and where it comes to
 //! that it stops for good: what it took last, at most 4,096 bytes, isn't heard.
 //!
 //! The plain types of `fw_types` are handed on.
