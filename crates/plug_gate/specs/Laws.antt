@@ -1,16 +1,25 @@
 -- What a session of the plug comes to.
-use Rattle.std.specs.Prelude.{◌≡◌, ℕ, List, [], ◌∷◌, ◌⊎◌, Result, Ok, Err}
+use Rattle.std.specs.Prelude.{◌≡◌, ℕ, ◌≤◌, Bool, true, false, List, [], ◌∷◌, ◌++◌, ◌⊎◌, length, Option, IfSome, Result, Ok, Err}
+use Rattle.std.specs.Option.{option_map}
+use Rattle.fw_outside.specs.Counts.{Grew}
+use Rattle.fw_outside.specs.DialerView.{ComesUp, DialerView, HangsUp, LinkView, Refuses}
+use Rattle.fw_outside.specs.ToldList.{IsOver, grown}
 use Rattle.fw_outside.specs.declared.ask.Ask.TheVariants.{Main}
 use Rattle.fw_types.specs.declared.dest.Dest.{Dest}
 use Rattle.fw_types.specs.declared.ending.Ending.{Ending}
 use Rattle.fw_types.specs.declared.ending.Ending.TheVariants as endings
+use Rattle.relay_ways.specs.Carried.{Carries}
+use Rattle.relay_ways.specs.Ending as ways
+use Rattle.relay_ways.specs.Way.{most_in_piece}
+use Rattle.relay_ways.specs.declared.way_end.WayEnd.{WayEnd}
 use Rattle.session_acts.specs.Acts.{Front, Outcome}
 use Rattle.session_acts.specs.Acts.Act.{Log, Reach, Relay}
-use Rattle.session_acts.specs.Client.{line_logged}
+use Rattle.session_acts.specs.Client.{LogFails, line_logged, with_line}
 use Rattle.session_acts.specs.Deeds.{Deed}
-use Rattle.session_acts.specs.Laws.{CallsDialer, TellsClient, TellsLog}
+use Rattle.session_acts.specs.Laws.{Adds, CallsDialer, TellsClient, TellsLog}
+use Rattle.session_acts.specs.Passing.{IsGiven}
 use Rattle.session_acts.specs.Relaying.{flow_of, given_down}
-use Rattle.session_acts.specs.World.{World}
+use Rattle.session_acts.specs.World.{Devices, World, most_taken}
 use Rattle.session_acts.specs.declared.cause.Cause.{Cause}
 use Rattle.session_acts.specs.declared.cause.Cause.TheVariants.{LogFault, NoRoute}
 
@@ -75,3 +84,90 @@ pub record IsLinked {Origin : Type 0} (line : List ℕ) (dest : Dest) (outcome :
 -- A destination is asked for exactly if the log has the whole connect line, and it is the one that the line names.
 abbrev pub Links : {Origin : Type 0} → List ℕ → Dest → World Origin → World Origin → Ending → Type 0
 Links line dest old new ending = StaysUnlinked line old new ending ⊎ (StaysRefused line dest old new ending ⊎ ((outcome : Outcome Relay) × IsLinked line dest outcome old new))
+
+-- ---- what each ending tells, over the devices that the session was lent
+
+-- The dialer was asked for the destination and refused it, which it counted. Nothing else was done at any device.
+pub record IsTurnedDown {Origin : Type 0} (dest : Dest) (old new : Devices Origin) (ending : Ending) : Type 0 where
+  pub refused : Refuses (Main dest) old.dialer new.dialer
+  pub same : new ≡ record old { dialer = new.dialer }
+  pub ends : ending ≡ endings.NoRoute
+
+-- The dialer was asked for the destination, and a link came up. Both ways ran over it, the way of the client and the way of
+-- the server, each from the first byte, and then it was hung up. The ending is that of the ways. Nothing else was done at
+-- any device.
+pub record IsPlugged {Origin : Type 0} (dest : Dest) (old new : Devices Origin) (ending : Ending) : Type 0 where
+  pub came : LinkView
+  pub went : LinkView
+  pub asked : DialerView
+  pub comes : ComesUp (Main dest) came.from came.to old.dialer asked
+  pub up : WayEnd
+  pub down : WayEnd
+  pub up_left : ℕ
+  pub down_left : ℕ
+  pub of_client : Carries [] most_taken up_left up old.inlet new.inlet came.to went.to
+  pub of_server : Carries [] most_taken down_left down came.from went.from old.outlet new.outlet
+  pub hangs : HangsUp went.from went.to asked new.dialer
+  pub same : new ≡ record old { inlet = new.inlet; outlet = new.outlet; dialer = new.dialer }
+  pub ends : ending ≡ ways.ending_of up down
+
+-- The log failed within the connect line, and nothing else was done at any device; or the log was given the line, and the
+-- destination refused; or the log was given the line, and both sides were linked.
+abbrev pub Ends : {Origin : Type 0} → List ℕ → Dest → Devices Origin → Devices Origin → Ending → Type 0
+Ends line dest old new ending = LogFails line old new ending ⊎ (IsTurnedDown dest (with_line line old) new ending ⊎ IsPlugged dest (with_line line old) new ending)
+
+-- ---- what reached each side
+
+-- What was given is a front of what was taken, at most 4,096 bytes short; and all of it, unless it may be short.
+pub record IsFront (may_lose : Bool) (given taken : List ℕ) : Type 0 where
+  pub lost : List ℕ
+  pub cut : taken ≡ given ++ lost
+  pub short : length lost ≤ most_in_piece
+  pub whole : may_lose ≡ false → given ≡ taken
+
+-- the server may be given less than was taken of the client only if a sink or a source failed, and the client less than was
+-- taken of the server only if its own sink did
+abbrev pub may_lose_up : Ending → Bool
+may_lose_up endings.ClientFault = true
+may_lose_up endings.ServerFault = true
+may_lose_up _ = false
+
+abbrev pub may_lose_down : Ending → Bool
+may_lose_down endings.ClientFault = true
+may_lose_down _ = false
+
+-- over the link that was hung up, if one was, the server was given these bytes, and these were taken of it
+abbrev pub OverLink : (given taken : List ℕ) → List LinkView → Type 0
+OverLink given taken [] = (given ≡ []) × (taken ≡ [])
+OverLink given taken (link ∷ []) = IsGiven given link.to.given × IsGiven taken link.from.taken
+OverLink given taken (link ∷ other ∷ links) = ⊥
+
+-- nothing is left of what either side says, and each was told that no more comes
+pub record AllIsSaid {Origin : Type 0} (old new : Devices Origin) (link : LinkView) : Type 0 where
+  pub client : IsOver new.inlet.left
+  pub server : IsOver link.from.left
+  pub client_told : new.outlet.shut ≡ option_map (λ _. true) old.outlet.shut
+  pub server_told : IfSome link.to.shut (λ shut. shut ≡ true)
+
+abbrev pub IsWhole : {Origin : Type 0} → Devices Origin → Devices Origin → List LinkView → Type 0
+IsWhole old new [] = ⊥
+IsWhole old new (link ∷ []) = AllIsSaid old new link
+IsWhole old new (link ∷ other ∷ links) = ⊥
+
+-- What the server was given is a front of what was taken of the client, and what the client was given is a front of what was
+-- taken of the server, whatever the ending. At most one link was hung up, where the dialer tells; if there was none, nothing
+-- was taken or given. A session that is done is one over a link, of which all was said.
+pub record GivesFronts {Origin : Type 0} (old new : Devices Origin) (ending : Ending) : Type 0 where
+  pub of_client : List ℕ
+  pub to_server : List ℕ
+  pub of_server : List ℕ
+  pub to_client : List ℕ
+  pub took : new.inlet.taken ≡ grown old.inlet.taken of_client
+  pub grew : Grew (length of_client) old.inlet.amount new.inlet.amount
+  pub told : new.outlet.given ≡ grown old.outlet.given to_client
+  pub links : List LinkView
+  pub ended : Adds links old.dialer.ended new.dialer.ended
+  pub over : OverLink to_server of_server links
+  pub up : IsFront (may_lose_up ending) to_server of_client
+  pub down : IsFront (may_lose_down ending) to_client of_server
+  pub done : ending ≡ endings.Done → IsWhole old new links

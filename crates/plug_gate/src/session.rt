@@ -1,6 +1,7 @@
 //! A session of the plug.
 ghost use Rattle.plug_gate.specs.Dialogue.{connect_text, plug_row};
 ghost use Rattle.plug_gate.specs.Dummies.{lent};
+ghost use Rattle.plug_gate.specs.Laws.{Ends, GivesFronts};
 ghost use Rattle.session_acts.specs.Causes.{Caused, RelayKeeps, RelayTakesFor, WaitsFor};
 ghost use Rattle.session_acts.specs.Denying.{no_rows};
 ghost use Rattle.session_acts.specs.Relayed.{relayed};
@@ -38,6 +39,14 @@ where
     G: Sink,
     D: Dialer,
     ensures session { RelaySession (relayed no_rows) (plug_row (connect_text port peer.now dest.now line) dest.now)
+        (lent (S.source_view from.old) (K.sink_view to.old) (G.sink_view logs.old) (D.dialer_view dialer.old))
+        (lent (S.source_view from.new) (K.sink_view to.new) (G.sink_view logs.new) (D.dialer_view dialer.new))
+        result }
+    ensures ends { Ends (connect_text port peer.now dest.now line) dest.now
+        (lent (S.source_view from.old) (K.sink_view to.old) (G.sink_view logs.old) (D.dialer_view dialer.old))
+        (lent (S.source_view from.new) (K.sink_view to.new) (G.sink_view logs.new) (D.dialer_view dialer.new))
+        result }
+    ensures fronts { GivesFronts
         (lent (S.source_view from.old) (K.sink_view to.old) (G.sink_view logs.old) (D.dialer_view dialer.old))
         (lent (S.source_view from.new) (K.sink_view to.new) (G.sink_view logs.new) (D.dialer_view dialer.new))
         result }

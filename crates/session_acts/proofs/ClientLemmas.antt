@@ -25,19 +25,19 @@ use Rattle.session_acts.proofs.ToldLemmas.{by_both, logged_gains}
 -- ---- one act first
 
 -- a dialogue stopped at this act
-record HaltsHere {Origin : Type 0} (act : Act) (old mid : World Origin) (dialogue : Result (Unit {0}) Cause) : Type 0 where
-  cause : Cause
-  is : dialogue ≡ Err cause
-  stops : Stops act cause old mid
+pub record HaltsHere {Origin : Type 0} (act : Act) (old mid : World Origin) (dialogue : Result (Unit {0}) Cause) : Type 0 where
+  pub cause : Cause
+  pub is : dialogue ≡ Err cause
+  pub stops : Stops act cause old mid
 
 module _ {Origin P : Type 0} where
   -- or did it, and went on
-  record PassesOn (rows : PlaceTable (acts Origin) P) (act : Act) (go : (acts Origin).Answer act → Row (acts Origin) P) (old mid : World Origin) (dialogue : Result (Unit {0}) Cause) (deeds : List Deed) : Type 0 where
-    answer : (acts Origin).Answer act
-    next : World Origin
-    met : Met act (Ok answer) old next
-    rest : Ran rows (go answer) (λ (done : Unit {0}). Over) next mid dialogue
-    same : deeds ≡ record { act = act; outcome = Ok answer } ∷ deeds_ran rest
+  pub record PassesOn (rows : PlaceTable (acts Origin) P) (act : Act) (go : (acts Origin).Answer act → Row (acts Origin) P) (old mid : World Origin) (dialogue : Result (Unit {0}) Cause) (deeds : List Deed) : Type 0 where
+    pub answer : (acts Origin).Answer act
+    pub next : World Origin
+    pub met : Met act (Ok answer) old next
+    pub rest : Ran rows (go answer) (λ (done : Unit {0}). Over) next mid dialogue
+    pub same : deeds ≡ record { act = act; outcome = Ok answer } ∷ deeds_ran rest
 
   stops_here : (rows : PlaceTable (acts Origin) P) (act : Act) (go : (acts Origin).Answer act → Row (acts Origin) P) (left : Row (acts Origin) P) (old before mid : World Origin) (dialogue : Result (Unit {0}) Cause)
       → Do act go ≡ left → old ≡ before → Comes rows (λ (done : Unit {0}). Over) dialogue mid left before → HaltsHere act old mid dialogue
@@ -60,14 +60,14 @@ module _ {Origin P : Type 0} where
     same = ap (λ (s : Step (acts Origin)). done s ∷ (map done steps ++ deed_last rows (λ (done : Unit {0}). Over) dialogue mid left before comes)) run.1;
   })
 
-  ran_first : (rows : PlaceTable (acts Origin) P) (act : Act) (go : (acts Origin).Answer act → Row (acts Origin) P) (old mid : World Origin) (dialogue : Result (Unit {0}) Cause)
+  pub ran_first : (rows : PlaceTable (acts Origin) P) (act : Act) (go : (acts Origin).Answer act → Row (acts Origin) P) (old mid : World Origin) (dialogue : Result (Unit {0}) Cause)
       (ran : Ran rows (Do act go) (λ (done : Unit {0}). Over) old mid dialogue) → HaltsHere act old mid dialogue ⊎ PassesOn rows act go old mid dialogue (deeds_ran ran)
   ran_first rows act go old mid dialogue ran = first_act rows act go ran.steps ran.left old ran.mid mid dialogue ran.run ran.does ran.comes
 
 -- ---- worlds
 
 -- a world by its parts
-world_by : {Origin : Type 0} (w : World Origin) (client : Speaker) (logs : SinkView) (office : Office Origin) (server : Server) (names : Names)
+pub world_by : {Origin : Type 0} (w : World Origin) (client : Speaker) (logs : SinkView) (office : Office Origin) (server : Server) (names : Names)
     → w.client ≡ client → w.logs ≡ logs → w.office ≡ office → w.server ≡ server → w.names ≡ names
     → w ≡ record { client = client; logs = logs; office = office; server = server; names = names }
 world_by {Origin} w client logs office server names c l o s n =
@@ -78,7 +78,7 @@ world_by {Origin} w client logs office server names c l o s n =
     ∙ ap (λ (x : Names). record { client = client; logs = logs; office = office; server = server; names = x }) n
 
 -- where no session is open and no link is up, nothing is owed
-nothing_owed : {Origin : Type 0} (mid new : World Origin) (answer : Result Reply PortFault) → mid.server.link ≡ None → mid.office.opened ≡ None → DeedsAll (owed mid answer) mid new → mid ≡ new
+pub nothing_owed : {Origin : Type 0} (mid new : World Origin) (answer : Result Reply PortFault) → mid.server.link ≡ None → mid.office.opened ≡ None → DeedsAll (owed mid answer) mid new → mid ≡ new
 nothing_owed mid new answer unlinked closed all =
     subst (λ (o : Option ℕ). DeedsAll (closing o answer) mid new) closed (subst (λ (l : Option Speaker). DeedsAll (freeing l ++ closing mid.office.opened answer) mid new) unlinked all)
 
@@ -137,9 +137,9 @@ module _ {Origin P : Type 0} where
 -- ---- a denied client
 
 -- nothing was left to do
-record IsOver {Origin : Type 0} (old mid : World Origin) (dialogue : Result (Unit {0}) Cause) : Type 0 where
-  same : old ≡ mid
-  is : dialogue ≡ Ok tt
+pub record IsOver {Origin : Type 0} (old mid : World Origin) (dialogue : Result (Unit {0}) Cause) : Type 0 where
+  pub same : old ≡ mid
+  pub is : dialogue ≡ Ok tt
 
 -- the words were tried, and nothing else was done
 record IsTried {Origin : Type 0} (words : List ℕ) (old new : Devices Origin) (ending : Ending) : Type 0 where
@@ -159,7 +159,7 @@ module _ {Origin : Type 0} where
   over_runs rows [] left old before mid dialogue run does comes = over_comes rows left old before mid dialogue run does comes
   over_runs rows (step ∷ steps) left old before mid dialogue run does comes = absurd run
 
-  over_ran : {P : Type 0} (rows : PlaceTable (acts Origin) P) (old mid : World Origin) (dialogue : Result (Unit {0}) Cause) → Ran rows Over (λ (done : Unit {0}). Over) old mid dialogue → IsOver old mid dialogue
+  pub over_ran : {P : Type 0} (rows : PlaceTable (acts Origin) P) (old mid : World Origin) (dialogue : Result (Unit {0}) Cause) → Ran rows Over (λ (done : Unit {0}). Over) old mid dialogue → IsOver old mid dialogue
   over_ran rows old mid dialogue ran = over_runs rows ran.steps ran.left old ran.mid mid dialogue ran.run ran.does ran.comes
 
   tried_by : (words : List ℕ) (old new : Devices Origin) (ending : Ending) (session : Session no_rows (Do (Try words) (λ tried. Over)) old new ending)

@@ -29,14 +29,14 @@ use Rattle.session_acts.proofs.DeviceLemmas.{by_nothing, drains_grew, drains_too
 use Rattle.session_acts.proofs.ToldLemmas.{by_both}
 
 -- some bytes were taken, and what was pending before and these are what was heard and what is pending now
-record HearsOn (heards : List Fate) (old new : Speaker) : Type 0 where
-  bytes : List ℕ
-  pieces : List (List ℕ)
-  grew : Grew (length bytes) old.inlet.amount new.inlet.amount
-  took : new.inlet.taken ≡ grown old.inlet.taken bytes
-  are_heard : AreHeard heards pieces
-  all : old.reader.pending ++ bytes ≡ concat pieces ++ new.reader.pending
-  near : length old.reader.pending ≤ 4096 → length new.reader.pending ≤ 4096
+pub record HearsOn (heards : List Fate) (old new : Speaker) : Type 0 where
+  pub bytes : List ℕ
+  pub pieces : List (List ℕ)
+  pub grew : Grew (length bytes) old.inlet.amount new.inlet.amount
+  pub took : new.inlet.taken ≡ grown old.inlet.taken bytes
+  pub are_heard : AreHeard heards pieces
+  pub all : old.reader.pending ++ bytes ≡ concat pieces ++ new.reader.pending
+  pub near : length old.reader.pending ≤ 4096 → length new.reader.pending ≤ 4096
 
 -- ---- lists
 
@@ -56,7 +56,7 @@ join_both pending middle last bytes others first more a b =
 
 -- ---- nothing, and one thing after another
 
-hears_nothing : (speaker : Speaker) → HearsOn [] speaker speaker
+pub hears_nothing : (speaker : Speaker) → HearsOn [] speaker speaker
 hears_nothing speaker = record {
   bytes = [];
   pieces = [];
@@ -67,7 +67,7 @@ hears_nothing speaker = record {
   near = λ near. near;
 }
 
-hears_both : (heards others : List Fate) (old mid new : Speaker) → HearsOn heards old mid → HearsOn others mid new → HearsOn (heards ++ others) old new
+pub hears_both : (heards others : List Fate) (old mid new : Speaker) → HearsOn heards old mid → HearsOn others mid new → HearsOn (heards ++ others) old new
 hears_both heards others old mid new a b = record {
   bytes = a.bytes ++ b.bytes;
   pieces = a.pieces ++ b.pieces;
@@ -83,7 +83,7 @@ hears_both heards others old mid new a b = record {
 same_hearing : (old new : Speaker) → new ≡ old → HearsOn [] old new
 same_hearing old new is = subst (λ (s : Speaker). HearsOn [] old s) (sym is) (hears_nothing old)
 
-told_hearing : (text : List ℕ) (outcome : Result (Unit {0}) (Front text)) (old new : Speaker) → IsTold text outcome old new → HearsOn [] old new
+pub told_hearing : (text : List ℕ) (outcome : Result (Unit {0}) (Front text)) (old new : Speaker) → IsTold text outcome old new → HearsOn [] old new
 told_hearing text outcome old new h =
     subst (λ (s : Speaker). HearsOn [] old s) (sym h.is) (record {
       bytes = [];
@@ -111,7 +111,7 @@ leaves_untaken (Stopped stops.Spent) left before after h = untaken_by before bef
 leaves_untaken (Stopped stops.Idle) left before after h = untaken_by (record before { idles = h.1.count; waited = before.waits }) before after h.1.is (record { amount = refl; taken = refl })
 leaves_untaken (Stopped stops.Failed) left before after h = untaken_by (record before { faults = h.1.count }) before after h.1.is (record { amount = refl; taken = refl })
 
-heeds_hearing : (form : Form) (heard : Heard) (old new : Speaker) → Heeds form heard old new → HearsOn (IsHeard form heard ∷ []) old new
+pub heeds_hearing : (form : Form) (heard : Heard) (old new : Speaker) → Heeds form heard old new → HearsOn (IsHeard form heard ∷ []) old new
 heeds_hearing form heard old new h =
     let reads = h.listens.reads in
     let middle = h.listens.middle in
@@ -127,7 +127,7 @@ heeds_hearing form heard old new h =
       near = λ near. h.near;
     })
 
-line_hearing : (form : Form) (heard : Heard) (old new : Speaker) → HeedsLine form heard old new → HearsOn (IsHeard form heard ∷ []) old new
+pub line_hearing : (form : Form) (heard : Heard) (old new : Speaker) → HeedsLine form heard old new → HearsOn (IsHeard form heard ∷ []) old new
 line_hearing form (Line line) old new h = heeds_hearing form (Line line) old new h
 line_hearing form TooLong old new h = heeds_hearing form TooLong old new h
 line_hearing form (Stopped stops.End) old new h = heeds_hearing form (Stopped stops.End) old new h
@@ -135,7 +135,7 @@ line_hearing form (Stopped stops.Idle) old new h = absurd h
 line_hearing form (Stopped stops.Failed) old new h = absurd h
 line_hearing form (Stopped stops.Spent) old new h = absurd h
 
-carrying_hearing : (off on : Way) (old new : Speaker) → Carrying off on old new → HearsOn (IsCarried off.taken ∷ []) old new
+pub carrying_hearing : (off on : Way) (old new : Speaker) → Carrying off on old new → HearsOn (IsCarried off.taken ∷ []) old new
 carrying_hearing off on old new h =
     subst (λ (s : Speaker). HearsOn (IsCarried off.taken ∷ []) old s) (sym h.is) (record {
       bytes = h.drains.bytes;

@@ -15,11 +15,14 @@ pub mod LinkedLemmas
 pub mod OneSessionLemmas
 pub mod OwedLemmas
 pub mod ServerlessLemmas
+pub mod OverLinksLemmas
 pub mod PassingLemmas
+pub mod ServersHeardLemmas
 pub mod SpentLemmas
 pub mod StageLemmas
 pub mod ShutLemmas
 pub mod RelayLemmas
+pub mod RelayGivesLemmas
 pub mod RelayLastLemmas
 pub mod TalkLemmas
 pub mod ToldLemmas

@@ -150,7 +150,7 @@ module _ {Origin P : Type 0} (rows : PlaceTable (acts Origin) P) where
 
 -- ---- a relay whose ways are done
 
-done_through : (off on : Way) (old new : Speaker) → off.end ≡ ways.Done → on.end ≡ ways.Done → Carrying off on old new → IsThrough off on old new
+pub done_through : (off on : Way) (old new : Speaker) → off.end ≡ ways.Done → on.end ≡ ways.Done → Carrying off on old new → IsThrough off on old new
 done_through off on old new one other c =
     let leaves : LeavesSource ways.Done off.lost c.room c.drains.middle c.inlet = subst (λ (e : WayEnd). LeavesSource e off.lost c.room c.drains.middle c.inlet) one c.drains.leaves in
     let told : LeavesSink ways.Done (holding on.given old.outlet) c.outlet = subst (λ (e : WayEnd). LeavesSink e (holding on.given old.outlet) c.outlet) other c.supplies in
@@ -160,6 +160,3 @@ done_through off on old new one other c =
       given = sym (off.cut ∙ ap (λ (z : List ℕ). off.given ++ z) (off.whole (ap is_write_fault one)) ∙ append-nil off.given);
       shut = ap (λ (s : SinkView). s.shut) told;
     })
-
-pub client_through : {Origin : Type 0} (through : Through) (old new : World Origin) → Met Relay (Ok (Some through)) old new → IsThrough through.flow.up through.flow.down old.client new.client
-client_through through old new met = done_through through.flow.up through.flow.down old.client new.client through.up through.down met.client

@@ -54,11 +54,11 @@ relays_link up down result ending client link new_client new_link new runs is st
 -- ---- the act
 
 -- only where both ways are done, the session goes on
-record BothDone (up down : WayEnd) : Type 0 where
-  first : up ≡ Done
-  second : down ≡ Done
+pub record BothDone (up down : WayEnd) : Type 0 where
+  pub first : up ≡ Done
+  pub second : down ≡ Done
 
-both_done : (up down : WayEnd) → stops_by (two_ways.ending_of up down) ≡ Ok tt → BothDone up down
+pub both_done : (up down : WayEnd) → stops_by (two_ways.ending_of up down) ≡ Ok tt → BothDone up down
 both_done ReadFault down is = absurd (cc)
 both_done Done Done is = record { first = refl; second = refl }
 both_done Done ReadFault is = absurd (cc)

@@ -13,6 +13,7 @@ pub mod Laws
 pub mod Link
 pub mod Met
 pub mod Passing
+pub mod ServersHeard
 pub mod Relayed
 pub mod Relaying
 pub mod RelayLast

@@ -8,20 +8,52 @@ use Rattle.session_acts.specs.Laws.{Adds, got}
 use Rattle.session_acts.specs.Relaying.{flow_of, given_up}
 use Rattle.session_acts.specs.World.{World}
 
--- what was passed over the link that is up, if one is, with these bytes more
-abbrev pub up_with : Option (List ℕ) → List ℕ → Option (List ℕ)
-up_with None bytes = None
-up_with (Some passed) bytes = Some (passed ++ bytes)
+-- ---- what is known of each link
 
--- nothing was passed yet over a link that came up
-abbrev pub up_if_dialed : {Never : Type 0} → Result Bool Never → Option (List ℕ)
+-- what is known of the link that is up, if one is, and this more
+abbrev pub up_with : {A : Type 0} → Option (List A) → List A → Option (List A)
+up_with None more = None
+up_with (Some known) more = Some (known ++ more)
+
+-- nothing is known yet of a link that came up
+abbrev pub up_if_dialed : {A Never : Type 0} → Result Bool Never → Option (List A)
 up_if_dialed (Ok true) = Some []
 up_if_dialed (Ok false) = None
 up_if_dialed (Err never) = None
 
-abbrev pub up_if_reached : {Done Halted : Type 0} → Result Done Halted → Option (List ℕ)
+abbrev pub up_if_reached : {A Done Halted : Type 0} → Result Done Halted → Option (List A)
 up_if_reached (Ok up) = Some []
 up_if_reached (Err halt) = None
+
+-- a link that was up is hung up
+abbrev pub hung : {A : Type 0} → Option (List A) → List (List A)
+hung None = []
+hung (Some known) = known ∷ []
+
+-- what is known of the link that an act hung up, if it did so
+abbrev pub hung_by : {A : Type 0} → Act → Option (List A) → List (List A)
+hung_by (Dial dest) up = hung up
+hung_by (Reach dest) up = hung up
+hung_by HangUp up = hung up
+hung_by act up = []
+
+-- what is known of each link that these deeds hung up, one after another, where it is known what is known after an act
+abbrev pub over_each : {A : Type 0} → ((act : Act) → Outcome act → Option (List A) → Option (List A)) → Option (List A) → List Deed → List (List A)
+over_each after up [] = []
+over_each after up (deed ∷ deeds) = hung_by deed.act up ++ over_each after (after deed.act deed.outcome up) deeds
+
+-- and of the link that is up behind them, if one is
+abbrev pub over_last : {A : Type 0} → ((act : Act) → Outcome act → Option (List A) → Option (List A)) → Option (List A) → List Deed → Option (List A)
+over_last after up [] = up
+over_last after up (deed ∷ deeds) = over_last after (after deed.act deed.outcome up) deeds
+
+-- what is known of each of these links holds of it
+abbrev pub AreOver : {A : Type 0} → (List A → LinkView → Type 0) → List (List A) → List LinkView → Type 0
+AreOver Is [] [] = Unit {0}
+AreOver Is (known ∷ more) (link ∷ links) = Is known link × AreOver Is more links
+AreOver Is _ _ = ⊥
+
+-- ---- what was passed
 
 -- what was passed over the link that is up after an act, if one is
 abbrev pub up_after : (act : Act) → Outcome act → Option (List ℕ) → Option (List ℕ)
@@ -32,36 +64,21 @@ up_after (Pass text) outcome up = up_with up (got outcome)
 up_after Relay outcome up = up_with up (given_up (flow_of outcome))
 up_after act outcome up = up
 
--- a link that was up is hung up
-abbrev pub hung : Option (List ℕ) → List (List ℕ)
-hung None = []
-hung (Some passed) = passed ∷ []
-
--- what was passed over the link that an act hung up, if it did so
-abbrev pub hung_by : Act → Option (List ℕ) → List (List ℕ)
-hung_by (Dial dest) up = hung up
-hung_by (Reach dest) up = hung up
-hung_by HangUp up = hung up
-hung_by act up = []
-
 -- what was passed over each link that these deeds hung up, one after another
 abbrev pub passed_over : Option (List ℕ) → List Deed → List (List ℕ)
-passed_over up [] = []
-passed_over up (deed ∷ deeds) = hung_by deed.act up ++ passed_over (up_after deed.act deed.outcome up) deeds
+passed_over up deeds = over_each up_after up deeds
 
 -- a sink has these bytes, where it tells
 abbrev pub IsGiven : List ℕ → Option (List ℕ) → Type 0
 IsGiven bytes None = Unit {0}
 IsGiven bytes (Some all) = all ≡ bytes
 
--- the server at the other end of each of these links was given the bytes in its position
-abbrev pub AreGiven : List (List ℕ) → List LinkView → Type 0
-AreGiven [] [] = Unit {0}
-AreGiven (bytes ∷ more) (link ∷ links) = IsGiven bytes link.to.given × AreGiven more links
-AreGiven _ _ = ⊥
+-- the server at the other end of a link was given these bytes
+abbrev pub WasGiven : List ℕ → LinkView → Type 0
+WasGiven bytes link = IsGiven bytes link.to.given
 
 -- these links were hung up, where the dialer tells, and their servers were given these bytes
 pub record GivesServers {Origin : Type 0} (passed : List (List ℕ)) (old new : World Origin) : Type 0 where
   pub links : List LinkView
   pub ended : Adds links old.server.dialer.ended new.server.dialer.ended
-  pub given : AreGiven passed links
+  pub given : AreOver WasGiven passed links

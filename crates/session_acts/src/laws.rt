@@ -12,7 +12,8 @@ ghost use Rattle.session_acts.specs.Acts.Act.{Ask, Log, Relay};
 ghost use Rattle.session_acts.specs.Causes.{is_spent_or};
 ghost use Rattle.session_acts.specs.Client.{Denies, LogsFirst};
 ghost use Rattle.session_acts.specs.Course.{AreOfOne, Course, CourseState, KeepsCourse};
-ghost use Rattle.session_acts.specs.Deeds.{gives};
+ghost use Rattle.session_acts.specs.Acts.{Outcome};
+ghost use Rattle.session_acts.specs.Deeds.{deeds_ran, gives};
 ghost use Rattle.session_acts.specs.Denying.{denying_row, no_rows};
 ghost use Rattle.session_acts.specs.FullPort.{RefusesOn};
 ghost use Rattle.session_acts.specs.Hearing.{TakesHeard, heard_in};
@@ -20,10 +21,11 @@ ghost use Rattle.session_acts.specs.LastStop.{StopsLast, one_lacked_memory};
 ghost use Rattle.session_acts.specs.Laws.{CallsDialer, CountsRefusals, LinksDialer, TellsClient, TellsLog, called, linked, logged, refused, told};
 ghost use Rattle.session_acts.specs.Met.{Met, acts};
 ghost use Rattle.session_acts.specs.Passing.{GivesServers, passed_over};
-ghost use Rattle.session_acts.specs.RelayLast.{IsThrough, RelaysLast, StopsBefore};
+ghost use Rattle.session_acts.specs.RelayLast.{CarriesAll, ConveysBoth, GivesLast, RelaysLast, StopsBefore};
 ghost use Rattle.session_acts.specs.Relayed.{relayed, then_relay};
-ghost use Rattle.session_acts.specs.Relaying.{Through};
+ghost use Rattle.session_acts.specs.Relaying.{Flow, Through, flow_of};
 ghost use Rattle.session_acts.specs.Serverless.{CausedAlone, KeepsServerless, TakesExactly};
+ghost use Rattle.session_acts.specs.ServersHeard.{HearsServers, heard_over};
 ghost use Rattle.session_acts.specs.Session.{Held, Session, SessionAs, deeds_of};
 ghost use Rattle.session_acts.specs.Talk.{CountsAsks, Entered, ThrowsSalts, answered, asked, is_entered, is_refused_as_full, said_of, thrown};
 ghost use Rattle.session_acts.specs.World.{Devices, Speaker, World, most_taken};
@@ -91,6 +93,16 @@ pub fn the_servers_are_given<Origin, P>()
     ensures { (rows : PlaceTable (acts Origin) P) (first : Row (acts Origin) P) (old new : World Origin) (ending : Ending)
         (held : Held rows first old new ending) → old.server.link ≡ None →
         GivesServers (passed_over None (deeds_of held)) old new }
+{}
+
+/// What was heard of servers, where no link was up before: over each link that was hung up in a session, where the dialer
+/// tells, what was taken is what was heard and relayed over it, one piece after another, from where it came up to where it
+/// was hung up: each line with its end, what was read for nothing where no line was heard, and what a relay took. Behind that
+/// at most 4,096 bytes were taken, which weren't heard.
+pub fn the_servers_are_heard<Origin, P>()
+    ensures { (rows : PlaceTable (acts Origin) P) (first : Row (acts Origin) P) (old new : World Origin) (ending : Ending)
+        (held : Held rows first old new ending) → old.server.link ≡ None →
+        HearsServers (heard_over None (deeds_of held)) old new }
 {}
 
 /// A session asked each request for the session that it opened last and didn't ask to close, or for number 2^64 - 1
@@ -200,14 +212,28 @@ pub fn the_refusals_are_counted<Origin, P>()
 
 /// A session with a relay at the end of its dialogue: either the dialogue stopped, and there was no relay; or it came to its
 /// end, and then there was one relay, and nothing after it but what was owed. The session stops at the relay unless both ways
-/// are done (`last`). Then nothing is left of what the client says, all that was taken of it since the last line was given to
-/// the server, and the client was told that no more comes (`through`). So what the server was given of the client begins
-/// behind the last line, and each byte of it is given once (`the_client_is_heard`, `the_servers_are_given`).
+/// are done (`last`).
 pub fn the_relay_is_last<Origin, P>()
-    ensures last { (rows : PlaceTable (acts Origin) P) (first : Row (acts Origin) P) (old new : World Origin) (ending : Ending)
+    ensures { (rows : PlaceTable (acts Origin) P) (first : Row (acts Origin) P) (old new : World Origin) (ending : Ending)
         (held : Held (relayed rows) (then_relay first) old new ending) → StopsBefore rows first held ⊎ RelaysLast rows first held }
-    ensures through { (through : Through) (old new : World Origin) → Met Relay (Ok (Some through)) old new →
-        IsThrough through.flow.up through.flow.down old.client new.client }
+{}
+
+/// What a relay does, wherever a link is up. Each way begins with what was taken ahead of one side and goes on with what the
+/// relay takes of it; what the way gave is what the other side was given, a front of that, at most 4,096 bytes short, and all
+/// of it unless its sink failed, as a `Way` says (`conveys`). Where both ways are done, nothing is left of what either side
+/// says, all of it was given to the other, and each was told that no more comes (`carries`).
+///
+/// In a session before which no link was up, the server of the relay was given what the dialogue passed to it, and then
+/// what the way from the client gave: a front of what was taken of the client and not heard. Its link is the last that was
+/// hung up, where the dialer tells (`given`).
+pub fn a_relay_carries<Origin, P>()
+    ensures conveys { (outcome : Outcome Relay) (flow : Flow) (old new : World Origin) → Met Relay outcome old new →
+        flow_of outcome ≡ Some flow → ConveysBoth flow old new }
+    ensures carries { (through : Through) (old new : World Origin) → Met Relay (Ok (Some through)) old new →
+        CarriesAll through.flow old new }
+    ensures given { (rows : PlaceTable (acts Origin) P) (first : Row (acts Origin) P) (old new : World Origin) (ending : Ending)
+        (held : Held (relayed rows) (then_relay first) old new ending) (last : RelaysLast rows first held) (flow : Flow) →
+        old.server.link ≡ None → flow_of last.outcome ≡ Some flow → GivesLast (deeds_ran last.talk) flow.up old new }
 {}
 
 /// A session with a relay keeps the course of requests if its rows do.

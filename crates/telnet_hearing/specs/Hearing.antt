@@ -45,7 +45,7 @@ IsLineOf (heards.Stopped _) piece = ⊥
 -- these pieces are heard as these lines
 abbrev pub AreLines : List Heard → List (List ℕ) → Type 0
 AreLines [] [] = Unit {0}
-AreLines (heard ∷ heards) (piece ∷ pieces) = IsLineOf heard piece × AreLines heards pieces
+AreLines (heard ∷ more) (piece ∷ pieces) = IsLineOf heard piece × AreLines more pieces
 AreLines _ _ = ⊥
 
 -- ---- one byte, which no public clause cites
