@@ -1,9 +1,9 @@
 -- How a reader of lines comes to the next byte.
-use Rattle.std.proofs.Common.{◌≡◌, ℕ, ◌+◌, ◌<◌, ◌⊎◌, inl, inr, Bool, true, false, List, [], ◌∷◌, ◌++◌, length, refl, sym, ap, ◌∙◌, append-nil, arith}
+use Rattle.std.proofs.Common.{◌≡◌, ℕ, ◌+◌, ◌<◌, ◌⊎◌, inl, inr, true, false, List, [], ◌∷◌, ◌++◌, refl, sym, ap, ◌∙◌, arith}
 use Rattle.std.proofs.lemmas.Bool.{eqb-true}
-use Rattle.std.specs.Prelude.{◌==◌, Result, Ok, Err}
+use Rattle.std.specs.Prelude.{◌==◌, Ok, Err}
 use Rattle.fw_outside.specs.LineText.{Fills, IsDrained, Pops}
-use Rattle.fw_outside.specs.LineReaderView.{ByteLeavesSource, Halts, LineReaderView, Reads, ReadsByte, TakesNothing, byte_stops_at_limit, rest_of}
+use Rattle.fw_outside.specs.LineReaderView.{LineReaderView, Reads, ReadsByte, TakesNothing, byte_stops_at_limit}
 use Rattle.fw_outside.specs.SourceView.{SourceView}
 use Rattle.fw_outside.specs.ToldList.{preceded}
 use Rattle.fw_outside.specs.declared.heard.Stop.{Stop}

@@ -1,5 +1,5 @@
 -- How a line of Telnet is heard, byte by byte.
-use Rattle.std.proofs.Common.{◌≡◌, ℕ, ◌<◌, ◌≤◌, zero, suc, Bool, true, false, List, [], ◌∷◌, ◌++◌, length, Option, Some, None, Result, Ok, Err, refl, sym, ap, subst, ◌∙◌, append_assoc, append-nil, arith}
+use Rattle.std.proofs.Common.{◌≡◌, ℕ, ◌<◌, ◌≤◌, ◌+◌, zero, suc, Bool, true, false, List, [], ◌∷◌, ◌++◌, length, Option, Some, None, Result, Ok, Err, refl, sym, ap, subst, ◌∙◌, append_assoc, append-nil, length-append, arith}
 use Rattle.std.specs.Prelude.{◌==◌}
 use Rattle.fw_outside.specs.LineReaderView.{Halts, LeavesSource, LineReaderView, Reads, ReadsByte, byte_stops_at_limit, rest_of, stops_at_limit}
 use Rattle.fw_outside.specs.SourceView.{SourceView}
@@ -41,10 +41,21 @@ some_left : (room : ℕ) → false ≡ (room == 0) → 0 < room
 some_left zero none = absurd (cc)
 some_left (suc room) some = omega arith
 
+one_more : (n : ℕ) → suc n ≡ n + 1
+one_more n = omega arith
+
 -- one more byte was read
 byte_more : (bytes : List ℕ) (byte : ℕ) (old now new : LineReaderView) (first at next : SourceView) → Reads bytes old now first at → ReadsByte (Ok byte) now new at next → Reads (bytes ++ byte ∷ []) old new first next
 byte_more bytes byte old now new first at next reads read =
     reads_both bytes (byte ∷ []) old now new first at next reads (subst (λ (s : SourceView). Reads (byte ∷ []) now new at s) (sym read.closes) read.reads)
+
+-- and so fewer are left
+pub byte_nearer : (byte : ℕ) (now new : LineReaderView) (at next : SourceView) → ReadsByte (Ok byte) now new at next → length new.pending + new.room < length now.pending + now.room
+byte_nearer byte now new at next read =
+    let reads : Reads (byte ∷ []) now new at read.middle = read.reads in
+    let long = length-append now.pending reads.taken_now in
+    let same : length (now.pending ++ reads.taken_now) ≡ length new.pending + 1 = ap length reads.reader ∙ one_more (length new.pending) in
+    omega (arith, long, same, reads.room)
 
 -- it ends no line
 pub telling_more : (telnet fed : TelnetView) (byte : ℕ) (old now new : LineReaderView) (first at next : SourceView) → Telling telnet old now first at → ReadsByte (Ok byte) now new at next → IsFed steps.More telnet fed byte → Telling fed old new first next
