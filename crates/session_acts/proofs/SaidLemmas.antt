@@ -27,7 +27,7 @@ use Rattle.telnet_hearing.proofs.WholeLemmas.{heard_on, none_in}
 
 -- ---- what is heard last
 
-is_end : Fate → Bool
+abbrev is_end : Fate → Bool
 is_end (IsHeard form (Stopped stops.End)) = true
 is_end (IsHeard form (Stopped stops.Idle)) = false
 is_end (IsHeard form (Stopped stops.Failed)) = false
@@ -36,7 +36,7 @@ is_end (IsHeard form (Line line)) = false
 is_end (IsHeard form TooLong) = false
 is_end (IsCarried bytes) = false
 
-ends_last : List Fate → Bool
+abbrev ends_last : List Fate → Bool
 ends_last [] = false
 ends_last (fate ∷ []) = is_end fate
 ends_last (fate ∷ other ∷ fates) = ends_last (other ∷ fates)
