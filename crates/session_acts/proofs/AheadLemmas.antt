@@ -17,10 +17,11 @@ use Rattle.session_acts.specs.Met.{AtClient, Carrying, ClientRelays, Hears, Heed
 use Rattle.session_acts.specs.World.{Speaker, World}
 use Rattle.session_acts.specs.declared.cause.Cause.{Cause}
 use Rattle.session_acts.specs.declared.form.Form.{Form}
-use Rattle.session_acts.specs.declared.form.Form.TheVariants.{Lines}
+use Rattle.session_acts.specs.declared.form.Form.TheVariants.{Lines, Telnet}
 use Rattle.session_acts.specs.declared.silence.Silence.{Silence}
 use Rattle.session_acts.specs.Forms.{IsHeardIn}
 use Rattle.session_acts.proofs.DeedLemmas.{ran_last}
+use Rattle.telnet_hearing.proofs.WholeLemmas.{some_bytes}
 
 pub heeds_ahead : (form : Form) (heard : Heard) (old new : Speaker) (h : Heeds form heard old new) → ahead old ≡ length h.listens.bytes + ahead new
 heeds_ahead form heard old new h =
@@ -107,6 +108,9 @@ some_line : (form : Form) (heard : Heard) (bytes : List ℕ) → IsSomeLine hear
 some_line Lines (Line line) bytes some is = no_line bytes line.items is.is
 some_line Lines TooLong bytes some is = no_line bytes is.line is.is
 some_line Lines (Stopped stop) bytes some is = absurd some
+some_line Telnet (Line line) bytes some is = some_bytes (Line line) bytes is
+some_line Telnet TooLong bytes some is = some_bytes TooLong bytes is
+some_line Telnet (Stopped stop) bytes some is = absurd some
 
 -- hearing one takes some bytes
 pub heard_ahead : {Origin : Type 0} (form : Form) (heard : Heard) (old new : World Origin) → IsSomeLine heard → Met (Hear form) (Ok heard) old new → ahead_of_client new < ahead_of_client old

@@ -32,20 +32,20 @@ use Rattle.session_acts.proofs.TalkLemmas.{entered_gains, opened_both}
 -- ---- what was asked, where a course has come so far
 
 -- a session was opened, and not asked to close
-record IsOpen (console : Bool) (asks : List (Request × Option Reply)) : Type 0 where
-  sid : ℕ
-  between : List (Request × Option Reply)
-  are_between : AreBetween between
-  is : asks ≡ (requests.Open console, Some (replies.Opened sid)) ∷ between
+pub record IsOpen (console : Bool) (asks : List (Request × Option Reply)) : Type 0 where
+  pub sid : ℕ
+  pub between : List (Request × Option Reply)
+  pub are_between : AreBetween between
+  pub is : asks ≡ (requests.Open console, Some (replies.Opened sid)) ∷ between
 
 -- it was closed, or none was opened
-record IsOver (console : Bool) (asks : List (Request × Option Reply)) : Type 0 where
-  first : Option Reply
-  rest : List (Request × Option Reply)
-  follows : Follows first rest
-  is : asks ≡ (requests.Open console, first) ∷ rest
+pub record IsOver (console : Bool) (asks : List (Request × Option Reply)) : Type 0 where
+  pub first : Option Reply
+  pub rest : List (Request × Option Reply)
+  pub follows : Follows first rest
+  pub is : asks ≡ (requests.Open console, first) ∷ rest
 
-abbrev Stands : Bool → CourseState → List (Request × Option Reply) → Type 0
+abbrev pub Stands : Bool → CourseState → List (Request × Option Reply) → Type 0
 Stands console Unasked asks = asks ≡ []
 Stands console Going asks = IsOpen console asks
 Stands console Finished asks = IsOver console asks
@@ -80,7 +80,7 @@ open_closes console asks reply o = record {
 not_opened : (console : Bool) (reply : Option Reply) → Follows reply [] → IsOver console ((requests.Open console, reply) ∷ [])
 not_opened console reply follows = record { first = reply; rest = []; follows = follows; is = refl }
 
-opening_stands : (console : Bool) (reply : Option Reply) → Stands console (state_opened reply) ((requests.Open console, reply) ∷ [])
+pub opening_stands : (console : Bool) (reply : Option Reply) → Stands console (state_opened reply) ((requests.Open console, reply) ∷ [])
 opening_stands console None = not_opened console None refl
 opening_stands console (Some (replies.Opened sid)) = record { sid = sid; between = []; are_between = tt; is = refl }
 opening_stands console (Some replies.Password) = not_opened console (Some replies.Password) refl
@@ -116,10 +116,10 @@ renew_stands console Going asks request reply is stands may = open_more console 
 renew_stands console Finished asks request reply is stands may = absurd (cc)
 
 -- nothing was asked
-same_stands : (console : Bool) (state : CourseState) (asks : List (Request × Option Reply)) → Stands console state asks → Stands console state (asks ++ [])
+pub same_stands : (console : Bool) (state : CourseState) (asks : List (Request × Option Reply)) → Stands console state asks → Stands console state (asks ++ [])
 same_stands console state asks stands = subst (λ (z : List (Request × Option Reply)). Stands console state z) (sym (append-nil asks)) stands
 
-act_stands : (console : Bool) (state : CourseState) (asks : List (Request × Option Reply)) (act : Act) (outcome : Outcome act) → Stands console state asks → MayCome console state act
+pub act_stands : (console : Bool) (state : CourseState) (asks : List (Request × Option Reply)) (act : Act) (outcome : Outcome act) → Stands console state asks → MayCome console state act
     → Stands console (state_after state act outcome) (asks ++ asked act outcome)
 act_stands console state asks (Ask request) outcome stands may = ask_stands console state asks request (reply_of outcome) stands may
 act_stands console state asks (Renew name hash) (Ok salts) stands may = renew_stands console state asks (requests.Password name salts.0 hash) (Some salts.1) refl stands may
@@ -183,18 +183,18 @@ over_closes : (console : Bool) (opened : Option ℕ) (answer : Result Reply Port
 over_closes console None answer asks o is = subst (λ (z : List (Request × Option Reply)). Course console z) (sym (append-nil asks)) (over_course console asks o)
 over_closes console (Some sid) answer asks o is = absurd (none-some sid (sym (is ∙ over_opened console asks o)))
 
-closing_course : (console : Bool) (state : CourseState) (opened : Option ℕ) (answer : Result Reply PortFault) (asks : List (Request × Option Reply)) → Stands console state asks → opened ≡ opened_after None asks
+pub closing_course : (console : Bool) (state : CourseState) (opened : Option ℕ) (answer : Result Reply PortFault) (asks : List (Request × Option Reply)) → Stands console state asks → opened ≡ opened_after None asks
     → Course console (asks ++ gives asked (closing opened answer))
 closing_course console Unasked opened answer asks stands is = unasked_closes console opened answer asks stands is
 closing_course console Going opened answer asks stands is = open_is_closed console opened answer asks stands is
 closing_course console Finished opened answer asks stands is = over_closes console opened answer asks stands is
 
 -- hanging up asks nothing
-freeing_asks : (link : Option Speaker) (deeds : List Deed) → gives asked (freeing link ++ deeds) ≡ gives asked deeds
+pub freeing_asks : (link : Option Speaker) (deeds : List Deed) → gives asked (freeing link ++ deeds) ≡ gives asked deeds
 freeing_asks None deeds = refl
 freeing_asks (Some link) deeds = refl
 
-asked_both : (first more : List Deed) → gives asked (first ++ more) ≡ gives asked first ++ gives asked more
+pub asked_both : (first more : List Deed) → gives asked (first ++ more) ≡ gives asked first ++ gives asked more
 asked_both first more = flat_map-append (λ (deed : Deed). asked deed.act deed.outcome) first more
 
 -- the act at which a session stopped

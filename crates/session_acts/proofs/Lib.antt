@@ -18,6 +18,7 @@ pub mod ServerlessLemmas
 pub mod OverLinksLemmas
 pub mod PassingLemmas
 pub mod ServersHeardLemmas
+pub mod SaidLemmas
 pub mod SpentLemmas
 pub mod StageLemmas
 pub mod ShutLemmas

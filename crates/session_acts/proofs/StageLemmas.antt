@@ -14,12 +14,13 @@ use Rattle.fw_outside.specs.declared.dialed.Dialed.{Dialed}
 use Rattle.fw_outside.specs.declared.dialed.Dialed.TheVariants.{Up, Refused}
 use Rattle.fw_types.specs.declared.dest.Dest.{Dest}
 use Rattle.session_acts.specs.Acts.Act.{Dial, HangUp}
+use Rattle.session_acts.specs.Forms.{ListensIn}
 use Rattle.session_acts.specs.Link.{IsPutUp, PassesSo, outcome_of}
 use Rattle.session_acts.specs.Met.{Clears, ConnectsIf, CutAt, Gets, Hanging, Hears, Heeds, Met, Passes}
 use Rattle.session_acts.specs.World.{Server, Speaker, World}
 use Rattle.session_acts.specs.declared.form.Form.{Form}
-use Rattle.session_acts.specs.declared.form.Form.TheVariants.{Lines}
-use Rattle.session_acts.specs.declared.silence.Silence.{Silence}
+use Rattle.session_acts.specs.declared.form.Form.TheVariants.{Lines, Telnet}
+use Rattle.telnet_hearing.specs.Hearing.{ListensTelnet}
 
 -- the front that a sink was given
 abbrev pub front_of : {text : List ℕ} {old new : SinkView} → Cut text old new → Front text
@@ -51,28 +52,25 @@ passes text failed dialer (Some link) new passed = record {
 }
 
 -- what a reader of lines hears is heard in the form of lines
-heeds_lines : (heard : Heard) (old new : LineReaderView) (before after : SourceView) (outlet : SinkView) → Listens heard old new before after → length new.pending ≤ 4096
-    → Heeds Lines heard (record { inlet = before; reader = old; outlet = outlet }) (record { inlet = after; reader = new; outlet = outlet })
-heeds_lines heard old new before after outlet h near = record {
-  inlet = after;
-  reader = new;
-  listens = record { bytes = h.bytes; middle = h.middle; is_heard = h.is_heard; rest = h.rest; reads = h.reads; closes = h.closes; spent = h.spent; behind = h.behind };
-  near = near;
-  is = refl;
-}
+pub listens_lines : (heard : Heard) (old new : LineReaderView) (before after : SourceView) → Listens heard old new before after → ListensIn Lines heard old new before after
+listens_lines heard old new before after h = record { bytes = h.bytes; middle = h.middle; is_heard = h.is_heard; rest = h.rest; reads = h.reads; closes = h.closes; spent = h.spent; behind = h.behind }
 
-pub hears_lines : (heard : Heard) (old new : LineReaderView) (before after : SourceView) (outlet : SinkView) → Listens heard old new before after → length new.pending ≤ 4096
-    → Hears Lines (outcome_of heard) (record { inlet = before; reader = old; outlet = outlet }) (record { inlet = after; reader = new; outlet = outlet })
-hears_lines (Line line) old new before after outlet h near = heeds_lines (Line line) old new before after outlet h near
-hears_lines TooLong old new before after outlet h near = heeds_lines TooLong old new before after outlet h near
-hears_lines (Stopped stops.End) old new before after outlet h near = heeds_lines (Stopped stops.End) old new before after outlet h near
-hears_lines (Stopped stops.Idle) old new before after outlet h near = heeds_lines (Stopped stops.Idle) old new before after outlet h near
-hears_lines (Stopped stops.Failed) old new before after outlet h near = heeds_lines (Stopped stops.Failed) old new before after outlet h near
-hears_lines (Stopped stops.Spent) old new before after outlet h near = heeds_lines (Stopped stops.Spent) old new before after outlet h near
+-- and what a reader of Telnet hears in the form of Telnet
+pub listens_telnet : (heard : Heard) (old new : LineReaderView) (before after : SourceView) → ListensTelnet heard old new before after → ListensIn Telnet heard old new before after
+listens_telnet heard old new before after h = record { bytes = h.bytes; middle = h.middle; is_heard = h.is_heard; rest = h.rest; reads = h.reads; closes = h.closes; spent = h.spent; behind = h.behind }
 
--- there is no other form
-pub hears_in : (form : Form) (outcome : Result Heard Silence) (old new : Speaker) → Hears Lines outcome old new → Hears form outcome old new
-hears_in Lines outcome old new h = h
+heeds_in : (form : Form) (heard : Heard) (old new : LineReaderView) (before after : SourceView) (outlet : SinkView) → ListensIn form heard old new before after → length new.pending ≤ 4096
+    → Heeds form heard (record { inlet = before; reader = old; outlet = outlet }) (record { inlet = after; reader = new; outlet = outlet })
+heeds_in form heard old new before after outlet h near = record { inlet = after; reader = new; listens = h; near = near; is = refl }
+
+pub hears_in : (form : Form) (heard : Heard) (old new : LineReaderView) (before after : SourceView) (outlet : SinkView) → ListensIn form heard old new before after → length new.pending ≤ 4096
+    → Hears form (outcome_of heard) (record { inlet = before; reader = old; outlet = outlet }) (record { inlet = after; reader = new; outlet = outlet })
+hears_in form (Line line) old new before after outlet h near = heeds_in form (Line line) old new before after outlet h near
+hears_in form TooLong old new before after outlet h near = heeds_in form TooLong old new before after outlet h near
+hears_in form (Stopped stops.End) old new before after outlet h near = heeds_in form (Stopped stops.End) old new before after outlet h near
+hears_in form (Stopped stops.Idle) old new before after outlet h near = heeds_in form (Stopped stops.Idle) old new before after outlet h near
+hears_in form (Stopped stops.Failed) old new before after outlet h near = heeds_in form (Stopped stops.Failed) old new before after outlet h near
+hears_in form (Stopped stops.Spent) old new before after outlet h near = heeds_in form (Stopped stops.Spent) old new before after outlet h near
 
 -- ---- dialing
 

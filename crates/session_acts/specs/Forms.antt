@@ -6,11 +6,13 @@ use Rattle.fw_outside.specs.SourceView.{SourceView}
 use Rattle.fw_outside.specs.ToldList.{preceded}
 use Rattle.fw_outside.specs.declared.heard.Heard.{Heard}
 use Rattle.session_acts.specs.declared.form.Form.{Form}
-use Rattle.session_acts.specs.declared.form.Form.TheVariants.{Lines}
+use Rattle.session_acts.specs.declared.form.Form.TheVariants.{Lines, Telnet}
+use Rattle.telnet_hearing.specs.Hearing.{IsHeardTelnet}
 
 -- what a text is heard as, in each form
 abbrev pub IsHeardIn : Form → Heard → List ℕ → Type 0
 IsHeardIn Lines heard text = IsHeard heard text
+IsHeardIn Telnet heard text = IsHeardTelnet heard text
 
 -- What is heard next in a form: these bytes, of what was left, are heard as that. At the limit the reader stops, having
 -- read all that was in the buffer before; from then on nothing is heard.

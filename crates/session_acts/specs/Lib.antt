@@ -18,6 +18,7 @@ pub mod Relayed
 pub mod Relaying
 pub mod RelayLast
 pub mod Finishing
+pub mod Said
 pub mod Session
 pub mod Talk
 pub mod World

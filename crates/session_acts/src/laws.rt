@@ -24,6 +24,7 @@ ghost use Rattle.session_acts.specs.Passing.{GivesServers, passed_over};
 ghost use Rattle.session_acts.specs.RelayLast.{CarriesAll, ConveysBoth, GivesLast, RelaysLast, StopsBefore};
 ghost use Rattle.session_acts.specs.Relayed.{relayed, then_relay};
 ghost use Rattle.session_acts.specs.Relaying.{Flow, Through, flow_of};
+ghost use Rattle.session_acts.specs.Said.{SaysLines};
 ghost use Rattle.session_acts.specs.Serverless.{CausedAlone, KeepsServerless, TakesExactly};
 ghost use Rattle.session_acts.specs.ServersHeard.{HearsServers, heard_over};
 ghost use Rattle.session_acts.specs.Session.{Held, Session, SessionAs, deeds_of};
@@ -45,6 +46,14 @@ pub fn the_client_is_heard<Origin, P>()
     ensures { (rows : PlaceTable (acts Origin) P) (first : Row (acts Origin) P) (old new : World Origin) (ending : Ending)
         (held : Held rows first old new ending) → old.client.reader.pending ≡ [] →
         TakesHeard (gives heard_in (deeds_of held)) old.client new.client }
+{}
+
+/// The lines that a session hears of a client of Telnet, before it hears or relays anything else, are the first lines of what
+/// it takes of the client, in order, by `lines_heard` of `telnet`; and they are all of them if it then hears the end.
+pub fn the_lines_of_telnet_are_heard<Origin, P>()
+    ensures { (rows : PlaceTable (acts Origin) P) (first : Row (acts Origin) P) (old new : World Origin) (ending : Ending)
+        (held : Held rows first old new ending) → old.client.reader.pending ≡ [] →
+        SaysLines (gives heard_in (deeds_of held)) old.client new.client }
 {}
 
 /// What the log was given by a session is what its deeds log and note, one after another: of a text at which the log

@@ -4,10 +4,11 @@ ghost use Rattle.fw_outside.specs.DialerView.{DialerView};
 ghost use Rattle.fw_outside.specs.SinkView.{SinkView};
 ghost use Rattle.session_acts.specs.Link.{IsPutUp, PassesSo, link_view, outcome_of};
 ghost use Rattle.session_acts.specs.Met.{Hears, Takes};
-ghost use Rattle.session_acts.specs.declared.form.Form.TheVariants.{Lines};
+ghost use Rattle.session_acts.specs.declared.form.Form.TheVariants.{Lines, Telnet};
 
 use crate::{Form, Silence};
 use fw_outside::{Dialed, Failed, Heard, LineReader, Sink, Source, Stop};
+use telnet_hearing::hear_line;
 
 // No more bytes than these are taken from a client, or from a server over one link.
 pub(crate) const MOST_TAKEN: u64 = 1 << 40;
@@ -44,6 +45,16 @@ fn heed_line<S: Source>(reader: &mut LineReader, from: &mut S) -> Result<Heard, 
     outcome_of(heard)
 }
 
+// The next line of a client of Telnet, one that is too long, or the end.
+fn heed_telnet<S: Source>(reader: &mut LineReader, from: &mut S) -> Result<Heard, Silence>
+    ensures { (outlet : SinkView) → Hears Telnet result
+        (record { inlet = S.source_view from.old; reader = reader.old; outlet = outlet })
+        (record { inlet = S.source_view from.new; reader = reader.new; outlet = outlet }) }
+{
+    let heard = hear_line(reader, from);
+    outcome_of(heard)
+}
+
 // What is heard next of a source, in a form.
 pub(crate) fn heed<S: Source>(
     form: Form,
@@ -56,6 +67,7 @@ pub(crate) fn heed<S: Source>(
 {
     match form {
         Form::Lines => heed_line(reader, from),
+        Form::Telnet => heed_telnet(reader, from),
     }
 }
 

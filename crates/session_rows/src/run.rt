@@ -8,7 +8,7 @@ use auth_events::{AuthPort, PortFault, Reply, Request};
 use fw_memory::{Calls, MemClock, MemDialer, MemDice, MemSink, MemSource};
 use fw_outside::{Dialer, Sink, Source};
 use fw_types::{Dest, Ending, Host, NoMemory, Octets};
-use session_acts::{relayed_over, session_over};
+use session_acts::{Form, relayed_over, session_over};
 use std::alloc::Global;
 use std::thread::Threads;
 
@@ -172,6 +172,7 @@ pub(crate) fn run(alloc: Global, scene: Scene) -> Result<After, NoMemory> {
 fn put_through<H: Threads + Sync, S: Source + Send, K: Sink + Send, G: Sink, D: Dialer>(
     rt: &H,
     alloc: Global,
+    form: Form,
     from: &mut S,
     to: &mut K,
     logs: &mut G,
@@ -182,6 +183,7 @@ fn put_through<H: Threads + Sync, S: Source + Send, K: Sink + Send, G: Sink, D: 
             host: Host::Addr([10, 0, 0, 5]),
             port: 7,
         },
+        form,
     };
     let mut port = Down { asks: 0, faults: 0 };
     let mut clock = MemClock::new(Vec::new(alloc));
@@ -191,16 +193,18 @@ fn put_through<H: Threads + Sync, S: Source + Send, K: Sink + Send, G: Sink, D: 
     )
 }
 
-/// Runs the session that puts its client through, over the devices of a scene.
+/// Runs the session that hears its client in a form and puts it through, over the devices of a scene.
 pub(crate) fn run_through<H: Threads + Sync>(
     rt: &H,
     alloc: Global,
+    form: Form,
     scene: Scene,
 ) -> Result<After, NoMemory> {
     let mut devices = new_devices(alloc, scene)?;
     let ending = put_through(
         rt,
         alloc,
+        form,
         &mut devices.from,
         &mut devices.to,
         &mut devices.logs,

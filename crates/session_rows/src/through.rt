@@ -1,9 +1,10 @@
-//! A small session that puts a client through to a server, once it has said a line.
+//! A small session that puts a client through to a server, once it has said a line, which it is told.
 ghost use Rattle.std.specs.Prelude.{◌≡◌, None, IfOk};
 ghost use Rattle.fw_acts.specs.Acts.Row.{Do, Over};
 ghost use Rattle.fw_acts.specs.Ran.{Ran};
 ghost use Rattle.session_acts.specs.Acts.Act.{HangUp};
 ghost use Rattle.session_acts.specs.Session.{leads};
+ghost use Rattle.session_acts.specs.declared.form.Form.{Form};
 ghost use Rattle.session_rows.specs.Through.{first_row, line_row, rows};
 
 use fw_outside::Heard;
@@ -17,15 +18,16 @@ pub(crate) enum Knocking {
     ForLine,
 }
 
-/// The session, and the destination that it reaches.
+/// The session, the destination that it reaches, and in which form the client is heard.
 #[derive(Drop)]
 pub(crate) struct PutThrough {
     pub(crate) dest: Dest,
+    pub(crate) form: Form,
 }
 
 // Takes the link away.
 fn away_row<D: Stage>(stage: &mut D) -> Result<Option<Knocking>, Cause>
-    ensures ran { Ran rows (Do HangUp (λ done. Over)) leads (D.world stage.old) (D.world stage.new) result }
+    ensures ran { (form : Form) → Ran (rows form) (Do HangUp (λ done. Over)) leads (D.world stage.old) (D.world stage.new) result }
     ensures at { IfOk result (λ next. next ≡ None) }
 {
     stage.hang_up();
@@ -33,11 +35,11 @@ fn away_row<D: Stage>(stage: &mut D) -> Result<Option<Knocking>, Cause>
 }
 
 fn line_row<D: Stage>(stage: &mut D, heard: Heard) -> Result<Option<Knocking>, Cause>
-    ensures ran { Ran rows (line_row heard) leads (D.world stage.old) (D.world stage.new) result }
+    ensures ran { (form : Form) → Ran (rows form) (line_row heard) leads (D.world stage.old) (D.world stage.new) result }
     ensures at { IfOk result (λ next. next ≡ None) }
 {
     match heard {
-        Heard::Line(_) => tell(stage, b"through\n", None),
+        Heard::Line(line) => tell(stage, line.as_slice(), None),
         Heard::TooLong => away_row(stage),
         Heard::Stopped(_) => away_row(stage),
     }
@@ -46,7 +48,7 @@ fn line_row<D: Stage>(stage: &mut D, heard: Heard) -> Result<Option<Knocking>, C
 impl Script for PutThrough {
     type Place = Knocking;
 
-    ghost rows = { λ through Origin. rows };
+    ghost rows = { λ through Origin. rows through.form };
 
     ghost first = { λ through Origin. first_row through.dest };
 
@@ -60,7 +62,7 @@ impl Script for PutThrough {
     }
 
     fn turn<D: Stage>(&self, stage: &mut D, _place: Knocking) -> Result<Option<Knocking>, Cause> {
-        let heard = stage.hear(Form::Lines)?;
+        let heard = stage.hear(self.form)?;
         line_row(stage, heard)
     }
 }
