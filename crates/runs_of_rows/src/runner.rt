@@ -1,4 +1,5 @@
 //! Who runs a row.
+ghost use Rattle.std.specs.Thread.{IsSync};
 
 use crate::comparing::Difference;
 use crate::devices::Devices;
@@ -27,7 +28,8 @@ pub trait Runner {
         setting: &Setting,
         devices: Devices,
         keeper: MemKeeper,
-    ) -> Ended;
+    ) -> Ended
+        requires sync { IsSync H.row };
 
     /// Looks for the first thing in which the row's words are read otherwise than as this command.
     ///
