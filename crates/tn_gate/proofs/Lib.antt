@@ -1,0 +1,8 @@
+mod AccountLemmas
+pub mod CourseLemmas
+pub mod LawLemmas
+pub mod LoginLemmas
+mod RowLemmas
+pub mod SessionLemmas
+mod TurnLemmas
+mod WatchLemmas

@@ -1,0 +1,8 @@
+use Rattle.tn_gate.proofs.TurnLemmas.{any_place}
+use Rattle.tn_gate.proofs.script.TnScriptScript.begin.Goals as goal
+
+pub returns-clause-ran : goal.returns-clause-ran
+returns-clause-ran g c = c.first_row.ensures
+
+pub returns-clause-form : goal.returns-clause-form
+returns-clause-form g c = any_place c.first_row.result

@@ -1,0 +1,11 @@
+pub mod Asked
+pub mod Command
+pub mod Course
+pub mod Dialogue
+pub mod Distance
+pub mod Dummies
+pub mod Gate
+pub mod Laws
+pub mod LogLines
+pub mod Login
+pub mod Texts

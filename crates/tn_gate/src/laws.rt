@@ -1,0 +1,62 @@
+//! What holds of every session of the Telnet gateway.
+ghost use Rattle.std.specs.Prelude.{◌≡◌, true, List, [], ◌∷◌, ◌++◌, length, None};
+ghost use Rattle.auth_events.specs.Port.{places};
+ghost use Rattle.fw_outside.specs.declared.ask.Ask.TheVariants.{Main};
+ghost use Rattle.fw_types.specs.declared.dest.Dest.{Dest};
+ghost use Rattle.fw_types.specs.declared.ending.Ending.{Ending};
+ghost use Rattle.session_acts.specs.Deeds.{Deed, gives};
+ghost use Rattle.session_acts.specs.Laws.{called};
+ghost use Rattle.session_acts.specs.Relayed.{relayed, then_relay};
+ghost use Rattle.session_acts.specs.Session.{Held, deeds_of};
+ghost use Rattle.session_acts.specs.Talk.{asked};
+ghost use Rattle.session_acts.specs.World.{World};
+ghost use Rattle.tn_gate.specs.Course.{OpensOnce};
+ghost use Rattle.tn_gate.specs.Dialogue.{tn_row, tn_rows};
+ghost use Rattle.tn_gate.specs.Gate.{Gate, asks_login};
+ghost use Rattle.tn_gate.specs.Laws.{AsksExactly, DenialsLogged, DialsCleared};
+ghost use Rattle.tn_gate.specs.Login.{LoginStandsIn, number_opened};
+
+/// A destination is asked for right behind its connect line, which the log has whole, and behind the permission for its host
+/// where the permission line has `-extnd`; the line's `-dest` allows it; and where the line asks for a login, one stands in
+/// what this session has asked and was answered up to there.
+pub fn each_dial_is_cleared<Origin>()
+    ensures { (gate : Gate) (old new : World Origin) (ending : Ending)
+        (held : Held (relayed (tn_rows gate)) (then_relay (tn_row gate)) old new ending) →
+        DialsCleared gate (deeds_of held) }
+{}
+
+/// Where the client is told that a destination is denied, or a login, the log was given the line of that denial right before,
+/// whole. A text that is no name is denied without one.
+pub fn each_denial_is_logged<Origin>()
+    ensures { (gate : Gate) (old new : World Origin) (ending : Ending)
+        (held : Held (relayed (tn_rows gate)) (then_relay (tn_row gate)) old new ending) →
+        DenialsLogged gate (deeds_of held) }
+{}
+
+/// The destinations that are asked for are those that the client's lines ask for, in order: the commands to connect to a
+/// destination that the permission line allows and that is cleared. All of them are asked for, unless the dialogue stopped;
+/// then a front of them is.
+pub fn the_destinations_are_those_asked_for<Origin>()
+    ensures { (gate : Gate) (old new : World Origin) (ending : Ending)
+        (held : Held (relayed (tn_rows gate)) (then_relay (tn_row gate)) old new ending) → AsksExactly gate held }
+{}
+
+/// Where no session was open before: openings that opened none, and then nothing is asked, or Open once more; where that is
+/// answered `Opened`, Close is asked once, as the last, and Open not again.
+pub fn a_session_is_opened_once<Origin>()
+    ensures { (gate : Gate) (old new : World Origin) (ending : Ending)
+        (held : Held (relayed (tn_rows gate)) (then_relay (tn_row gate)) old new ending) → old.office.opened ≡ None →
+        OpensOnce (gives asked (deeds_of held)) }
+{}
+
+/// Where a login is asked for and the port's own entries are the whole history, whatever asks for a destination comes after a
+/// login that stands there: what the session had asked by then and was entered is a front of the history, and in that a login
+/// stands for the number that this session's opening was given.
+pub fn the_login_is_this_sessions<Origin>()
+    ensures { (gate : Gate) (old new : World Origin) (ending : Ending)
+        (held : Held (relayed (tn_rows gate)) (then_relay (tn_row gate)) old new ending) → old.office.opened ≡ None →
+        old.office.port.mine ≡ [] → new.office.port.mine ≡ places (length new.office.port.seen) →
+        asks_login gate.options ≡ true → (before after : List Deed) (deed : Deed) (dest : Dest) →
+        deeds_of held ≡ before ++ deed ∷ after → called deed.act deed.outcome ≡ Main dest ∷ [] →
+        LoginStandsIn (number_opened (gives asked (deeds_of held))) (gives asked before) new.office.port.seen }
+{}
