@@ -1,5 +1,5 @@
 //! Scenes of the book of `auth_machine` at work, each from a file of `data/`: histories of requests with their
-//! replies, whole sessions of `authsrv` over a book, what the history has afterwards, and what the keeper has.
+//! replies, whole sessions of `authsrv` and of the Telnet gateway over a book, what the history has afterwards, and what the keeper has.
 //!
 //! `docs/tests-scenes.md` has the form of a scene, what the program prints, and its status.
 #![tactic(auto)]
@@ -7,6 +7,7 @@
 mod after;
 mod asking;
 mod fault;
+mod gateway;
 mod play;
 mod setup;
 mod stage;
@@ -18,6 +19,7 @@ use fault::{Fault, Line};
 use play::play;
 use std::mem::size_of;
 use std::process::ExitCode;
+use std::thread::Threads;
 use std::{env, fs, io, str};
 
 // What an entry takes, on which the size of a history counts.
@@ -51,8 +53,13 @@ fn print_difference(rt: &HostRuntime, name: &str, number: u64, told: &[u8]) -> i
 }
 
 // Plays the scene of these lines, and prints what comes of it.
-fn play_named(rt: &HostRuntime, name: &str, lines: &[Line<'_>]) -> io::Result<Count> {
-    let differ = match play(rt.alloc(), lines) {
+fn play_named<H: Threads + Sync>(
+    threads: &H,
+    rt: &HostRuntime,
+    name: &str,
+    lines: &[Line<'_>],
+) -> io::Result<Count> {
+    let differ = match play(threads, rt.alloc(), lines) {
         Ok(()) => {
             println!(rt; "ok {name}")?;
             0
@@ -70,21 +77,30 @@ fn play_named(rt: &HostRuntime, name: &str, lines: &[Line<'_>]) -> io::Result<Co
 }
 
 // The same, where the first line begins a scene.
-fn play_scene(rt: &HostRuntime, lines: &[Line<'_>]) -> io::Result<Count> {
+fn play_scene<H: Threads + Sync>(
+    threads: &H,
+    rt: &HostRuntime,
+    lines: &[Line<'_>],
+) -> io::Result<Count> {
     let Some(first) = lines.first() else {
         return Ok(Count::none());
     };
     match first.text.strip_prefix("scene ") {
-        Some(name) => play_named(rt, name, lines),
+        Some(name) => play_named(threads, rt, name, lines),
         None => Ok(Count::none()),
     }
 }
 
 // Takes a line in, behind the lines of the scene that goes on. Where it begins a scene, plays those first.
-fn take_line<'a>(rt: &HostRuntime, lines: &mut Vec<Line<'a>>, line: Line<'a>) -> io::Result<Count> {
+fn take_line<'a, H: Threads + Sync>(
+    threads: &H,
+    rt: &HostRuntime,
+    lines: &mut Vec<Line<'a>>,
+    line: Line<'a>,
+) -> io::Result<Count> {
     let mut count = Count::none();
     if line.text.starts_with("scene ") {
-        count = play_scene(rt, lines.as_slice())?;
+        count = play_scene(threads, rt, lines.as_slice())?;
         lines.clear();
     }
     lines.push(line)?;
@@ -92,21 +108,26 @@ fn take_line<'a>(rt: &HostRuntime, lines: &mut Vec<Line<'a>>, line: Line<'a>) ->
 }
 
 // Plays the scenes of a text but the last one, whose lines are then left.
-fn play_lines<'a>(rt: &HostRuntime, text: &'a str, lines: &mut Vec<Line<'a>>) -> io::Result<Count> {
+fn play_lines<'a, H: Threads + Sync>(
+    threads: &H,
+    rt: &HostRuntime,
+    text: &'a str,
+    lines: &mut Vec<Line<'a>>,
+) -> io::Result<Count> {
     let mut count = Count::none();
     let mut number = 0u64;
     for line in text.lines() {
         number = number.saturating_add(1);
-        count.add(take_line(rt, lines, Line { number, text: line })?);
+        count.add(take_line(threads, rt, lines, Line { number, text: line })?);
     }
     Ok(count)
 }
 
 // Plays the scenes of a text.
-fn play_text(rt: &HostRuntime, text: &str) -> io::Result<Count> {
+fn play_text<H: Threads + Sync>(threads: &H, rt: &HostRuntime, text: &str) -> io::Result<Count> {
     let mut lines: Vec<Line<'_>> = Vec::new(rt.alloc());
-    let mut count = play_lines(rt, text, &mut lines)?;
-    count.add(play_scene(rt, lines.as_slice())?);
+    let mut count = play_lines(threads, rt, text, &mut lines)?;
+    count.add(play_scene(threads, rt, lines.as_slice())?);
     Ok(count)
 }
 
@@ -125,9 +146,9 @@ fn sum_up(rt: &HostRuntime, right: Count, wrong: Count) -> io::Result<ExitCode> 
     Ok(ExitCode::from(1))
 }
 
-fn play_file(rt: &HostRuntime, name: &str) -> io::Result<Count> {
+fn play_file<H: Threads + Sync>(threads: &H, rt: &HostRuntime, name: &str) -> io::Result<Count> {
     let text = fs::read_to_string(rt, name)?;
-    play_text(rt, text.as_str())
+    play_text(threads, rt, text.as_str())
 }
 
 fn main(rt: HostRuntime) -> io::Result<ExitCode> {
@@ -139,7 +160,7 @@ fn main(rt: HostRuntime) -> io::Result<ExitCode> {
             is_right = false;
             continue;
         }
-        let count = play_file(&rt, name.as_str())?;
+        let count = play_file(&rt, &rt, name.as_str())?;
         if is_right {
             right.add(count);
         } else {

