@@ -73,6 +73,7 @@ fn tell_number(what: &[u8], number: u32, out: &mut Told) {
 }
 
 // Puts a slot whose disk failed.
+#[tactic(auto, using(spool_rack::proofs::SeenLemmas::may_put_broken_seen))]
 fn put_broken<M: MailStore>(store: &mut M, broken: Broken<M::D>, out: &mut Told)
     requires { MayPutBroken broken (M.store_view store.old).out }
 {
@@ -81,7 +82,7 @@ fn put_broken<M: MailStore>(store: &mut M, broken: Broken<M::D>, out: &mut Told)
 }
 
 // Finishes a message, and puts its slot full.
-#[tactic(auto, using(crate::proofs::OutLemmas::may_put_new, crate::proofs::OutLemmas::may_put_broken))]
+#[tactic(auto, using(crate::proofs::OutLemmas::may_put_new, crate::proofs::OutLemmas::may_put_broken, spool_rack::proofs::SeenLemmas::may_put_full_seen))]
 fn finish<M: MailStore>(store: &mut M, filling: Filling<M::D>, out: &mut Told)
     requires { IsLentFree filling.number (M.store_view store.old).out }
 {
@@ -126,7 +127,7 @@ fn write<M: MailStore>(
 }
 
 // Releases a full slot, and puts it.
-#[tactic(auto, using(crate::proofs::OutLemmas::released_out, crate::proofs::OutLemmas::may_put_failed))]
+#[tactic(auto, using(crate::proofs::OutLemmas::released_out, crate::proofs::OutLemmas::may_put_failed, spool_rack::proofs::SeenLemmas::out_seen))]
 fn release<M: MailStore>(store: &mut M, full: Full<M::D>, out: &mut Told)
     requires { IsLentFull full (M.store_view store.old).out }
 {
@@ -140,7 +141,7 @@ fn release<M: MailStore>(store: &mut M, full: Full<M::D>, out: &mut Told)
 }
 
 // Sets a full slot aside, and puts it.
-#[tactic(auto, using(crate::proofs::OutLemmas::may_put_aside, crate::proofs::OutLemmas::may_put_failed))]
+#[tactic(auto, using(crate::proofs::OutLemmas::may_put_aside, crate::proofs::OutLemmas::may_put_failed, spool_rack::proofs::SeenLemmas::may_put_aside_seen))]
 fn set_aside<M: MailStore>(store: &mut M, full: Full<M::D>, out: &mut Told)
     requires { IsLentFull full (M.store_view store.old).out }
 {
@@ -154,7 +155,7 @@ fn set_aside<M: MailStore>(store: &mut M, full: Full<M::D>, out: &mut Told)
 }
 
 // Puts a full slot back as it is.
-#[tactic(auto, using(crate::proofs::OutLemmas::may_put_back))]
+#[tactic(auto, using(crate::proofs::OutLemmas::may_put_back, spool_rack::proofs::SeenLemmas::may_put_full_seen))]
 fn put_back<M: MailStore>(store: &mut M, full: Full<M::D>, out: &mut Told)
     requires lent { IsLentFull full (M.store_view store.old).out }
     requires read { full.unread ≡ false }
@@ -163,14 +164,14 @@ fn put_back<M: MailStore>(store: &mut M, full: Full<M::D>, out: &mut Told)
     store.put_full(full);
 }
 
-#[tactic(auto, using(crate::proofs::OutLemmas::lent_free))]
+#[tactic(auto, using(crate::proofs::OutLemmas::lent_free, spool_rack::proofs::SeenLemmas::free_seen))]
 fn take_free<M: MailStore>(store: &mut M) -> Option<Free<M::D>>
     ensures { IfSome result (λ free. IsLentFree free.number (M.store_view store.new).out) }
 {
     store.take_free()
 }
 
-#[tactic(auto, using(crate::proofs::OutLemmas::lent_full, crate::proofs::OutLemmas::read_full))]
+#[tactic(auto, using(crate::proofs::OutLemmas::lent_full, crate::proofs::OutLemmas::read_full, spool_rack::proofs::SeenLemmas::full_seen))]
 fn take_full<M: MailStore>(store: &mut M) -> Option<Full<M::D>>
     ensures lent { IfSome result (λ full. IsLentFull full (M.store_view store.new).out) }
     ensures read { IfSome result (λ full. full.unread ≡ false) }
@@ -179,7 +180,7 @@ fn take_full<M: MailStore>(store: &mut M) -> Option<Full<M::D>>
 }
 
 // A step with the free slot at the front.
-#[tactic(auto, using(crate::proofs::OutLemmas::free_out))]
+#[tactic(auto, using(crate::proofs::OutLemmas::free_out, spool_rack::proofs::SeenLemmas::out_seen))]
 fn step_free<M: MailStore>(
     alloc: Global,
     store: &mut M,
