@@ -8,7 +8,9 @@ use fw_memory::{Calls, MemDisk};
 use fw_types::{NoMemory, Octets, OctetsList};
 use lines_of_rows::{Told, add_number, add_word, cut, cut_word, number_of};
 use slot_bytes::{Slot, SlotFault, read_slot};
-use spool_rack::{Broken, Filling, Free, Full, MailStore, Rack, RackFault, SlotWhy, StartFault};
+use spool_rack::{
+    Broken, Filling, Free, Full, MailStore, Rack, RackFault, SlotStore, SlotWhy, StartFault,
+};
 use std::alloc::Global;
 
 type MemRack = Rack<MemDisk>;
