@@ -4,3 +4,4 @@ mod OpeningLemmas
 mod ShelfLemmas
 mod ClosingLemmas
 mod StoreLemmas
+pub mod SeenLemmas

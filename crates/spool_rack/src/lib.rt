@@ -1,6 +1,7 @@
 //! Stores of slots: slots are taken from them and put back.
 //!
-//! [`MailStore`] says what a store is. [`Rack`] is the store of one thread.
+//! [`SlotStore`] says what a store is, and [`MailStore`] that its slots are those of this spool. [`Rack`] is the store of
+//! one thread.
 #![tactic(auto)]
 
 mod bare;
@@ -13,7 +14,7 @@ mod queue;
 mod rack;
 mod shelving;
 
-pub use mail_store::MailStore;
+pub use mail_store::{MailStore, SlotStore};
 pub use opening::RackFault;
 pub use rack::Rack;
 pub use spool_slots::{

@@ -1,4 +1,4 @@
-ghost use Rattle.std.specs.Prelude.{◌≡◌, option_map};
+ghost use Rattle.std.specs.Prelude.{◌≡◌, option_map, refl};
 ghost use Rattle.spool_slots.specs.States.{SlotView, FullView, BrokenView};
 ghost use Rattle.spool_rack.specs.Store.{StoreView, IsOut, MayPutAside, MayPutBroken, MayPutFull, PutsBroken};
 ghost use Rattle.spool_rack.specs.Store.{TakesFree, TakesFull, put_aside, put_free, put_full};
@@ -7,9 +7,9 @@ use crate::Rack;
 use fw_disk::Disk;
 use spool_slots::{Aside, Broken, Free, Full};
 
-/// A store of slots, from which slots are taken and to which they are put back. Takes come from the front, and puts go
-/// to the back. None of its calls takes memory. A store names the types of its slots, each of which it sees as data.
-pub trait MailStore {
+/// A store, from which slots are taken and to which they are put back. Takes come from the front, and puts go to the
+/// back. None of its calls takes memory. It names the types of its slots, each of which it sees as data.
+pub trait SlotStore {
     type Free;
 
     type Full;
@@ -59,7 +59,25 @@ pub trait MailStore {
         ensures { PutsBroken (broken_view slot) (store_view self.old) (store_view self.new) };
 }
 
-impl<D: Disk> MailStore for Rack<D> {
+/// A store of slots on disks of one type, which it sees as they are.
+pub trait MailStore: SlotStore<
+    Free = Free<Self::D>,
+    Full = Full<Self::D>,
+    Aside = Aside<Self::D>,
+    Broken = Broken<Self::D>,
+> {
+    type D: Disk;
+
+    ghost sees_free: { (slot : SlotView) → Self.free_view slot ≡ slot };
+
+    ghost sees_full: { (slot : FullView) → Self.full_view slot ≡ slot };
+
+    ghost sees_aside: { (slot : SlotView) → Self.aside_view slot ≡ slot };
+
+    ghost sees_broken: { (slot : BrokenView) → Self.broken_view slot ≡ slot };
+}
+
+impl<D: Disk> SlotStore for Rack<D> {
     type Free = Free<D>;
 
     type Full = Full<D>;
@@ -107,4 +125,16 @@ impl<D: Disk> MailStore for Rack<D> {
     fn put_broken(&mut self, slot: Broken<D>) {
         Rack::put_broken(self, slot);
     }
+}
+
+impl<T: Disk> MailStore for Rack<T> {
+    type D = T;
+
+    ghost sees_free = { λ slot. refl };
+
+    ghost sees_full = { λ slot. refl };
+
+    ghost sees_aside = { λ slot. refl };
+
+    ghost sees_broken = { λ slot. refl };
 }

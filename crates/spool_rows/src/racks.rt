@@ -8,7 +8,9 @@ use fw_memory::{Calls, MemDisk};
 use fw_types::{NoMemory, Octets, OctetsList};
 use lines_of_rows::{Told, add_number, add_word, cut, cut_word, number_of};
 use slot_bytes::{Slot, SlotFault, read_slot};
-use spool_rack::{Broken, Filling, Free, Full, Rack, RackFault, SlotWhy, StartFault};
+use spool_rack::{
+    Broken, Filling, Free, Full, MailStore, Rack, RackFault, SlotStore, SlotWhy, StartFault,
+};
 use std::alloc::Global;
 
 type MemRack = Rack<MemDisk>;
@@ -73,24 +75,25 @@ fn tell_number(what: &[u8], number: u32, out: &mut Told) {
 }
 
 // Puts a slot whose disk failed.
-fn put_broken(rack: &mut MemRack, broken: Broken<MemDisk>, out: &mut Told)
-    requires { MayPutBroken broken rack.old.out }
+#[tactic(auto, using(spool_rack::proofs::SeenLemmas::may_put_broken_seen))]
+fn put_broken<M: MailStore>(store: &mut M, broken: Broken<M::D>, out: &mut Told)
+    requires { MayPutBroken broken (M.store_view store.old).out }
 {
     tell_number(b"broken", broken.number(), out);
-    rack.put_broken(broken);
+    store.put_broken(broken);
 }
 
 // Finishes a message, and puts its slot full.
-#[tactic(auto, using(crate::proofs::OutLemmas::may_put_new, crate::proofs::OutLemmas::may_put_broken))]
-fn finish(rack: &mut MemRack, filling: Filling<MemDisk>, out: &mut Told)
-    requires { IsLentFree filling.number rack.old.out }
+#[tactic(auto, using(crate::proofs::OutLemmas::may_put_new, crate::proofs::OutLemmas::may_put_broken, spool_rack::proofs::SeenLemmas::may_put_full_seen))]
+fn finish<M: MailStore>(store: &mut M, filling: Filling<M::D>, out: &mut Told)
+    requires { IsLentFree filling.number (M.store_view store.old).out }
 {
     match filling.finish() {
         Ok(full) => {
             tell_number(b"kept", full.number(), out);
-            rack.put_full(full);
+            store.put_full(full);
         }
-        Err(broken) => put_broken(rack, broken, out),
+        Err(broken) => put_broken(store, broken, out),
     }
 }
 
@@ -108,118 +111,123 @@ fn recipients(alloc: Global) -> Result<OctetsList, NoMemory>
 
 // Writes an empty message in a free slot, and puts it full.
 #[tactic(auto, using(crate::proofs::OutLemmas::free_onward, crate::proofs::OutLemmas::may_put_broken))]
-fn write(
+fn write<M: MailStore>(
     alloc: Global,
-    rack: &mut MemRack,
-    free: Free<MemDisk>,
+    store: &mut M,
+    free: Free<M::D>,
     out: &mut Told,
 ) -> Result<(), NoMemory>
-    requires { IsLentFree free.number rack.old.out }
+    requires { IsLentFree free.number (M.store_view store.old).out }
 {
     let rcpts = recipients(alloc)?;
     match free.start(alloc, b"a@b", &rcpts) {
-        Ok(filling) => finish(rack, filling, out),
+        Ok(filling) => finish(store, filling, out),
         Err(StartFault::NoMemory(_)) => return Err(NoMemory),
-        Err(StartFault::Disk(broken)) => put_broken(rack, broken, out),
+        Err(StartFault::Disk(broken)) => put_broken(store, broken, out),
     }
     Ok(())
 }
 
 // Releases a full slot, and puts it.
-#[tactic(auto, using(crate::proofs::OutLemmas::released_out, crate::proofs::OutLemmas::may_put_failed))]
-fn release(rack: &mut MemRack, full: Full<MemDisk>, out: &mut Told)
-    requires { IsLentFull full rack.old.out }
+#[tactic(auto, using(crate::proofs::OutLemmas::released_out, crate::proofs::OutLemmas::may_put_failed, spool_rack::proofs::SeenLemmas::out_seen))]
+fn release<M: MailStore>(store: &mut M, full: Full<M::D>, out: &mut Told)
+    requires { IsLentFull full (M.store_view store.old).out }
 {
     match full.release() {
         Ok(free) => {
             tell_number(b"handed", free.number(), out);
-            rack.put_free(free);
+            store.put_free(free);
         }
-        Err(broken) => put_broken(rack, broken, out),
+        Err(broken) => put_broken(store, broken, out),
     }
 }
 
 // Sets a full slot aside, and puts it.
-#[tactic(auto, using(crate::proofs::OutLemmas::may_put_aside, crate::proofs::OutLemmas::may_put_failed))]
-fn set_aside(rack: &mut MemRack, full: Full<MemDisk>, out: &mut Told)
-    requires { IsLentFull full rack.old.out }
+#[tactic(auto, using(crate::proofs::OutLemmas::may_put_aside, crate::proofs::OutLemmas::may_put_failed, spool_rack::proofs::SeenLemmas::may_put_aside_seen))]
+fn set_aside<M: MailStore>(store: &mut M, full: Full<M::D>, out: &mut Told)
+    requires { IsLentFull full (M.store_view store.old).out }
 {
     match full.set_aside() {
         Ok(aside) => {
             tell_number(b"aside", aside.number(), out);
-            rack.put_aside(aside);
+            store.put_aside(aside);
         }
-        Err(broken) => put_broken(rack, broken, out),
+        Err(broken) => put_broken(store, broken, out),
     }
 }
 
 // Puts a full slot back as it is.
-#[tactic(auto, using(crate::proofs::OutLemmas::may_put_back))]
-fn put_back(rack: &mut MemRack, full: Full<MemDisk>, out: &mut Told)
-    requires lent { IsLentFull full rack.old.out }
+#[tactic(auto, using(crate::proofs::OutLemmas::may_put_back, spool_rack::proofs::SeenLemmas::may_put_full_seen))]
+fn put_back<M: MailStore>(store: &mut M, full: Full<M::D>, out: &mut Told)
+    requires lent { IsLentFull full (M.store_view store.old).out }
     requires read { full.unread ≡ false }
 {
     tell_number(b"back", full.number(), out);
-    rack.put_full(full);
+    store.put_full(full);
 }
 
-#[tactic(auto, using(crate::proofs::OutLemmas::lent_free))]
-fn take_free(rack: &mut MemRack) -> Option<Free<MemDisk>>
-    ensures { IfSome result (λ free. IsLentFree free.number rack.new.out) }
+#[tactic(auto, using(crate::proofs::OutLemmas::lent_free, spool_rack::proofs::SeenLemmas::free_seen))]
+fn take_free<M: MailStore>(store: &mut M) -> Option<Free<M::D>>
+    ensures { IfSome result (λ free. IsLentFree free.number (M.store_view store.new).out) }
 {
-    rack.take_free()
+    store.take_free()
 }
 
-#[tactic(auto, using(crate::proofs::OutLemmas::lent_full, crate::proofs::OutLemmas::read_full))]
-fn take_full(rack: &mut MemRack) -> Option<Full<MemDisk>>
-    ensures lent { IfSome result (λ full. IsLentFull full rack.new.out) }
+#[tactic(auto, using(crate::proofs::OutLemmas::lent_full, crate::proofs::OutLemmas::read_full, spool_rack::proofs::SeenLemmas::full_seen))]
+fn take_full<M: MailStore>(store: &mut M) -> Option<Full<M::D>>
+    ensures lent { IfSome result (λ full. IsLentFull full (M.store_view store.new).out) }
     ensures read { IfSome result (λ full. full.unread ≡ false) }
 {
-    rack.take_full()
+    store.take_full()
 }
 
 // A step with the free slot at the front.
-#[tactic(auto, using(crate::proofs::OutLemmas::free_out))]
-fn step_free(
+#[tactic(auto, using(crate::proofs::OutLemmas::free_out, spool_rack::proofs::SeenLemmas::out_seen))]
+fn step_free<M: MailStore>(
     alloc: Global,
-    rack: &mut MemRack,
+    store: &mut M,
     step: &[u8],
     out: &mut Told,
 ) -> Result<(), NoMemory> {
-    let Some(free) = take_free(rack) else {
+    let Some(free) = take_free(store) else {
         add_word(out, b"none");
         return Ok(());
     };
     match step {
-        b"keep" => write(alloc, rack, free, out)?,
+        b"keep" => write(alloc, store, free, out)?,
         b"lose" => tell_number(b"lost", free.number(), out),
         _ => {
             tell_number(b"free", free.number(), out);
-            rack.put_free(free);
+            store.put_free(free);
         }
     }
     Ok(())
 }
 
 // A step with the full slot at the front.
-fn step_full(rack: &mut MemRack, step: &[u8], out: &mut Told) {
-    let Some(full) = take_full(rack) else {
+fn step_full<M: MailStore>(store: &mut M, step: &[u8], out: &mut Told) {
+    let Some(full) = take_full(store) else {
         add_word(out, b"none");
         return;
     };
     match step {
-        b"hand" => release(rack, full, out),
-        b"aside" => set_aside(rack, full, out),
+        b"hand" => release(store, full, out),
+        b"aside" => set_aside(store, full, out),
         b"drop" => tell_number(b"dropped", full.number(), out),
-        _ => put_back(rack, full, out),
+        _ => put_back(store, full, out),
     }
 }
 
 // One step: `free`, `keep` and `lose` take a free slot, and `hand`, `aside`, `drop` and `back` a full one.
-fn step(alloc: Global, rack: &mut MemRack, step: &[u8], out: &mut Told) -> Result<(), NoMemory> {
+fn step<M: MailStore>(
+    alloc: Global,
+    store: &mut M,
+    step: &[u8],
+    out: &mut Told,
+) -> Result<(), NoMemory> {
     match step {
-        b"free" | b"keep" | b"lose" => step_free(alloc, rack, step, out)?,
-        _ => step_full(rack, step, out),
+        b"free" | b"keep" | b"lose" => step_free(alloc, store, step, out)?,
+        _ => step_full(store, step, out),
     }
     Ok(())
 }
