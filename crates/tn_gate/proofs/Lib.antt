@@ -2,6 +2,7 @@ mod AccountLemmas
 pub mod CourseLemmas
 pub mod LawLemmas
 pub mod LoginLemmas
+pub mod QuietLemmas
 mod RowLemmas
 pub mod SessionLemmas
 mod TurnLemmas
