@@ -1,11 +1,10 @@
 -- What a client of the plug that was linked was given, and its server, is a front of what was taken of the other.
-use Rattle.std.proofs.Common.{arith, ◌≡◌, ◌∙◌, refl, sym, ap, subst, ℕ, Bool, true, false, List, [], ◌∷◌, inl, inr}
+use Rattle.std.proofs.Common.{arith, ◌≡◌, ◌∙◌, refl, sym, ap, subst, ℕ, Bool, List, [], ◌∷◌, inl, inr}
 use Rattle.fw_acts.specs.Acts.Row.{Do}
 use Rattle.fw_outside.proofs.CountLemmas.{grew_none}
 use Rattle.fw_outside.specs.Counts.{Grew}
-use Rattle.fw_outside.specs.DialerView.{DialerView, LinkView}
+use Rattle.fw_outside.specs.DialerView.{LinkView}
 use Rattle.fw_outside.specs.SinkView.{SinkView}
-use Rattle.fw_outside.specs.SourceView.{SourceView}
 use Rattle.fw_types.specs.declared.dest.Dest.{Dest}
 use Rattle.fw_types.specs.declared.ending.Ending.{Ending}
 use Rattle.fw_types.specs.declared.ending.Ending.TheVariants.{Done, LogFault}
@@ -28,6 +27,8 @@ use Rattle.session_acts.proofs.ClientLemmas.{logs_first}
 use Rattle.session_acts.proofs.DeviceLemmas.{by_nothing}
 use Rattle.client_service.specs.Conn.{FrontsBy}
 use Rattle.client_service.specs.Decision.{decision_text}
+use Rattle.client_service.specs.Kind.{Kind}
+use Rattle.client_service.specs.Kind.Kind.{Alone, Gated, Plugged}
 use Rattle.client_service.specs.Meeting.{patient, timeout_of}
 use Rattle.client_service.specs.PlugService.{LinksTo, plug_devices}
 use Rattle.client_service.proofs.PlugLemmas.{adds_none}
@@ -102,9 +103,10 @@ whole_later old new logs [] h = h
 whole_later old new logs (link ∷ []) h = record { client = h.client; server = h.server; client_told = h.client_told; server_told = h.server_told }
 whole_later old new logs (link ∷ other ∷ links) h = h
 
-pub fronts_later : {Origin : Type 0} (linked : Bool) (ending : Ending) (old new : Devices Origin) (logs : SinkView) → FrontsBy linked ending old (record new { logs = logs }) → FrontsBy linked ending old new
-fronts_later false ending old new logs h = tt
-fronts_later true ending old new logs h = record {
+pub fronts_later : {Origin : Type 0} (kind : Kind) (ending : Ending) (old new : Devices Origin) (logs : SinkView) → FrontsBy kind ending old (record new { logs = logs }) → FrontsBy kind ending old new
+fronts_later Alone ending old new logs h = tt
+fronts_later Gated ending old new logs h = tt
+fronts_later Plugged ending old new logs h = record {
   of_client = h.of_client;
   to_server = h.to_server;
   of_server = h.of_server;
