@@ -295,7 +295,12 @@ pub(crate) fn gate_differs(plan: &Plan, part: Part, was: &mut Ended, difference:
         Part::Server => server_differs(plan, b"server", was, difference),
         Part::ServerIdle => server_differs(plan, b"idle", was, difference),
         Part::Given => given_differs(plan, given_before(plan), was, difference),
-        Part::GivenRoom => given_differs(plan, front(&row.wanted.called.given, at), was, difference),
+        Part::GivenRoom => given_differs(
+            plan,
+            front(&row.wanted.called.given, at),
+            was,
+            difference,
+        ),
         _ => difference.say(b"no rule says what then holds"),
     }
 }

@@ -27,10 +27,7 @@ pub(crate) fn dialogue(row: &Row) -> &[u8] {
 
 /// What the server tells the client.
 pub(crate) fn relayed(row: &Row) -> &[u8] {
-    row.wanted
-        .output
-        .get(end_of_dialogue(row)..)
-        .unwrap_or(&[])
+    row.wanted.output.get(end_of_dialogue(row)..).unwrap_or(&[])
 }
 
 /// Whether a link comes up.

@@ -89,9 +89,7 @@ pub(crate) fn count_lines_of(text: &[u8], word: &[u8]) -> u64 {
 /// where the first is missing.
 pub(crate) fn between<'a>(text: &'a [u8], first: &[u8], next: &[u8]) -> &'a [u8] {
     let rest = match place_of(text, first) {
-        Some(at) => text
-            .get(at.saturating_add(first.len())..)
-            .unwrap_or(&[]),
+        Some(at) => text.get(at.saturating_add(first.len())..).unwrap_or(&[]),
         None => &[],
     };
     match place_of(rest, next) {
