@@ -66,7 +66,7 @@ serves_rose false rules peer ending old new first last dialer h =
 
 pub attended_rose : (client : Client) (inputs : Inputs) (out : Outcome) (old new : WorldView) → Attended client inputs out old new → CountRose out old new
 attended_rose client inputs out old new h =
-    subst (λ (o : Outcome). CountRose o old new) (sym h.comes)
+    subst (λ (o : Outcome). CountRose o old new) (sym h.over.comes)
     (serves_rose client.console inputs.rules client.peer h.ending old new (book_at_first (origin_of inputs) most_entries h.before) h.book h.dialer h.serves)
 
 -- ---- bytes
@@ -90,7 +90,7 @@ serves_spent false rules peer old new ending h = conn_spent Authsrv rules peer o
 pub attended_takes : (client : Client) (inputs : Inputs) (out : Outcome) (old new : WorldView) → Attended client inputs out old new → TakesIn (status_of out) old.inputs.input new.inputs.input
 attended_takes client inputs out old new h =
     let takes = serves_spent client.console inputs.rules client.peer (devices_at old (book_at_first (origin_of inputs) most_entries h.before) nowhere) (devices_at new h.book h.dialer) h.ending h.serves in
-    let six : h.ending ≡ Spent → status_of out ≡ 6 = λ spent. ap status_of (h.comes ∙ ap (λ (e : Ending). Ended e h.book.refused) spent) in
+    let six : h.ending ≡ Spent → status_of out ≡ 6 = λ spent. ap status_of (h.over.comes ∙ ap (λ (e : Ending). Ended e h.book.refused) spent) in
     record { took = takes.took; all = λ long. six (spent_is h.ending (takes.all ∙ ap (λ (n : ℕ). n == most_taken) long)) }
 
 pub takes_same : (status : ℕ) (old new : SourceView) → new ≡ old → TakesIn status old new
@@ -152,11 +152,11 @@ serves_by false rules peer ending book old new first dialer full h =
 
 attended_full : (client : Client) (inputs : Inputs) (out : Outcome) (old new : WorldView) (h : Attended client inputs out old new) → h.book.refused ≡ true → IsFull old.inputs new.inputs
 attended_full client inputs out old new h refused =
-    let takes = serves_takes client.console inputs.rules client.peer (origin_of inputs) h.before old new h.book h.dialer h.ending h.serves refused in
-    record { moments = takes.moments; told = takes.told; many = subst (λ (n : ℕ). n < length takes.moments) (h.full refused) takes.many }
+    let takes = serves_takes client.console inputs client.peer h.before old new h.book h.dialer h.ending out h.over h.serves refused in
+    record { moments = takes.moments; told = takes.told; many = subst (λ (n : ℕ). n < length takes.moments) (h.over.full refused) takes.many }
 
 pub attended_status : (client : Client) (inputs : Inputs) (out : Outcome) (old new : WorldView) → Attended client inputs out old new
     → ((status_of out ≡ 4) ⊎ (status_of out ≡ 5)) ⊎ IsServed client.console (verdict_of inputs.rules client.peer) (status_of out) old.inputs new.inputs
 attended_status client inputs out old new h =
     let By : Outcome → Type 0 = λ o. ((status_of o ≡ 4) ⊎ (status_of o ≡ 5)) ⊎ IsServed client.console (verdict_of inputs.rules client.peer) (status_of o) old.inputs new.inputs in
-    subst By (sym h.comes) (serves_by client.console inputs.rules client.peer h.ending h.book old new (book_at_first (origin_of inputs) most_entries h.before) h.dialer (attended_full client inputs out old new h) h.serves)
+    subst By (sym h.over.comes) (serves_by client.console inputs.rules client.peer h.ending h.book old new (book_at_first (origin_of inputs) most_entries h.before) h.dialer (attended_full client inputs out old new h) h.serves)

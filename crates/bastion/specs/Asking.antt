@@ -1,4 +1,4 @@
--- For which destination a run asks the dialer, and what goes over the link.
+-- A client of `plug-gw`: for which destination the dialer is asked, and what goes over the link.
 use Rattle.std.specs.Prelude.{◌≡◌, ◌≢◌, ℕ, ◌⊎◌, List, [], ◌∷◌, ◌++◌, Some, Ok}
 use Rattle.client_service.specs.Conn.{NotedIf}
 use Rattle.client_service.specs.Decision.{decision_text}
@@ -21,7 +21,6 @@ use Rattle.bastion.specs.Run.{ReadsOnly, verdict_for}
 use Rattle.bastion.specs.Works.{with_given}
 use Rattle.bastion.specs.WorldView.{WorldView}
 use Rattle.bastion.specs.declared.words.Caller.{Caller}
-use Rattle.bastion.specs.declared.words.Command.{Command}
 use Rattle.bastion.specs.declared.words.Command.TheVariants.{PlugGw}
 
 -- the two lines before a destination is asked for: that of the permission, and then the connect line
@@ -78,8 +77,3 @@ pub record IsAskedBy (name : List ℕ) (caller : Caller) (status : ℕ) (old new
   pub middle : WorldView
   pub only : ReadsOnly name (needs_records (PlugGw caller)) old middle
   pub so : IsUnasked caller inputs middle new ⊎ IsAsked caller inputs status middle new
-
--- a command without a link asks for nothing
-abbrev pub AsksPermitted : List ℕ → Command → ℕ → WorldView → WorldView → Type 0
-AsksPermitted name (PlugGw caller) status old new = IsUndecided status old new ⊎ IsAskedBy name caller status old new
-AsksPermitted name command status old new = new.inputs.dialer ≡ old.inputs.dialer

@@ -18,7 +18,7 @@ use Rattle.bastion.specs.declared.outcome.Outcome.TheVariants.{Usage, Unread, Fa
 use Rattle.bastion.specs.declared.outcome.Refusal.{Refusal}
 use Rattle.bastion.specs.declared.outcome.Refusal.TheVariants.{Table, Rule, Record}
 use Rattle.bastion.specs.declared.words.Command.{Command}
-use Rattle.bastion.specs.declared.words.Command.TheVariants.{PlugGw}
+use Rattle.bastion.specs.declared.words.Command.TheVariants.{PlugGw, TnGw}
 
 -- ---- the status
 
@@ -122,9 +122,10 @@ LinkRose endings.Idle old new = Rose old.inputs.input.idles new.inputs.input.idl
 LinkRose endings.NoRoute old new = Rose old.inputs.dialer.refusals new.inputs.dialer.refusals
 LinkRose ending old new = EndingRose ending old new
 
--- only a session of the plug has a link
+-- only a session of the plug or of the gateway has a link
 abbrev pub RoseFor : Command → Outcome → WorldView → WorldView → Type 0
 RoseFor (PlugGw caller) (Ended ending refused) old new = LinkRose ending old new
+RoseFor (TnGw peer) (Ended ending refused) old new = LinkRose ending old new
 RoseFor command outcome old new = CountRose outcome old new
 
 abbrev pub RoseIn : Option LineView → Outcome → WorldView → WorldView → Type 0
