@@ -115,6 +115,7 @@ pub record DeniesWhole (service : Service) (words : ℕ → List ℕ) (line : �
   pub session : Session no_rows (denying_row (decision_text (Deny line) service peer) (words line)) old new endings.Done
   pub tried : Result (Unit {0}) (Front (words line))
   pub gets : Gets (words line) tried old.outlet new.outlet
+  pub dialer : new.dialer ≡ old.dialer
   pub ends : ending ≡ endings.Denied line
 
 -- behind a denial, or a log that failed, the log has no ending's line
@@ -147,6 +148,7 @@ denial_by service words line peer old new logs told ending ends noted session (i
       session = subst Logs (sym same) (subst Ends away.ends session);
       tried = away.tried;
       gets = away.gets;
+      dialer = ap (λ (d : Devices BookOrigin). d.dialer) away.same;
       ends = denied;
     })
 

@@ -14,6 +14,7 @@ use Rattle.fw_outside.specs.ToldList.{grown}
 use Rattle.fw_outside.specs.declared.failed.Failed as sink
 use Rattle.fw_types.specs.declared.ending.Ending.{Ending}
 use Rattle.fw_types.specs.declared.ending.Ending.TheVariants as endings
+use Rattle.fw_types.specs.declared.peer.Peer.{Peer}
 use Rattle.gate_rules.specs.Verdict.{verdict_of}
 use Rattle.gate_rules.specs.declared.service.Service.TheVariants as services
 use Rattle.gate_rules.specs.declared.verdict.Verdict.{Verdict}
@@ -25,7 +26,7 @@ use Rattle.session_acts.specs.Laws.{told}
 use Rattle.session_acts.specs.Session.{Session, deeds_of}
 use Rattle.session_acts.specs.World.{Devices, devices_with}
 use Rattle.bastion.specs.Asking.{IsUndecided}
-use Rattle.bastion.specs.Gateway.{IsUnmet}
+use Rattle.bastion.specs.Gateway.{IsGated, IsUnmet}
 use Rattle.bastion.specs.Headline.{Headline, HeadlineFor, IsDenied, IsPermitted, IsToldOffAway, LogsDenial, OfHistory, begins, lent_to}
 use Rattle.bastion.specs.Inputs.{Inputs}
 use Rattle.bastion.specs.Outcome.{fault_line_of, status_of, verdict_status}
@@ -305,6 +306,11 @@ caller_denials : (name : List ℕ) (caller : Caller) (outcome : Outcome) (status
 caller_denials name caller outcome status old mid new h (inl silent) = inl (silent_from status old h.middle new h.only.output silent)
 caller_denials name caller outcome status old mid new h (inr so) = inr (record { inputs = h.inputs; read = h.read; middle = h.middle; only = h.only; so = so })
 
+gate_denials : (name : List ℕ) (peer : Peer) (outcome : Outcome) (status : ℕ) (old mid new : WorldView) (h : Worked name (TnGw peer) outcome old mid)
+    → IsSilent status h.middle new ⊎ (IsPermitted (TnGw peer) h.inputs status ⊎ IsDenied (TnGw peer) services.TnGw peer h.inputs status h.middle new) → LogsDenial name (TnGw peer) services.TnGw peer status old new
+gate_denials name peer outcome status old mid new h (inl silent) = inl (silent_from status old h.middle new h.only.output silent)
+gate_denials name peer outcome status old mid new h (inr so) = inr (record { inputs = h.inputs; read = h.read; middle = h.middle; only = h.only; so = so })
+
 worked_headline : (name : List ℕ) (command : Command) (outcome : Outcome) (old mid new : WorldView) → Worked name command outcome old mid → TellsIf (fault_line_of outcome) mid new → HeadlineFor name command (status_of outcome) old new
 worked_headline name (Netacl query) outcome old mid new h tells =
     netacl_headline name query outcome (status_of outcome) old mid new h (worked_unasked name (Netacl query) outcome old mid new h (tells_later (fault_line_of outcome) mid new tells))
@@ -325,7 +331,10 @@ worked_headline name (PlugGw caller) outcome old mid new h tells =
       denials_logged = (caller_denials name caller outcome (status_of outcome) old mid new h so.denials, λ denied. so.untold denied ∙ h.only.output);
     }
 
-worked_headline name (TnGw peer) outcome old mid new h tells = gated_headline name peer outcome old mid new h tells
+worked_headline name (TnGw peer) outcome old mid new h tells =
+    let so = gated_headline peer h.inputs outcome h.middle mid new h.works tells in
+    let gated : IsGated name peer (status_of outcome) old new = inr (record { inputs = h.inputs; read = h.read; middle = h.middle; only = h.only; so = so.0 }) in
+    record { replies_legal = gated; asks_permitted = gated; denials_logged = gate_denials name peer outcome (status_of outcome) old mid new h so.1 }
 
 does_headline : (line : Option LineView) (outcome : Outcome) (old mid new : WorldView) → DoesLine line outcome old mid → TellsIf (fault_line_of outcome) mid new → Headline line (status_of outcome) old new
 does_headline None outcome old mid new h tells = ap (λ (i : SessionInputs). i.dialer) (tells_later (fault_line_of outcome) mid new tells).inputs ∙ ap (λ (w : WorldView). w.inputs.dialer) h.is

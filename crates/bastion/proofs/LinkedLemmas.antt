@@ -150,7 +150,7 @@ permit_some caller line is = absurd (cc)
 connect_some : (caller : Caller) (dest : Dest) (line : ℕ) → connect_text caller.port caller.peer dest line ≢ []
 connect_some caller dest line is = absurd (cc)
 
-waits_only : (old new : DialerView) (seconds : ℕ) → new ≡ dialer_waiting old seconds → new ≡ record old { waits = new.waits }
+pub waits_only : (old new : DialerView) (seconds : ℕ) → new ≡ dialer_waiting old seconds → new ≡ record old { waits = new.waits }
 waits_only old new seconds is = is ∙ ap (λ (d : DialerView). record old { waits = d.waits }) (sym is)
 
 waits_same : (old new : DialerView) → new ≡ old → new ≡ record old { waits = new.waits }

@@ -1,5 +1,5 @@
 -- In a run in which no count rose, the log has the lines of a client of the authentication server whole.
-use Rattle.std.proofs.Common.{arith, ◌≡◌, ◌≢◌, ◌≤◌, ◌∙◌, refl, sym, ap, subst, ℕ, List, [], ◌++◌, inl, inr, ◌⊎◌, Bool, true, false}
+use Rattle.std.proofs.Common.{arith, ◌≡◌, ◌≤◌, ◌∙◌, refl, sym, ap, subst, ℕ, List, [], ◌++◌, inl, inr, ◌⊎◌, Bool, true, false}
 use Rattle.std.specs.Prelude.{Option}
 use Rattle.auth_machine.specs.Port.{BookOrigin}
 use Rattle.authsrv_gate.specs.Dialogue.{rows, session_row}
@@ -11,7 +11,6 @@ use Rattle.fw_outside.specs.Counts.{Rose}
 use Rattle.fw_outside.specs.SinkView.{SinkView}
 use Rattle.fw_outside.specs.ToldList.{grown}
 use Rattle.fw_types.specs.declared.ending.Ending.{Ending}
-use Rattle.fw_types.specs.declared.ending.Ending.TheVariants as endings
 use Rattle.fw_types.specs.declared.peer.Peer.{Peer}
 use Rattle.gate_rules.specs.Reading.{RuleBook}
 use Rattle.gate_rules.specs.declared.service.Service.TheVariants as services
@@ -33,7 +32,6 @@ use Rattle.bastion.specs.Status.{IsHeld, IsServed}
 use Rattle.bastion.specs.Talk.{was_refused}
 use Rattle.bastion.specs.WorldView.{WorldView}
 use Rattle.bastion.specs.declared.outcome.Outcome.{Outcome}
-use Rattle.bastion.specs.declared.outcome.Outcome.TheVariants.{Ended}
 use Rattle.bastion.specs.declared.words.Client.{Client}
 use Rattle.bastion.specs.declared.words.Command.TheVariants.{Authsrv}
 use Rattle.bastion.proofs.DenialLemmas.{denial_so, denial_whole}
@@ -42,7 +40,7 @@ use Rattle.bastion.proofs.LoglessLemmas.{server_logless}
 use Rattle.bastion.proofs.QuietLemmas.{Quiet}
 use Rattle.bastion.proofs.RunLemmas.{tells_later}
 use Rattle.bastion.proofs.SessionLemmas.{OfClient, serves_so}
-use Rattle.bastion.proofs.TalkLemmas.{concluded_later, concluded_whole}
+use Rattle.bastion.proofs.TalkLemmas.{concluded_later, concluded_whole, ends_by}
 
 -- ---- the lines of a session
 
@@ -73,22 +71,9 @@ begun_by false verdict line rules peer first left ending admitted never session 
 -- ---- what a run comes to
 
 -- a session's status is 0 or 6
-never_held : (status : ℕ) (old new : WorldView) → status ≢ 0 → status ≢ 6 → IsHeld status old.inputs new.inputs → ⊥
-never_held status old new zero six (inl is) = zero is
-never_held status old new zero six (inr at) = six at.0
-
--- the ending of a session that came to its end, or to its limit
-ends_by : (ending : Ending) (refused : Bool) (old new : WorldView) → IsHeld (status_of (Ended ending refused)) old.inputs new.inputs → (ending ≡ endings.Done) ⊎ (ending ≡ endings.Spent)
-ends_by endings.Done refused old new h = inl refl
-ends_by endings.Spent refused old new h = inr refl
-ends_by (endings.Denied line) refused old new h = absurd (never_held 1 old new (λ is. omega (arith, is)) (λ is. omega (arith, is)) h)
-ends_by endings.ClientFault refused old new h = absurd (never_held 4 old new (λ is. omega (arith, is)) (λ is. omega (arith, is)) h)
-ends_by endings.ServerFault refused old new h = absurd (never_held 4 old new (λ is. omega (arith, is)) (λ is. omega (arith, is)) h)
-ends_by endings.LogFault refused old new h = absurd (never_held 4 old new (λ is. omega (arith, is)) (λ is. omega (arith, is)) h)
-ends_by endings.AuthFault refused old new h = absurd (never_held 4 old new (λ is. omega (arith, is)) (λ is. omega (arith, is)) h)
-ends_by endings.Idle refused old new h = absurd (never_held 4 old new (λ is. omega (arith, is)) (λ is. omega (arith, is)) h)
-ends_by endings.NoRoute refused old new h = absurd (never_held 4 old new (λ is. omega (arith, is)) (λ is. omega (arith, is)) h)
-ends_by endings.NoMemory refused old new h = absurd (never_held 5 old new (λ is. omega (arith, is)) (λ is. omega (arith, is)) h)
+held_status : (status : ℕ) (old new : WorldView) → IsHeld status old.inputs new.inputs → (status ≡ 0) ⊎ (status ≡ 6)
+held_status status old new (inl is) = inl is
+held_status status old new (inr at) = inr at.0
 
 history_whole : (name : List ℕ) (client : Client) (inputs : Inputs) (status : ℕ) (old middle new : WorldView) → Quiet old new → ReadsOnly name true old middle → OfHistory client inputs status middle new → IsHeld status old.inputs new.inputs
     → IsHeldWhole name client inputs status old new
@@ -110,7 +95,7 @@ history_whole name client inputs status old middle new q only x held =
       middle = middle;
       only = only;
       session = x;
-      ends = ends_by x.ending refused old new (subst (λ (n : ℕ). IsHeld n old.inputs new.inputs) x.concluded.status_is held);
+      ends = ends_by x.ending refused (subst (λ (n : ℕ). (n ≡ 0) ⊎ (n ≡ 6)) x.concluded.status_is (held_status status old new held));
       logs = closed ∙ ap (λ (g : Option (List ℕ)). grown g closing) opened ∙ by_both old.logs.given opening closing;
       held = held;
     }

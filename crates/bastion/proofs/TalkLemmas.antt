@@ -1,5 +1,5 @@
 -- What a session over a book asked and was answered, and the lines behind it.
-use Rattle.std.proofs.Common.{◌≡◌, ◌≤◌, ◌<◌, ℕ, suc, List, [], ◌∷◌, ◌++◌, length, map, filter, refl, sym, ◌∙◌, ap, subst, arith, ◌||◌, Bool, true, false, cond}
+use Rattle.std.proofs.Common.{◌≡◌, ◌≤◌, ◌<◌, ℕ, suc, List, [], ◌∷◌, ◌++◌, length, map, filter, refl, sym, ◌∙◌, ap, subst, inl, inr, arith, ◌⊎◌, ◌||◌, Bool, true, false, cond}
 use Rattle.std.specs.List.{cons_option, list_any}
 use Rattle.std.specs.Prelude.{Option, Some, None, unwrap_or}
 use Rattle.std.proofs.lemmas.List.{length-map}
@@ -20,6 +20,7 @@ use Rattle.fw_outside.specs.KeeperView.{KeeperView}
 use Rattle.fw_outside.specs.SinkView.{SinkView}
 use Rattle.fw_outside.specs.ToldList.{grown}
 use Rattle.fw_types.specs.declared.ending.Ending.{Ending}
+use Rattle.fw_types.specs.declared.ending.Ending.TheVariants as endings
 use Rattle.fw_types.specs.declared.peer.Peer.{Peer}
 use Rattle.gate_rules.specs.declared.service.Service.{Service}
 use Rattle.session_acts.specs.Deeds.{gives}
@@ -144,6 +145,41 @@ module _ {P : Type 0} {relays : Bool} (table : PlaceTable (acts BookOrigin) P) (
         told = subst (λ (c : ClockView). Adds entered.moments old.clock.told c.told) (ap (λ (d : Devices BookOrigin). d.clock) session.leaves) entered.told;
         many = omega (arith, some, parts, fewer, seen, each);
       }
+
+-- nothing was asked of it, and its port says so
+pub no_talk : (inputs : Inputs) (before : KeeperView) (book : BookView) (ending : Ending) (out : Outcome) (old new : WorldView) → OverBook inputs before book ending out old new → book_port book ≡ fresh inputs before → IsLegalTalk inputs before [] book
+no_talk inputs before book ending out old new over same = record {
+  sound = over.sound;
+  legal = over.legal;
+  talk = ap (λ (p : Port BookOrigin). map said_of p.seen) same;
+  has = over.has;
+  faults = over.faults;
+  called = subst (λ (n : ℕ). CountsCalls before.calls (origin_of inputs) book.history n book.keeper) (ap (λ (p : Port BookOrigin). p.asks) same) over.called;
+  full = λ refused. absurd (cc);
+}
+
+-- ---- the ending
+
+-- a session whose status is 0 or 6 came to its end, or to the most bytes that it may take
+pub ends_by : (ending : Ending) (refused : Bool) → (status_of (Ended ending refused) ≡ 0) ⊎ (status_of (Ended ending refused) ≡ 6) → (ending ≡ endings.Done) ⊎ (ending ≡ endings.Spent)
+ends_by endings.Done refused h = inl refl
+ends_by endings.Spent refused h = inr refl
+ends_by (endings.Denied line) refused (inl is) = absurd (omega (arith, is))
+ends_by (endings.Denied line) refused (inr is) = absurd (omega (arith, is))
+ends_by endings.ClientFault refused (inl is) = absurd (omega (arith, is))
+ends_by endings.ClientFault refused (inr is) = absurd (omega (arith, is))
+ends_by endings.ServerFault refused (inl is) = absurd (omega (arith, is))
+ends_by endings.ServerFault refused (inr is) = absurd (omega (arith, is))
+ends_by endings.LogFault refused (inl is) = absurd (omega (arith, is))
+ends_by endings.LogFault refused (inr is) = absurd (omega (arith, is))
+ends_by endings.AuthFault refused (inl is) = absurd (omega (arith, is))
+ends_by endings.AuthFault refused (inr is) = absurd (omega (arith, is))
+ends_by endings.Idle refused (inl is) = absurd (omega (arith, is))
+ends_by endings.Idle refused (inr is) = absurd (omega (arith, is))
+ends_by endings.NoRoute refused (inl is) = absurd (omega (arith, is))
+ends_by endings.NoRoute refused (inr is) = absurd (omega (arith, is))
+ends_by endings.NoMemory refused (inl is) = absurd (omega (arith, is))
+ends_by endings.NoMemory refused (inr is) = absurd (omega (arith, is))
 
 -- ---- the lines behind it
 

@@ -92,13 +92,17 @@ pub record IsBarred (peer : Peer) (inputs : Inputs) (old new : WorldView) : Type
   pub off : IsToldOff (TnGw peer) services.TnGw peer refusal old.inputs.dialer inputs old new
   pub dialer : new.inputs.dialer ≡ old.inputs.dialer
 
--- The log failed within the verdict's line. No destination was asked for, the client was told nothing, and the keeper is as it
--- was.
+-- The log failed within the verdict's line. No destination was asked for, the client was told nothing, and nothing was asked
+-- of the book.
 pub record IsCutOff (peer : Peer) (inputs : Inputs) (status : ℕ) (old new : WorldView) : Type 0 where
   pub within : FailsWithin (decision_text (verdict_for (TnGw peer) inputs) services.TnGw peer) old new
   pub dialer : new.inputs.dialer ≡ record (old.inputs.dialer) { waits = new.inputs.dialer.waits }
   pub output : new.output ≡ old.output
-  pub keeper : new.inputs.keeper ≡ old.inputs.keeper
+  pub before : KeeperView
+  pub keeper : old.inputs.keeper ≡ Some before
+  pub book : BookView
+  pub talk : IsLegalTalk inputs before [] book
+  pub kept : new.inputs.keeper ≡ Some book.keeper
   pub status_is : status ≡ 4
 
 -- what the command needs couldn't be had: no destination was asked for, the client was told nothing, and the keeper has what it
