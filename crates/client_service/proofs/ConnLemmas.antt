@@ -19,8 +19,11 @@ use Rattle.gate_rules.specs.declared.verdict.Verdict.{Verdict}
 use Rattle.gate_rules.specs.declared.verdict.Verdict.TheVariants.{Permit, Deny}
 use Rattle.session_acts.specs.Causes.{KeepsAs, LinkWaitedInVain, RelayKeeps, RelayTakesFor, SessionKeeps, WaitedInVain, WaitsFor, is_spent_ending}
 use Rattle.session_acts.specs.Client.{Denies, LogFails}
+use Rattle.session_acts.specs.Denying.{no_rows}
 use Rattle.session_acts.specs.Serverless.{CausedAlone, TakesExactly}
+use Rattle.session_acts.specs.Session.{Session}
 use Rattle.session_acts.specs.World.{Devices}
+use Rattle.tn_gate.specs.Gate.{gate_at}
 use Rattle.session_acts.proofs.AloneLemmas.{session_alone, session_exact}
 use Rattle.session_acts.proofs.CauseLemmas.{relay_keeps, session_keeps}
 use Rattle.session_acts.proofs.ClientLemmas.{denies}
@@ -28,12 +31,16 @@ use Rattle.session_acts.proofs.DeviceLemmas.{by_nothing}
 use Rattle.session_acts.proofs.ServerlessLemmas.{logged_serverless, session_serverless}
 use Rattle.session_acts.proofs.SpentLemmas.{session_spent}
 use Rattle.session_acts.proofs.WaitedLemmas.{session_waited}
-use Rattle.client_service.specs.Conn.{AtConsole, CausedBy, Causes, Conn, Dials, FrontsBy, IsRefused, NotedIf, Permits, TakesBy, Treats, TurnsAway, WaitsAs, WaitsBy, is_linked}
+use Rattle.client_service.specs.Conn.{AtConsole, CausedBy, Causes, Conn, Dials, FrontsBy, IsRefused, NotedIf, Permits, TakesBy, Treats, TurnsAway, WaitsAs}
 use Rattle.client_service.specs.Decision.{decision_text}
-use Rattle.client_service.specs.Endings.{denied_text, ending_line}
-use Rattle.client_service.specs.Meeting.{denied_by, dialer_then, lent_by, logged_row, patient, timeout_of}
-use Rattle.client_service.specs.PlugService.{CausedLinked, LinksTo, LogsDenial, plug_devices}
+use Rattle.client_service.specs.Endings.{denied_words, ending_line}
+use Rattle.client_service.specs.GateService.{LetsIn}
+use Rattle.client_service.specs.Kind.{Kind, kind_of, may_relay}
+use Rattle.client_service.specs.Kind.Kind.{Alone, Gated, Plugged}
+use Rattle.client_service.specs.Meeting.{away_row, denied_by, dialer_then, lent_by, logged_row, patient, timeout_of}
+use Rattle.client_service.specs.PlugService.{LinksTo, plug_devices}
 use Rattle.client_service.proofs.FrontsLemmas.{fronts_later, plug_gives}
+use Rattle.client_service.proofs.GateLemmas.{gate_caused, gate_keeps, gate_takes, gate_waits}
 use Rattle.client_service.proofs.LaterLemmas.{caused_later, causes_later, keeps_later, noted_most, noted_shut, takes_later, waits_with, with_logs}
 use Rattle.client_service.proofs.PlugLemmas.{LogsOnly, plug_caused, plug_dials, silent_denial}
 use Rattle.client_service.proofs.SinkLemmas.{same_low}
@@ -59,18 +66,22 @@ module _ {Origin : Type 0} where
 
   -- ---- causes
 
-  causes_of : (linked : Bool) (verdict : Verdict) (ending : Ending) (old new : Devices Origin) → CausedBy linked ending old new → Causes linked verdict ending old new
-  causes_of linked verdict Done old new h = h
-  causes_of true verdict (Denied line) old new h = absurd h
-  causes_of false verdict (Denied line) old new h = absurd h
-  causes_of linked verdict ClientFault old new h = h
-  causes_of linked verdict ServerFault old new h = h
-  causes_of linked verdict LogFault old new h = h
-  causes_of linked verdict AuthFault old new h = h
-  causes_of linked verdict Idle old new h = h
-  causes_of linked verdict NoRoute old new h = h
-  causes_of linked verdict Spent old new h = h
-  causes_of linked verdict NoMemory old new h = h
+  none_denies : (kind : Kind) (line : ℕ) (verdict : Verdict) (old new : Devices Origin) → CausedBy kind (Denied line) old new → Causes kind verdict (Denied line) old new
+  none_denies Alone line verdict old new h = absurd h
+  none_denies Plugged line verdict old new h = absurd h
+  none_denies Gated line verdict old new h = absurd h
+
+  causes_of : (kind : Kind) (verdict : Verdict) (ending : Ending) (old new : Devices Origin) → CausedBy kind ending old new → Causes kind verdict ending old new
+  causes_of kind verdict Done old new h = h
+  causes_of kind verdict (Denied line) old new h = none_denies kind line verdict old new h
+  causes_of kind verdict ClientFault old new h = h
+  causes_of kind verdict ServerFault old new h = h
+  causes_of kind verdict LogFault old new h = h
+  causes_of kind verdict AuthFault old new h = h
+  causes_of kind verdict Idle old new h = h
+  causes_of kind verdict NoRoute old new h = h
+  causes_of kind verdict Spent old new h = h
+  causes_of kind verdict NoMemory old new h = h
 
   -- ---- bytes
 
@@ -123,24 +134,24 @@ module _ {Origin : Type 0} where
     home = ap (λ (p : Port Origin). p.home) port;
   }
 
-  -- ---- all that is said of a client, by whether it was linked
+  -- ---- all that is said of a client, by whom it may reach
 
-  record Facts (linked : Bool) (verdict : Verdict) (rules : RuleBook) (ending : Ending) (old new : Devices Origin) : Type 0 where
-    caused : Causes linked verdict ending old new
-    spent : TakesBy linked ending old new
-    waited : WaitsAs linked verdict rules ending old new
+  record Facts (kind : Kind) (verdict : Verdict) (rules : RuleBook) (ending : Ending) (old new : Devices Origin) : Type 0 where
+    caused : Causes kind verdict ending old new
+    spent : TakesBy kind ending old new
+    waited : WaitsAs kind verdict rules ending old new
     refused : IsRefused verdict ending
-    fronts : FrontsBy linked ending old new
-    keeps : KeepsAs linked (lent_by verdict rules old) new
+    fronts : FrontsBy kind ending old new
+    keeps : KeepsAs (may_relay kind) (lent_by verdict rules old) new
     origin : new.port.origin ≡ old.port.origin
     home : new.port.home ≡ old.port.home
 
   -- whom the rules deny, where the log failed and where it has the line
-  denied_fails : (line : ℕ) (text : List ℕ) (rules : RuleBook) (told ending : Ending) (old new : Devices Origin) → ending ≡ denied_by line told → SessionKeeps old new → LogFails text old new told → Facts false (Deny line) rules ending old new
+  denied_fails : (line : ℕ) (text : List ℕ) (rules : RuleBook) (told ending : Ending) (old new : Devices Origin) → ending ≡ denied_by line told → SessionKeeps old new → LogFails text old new told → Facts Alone (Deny line) rules ending old new
   denied_fails line text rules told ending old new ends keeps fails =
       let is : ending ≡ LogFault = ends ∙ ap (denied_by line) fails.ends in
       record {
-        caused = subst (λ (e : Ending). Causes false (Deny line) e old new) (sym is) (subst (λ (s : SinkView). Rose old.logs.faults s.faults) (sym fails.cut.is) fails.cut.rose);
+        caused = subst (λ (e : Ending). Causes Alone (Deny line) e old new) (sym is) (subst (λ (s : SinkView). Rose old.logs.faults s.faults) (sym fails.cut.is) fails.cut.rose);
         spent = takes_none ending old new (ap is_spent_ending is) (ap (λ (d : Devices Origin). d.inlet) fails.same);
         waited = tt;
         refused = inr is;
@@ -150,11 +161,11 @@ module _ {Origin : Type 0} where
         home = keeps.home;
       }
 
-  denied_done : (line : ℕ) (rules : RuleBook) (told ending : Ending) (old new : Devices Origin) → ending ≡ denied_by line told → SessionKeeps old new → told ≡ Done → new.inlet ≡ old.inlet → Facts false (Deny line) rules ending old new
+  denied_done : (line : ℕ) (rules : RuleBook) (told ending : Ending) (old new : Devices Origin) → ending ≡ denied_by line told → SessionKeeps old new → told ≡ Done → new.inlet ≡ old.inlet → Facts Alone (Deny line) rules ending old new
   denied_done line rules told ending old new ends keeps done inlet =
       let is : ending ≡ Denied line = ends ∙ ap (denied_by line) done in
       record {
-        caused = subst (λ (e : Ending). Causes false (Deny line) e old new) (sym is) refl;
+        caused = subst (λ (e : Ending). Causes Alone (Deny line) e old new) (sym is) refl;
         spent = takes_none ending old new (ap is_spent_ending is) inlet;
         waited = tt;
         refused = inl is;
@@ -164,33 +175,41 @@ module _ {Origin : Type 0} where
         home = keeps.home;
       }
 
-  words_by : (line : ℕ) (text words : List ℕ) (rules : RuleBook) (told ending : Ending) (old new : Devices Origin) → ending ≡ denied_by line told → SessionKeeps old new → Denies text words old new told → Facts false (Deny line) rules ending old new
+  words_by : (line : ℕ) (text words : List ℕ) (rules : RuleBook) (told ending : Ending) (old new : Devices Origin) → ending ≡ denied_by line told → SessionKeeps old new → Denies text words old new told → Facts Alone (Deny line) rules ending old new
   words_by line text words rules told ending old new ends keeps (inl fails) = denied_fails line text rules told ending old new ends keeps fails
   words_by line text words rules told ending old new ends keeps (inr away) = denied_done line rules told ending old new ends keeps away.ends (ap (λ (d : Devices Origin). d.inlet) away.same)
 
-  words_facts : (line : ℕ) (service : Service) (rules : RuleBook) (peer : Peer) (ending : Ending) (old new : Devices Origin) → TurnsAway line service peer ending old new → Facts false (Deny line) rules ending old new
-  words_facts line service rules peer ending old new h =
-      let text = decision_text (Deny line) service peer in
-      words_by line text (denied_text line) rules h.told ending old new h.ends (session_keeps h.session) (denies text (denied_text line) old new h.told h.session)
-
-  silent_by : (line : ℕ) (text : List ℕ) (rules : RuleBook) (told ending : Ending) (old new : Devices Origin) → ending ≡ denied_by line told → SessionKeeps old new → LogsOnly text old new told → Facts false (Deny line) rules ending old new
+  silent_by : (line : ℕ) (text : List ℕ) (rules : RuleBook) (told ending : Ending) (old new : Devices Origin) → ending ≡ denied_by line told → SessionKeeps old new → LogsOnly text old new told → Facts Alone (Deny line) rules ending old new
   silent_by line text rules told ending old new ends keeps (inl fails) = denied_fails line text rules told ending old new ends keeps fails
   silent_by line text rules told ending old new ends keeps (inr alone) = denied_done line rules told ending old new ends keeps alone.ends (ap (λ (d : Devices Origin). d.inlet) alone.same)
 
-  silent_facts : (line : ℕ) (service : Service) (rules : RuleBook) (peer : Peer) (ending : Ending) (old new : Devices Origin) → LogsDenial line service peer ending old new → Facts false (Deny line) rules ending old new
-  silent_facts line service rules peer ending old new h =
-      let text = decision_text (Deny line) service peer in
-      silent_by line text rules h.told ending old new h.ends (session_keeps h.session) (silent_denial text old new h.told h.session)
+  away_facts : (line : ℕ) (text : List ℕ) (words : Option (List ℕ)) (rules : RuleBook) (told ending : Ending) (old new : Devices Origin) → ending ≡ denied_by line told → Session no_rows (away_row text words) old new told
+      → Facts Alone (Deny line) rules ending old new
+  away_facts line text None rules told ending old new ends session = silent_by line text rules told ending old new ends (session_keeps session) (silent_denial text old new told session)
+  away_facts line text (Some words) rules told ending old new ends session = words_by line text words rules told ending old new ends (session_keeps session) (denies text words old new told session)
+
+  denied_alone : (service : Service) (line : ℕ) → kind_of service (Deny line) ≡ Alone
+  denied_alone (PlugGw at) line = refl
+  denied_alone TnGw line = refl
+  denied_alone Authsrv line = refl
+  denied_alone (Netacl label) line = refl
+  denied_alone FtpGw line = refl
+  denied_alone Smap line = refl
+
+  denied_facts : (line : ℕ) (service : Service) (rules : RuleBook) (peer : Peer) (ending : Ending) (old new : Devices Origin) → TurnsAway line service peer ending old new → Facts (kind_of service (Deny line)) (Deny line) rules ending old new
+  denied_facts line service rules peer ending old new h =
+      subst (λ (k : Kind). Facts k (Deny line) rules ending old new) (sym (denied_alone service line))
+      (away_facts line (decision_text (Deny line) service peer) (denied_words service line) rules h.told ending old new h.ends h.session)
 
   -- a session of `authsrv`
-  held_facts : (line : ℕ) (service : Service) (rules : RuleBook) (peer : Peer) (ending : Ending) (old new : Devices Origin) → Permits line service rules peer ending old new → Facts false (Permit line) rules ending old new
+  held_facts : (line : ℕ) (service : Service) (rules : RuleBook) (peer : Peer) (ending : Ending) (old new : Devices Origin) → Permits line service rules peer ending old new → Facts Alone (Permit line) rules ending old new
   held_facts line service rules peer ending old new h =
       let first = logged_row (decision_text (Permit line) service peer) (session_row false) in
       let lent = patient (timeout_of rules) old in
       let alone = logged_serverless (decision_text (Permit line) service peer) (keeps_serverless Origin false) in
       let keeps = session_keeps h in
       record {
-        caused = causes_of false (Permit line) ending old new (caused_patient (timeout_of rules) ending old new (session_alone rows first lent new ending h alone));
+        caused = causes_of Alone (Permit line) ending old new (caused_patient (timeout_of rules) ending old new (session_alone rows first lent new ending h alone));
         spent = takes_patient (timeout_of rules) ending old new (session_exact rows first lent new ending h alone);
         waited = session_waits rows first lent new ending h alone;
         refused = tt;
@@ -201,11 +220,11 @@ module _ {Origin : Type 0} where
       }
 
   -- one of the plug
-  linked_facts : (at line : ℕ) (rules : RuleBook) (peer : Peer) (ending : Ending) (old new : Devices Origin) → LinksTo at line rules peer ending old new → Facts true (Permit line) rules ending old new
+  linked_facts : (at line : ℕ) (rules : RuleBook) (peer : Peer) (ending : Ending) (old new : Devices Origin) → LinksTo at line rules peer ending old new → Facts Plugged (Permit line) rules ending old new
   linked_facts at line rules peer ending old new h =
       let seconds = timeout_of rules in
       record {
-        caused = causes_of true (Permit line) ending old new (plug_caused at line rules peer ending old new h);
+        caused = causes_of Plugged (Permit line) ending old new (plug_caused at line rules peer ending old new h);
         spent = relay_takes seconds ending old new (session_spent h.over.session);
         waited = relay_waits seconds ending old new (session_waited h.over.session);
         refused = tt;
@@ -215,54 +234,67 @@ module _ {Origin : Type 0} where
         home = ap (λ (p : Port Origin). p.home) h.port;
       }
 
-  treats_facts : (verdict : Verdict) (service : Service) (rules : RuleBook) (peer : Peer) (ending : Ending) (old new : Devices Origin) → Treats verdict service rules peer ending old new → Facts (is_linked service verdict) verdict rules ending old new
-  treats_facts (Deny line) (PlugGw at) rules peer ending old new h = silent_facts line (PlugGw at) rules peer ending old new h
-  treats_facts (Deny line) Authsrv rules peer ending old new h = words_facts line Authsrv rules peer ending old new h
-  treats_facts (Deny line) (Netacl label) rules peer ending old new h = words_facts line (Netacl label) rules peer ending old new h
-  treats_facts (Deny line) TnGw rules peer ending old new h = words_facts line TnGw rules peer ending old new h
-  treats_facts (Deny line) FtpGw rules peer ending old new h = words_facts line FtpGw rules peer ending old new h
-  treats_facts (Deny line) Smap rules peer ending old new h = words_facts line Smap rules peer ending old new h
+  -- one of `tn-gw`
+  gated_facts : (line : ℕ) (rules : RuleBook) (peer : Peer) (ending : Ending) (old new : Devices Origin) → LetsIn line rules peer ending old new → Facts Gated (Permit line) rules ending old new
+  gated_facts line rules peer ending old new h =
+      let text = decision_text (Permit line) TnGw peer in
+      let gate = gate_at rules line peer in
+      let seconds = timeout_of rules in
+      let keeps = gate_keeps text gate seconds ending old new h.held in
+      record {
+        caused = causes_of Gated (Permit line) ending old new (gate_caused text gate seconds ending old new h.held);
+        spent = gate_takes text gate seconds ending old new h.held;
+        waited = gate_waits text gate seconds ending old new h.held;
+        refused = tt;
+        fronts = tt;
+        keeps = keeps;
+        origin = keeps.origin;
+        home = keeps.home;
+      }
+
+  treats_facts : (verdict : Verdict) (service : Service) (rules : RuleBook) (peer : Peer) (ending : Ending) (old new : Devices Origin) → Treats verdict service rules peer ending old new → Facts (kind_of service verdict) verdict rules ending old new
+  treats_facts (Deny line) service rules peer ending old new h = denied_facts line service rules peer ending old new h
   treats_facts (Permit line) (PlugGw at) rules peer ending old new h = linked_facts at line rules peer ending old new h
+  treats_facts (Permit line) TnGw rules peer ending old new h = gated_facts line rules peer ending old new h
   treats_facts (Permit line) Authsrv rules peer ending old new h = held_facts line Authsrv rules peer ending old new h
   treats_facts (Permit line) (Netacl label) rules peer ending old new h = held_facts line (Netacl label) rules peer ending old new h
-  treats_facts (Permit line) TnGw rules peer ending old new h = held_facts line TnGw rules peer ending old new h
   treats_facts (Permit line) FtpGw rules peer ending old new h = held_facts line FtpGw rules peer ending old new h
   treats_facts (Permit line) Smap rules peer ending old new h = held_facts line Smap rules peer ending old new h
 
-  conn_facts : (service : Service) (rules : RuleBook) (peer : Peer) (old new : Devices Origin) (ending : Ending) → Conn service rules peer old new ending → Facts (is_linked service (verdict_of rules peer)) (verdict_of rules peer) rules ending old new
+  conn_facts : (service : Service) (rules : RuleBook) (peer : Peer) (old new : Devices Origin) (ending : Ending) → Conn service rules peer old new ending → Facts (kind_of service (verdict_of rules peer)) (verdict_of rules peer) rules ending old new
   conn_facts service rules peer old new ending conn =
       let verdict = verdict_of rules peer in
-      let linked = is_linked service verdict in
+      let kind = kind_of service verdict in
       let most = noted_most (ending_line service peer ending) conn.logs new.logs conn.noted in
       let so = treats_facts verdict service rules peer ending old (with_logs new conn.logs) conn.treats in
       record {
-        caused = causes_later linked verdict ending old new conn.logs most so.caused;
-        spent = takes_later linked ending old new conn.logs so.spent;
-        waited = waits_with linked verdict rules ending old new conn.logs so.waited;
+        caused = causes_later kind verdict ending old new conn.logs most so.caused;
+        spent = takes_later kind ending old new conn.logs so.spent;
+        waited = waits_with kind verdict rules ending old new conn.logs so.waited;
         refused = so.refused;
-        fronts = fronts_later linked ending old new conn.logs so.fronts;
-        keeps = keeps_later linked (lent_by verdict rules old) new conn.logs most (noted_shut (ending_line service peer ending) conn.logs new.logs conn.noted) so.keeps;
+        fronts = fronts_later kind ending old new conn.logs so.fronts;
+        keeps = keeps_later (may_relay kind) (lent_by verdict rules old) new conn.logs most (noted_shut (ending_line service peer ending) conn.logs new.logs conn.noted) so.keeps;
         origin = so.origin;
         home = so.home;
       }
 
   -- each ending has its cause
-  pub conn_caused : (service : Service) (rules : RuleBook) (peer : Peer) (old new : Devices Origin) (ending : Ending) → Conn service rules peer old new ending → Causes (is_linked service (verdict_of rules peer)) (verdict_of rules peer) ending old new
+  pub conn_caused : (service : Service) (rules : RuleBook) (peer : Peer) (old new : Devices Origin) (ending : Ending) → Conn service rules peer old new ending → Causes (kind_of service (verdict_of rules peer)) (verdict_of rules peer) ending old new
   conn_caused service rules peer old new ending conn = (conn_facts service rules peer old new ending conn).caused
 
-  pub conn_spent : (service : Service) (rules : RuleBook) (peer : Peer) (old new : Devices Origin) (ending : Ending) → Conn service rules peer old new ending → TakesBy (is_linked service (verdict_of rules peer)) ending old new
+  pub conn_spent : (service : Service) (rules : RuleBook) (peer : Peer) (old new : Devices Origin) (ending : Ending) → Conn service rules peer old new ending → TakesBy (kind_of service (verdict_of rules peer)) ending old new
   conn_spent service rules peer old new ending conn = (conn_facts service rules peer old new ending conn).spent
 
-  pub conn_waited : (service : Service) (rules : RuleBook) (peer : Peer) (old new : Devices Origin) (ending : Ending) → Conn service rules peer old new ending → WaitsAs (is_linked service (verdict_of rules peer)) (verdict_of rules peer) rules ending old new
+  pub conn_waited : (service : Service) (rules : RuleBook) (peer : Peer) (old new : Devices Origin) (ending : Ending) → Conn service rules peer old new ending → WaitsAs (kind_of service (verdict_of rules peer)) (verdict_of rules peer) rules ending old new
   conn_waited service rules peer old new ending conn = (conn_facts service rules peer old new ending conn).waited
 
   pub conn_refused : (service : Service) (rules : RuleBook) (peer : Peer) (old new : Devices Origin) (ending : Ending) → Conn service rules peer old new ending → IsRefused (verdict_of rules peer) ending
   conn_refused service rules peer old new ending conn = (conn_facts service rules peer old new ending conn).refused
 
-  pub conn_fronts : (service : Service) (rules : RuleBook) (peer : Peer) (old new : Devices Origin) (ending : Ending) → Conn service rules peer old new ending → FrontsBy (is_linked service (verdict_of rules peer)) ending old new
+  pub conn_fronts : (service : Service) (rules : RuleBook) (peer : Peer) (old new : Devices Origin) (ending : Ending) → Conn service rules peer old new ending → FrontsBy (kind_of service (verdict_of rules peer)) ending old new
   conn_fronts service rules peer old new ending conn = (conn_facts service rules peer old new ending conn).fronts
 
-  pub conn_keeps : (service : Service) (rules : RuleBook) (peer : Peer) (old new : Devices Origin) (ending : Ending) → Conn service rules peer old new ending → KeepsAs (is_linked service (verdict_of rules peer)) (lent_by (verdict_of rules peer) rules old) new
+  pub conn_keeps : (service : Service) (rules : RuleBook) (peer : Peer) (old new : Devices Origin) (ending : Ending) → Conn service rules peer old new ending → KeepsAs (may_relay (kind_of service (verdict_of rules peer))) (lent_by (verdict_of rules peer) rules old) new
   conn_keeps service rules peer old new ending conn = (conn_facts service rules peer old new ending conn).keeps
 
   -- what the port's answers stand on stays
@@ -278,19 +310,21 @@ module _ {Origin : Type 0} where
   words_undialed line words told old new (inl fails) = ap (λ (d : Devices Origin). d.dialer) fails.same
   words_undialed line words told old new (inr away) = ap (λ (d : Devices Origin). d.dialer) away.same
 
-  turned_undialed : (line : ℕ) (service : Service) (peer : Peer) (ending : Ending) (old new : Devices Origin) → TurnsAway line service peer ending old new → new.dialer ≡ old.dialer
-  turned_undialed line service peer ending old new h =
-      let text = decision_text (Deny line) service peer in
-      words_undialed text (denied_text line) h.told old new (denies text (denied_text line) old new h.told h.session)
-
   logged_undialed : (line : List ℕ) (told : Ending) (old new : Devices Origin) → LogsOnly line old new told → new.dialer ≡ old.dialer
   logged_undialed line told old new (inl fails) = ap (λ (d : Devices Origin). d.dialer) fails.same
   logged_undialed line told old new (inr alone) = ap (λ (d : Devices Origin). d.dialer) alone.same
 
-  silent_undialed : (line : ℕ) (service : Service) (peer : Peer) (ending : Ending) (old new : Devices Origin) → LogsDenial line service peer ending old new → new.dialer ≡ old.dialer
-  silent_undialed line service peer ending old new h =
-      let text = decision_text (Deny line) service peer in
-      logged_undialed text h.told old new (silent_denial text old new h.told h.session)
+  away_undialed : (line : List ℕ) (words : Option (List ℕ)) (told : Ending) (old new : Devices Origin) → Session no_rows (away_row line words) old new told → new.dialer ≡ old.dialer
+  away_undialed line None told old new session = logged_undialed line told old new (silent_denial line old new told session)
+  away_undialed line (Some words) told old new session = words_undialed line words told old new (denies line words old new told session)
+
+  denied_dials : (service : Service) (line : ℕ) (rules : RuleBook) (peer : Peer) (ending : Ending) (old new : Devices Origin) → new.dialer ≡ old.dialer → Dials service (Deny line) rules peer ending old new
+  denied_dials (PlugGw at) line rules peer ending old new h = h
+  denied_dials TnGw line rules peer ending old new h = h
+  denied_dials Authsrv line rules peer ending old new h = h
+  denied_dials (Netacl label) line rules peer ending old new h = h
+  denied_dials FtpGw line rules peer ending old new h = h
+  denied_dials Smap line rules peer ending old new h = h
 
   held_undialed : (line : ℕ) (service : Service) (rules : RuleBook) (peer : Peer) (ending : Ending) (old new : Devices Origin) → Permits line service rules peer ending old new → new.dialer ≡ dialer_then (Permit line) rules old.dialer
   held_undialed line service rules peer ending old new h =
@@ -299,16 +333,12 @@ module _ {Origin : Type 0} where
 
   treats_dialed : (verdict : Verdict) (service : Service) (rules : RuleBook) (peer : Peer) (ending : Ending) (old new : Devices Origin) (logs : SinkView) → Treats verdict service rules peer ending old (with_logs new logs)
       → NotedIf (ending_line service peer ending) logs new.logs → Dials service verdict rules peer ending old new
-  treats_dialed (Deny line) (PlugGw at) rules peer ending old new logs h noted = silent_undialed line (PlugGw at) peer ending old (with_logs new logs) h
-  treats_dialed (Deny line) Authsrv rules peer ending old new logs h noted = turned_undialed line Authsrv peer ending old (with_logs new logs) h
-  treats_dialed (Deny line) (Netacl label) rules peer ending old new logs h noted = turned_undialed line (Netacl label) peer ending old (with_logs new logs) h
-  treats_dialed (Deny line) TnGw rules peer ending old new logs h noted = turned_undialed line TnGw peer ending old (with_logs new logs) h
-  treats_dialed (Deny line) FtpGw rules peer ending old new logs h noted = turned_undialed line FtpGw peer ending old (with_logs new logs) h
-  treats_dialed (Deny line) Smap rules peer ending old new logs h noted = turned_undialed line Smap peer ending old (with_logs new logs) h
+  treats_dialed (Deny line) service rules peer ending old new logs h noted =
+      denied_dials service line rules peer ending old new (away_undialed (decision_text (Deny line) service peer) (denied_words service line) h.told old (with_logs new logs) h.session)
   treats_dialed (Permit line) (PlugGw at) rules peer ending old new logs h noted = plug_dials at line rules peer ending old new logs (ending_line (PlugGw at) peer ending) (unended (PlugGw at) peer ending) h noted
+  treats_dialed (Permit line) TnGw rules peer ending old new logs h noted = tt
   treats_dialed (Permit line) Authsrv rules peer ending old new logs h noted = held_undialed line Authsrv rules peer ending old (with_logs new logs) h
   treats_dialed (Permit line) (Netacl label) rules peer ending old new logs h noted = held_undialed line (Netacl label) rules peer ending old (with_logs new logs) h
-  treats_dialed (Permit line) TnGw rules peer ending old new logs h noted = held_undialed line TnGw rules peer ending old (with_logs new logs) h
   treats_dialed (Permit line) FtpGw rules peer ending old new logs h noted = held_undialed line FtpGw rules peer ending old (with_logs new logs) h
   treats_dialed (Permit line) Smap rules peer ending old new logs h noted = held_undialed line Smap rules peer ending old (with_logs new logs) h
 
@@ -324,7 +354,7 @@ module _ {Origin : Type 0} where
 
   pub console_spent : (service : Service) (peer : Peer) (old new : Devices Origin) (ending : Ending) → AtConsole service peer old new ending → TakesExactly ending old new
   console_spent service peer old new ending h =
-      takes_later false ending old new h.logs (session_exact rows (session_row true) old (with_logs new h.logs) ending h.session (keeps_serverless Origin true))
+      takes_later Alone ending old new h.logs (session_exact rows (session_row true) old (with_logs new h.logs) ending h.session (keeps_serverless Origin true))
 
   pub console_undialed : (service : Service) (peer : Peer) (old new : Devices Origin) (ending : Ending) → AtConsole service peer old new ending → new.dialer ≡ old.dialer
   console_undialed service peer old new ending h = session_serverless rows (session_row true) old (with_logs new h.logs) ending h.session (keeps_serverless Origin true)

@@ -1,6 +1,6 @@
 -- Turning a client away is the session of a denial: its log was given the line, and its sink the words.
 use Rattle.std.proofs.Common.{◌≡◌, refl, sym, subst, ℕ, false, List, [], ◌∷◌, inl, inr}
-use Rattle.std.specs.Prelude.{Ok, Err}
+use Rattle.std.specs.Prelude.{Option, Some, None, Ok, Err}
 use Rattle.auth_events.specs.declared.port.PortFault.TheVariants as faults
 use Rattle.fw_acts.specs.Acts.Row.{Over}
 use Rattle.fw_outside.specs.SinkView.{Cut, SinkView}
@@ -9,7 +9,6 @@ use Rattle.fw_types.specs.declared.ending.Ending.{Ending}
 use Rattle.fw_types.specs.declared.ending.Ending.TheVariants as endings
 use Rattle.fw_types.specs.declared.peer.Peer.{Peer}
 use Rattle.gate_rules.specs.declared.service.Service.{Service}
-use Rattle.gate_rules.specs.declared.service.Service.TheVariants.{Authsrv, FtpGw, Netacl, PlugGw, Smap, TnGw}
 use Rattle.gate_rules.specs.declared.verdict.Verdict.TheVariants.{Deny}
 use Rattle.session_acts.specs.Acts.Act.{Log, Try}
 use Rattle.session_acts.specs.Denying.{denying_row, no_rows}
@@ -17,11 +16,11 @@ use Rattle.session_acts.specs.Session.{Session}
 use Rattle.session_acts.specs.World.{Devices, Names, World, at_first}
 use Rattle.session_acts.specs.declared.cause.Cause.TheVariants as causes
 use Rattle.session_acts.proofs.StageLemmas.{Gift, cut_at, front_of, gift}
-use Rattle.client_service.specs.Conn.{DeniesBy, TurnsAway}
+use Rattle.client_service.specs.Conn.{TurnsAway}
 use Rattle.client_service.specs.Decision.{decision_text}
-use Rattle.client_service.specs.Endings.{denied_text}
-use Rattle.client_service.specs.PlugService.{LogsDenial, silent_row}
-use Rattle.client_service.specs.TurningAway.{IsDeniedAs, LogsAlone, LogsOffAlone, TellsOff, TurnedAway}
+use Rattle.client_service.specs.Endings.{denied_words}
+use Rattle.client_service.specs.Meeting.{away_row, silent_row}
+use Rattle.client_service.specs.TurningAway.{LogsAlone, TellsOff, TurnedAway, TurnedBy}
 
 -- the client is lent no threads
 abbrev nobody : Names
@@ -166,24 +165,15 @@ module _ {Origin : Type 0} where
   silent_session line ending old logs (inl h) = subst (λ (e : Ending). Session no_rows (silent_row line) old (record old { logs = logs }) e) (sym h.ends) (unlogged_session line old logs h.cut)
   silent_session line ending old logs (inr h) = subst (λ (e : Ending). Session no_rows (silent_row line) old (record old { logs = logs }) e) (sym h.ends) (logged_session line old logs h.logged)
 
-  -- ---- by the service
+  -- ---- with words, or without
 
-  told_off : (line : ℕ) (service : Service) (peer : Peer) (ending : Ending) (old : Devices Origin) (told logs : SinkView) → TellsOff line service peer ending old.outlet told old.logs logs → TurnsAway line service peer ending old (record old { outlet = told; logs = logs })
-  told_off line service peer ending old told logs h = record { told = h.away; session = away_session (decision_text (Deny line) service peer) (denied_text line) h.away old told logs h.turns; ends = h.ends }
+  turned_session : (line : List ℕ) (words : Option (List ℕ)) (ending : Ending) (old : Devices Origin) (told logs : SinkView) → TurnedBy line words ending old.outlet told old.logs logs
+      → Session no_rows (away_row line words) old (record old { outlet = told; logs = logs }) ending
+  turned_session line None ending old told logs h =
+      subst (λ (s : SinkView). Session no_rows (silent_row line) old (record old { outlet = s; logs = logs }) ending) (sym h.same) (silent_session line ending old logs h.so)
+  turned_session line (Some words) ending old told logs h = away_session line words ending old told logs h
 
-  logged_off : (line : ℕ) (service : Service) (peer : Peer) (ending : Ending) (old : Devices Origin) (told logs : SinkView) → LogsOffAlone line service peer ending old.outlet told old.logs logs → LogsDenial line service peer ending old (record old { outlet = told; logs = logs })
-  logged_off line service peer ending old told logs h =
-      let text = decision_text (Deny line) service peer in
-      record {
-        told = h.off.away;
-        session = subst (λ (s : SinkView). Session no_rows (silent_row text) old (record old { outlet = s; logs = logs }) h.off.away) (sym h.same) (silent_session text h.off.away old logs h.off.turns);
-        ends = h.off.ends;
-      }
-
-  pub denied_session : (service : Service) (line : ℕ) (peer : Peer) (ending : Ending) (old : Devices Origin) (told logs : SinkView) → IsDeniedAs service line peer ending old.outlet told old.logs logs → DeniesBy service line peer ending old (record old { outlet = told; logs = logs })
-  denied_session (PlugGw at) line peer ending old told logs h = logged_off line (PlugGw at) peer ending old told logs h
-  denied_session Authsrv line peer ending old told logs h = told_off line Authsrv peer ending old told logs h
-  denied_session (Netacl label) line peer ending old told logs h = told_off line (Netacl label) peer ending old told logs h
-  denied_session TnGw line peer ending old told logs h = told_off line TnGw peer ending old told logs h
-  denied_session FtpGw line peer ending old told logs h = told_off line FtpGw peer ending old told logs h
-  denied_session Smap line peer ending old told logs h = told_off line Smap peer ending old told logs h
+  pub denied_session : (service : Service) (line : ℕ) (peer : Peer) (ending : Ending) (old : Devices Origin) (told logs : SinkView) → TellsOff line service peer ending old.outlet told old.logs logs
+      → TurnsAway line service peer ending old (record old { outlet = told; logs = logs })
+  denied_session service line peer ending old told logs h =
+      record { told = h.away; session = turned_session (decision_text (Deny line) service peer) (denied_words service line) h.away old told logs h.turns; ends = h.ends }

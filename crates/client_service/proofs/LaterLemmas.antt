@@ -1,5 +1,5 @@
 -- The ending's line is given to the log alone: what holds of a client before it holds behind it.
-use Rattle.std.proofs.Common.{arith, ◌≡◌, ◌≤◌, ◌∙◌, ap, ℕ, Bool, List, inl, inr, true, false}
+use Rattle.std.proofs.Common.{arith, ◌≡◌, ◌≤◌, ◌∙◌, ap, ℕ, Bool, List, inl, inr}
 use Rattle.std.specs.Prelude.{Option, Some, None}
 use Rattle.fw_outside.specs.SinkView.{SinkView}
 use Rattle.fw_types.specs.declared.ending.Ending.{Ending}
@@ -7,10 +7,12 @@ use Rattle.fw_types.specs.declared.ending.Ending.TheVariants.{Done, Denied, Clie
 use Rattle.gate_rules.specs.Reading.{RuleBook}
 use Rattle.gate_rules.specs.declared.verdict.Verdict.{Verdict}
 use Rattle.gate_rules.specs.declared.verdict.Verdict.TheVariants.{Permit, Deny}
-use Rattle.session_acts.specs.Causes.{KeepsAs, WaitsFor}
+use Rattle.session_acts.specs.Causes.{Caused, KeepsAs, WaitsFor}
 use Rattle.session_acts.specs.Serverless.{CausedAlone}
 use Rattle.session_acts.specs.World.{Devices}
 use Rattle.client_service.specs.Conn.{CausedBy, Causes, NotedIf, TakesBy, WaitsAs}
+use Rattle.client_service.specs.Kind.{Kind}
+use Rattle.client_service.specs.Kind.Kind.{Alone, Gated, Plugged}
 use Rattle.client_service.specs.Meeting.{patient, timeout_of}
 use Rattle.client_service.specs.PlugService.{CausedLinked}
 use Rattle.client_service.proofs.SinkLemmas.{gives_most, gives_shut, rose_later, same_low}
@@ -54,27 +56,42 @@ module _ {Origin : Type 0} where
   linked_later Spent old new logs later (inr h) = inr (record { link = h.link; last = h.last; all = h.all })
   linked_later NoMemory old new logs later h = h
 
-  caused_by_later : (linked : Bool) (ending : Ending) (old new : Devices Origin) (logs : SinkView) → logs.faults ≤ new.logs.faults → CausedBy linked ending old (with_logs new logs) → CausedBy linked ending old new
-  caused_by_later true ending old new logs later h = linked_later ending old new logs later h
-  caused_by_later false ending old new logs later h = caused_later ending old new logs later h
+  gated_later : (ending : Ending) (old new : Devices Origin) (logs : SinkView) → logs.faults ≤ new.logs.faults → Caused ending old (with_logs new logs) → Caused ending old new
+  gated_later Done old new logs later h = tt
+  gated_later (Denied line) old new logs later h = h
+  gated_later ClientFault old new logs later h = h
+  gated_later ServerFault old new logs later h = h
+  gated_later LogFault old new logs later h = rose_later old.logs.faults logs.faults new.logs.faults h later
+  gated_later AuthFault old new logs later h = h
+  gated_later Idle old new logs later h = h
+  gated_later NoRoute old new logs later h = h
+  gated_later Spent old new logs later (inl h) = inl h
+  gated_later Spent old new logs later (inr h) = inr (record { link = h.link; last = h.last; all = h.all })
+  gated_later NoMemory old new logs later h = tt
 
-  pub causes_later : (linked : Bool) (verdict : Verdict) (ending : Ending) (old new : Devices Origin) (logs : SinkView) → logs.faults ≤ new.logs.faults → Causes linked verdict ending old (with_logs new logs) → Causes linked verdict ending old new
-  causes_later linked verdict (Denied line) old new logs later h = h
-  causes_later linked verdict Done old new logs later h = caused_by_later linked Done old new logs later h
-  causes_later linked verdict ClientFault old new logs later h = caused_by_later linked ClientFault old new logs later h
-  causes_later linked verdict ServerFault old new logs later h = caused_by_later linked ServerFault old new logs later h
-  causes_later linked verdict LogFault old new logs later h = caused_by_later linked LogFault old new logs later h
-  causes_later linked verdict AuthFault old new logs later h = caused_by_later linked AuthFault old new logs later h
-  causes_later linked verdict Idle old new logs later h = caused_by_later linked Idle old new logs later h
-  causes_later linked verdict NoRoute old new logs later h = caused_by_later linked NoRoute old new logs later h
-  causes_later linked verdict Spent old new logs later h = caused_by_later linked Spent old new logs later h
-  causes_later linked verdict NoMemory old new logs later h = caused_by_later linked NoMemory old new logs later h
+  caused_by_later : (kind : Kind) (ending : Ending) (old new : Devices Origin) (logs : SinkView) → logs.faults ≤ new.logs.faults → CausedBy kind ending old (with_logs new logs) → CausedBy kind ending old new
+  caused_by_later Alone ending old new logs later h = caused_later ending old new logs later h
+  caused_by_later Plugged ending old new logs later h = linked_later ending old new logs later h
+  caused_by_later Gated ending old new logs later h = gated_later ending old new logs later h
+
+  pub causes_later : (kind : Kind) (verdict : Verdict) (ending : Ending) (old new : Devices Origin) (logs : SinkView) → logs.faults ≤ new.logs.faults → Causes kind verdict ending old (with_logs new logs) → Causes kind verdict ending old new
+  causes_later kind verdict (Denied line) old new logs later h = h
+  causes_later kind verdict Done old new logs later h = caused_by_later kind Done old new logs later h
+  causes_later kind verdict ClientFault old new logs later h = caused_by_later kind ClientFault old new logs later h
+  causes_later kind verdict ServerFault old new logs later h = caused_by_later kind ServerFault old new logs later h
+  causes_later kind verdict LogFault old new logs later h = caused_by_later kind LogFault old new logs later h
+  causes_later kind verdict AuthFault old new logs later h = caused_by_later kind AuthFault old new logs later h
+  causes_later kind verdict Idle old new logs later h = caused_by_later kind Idle old new logs later h
+  causes_later kind verdict NoRoute old new logs later h = caused_by_later kind NoRoute old new logs later h
+  causes_later kind verdict Spent old new logs later h = caused_by_later kind Spent old new logs later h
+  causes_later kind verdict NoMemory old new logs later h = caused_by_later kind NoMemory old new logs later h
 
   -- ---- bytes
 
-  pub takes_later : (linked : Bool) (ending : Ending) (old new : Devices Origin) (logs : SinkView) → TakesBy linked ending old (with_logs new logs) → TakesBy linked ending old new
-  takes_later true ending old new logs h = record { took = h.took; all = h.all }
-  takes_later false ending old new logs h = record { took = h.took; all = h.all }
+  pub takes_later : (kind : Kind) (ending : Ending) (old new : Devices Origin) (logs : SinkView) → TakesBy kind ending old (with_logs new logs) → TakesBy kind ending old new
+  takes_later Alone ending old new logs h = record { took = h.took; all = h.all }
+  takes_later Plugged ending old new logs h = record { took = h.took; all = h.all }
+  takes_later Gated ending old new logs h = record { took = h.took; all = h.all }
 
   -- ---- the wait
 
@@ -91,15 +108,16 @@ module _ {Origin : Type 0} where
   waits_for_with Spent old new logs h = tt
   waits_for_with NoMemory old new logs h = tt
 
-  pub waits_with : (linked : Bool) (verdict : Verdict) (rules : RuleBook) (ending : Ending) (old new : Devices Origin) (logs : SinkView) → WaitsAs linked verdict rules ending old (with_logs new logs) → WaitsAs linked verdict rules ending old new
-  waits_with linked (Deny line) rules ending old new logs h = tt
-  waits_with true (Permit line) rules ending old new logs h = waits_for_with ending (patient (timeout_of rules) old) new logs h
-  waits_with false (Permit line) rules ending old new logs h = h
+  pub waits_with : (kind : Kind) (verdict : Verdict) (rules : RuleBook) (ending : Ending) (old new : Devices Origin) (logs : SinkView) → WaitsAs kind verdict rules ending old (with_logs new logs) → WaitsAs kind verdict rules ending old new
+  waits_with kind (Deny line) rules ending old new logs h = tt
+  waits_with Alone (Permit line) rules ending old new logs h = h
+  waits_with Plugged (Permit line) rules ending old new logs h = waits_for_with ending (patient (timeout_of rules) old) new logs h
+  waits_with Gated (Permit line) rules ending old new logs h = waits_for_with ending (patient (timeout_of rules) old) new logs h
 
   -- ---- no count falls
 
-  pub keeps_later : (linked : Bool) (old new : Devices Origin) (logs : SinkView) → logs.faults ≤ new.logs.faults → new.logs.shut ≡ logs.shut → KeepsAs linked old (with_logs new logs) → KeepsAs linked old new
-  keeps_later linked old new logs later shut h =
+  pub keeps_later : (relays : Bool) (old new : Devices Origin) (logs : SinkView) → logs.faults ≤ new.logs.faults → new.logs.shut ≡ logs.shut → KeepsAs relays old (with_logs new logs) → KeepsAs relays old new
+  keeps_later relays old new logs later shut h =
       let before : old.logs.faults ≤ logs.faults = h.log_drops in
       record {
         faults = h.faults;

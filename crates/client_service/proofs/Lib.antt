@@ -1,10 +1,11 @@
 pub mod ConnLemmas
 pub mod DenialLemmas
 pub mod FrontsLemmas
+pub mod GateLemmas
 pub mod LaterLemmas
 pub mod NoMemoryLemmas
+pub mod OptionsLemmas
 pub mod PlugLemmas
 pub mod ServiceLemmas
 pub mod SinkLemmas
-pub mod TargetLemmas
 pub mod WaitLemmas

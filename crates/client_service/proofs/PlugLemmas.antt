@@ -41,8 +41,8 @@ use Rattle.session_acts.proofs.ClientLemmas.{logs_first}
 use Rattle.session_acts.proofs.ToldLemmas.{by_both, by_nothing}
 use Rattle.client_service.specs.Conn.{Noted, NotedIf}
 use Rattle.client_service.specs.Decision.{decision_text}
-use Rattle.client_service.specs.Meeting.{patient, timeout_of}
-use Rattle.client_service.specs.PlugService.{AsksLogged, CausedLinked, IsAsked, IsUnasked, LinksOver, LinksTo, plug_devices, silent_row, target_of}
+use Rattle.client_service.specs.Meeting.{patient, silent_row, timeout_of}
+use Rattle.client_service.specs.PlugService.{AsksLogged, CausedLinked, IsAsked, IsUnasked, LinksOver, LinksTo, plug_devices, target_of}
 use Rattle.client_service.proofs.NoMemoryLemmas.{plug_remembers}
 
 -- ---- a denial

@@ -5,7 +5,7 @@ use Rattle.fw_outside.specs.Counts.{Rose}
 use Rattle.fw_outside.specs.SinkView.{Cut, Gives, SinkView}
 use Rattle.fw_outside.specs.declared.failed.Failed.{Failed}
 
-rose_at : (a b c : ℕ) → Rose a b → c ≡ b → Rose a c
+pub rose_at : (a b c : ℕ) → Rose a b → c ≡ b → Rose a c
 rose_at a b c rose is = rw is rose
 
 -- a sink that failed within a text has counted it

@@ -8,6 +8,8 @@ use Rattle.fw_types.specs.declared.ending.Ending.TheVariants.{Done, Denied, Clie
 use Rattle.fw_types.specs.declared.peer.Peer.{Peer}
 use Rattle.gate_rules.specs.Service.{service_text}
 use Rattle.gate_rules.specs.declared.service.Service.{Service}
+use Rattle.gate_rules.specs.declared.service.Service.TheVariants.{PlugGw, TnGw}
+use Rattle.tn_gate.specs.Texts.{refusal}
 
 -- the log's word for an ending; a denial was logged by its verdict, and a log that failed is told nothing
 abbrev pub ending_word : Ending → Option (List ℕ)
@@ -30,6 +32,14 @@ end_text service peer word = codes "end " ++ service_text service ++ codes " " +
 abbrev pub ending_line : Service → Peer → Ending → Option (List ℕ)
 ending_line service peer ending = option_map (end_text service peer) (ending_word ending)
 
--- the words to a client that a line denies: `denied line N`
+-- ---- the words to a client that the line with this number denies
+
+-- `denied line N`
 abbrev pub denied_text : ℕ → List ℕ
 denied_text line = codes "denied line " ++ decimal line ++ codes "\n"
+
+-- by the service: `Denied (line N)` for a client of `tn-gw`, and nothing for one of the plug
+abbrev pub denied_words : Service → ℕ → Option (List ℕ)
+denied_words (PlugGw port) line = None
+denied_words TnGw line = Some (refusal line)
+denied_words service line = Some (denied_text line)

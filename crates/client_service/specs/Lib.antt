@@ -1,7 +1,9 @@
 pub mod Conn
 pub mod Decision
 pub mod Endings
+pub mod GateService
+pub mod Kind
 pub mod Meeting
+pub mod Options
 pub mod PlugService
-pub mod Targets
 pub mod TurningAway

@@ -1,7 +1,7 @@
 -- How a client is met: its source and the links wait as the rules have it, and the line of the verdict is logged first.
 use Rattle.std.specs.Prelude.{ℕ, ◌^◌, ◌-◌, min, List, Option, Some, None}
 use Rattle.fw_acts.specs.Acts.{Row}
-use Rattle.fw_acts.specs.Acts.Row.{Do}
+use Rattle.fw_acts.specs.Acts.Row.{Do, Over}
 use Rattle.fw_outside.specs.DialerView.{DialerView, dialer_waiting}
 use Rattle.fw_outside.specs.SourceView.{waiting}
 use Rattle.fw_types.specs.declared.ending.Ending.{Ending}
@@ -12,8 +12,10 @@ use Rattle.gate_rules.specs.declared.setting.Setting.TheVariants.{Timeout}
 use Rattle.gate_rules.specs.declared.verdict.Verdict.{Verdict}
 use Rattle.gate_rules.specs.declared.verdict.Verdict.TheVariants.{Permit, Deny}
 use Rattle.session_acts.specs.Acts.Act.{Log}
+use Rattle.session_acts.specs.Denying.{denying_row}
 use Rattle.session_acts.specs.Met.{acts}
 use Rattle.session_acts.specs.World.{Devices}
+use Rattle.session_acts.specs.declared.denying.NoPlace.{NoPlace}
 
 -- the seconds that a source waits for a client: as the table sets them, or else an hour
 abbrev pub seconds_by : Option (ℕ × ℕ) → ℕ
@@ -40,6 +42,15 @@ lent_by (Deny line) rules devices = devices
 -- a line is logged, and then this
 abbrev pub logged_row : {Origin P : Type 0} → List ℕ → Row (acts Origin) P → Row (acts Origin) P
 logged_row line first = Do (Log line) (λ done. first)
+
+-- a line is logged, and nothing else is done
+abbrev pub silent_row : {Origin : Type 0} → List ℕ → Row (acts Origin) NoPlace
+silent_row line = Do (Log line) (λ logged. Over)
+
+-- a line is logged, and then it is tried to tell the client these words, where there are any
+abbrev pub away_row : {Origin : Type 0} → List ℕ → Option (List ℕ) → Row (acts Origin) NoPlace
+away_row line None = silent_row line
+away_row line (Some words) = denying_row line words
 
 -- whom a line denies ends as denied, where that was logged
 abbrev pub denied_by : ℕ → Ending → Ending

@@ -1,8 +1,5 @@
--- A client of the plug: one whom the rules permit is linked to the destination of the line that permits it, and one whom they
--- deny is told nothing.
+-- A client of the plug whom the rules permit: it is linked to the destination of the line that permits it.
 use Rattle.std.specs.Prelude.{◌≡◌, ℕ, ◌⊎◌, List, [], ◌∷◌, ◌++◌, Option, Some, None, Ok}
-use Rattle.fw_acts.specs.Acts.{Row}
-use Rattle.fw_acts.specs.Acts.Row.{Do, Over}
 use Rattle.fw_outside.specs.ToldList.{grown}
 use Rattle.fw_outside.specs.declared.ask.Ask.TheVariants.{Main}
 use Rattle.fw_types.specs.declared.dest.Dest.{Dest}
@@ -14,22 +11,19 @@ use Rattle.gate_rules.specs.Verdict.{options_at}
 use Rattle.gate_rules.specs.declared.options.Options.{Options}
 use Rattle.gate_rules.specs.declared.service.Service.{Service}
 use Rattle.gate_rules.specs.declared.service.Service.TheVariants.{PlugGw}
-use Rattle.gate_rules.specs.declared.verdict.Verdict.TheVariants.{Permit, Deny}
+use Rattle.gate_rules.specs.declared.verdict.Verdict.TheVariants.{Permit}
 use Rattle.netperm_table.specs.declared.line.Line.{Line}
 use Rattle.plug_gate.specs.Dialogue.{connect_text, plug_row}
 use Rattle.plug_gate.specs.Dummies.{lent}
 use Rattle.session_acts.specs.Acts.{Front}
-use Rattle.session_acts.specs.Acts.Act.{Log}
 use Rattle.session_acts.specs.Causes.{Caused}
 use Rattle.session_acts.specs.Denying.{no_rows}
 use Rattle.session_acts.specs.Laws.{Adds}
-use Rattle.session_acts.specs.Met.{acts}
 use Rattle.session_acts.specs.Relayed.{relayed}
-use Rattle.session_acts.specs.Session.{RelaySession, Session}
+use Rattle.session_acts.specs.Session.{RelaySession}
 use Rattle.session_acts.specs.World.{Devices}
-use Rattle.session_acts.specs.declared.denying.NoPlace.{NoPlace}
 use Rattle.client_service.specs.Decision.{decision_text}
-use Rattle.client_service.specs.Meeting.{denied_by, logged_row, patient, timeout_of}
+use Rattle.client_service.specs.Meeting.{logged_row, patient, timeout_of}
 
 -- ---- whom it is for
 
@@ -52,16 +46,6 @@ abbrev pub target_of : RuleBook → ℕ → Option Dest
 target_of rules line = target_in (options_at rules line)
 
 -- ---- what is done
-
--- a line is logged, and nothing else is done
-abbrev pub silent_row : {Origin : Type 0} → List ℕ → Row (acts Origin) NoPlace
-silent_row line = Do (Log line) (λ logged. Over)
-
--- the line of the denial is logged, and the client told nothing
-pub record LogsDenial {Origin : Type 0} (line : ℕ) (service : Service) (peer : Peer) (ending : Ending) (old new : Devices Origin) : Type 0 where
-  pub told : Ending
-  pub session : Session no_rows (silent_row (decision_text (Deny line) service peer)) old new told
-  pub ends : ending ≡ denied_by line told
 
 -- the devices that a client of the plug meets: a port, a clock and dice have no part in its session
 abbrev pub plug_devices : {Origin : Type 0} → Devices Origin → Devices (Unit {0})

@@ -7,11 +7,10 @@ use Rattle.fw_types.specs.declared.ending.Ending.{Ending}
 use Rattle.fw_types.specs.declared.ending.Ending.TheVariants.{Done, LogFault}
 use Rattle.fw_types.specs.declared.peer.Peer.{Peer}
 use Rattle.gate_rules.specs.declared.service.Service.{Service}
-use Rattle.gate_rules.specs.declared.service.Service.TheVariants.{PlugGw}
 use Rattle.gate_rules.specs.declared.verdict.Verdict.TheVariants.{Deny}
 use Rattle.client_service.specs.Conn.{Noted}
 use Rattle.client_service.specs.Decision.{decision_text}
-use Rattle.client_service.specs.Endings.{denied_text}
+use Rattle.client_service.specs.Endings.{denied_words}
 use Rattle.client_service.specs.Meeting.{denied_by}
 
 -- the log failed within the line, and the client was told nothing
@@ -41,21 +40,18 @@ pub record IsLogged (line : List ℕ) (ending : Ending) (logs noted : SinkView) 
 abbrev pub LogsAlone : List ℕ → Ending → SinkView → SinkView → Type 0
 LogsAlone line ending logs noted = IsUnlogged line ending logs noted ⊎ IsLogged line ending logs noted
 
--- a denial with its words, and one without
-pub record TellsOff (line : ℕ) (service : Service) (peer : Peer) (ending : Ending) (to told logs noted : SinkView) : Type 0 where
-  pub away : Ending
-  pub turns : TurnedAway (decision_text (Deny line) service peer) (denied_text line) away to told logs noted
-  pub ends : ending ≡ denied_by line away
-
-pub record LogsOff (line : ℕ) (service : Service) (peer : Peer) (ending : Ending) (logs noted : SinkView) : Type 0 where
-  pub away : Ending
-  pub turns : LogsAlone (decision_text (Deny line) service peer) away logs noted
-  pub ends : ending ≡ denied_by line away
-
-pub record LogsOffAlone (line : ℕ) (service : Service) (peer : Peer) (ending : Ending) (to told logs noted : SinkView) : Type 0 where
-  pub off : LogsOff line service peer ending logs noted
+-- that is all, and the client was told nothing
+pub record LogsUntold (line : List ℕ) (ending : Ending) (to told logs noted : SinkView) : Type 0 where
+  pub so : LogsAlone line ending logs noted
   pub same : told ≡ to
 
-abbrev pub IsDeniedAs : Service → ℕ → Peer → Ending → SinkView → SinkView → SinkView → SinkView → Type 0
-IsDeniedAs (PlugGw port) line peer ending to told logs noted = LogsOffAlone line (PlugGw port) peer ending to told logs noted
-IsDeniedAs service line peer ending to told logs noted = TellsOff line service peer ending to told logs noted
+-- with words, or without
+abbrev pub TurnedBy : List ℕ → Option (List ℕ) → Ending → SinkView → SinkView → SinkView → SinkView → Type 0
+TurnedBy line None ending to told logs noted = LogsUntold line ending to told logs noted
+TurnedBy line (Some words) ending to told logs noted = TurnedAway line words ending to told logs noted
+
+-- a denial
+pub record TellsOff (line : ℕ) (service : Service) (peer : Peer) (ending : Ending) (to told logs noted : SinkView) : Type 0 where
+  pub away : Ending
+  pub turns : TurnedBy (decision_text (Deny line) service peer) (denied_words service line) away to told logs noted
+  pub ends : ending ≡ denied_by line away

@@ -1,12 +1,12 @@
 //! A client whom the rules deny.
 ghost use Rattle.std.specs.Prelude.{◌≡◌};
+ghost use Rattle.std.specs.Option.{option_map};
 ghost use Rattle.client_service.specs.Conn.{Noted};
 ghost use Rattle.client_service.specs.Meeting.{denied_by};
-ghost use Rattle.client_service.specs.TurningAway.{IsDeniedAs, IsLogged, LogsAlone, LogsOff, TellsOff, TurnedAway};
+ghost use Rattle.client_service.specs.TurningAway.{LogsAlone, TellsOff, TurnedAway, TurnedBy};
 
-use crate::decision::decision_line;
-use crate::endings::denied_line;
-use crate::linking::plug_in;
+use crate::decision::{LogLine, decision_line};
+use crate::endings::denied_words;
 use fw_outside::{Failed, Sink};
 use fw_types::{Ending, Peer};
 use gate_rules::{Service, Verdict};
@@ -52,8 +52,24 @@ fn log_alone<G: Sink>(line: &[u8], logs: &mut G) -> Ending
     }
 }
 
-// Logs the denial and then tries to tell the client.
-fn tell_off<K: Sink, G: Sink>(
+// Logs this line and then tries to tell the client the words, if there are any.
+fn turn_by<K: Sink, G: Sink>(
+    line: &[u8],
+    words: Option<LogLine>,
+    to: &mut K,
+    logs: &mut G,
+) -> Ending
+    ensures { TurnedBy line.now (option_map (λ text. text.items) words) result (K.sink_view to.old)
+        (K.sink_view to.new) (G.sink_view logs.old) (G.sink_view logs.new) }
+{
+    match words {
+        Some(text) => turn_away(line, text.as_slice(), to, logs),
+        None => log_alone(line, logs),
+    }
+}
+
+/// Logs the denial, and then tries to tell the client the words that its service has for one, if it has any.
+pub(crate) fn deny<K: Sink, G: Sink>(
     service: &Service,
     line: u32,
     peer: &Peer,
@@ -64,33 +80,7 @@ fn tell_off<K: Sink, G: Sink>(
         (G.sink_view logs.old) (G.sink_view logs.new) }
 {
     let text = decision_line(Verdict::Deny { line }, service, peer);
-    let words = denied_line(line);
-    let told = turn_away(text.as_slice(), words.as_slice(), to, logs);
+    let words = denied_words(service, line);
+    let told = turn_by(text.as_slice(), words, to, logs);
     denied_by(line, told)
-}
-
-// Logs the denial, and tells the client nothing.
-fn log_off<G: Sink>(service: &Service, line: u32, peer: &Peer, logs: &mut G) -> Ending
-    ensures { LogsOff line service.now peer.now result (G.sink_view logs.old) (G.sink_view logs.new) }
-{
-    let text = decision_line(Verdict::Deny { line }, service, peer);
-    let told = log_alone(text.as_slice(), logs);
-    denied_by(line, told)
-}
-
-/// Logs the denial, and then tries to tell the client, who is told nothing where it is one of the plug.
-pub(crate) fn deny<K: Sink, G: Sink>(
-    service: &Service,
-    line: u32,
-    peer: &Peer,
-    to: &mut K,
-    logs: &mut G,
-) -> Ending
-    ensures { IsDeniedAs service.now line peer.now result (K.sink_view to.old) (K.sink_view to.new)
-        (G.sink_view logs.old) (G.sink_view logs.new) }
-{
-    match plug_in(service) {
-        Some(_) => log_off(service, line, peer, logs),
-        None => tell_off(service, line, peer, to, logs),
-    }
 }

@@ -1,10 +1,13 @@
 //! How the end of a session is told.
 ghost use Rattle.std.specs.Prelude.{◌≡◌, ◌≤◌, length, IfSome, MatchOption, None, Some};
-ghost use Rattle.std.specs.Option.{option_copied};
-ghost use Rattle.client_service.specs.Endings.{denied_text, end_text, ending_line, ending_word};
+ghost use Rattle.std.specs.Option.{option_copied, option_map};
+ghost use Rattle.client_service.specs.Conn.{NotedIf};
+ghost use Rattle.client_service.specs.Endings.{denied_text, denied_words, end_text, ending_line, ending_word};
+ghost use Rattle.tn_gate.specs.Texts.{refusal};
 
 use crate::decision::{LogLine, append_peer, append_service};
 use arrayvec::ArrayVec;
+use fw_outside::Sink;
 use fw_types::{Ending, Peer, append, append_u32};
 use gate_rules::Service;
 
@@ -52,7 +55,16 @@ pub fn ending_line(service: &Service, peer: &Peer, ending: Ending) -> Option<Log
     }
 }
 
-/// The words to a client that the line of this number denies; 0 where no line fits.
+/// Gives the log the line of an ending, where it has one.
+pub(crate) fn note_ending<G: Sink>(service: &Service, peer: &Peer, ending: Ending, logs: &mut G)
+    ensures { NotedIf (ending_line service.now peer.now ending) (G.sink_view logs.old) (G.sink_view logs.new) }
+{
+    if let Some(line) = ending_line(service, peer, ending) {
+        let _ = logs.give(line.as_slice());
+    }
+}
+
+/// The words of `authsrv` to a client that the line of this number denies; 0 where no line fits.
 pub fn denied_line(line: u32) -> LogLine
     ensures { result.items ≡ denied_text line }
 {
@@ -61,4 +73,26 @@ pub fn denied_line(line: u32) -> LogLine
     append_u32(&mut out, line);
     append(&mut out, b"\n");
     out
+}
+
+// Those of the Telnet gateway.
+fn refusal(line: u32) -> LogLine
+    ensures { result.items ≡ refusal line }
+{
+    let mut out = ArrayVec::new();
+    append(&mut out, b"Denied (line ");
+    append_u32(&mut out, line);
+    append(&mut out, b")\r\n");
+    out
+}
+
+/// The words to a client of a service that the line of this number denies. None for the plug.
+pub fn denied_words(service: &Service, line: u32) -> Option<LogLine>
+    ensures { option_map (λ words. words.items) result ≡ denied_words service.now line }
+{
+    match service {
+        Service::PlugGw(_) => None,
+        Service::TnGw => Some(refusal(line)),
+        _ => Some(denied_line(line)),
+    }
 }

@@ -1,169 +1,28 @@
 //! One client of a service: the verdict, the session, and how it ended.
-ghost use Rattle.std.specs.Prelude.{◌≡◌, true, false};
-ghost use Rattle.authsrv_gate.specs.Dialogue.{rows, session_row};
-ghost use Rattle.client_service.specs.Conn.{AtConsole, Causes, Conn, Dials, FrontsBy, IsRefused, IsServed, NotedIf, PermitsBy, TakesBy, Treats, Untouched, WaitsAs, is_linked};
-ghost use Rattle.client_service.specs.Endings.{ending_line};
-ghost use Rattle.client_service.specs.Meeting.{lent_by, logged_row, patient, timeout_of};
-ghost use Rattle.client_service.specs.Targets.{HasTarget, TargetFor};
+ghost use Rattle.std.specs.Prelude.{◌≡◌};
+ghost use Rattle.client_service.specs.Conn.{Causes, Conn, Dials, FrontsBy, IsRefused, IsServed, PermitsBy, TakesBy, Treats, Unthrown, Untouched, WaitsAs};
+ghost use Rattle.client_service.specs.Kind.{kind_of, may_relay};
+ghost use Rattle.client_service.specs.Meeting.{lent_by};
+ghost use Rattle.client_service.specs.Options.{HasOptions, OptionsFor};
 ghost use Rattle.gate_rules.specs.Verdict.{verdict_of};
 ghost use Rattle.gate_rules.specs.declared.verdict.Verdict.TheVariants.{Permit};
 ghost use Rattle.session_acts.specs.Causes.{KeepsAs};
-ghost use Rattle.session_acts.specs.Session.{Session};
 ghost use Rattle.session_acts.specs.World.{devices_with};
 
+use crate::admitting::admit_client;
 use crate::deciding::verdict_of;
-use crate::decision::decision_line;
 use crate::denying::deny;
-use crate::endings::ending_line;
+use crate::endings::note_ending;
+use crate::gating::{is_gate, let_in};
 use crate::linking::{link, plug_in};
-use crate::waiting::{set_waits, timeout_of};
 use auth_events::AuthPort;
-use authsrv_gate::AuthsrvScript;
 use fw_outside::{Clock, Dialer, Dice, Sink, Source};
 use fw_types::{Ending, Peer};
 use gate_rules::{Rules, Service, Verdict};
-use session_acts::{Logged, session_over};
 use std::thread::Threads;
 
-// Gives the log the line of an ending, where it has one.
-fn note_ending<G: Sink>(service: &Service, peer: &Peer, ending: Ending, logs: &mut G)
-    ensures { NotedIf (ending_line service.now peer.now ending) (G.sink_view logs.old) (G.sink_view logs.new) }
-{
-    if let Some(line) = ending_line(service, peer, ending) {
-        let _ = logs.give(line.as_slice());
-    }
-}
-
-// Logs this line and then holds the session.
-fn admit<P, S, K, G, D, C, R>(
-    line: &[u8],
-    port: &mut P,
-    from: &mut S,
-    to: &mut K,
-    logs: &mut G,
-    dialer: &mut D,
-    clock: &mut C,
-    dice: &mut R,
-) -> Ending
-where
-    P: AuthPort,
-    S: Source,
-    K: Sink,
-    G: Sink,
-    D: Dialer,
-    C: Clock,
-    R: Dice,
-    ensures { Session rows (logged_row line.now (session_row false))
-        (devices_with (P.port port.old) (S.source_view from.old) (K.sink_view to.old) (G.sink_view logs.old)
-        (D.dialer_view dialer.old) (C.clock_view clock.old) (R.dice_view dice.old))
-        (devices_with (P.port port.new) (S.source_view from.new) (K.sink_view to.new) (G.sink_view logs.new)
-        (D.dialer_view dialer.new) (C.clock_view clock.new) (R.dice_view dice.new))
-        result }
-{
-    let session = AuthsrvScript { console: false };
-    let script = Logged {
-        line,
-        session: &session,
-    };
-    session_over(&script, port, from, to, logs, dialer, clock, dice)
-}
-
-// A session at the console.
-fn at_console<P, S, K, G, D, C, R>(
-    port: &mut P,
-    from: &mut S,
-    to: &mut K,
-    logs: &mut G,
-    dialer: &mut D,
-    clock: &mut C,
-    dice: &mut R,
-) -> Ending
-where
-    P: AuthPort,
-    S: Source,
-    K: Sink,
-    G: Sink,
-    D: Dialer,
-    C: Clock,
-    R: Dice,
-    ensures { Session rows (session_row true)
-        (devices_with (P.port port.old) (S.source_view from.old) (K.sink_view to.old) (G.sink_view logs.old)
-        (D.dialer_view dialer.old) (C.clock_view clock.old) (R.dice_view dice.old))
-        (devices_with (P.port port.new) (S.source_view from.new) (K.sink_view to.new) (G.sink_view logs.new)
-        (D.dialer_view dialer.new) (C.clock_view clock.new) (R.dice_view dice.new))
-        result }
-{
-    let session = AuthsrvScript { console: true };
-    session_over(&session, port, from, to, logs, dialer, clock, dice)
-}
-
-/// A session at the console of the server, and then its ending's line.
-pub fn console<P, S, K, G, D, C, R>(
-    service: &Service,
-    peer: &Peer,
-    port: &mut P,
-    from: &mut S,
-    to: &mut K,
-    logs: &mut G,
-    dialer: &mut D,
-    clock: &mut C,
-    dice: &mut R,
-) -> Ending
-where
-    P: AuthPort,
-    S: Source,
-    K: Sink,
-    G: Sink,
-    D: Dialer,
-    C: Clock,
-    R: Dice,
-    ensures { AtConsole service.now peer.now
-        (devices_with (P.port port.old) (S.source_view from.old) (K.sink_view to.old) (G.sink_view logs.old)
-        (D.dialer_view dialer.old) (C.clock_view clock.old) (R.dice_view dice.old))
-        (devices_with (P.port port.new) (S.source_view from.new) (K.sink_view to.new) (G.sink_view logs.new)
-        (D.dialer_view dialer.new) (C.clock_view clock.new) (R.dice_view dice.new))
-        result }
-{
-    let ending = at_console(port, from, to, logs, dialer, clock, dice);
-    note_ending(service, peer, ending, logs);
-    ending
-}
-
-// Logs this line and then holds the session, over devices that wait as the rules have it.
-fn admit_by<P, S, K, G, D, C, R>(
-    rules: &Rules,
-    line: &[u8],
-    port: &mut P,
-    from: &mut S,
-    to: &mut K,
-    logs: &mut G,
-    dialer: &mut D,
-    clock: &mut C,
-    dice: &mut R,
-) -> Ending
-where
-    P: AuthPort,
-    S: Source,
-    K: Sink,
-    G: Sink,
-    D: Dialer,
-    C: Clock,
-    R: Dice,
-    ensures { Session rows (logged_row line.now (session_row false))
-        (patient (timeout_of rules.now)
-        (devices_with (P.port port.old) (S.source_view from.old) (K.sink_view to.old) (G.sink_view logs.old)
-        (D.dialer_view dialer.old) (C.clock_view clock.old) (R.dice_view dice.old)))
-        (devices_with (P.port port.new) (S.source_view from.new) (K.sink_view to.new) (G.sink_view logs.new)
-        (D.dialer_view dialer.new) (C.clock_view clock.new) (R.dice_view dice.new))
-        result }
-{
-    let seconds = timeout_of(rules);
-    set_waits(seconds, from, dialer);
-    admit(line, port, from, to, logs, dialer, clock, dice)
-}
-
-// A client whom this line permits: linked where it is one of the plug, or else its session of `authsrv` held, over devices
-// that wait as the rules have it. The port, the clock and the dice of the plug aren't touched.
+// A client whom this line permits, by its service. Of one of the plug the port, the clock and the dice aren't touched, and of
+// one of the Telnet gateway not the dice.
 fn permit<H, P, S, K, G, D, C, R>(
     rt: &H,
     service: &Service,
@@ -187,7 +46,7 @@ where
     D: Dialer,
     C: Clock,
     R: Dice,
-    requires target { HasTarget service.now rules.now line }
+    requires options { HasOptions service.now rules.now line }
     ensures permits { PermitsBy service.now line rules.now peer.now result
         (devices_with (P.port port.old) (S.source_view from.old) (K.sink_view to.old) (G.sink_view logs.old)
         (D.dialer_view dialer.old) (C.clock_view clock.old) (R.dice_view dice.old))
@@ -195,23 +54,20 @@ where
         (D.dialer_view dialer.new) (C.clock_view clock.new) (R.dice_view dice.new)) }
     ensures untouched { Untouched service.now (Permit line) port.old port.new }
     ensures unclocked { Untouched service.now (Permit line) clock.old clock.new }
-    ensures unthrown { Untouched service.now (Permit line) dice.old dice.new }
+    ensures unthrown { Unthrown service.now (Permit line) dice.old dice.new }
 {
     match plug_in(service) {
         Some(at) => link(rt, service, rules, at, peer, line, from, to, logs, dialer),
         None => {
-            let text = decision_line(Verdict::Permit { line }, service, peer);
-            admit_by(
-                rules,
-                text.as_slice(),
-                port,
-                from,
-                to,
-                logs,
-                dialer,
-                clock,
-                dice,
-            )
+            if is_gate(service) {
+                let_in(
+                    rt, service, rules, peer, line, port, from, to, logs, dialer, clock,
+                )
+            } else {
+                admit_client(
+                    service, rules, peer, line, port, from, to, logs, dialer, clock, dice,
+                )
+            }
         }
     }
 }
@@ -240,7 +96,7 @@ where
     D: Dialer,
     C: Clock,
     R: Dice,
-    requires target { TargetFor verdict service.now rules.now }
+    requires options { OptionsFor verdict service.now rules.now }
     ensures treats { Treats verdict service.now rules.now peer.now result
         (devices_with (P.port port.old) (S.source_view from.old) (K.sink_view to.old) (G.sink_view logs.old)
         (D.dialer_view dialer.old) (C.clock_view clock.old) (R.dice_view dice.old))
@@ -248,7 +104,7 @@ where
         (D.dialer_view dialer.new) (C.clock_view clock.new) (R.dice_view dice.new)) }
     ensures untouched { Untouched service.now verdict port.old port.new }
     ensures unclocked { Untouched service.now verdict clock.old clock.new }
-    ensures unthrown { Untouched service.now verdict dice.old dice.new }
+    ensures unthrown { Unthrown service.now verdict dice.old dice.new }
 {
     match verdict {
         Verdict::Deny { line } => deny(service, line, peer, to, logs),
@@ -258,10 +114,11 @@ where
     }
 }
 
-/// One client of a service, which is `authsrv` or the plug, by the rules of that service. For whom the rules permit, the
-/// client's source and the dialer are told how long to wait, the verdict is logged, and the session held: that of `authsrv`,
-/// or that of the plug with the destination of the line that permits. For whom they deny, the verdict is logged, and it is
-/// tried to tell the client, but one of the plug is told nothing. Then the ending is logged.
+/// One client of a service, which is `authsrv`, `tn-gw` or the plug, by the rules of that service. For whom the rules permit,
+/// the client's source and the dialer are told how long to wait, the verdict is logged, and the session held: that of
+/// `authsrv`; that of `tn-gw` with the options of the line that permits; or that of the plug with the destination of that
+/// line. For whom they deny, the verdict is logged, and it is tried to tell the client, but one of the plug is told nothing.
+/// Then the ending is logged.
 ///
 /// The answer is `Denied` where the rules deny the peer and that was logged, whether the client could be told or not;
 /// it is `LogFault` where the log failed within the verdict's line, and then nothing else was done. Any other answer is
@@ -296,38 +153,39 @@ where
         (devices_with (P.port port.new) (S.source_view from.new) (K.sink_view to.new) (G.sink_view logs.new)
         (D.dialer_view dialer.new) (C.clock_view clock.new) (R.dice_view dice.new))
         result }
-    // Each ending but done and want of memory has its cause: the verdict, or a count of a device. A client of the plug
-    // wants no memory, and meets no port.
-    ensures caused { Causes (is_linked service.now (verdict_of rules.now peer.now)) (verdict_of rules.now peer.now) result
+    // Each ending but done and want of memory has its cause: the verdict, or a count of a device. A client of `authsrv` meets
+    // no server; one of the plug wants no memory, and meets no port.
+    ensures caused { Causes (kind_of service.now (verdict_of rules.now peer.now)) (verdict_of rules.now peer.now) result
         (devices_with (P.port port.old) (S.source_view from.old) (K.sink_view to.old) (G.sink_view logs.old)
         (D.dialer_view dialer.old) (C.clock_view clock.old) (R.dice_view dice.old))
         (devices_with (P.port port.new) (S.source_view from.new) (K.sink_view to.new) (G.sink_view logs.new)
         (D.dialer_view dialer.new) (C.clock_view clock.new) (R.dice_view dice.new)) }
     // As many bytes as may be, 2^40, were taken of the client exactly where the ending is `Spent`, and never more. One that
-    // was linked may also have failed, or been idle, after so many; and it is `Spent`, too, where they came over the link.
-    ensures spent { TakesBy (is_linked service.now (verdict_of rules.now peer.now)) result
+    // may be linked may also have failed, or been idle, after so many; and it is `Spent`, too, where they came over the link.
+    ensures spent { TakesBy (kind_of service.now (verdict_of rules.now peer.now)) result
         (devices_with (P.port port.old) (S.source_view from.old) (K.sink_view to.old) (G.sink_view logs.old)
         (D.dialer_view dialer.old) (C.clock_view clock.old) (R.dice_view dice.old))
         (devices_with (P.port port.new) (S.source_view from.new) (K.sink_view to.new) (G.sink_view logs.new)
         (D.dialer_view dialer.new) (C.clock_view clock.new) (R.dice_view dice.new)) }
     // Where a client whom the rules permit was idle, its source waited as long as the rules have it; or the link did.
-    ensures waited { WaitsAs (is_linked service.now (verdict_of rules.now peer.now)) (verdict_of rules.now peer.now) rules.now result
+    ensures waited { WaitsAs (kind_of service.now (verdict_of rules.now peer.now)) (verdict_of rules.now peer.now) rules.now result
         (devices_with (P.port port.old) (S.source_view from.old) (K.sink_view to.old) (G.sink_view logs.old)
         (D.dialer_view dialer.old) (C.clock_view clock.old) (R.dice_view dice.old))
         (devices_with (P.port port.new) (S.source_view from.new) (K.sink_view to.new) (G.sink_view logs.new)
         (D.dialer_view dialer.new) (C.clock_view clock.new) (R.dice_view dice.new)) }
     // A peer whom the rules deny is denied, unless the log failed.
     ensures refused { IsRefused (verdict_of rules.now peer.now) result }
-    // The dialer is asked for nothing, but for a client of the plug whom the rules permit: then for the destination of the
-    // line, exactly where the log has the connect line whole. It is told how long to wait, for whom the rules permit.
+    // The dialer is asked for nothing, but for whom the rules permit: of the plug, for the destination of the line, exactly
+    // where the log has the connect line whole; of `tn-gw`, for what the session of `conn` asks for. It is told how long to
+    // wait, for whom the rules permit.
     ensures dialed { Dials service.now (verdict_of rules.now peer.now) rules.now peer.now result
         (devices_with (P.port port.old) (S.source_view from.old) (K.sink_view to.old) (G.sink_view logs.old)
         (D.dialer_view dialer.old) (C.clock_view clock.old) (R.dice_view dice.old))
         (devices_with (P.port port.new) (S.source_view from.new) (K.sink_view to.new) (G.sink_view logs.new)
         (D.dialer_view dialer.new) (C.clock_view clock.new) (R.dice_view dice.new)) }
-    // What was given to the server of a client that was linked is a front of what was taken of the client, and what was given
+    // What was given to the server of a client of the plug is a front of what was taken of the client, and what was given
     // to the client one of what was taken of the server: all of it, unless a source or a sink failed.
-    ensures fronts { FrontsBy (is_linked service.now (verdict_of rules.now peer.now)) result
+    ensures fronts { FrontsBy (kind_of service.now (verdict_of rules.now peer.now)) result
         (devices_with (P.port port.old) (S.source_view from.old) (K.sink_view to.old) (G.sink_view logs.old)
         (D.dialer_view dialer.old) (C.clock_view clock.old) (R.dice_view dice.old))
         (devices_with (P.port port.new) (S.source_view from.new) (K.sink_view to.new) (G.sink_view logs.new)
@@ -336,13 +194,13 @@ where
     ensures origin { (P.port port.new).origin ≡ (P.port port.old).origin }
     ensures home { (P.port port.new).home ≡ (P.port port.old).home }
     // Where the rules deny the peer, and for each client of the plug, the port isn't touched at all, nor the clock, nor the
-    // dice.
+    // dice; these aren't for any client of `tn-gw`.
     ensures untouched { Untouched service.now (verdict_of rules.now peer.now) port.old port.new }
     ensures unclocked { Untouched service.now (verdict_of rules.now peer.now) clock.old clock.new }
-    ensures unthrown { Untouched service.now (verdict_of rules.now peer.now) dice.old dice.new }
+    ensures unthrown { Unthrown service.now (verdict_of rules.now peer.now) dice.old dice.new }
     // No count falls; and for whom the rules permit, the client's source and the dialer wait as the rules have it at the
     // return, too.
-    ensures keeps { KeepsAs (is_linked service.now (verdict_of rules.now peer.now))
+    ensures keeps { KeepsAs (may_relay (kind_of service.now (verdict_of rules.now peer.now)))
         (lent_by (verdict_of rules.now peer.now) rules.now
         (devices_with (P.port port.old) (S.source_view from.old) (K.sink_view to.old) (G.sink_view logs.old)
         (D.dialer_view dialer.old) (C.clock_view clock.old) (R.dice_view dice.old)))

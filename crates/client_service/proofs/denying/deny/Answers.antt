@@ -1,15 +1,18 @@
-use Rattle.std.proofs.Common.{◌∙◌, sym, refl}
+use Rattle.std.proofs.Common.{subst, ◌∙◌, ◌≡◌, List, ℕ, Option}
 use Rattle.fw_outside.specs.SinkView.{SinkView}
-use Rattle.client_service.proofs.ServiceLemmas.{denied_other, denied_plug}
+use Rattle.gate_rules.specs.declared.verdict.Verdict.TheVariants.{Deny}
+use Rattle.client_service.specs.Decision.{decision_text}
+use Rattle.client_service.specs.TurningAway.{TurnedBy}
 use Rattle.client_service.proofs.denying.deny.Goals as goal
 
-pub returns-in-Some : goal.returns-in-Some
-returns-in-Some g c =
+pub returns : goal.returns
+returns g c =
     let to : SinkView = g.K.Sink.sink_view c.args.to.now in
-    denied_plug c.args.service.now _ c.args.line c.args.peer.now c.log_off.result to to (g.G.Sink.sink_view c.args.logs.now) (g.G.Sink.sink_view c.log_off.new.logs) (sym c.plug_in.ensures ∙ c.in-Some.is)
-    (record { off = c.log_off.ensures; same = refl })
-
-pub returns-in-None : goal.returns-in-None
-returns-in-None g c =
-    denied_other c.args.service.now c.args.line c.args.peer.now c.tell_off.result (g.K.Sink.sink_view c.args.to.now) (g.K.Sink.sink_view c.tell_off.new.to) (g.G.Sink.sink_view c.args.logs.now)
-    (g.G.Sink.sink_view c.tell_off.new.logs) (sym c.plug_in.ensures ∙ c.in-None.is) c.tell_off.ensures
+    let told : SinkView = g.K.Sink.sink_view c.turn_by-told.new.to in
+    let logs : SinkView = g.G.Sink.sink_view c.args.logs.now in
+    let noted : SinkView = g.G.Sink.sink_view c.turn_by-told.new.logs in
+    let line : List ℕ = decision_text (Deny c.args.line) c.args.service.now c.args.peer.now in
+    let text : c.as_slice.result.now ≡ line = c.as_slice.ensures.value ∙ c.decision_line-text.ensures in
+    let Line : List ℕ → Type 0 = λ t. TurnedBy t _ c.turn_by-told.result to told logs noted in
+    let Words : Option (List ℕ) → Type 0 = λ w. TurnedBy line w c.turn_by-told.result to told logs noted in
+    record { away = c.turn_by-told.result; turns = subst Words c.denied_words-words.ensures (subst Line text c.turn_by-told.ensures); ends = c.denied_by.ensures }

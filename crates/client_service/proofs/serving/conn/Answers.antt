@@ -1,15 +1,15 @@
 use Rattle.std.proofs.Common.{subst, sym}
 use Rattle.gate_rules.specs.declared.verdict.Verdict.{Verdict}
 use Rattle.session_acts.specs.World.{Devices, devices_with}
-use Rattle.client_service.specs.Conn.{Conn, Treats, Untouched}
-use Rattle.client_service.specs.Targets.{TargetFor}
+use Rattle.client_service.specs.Conn.{Conn, Treats, Unthrown, Untouched}
+use Rattle.client_service.specs.Options.{OptionsFor}
 use Rattle.client_service.proofs.ConnLemmas.{conn_caused, conn_dialed, conn_fronts, conn_home, conn_keeps, conn_origin, conn_refused, conn_spent, conn_waited}
-use Rattle.client_service.proofs.TargetLemmas.{served_target}
+use Rattle.client_service.proofs.OptionsLemmas.{served_options}
 use Rattle.client_service.proofs.serving.conn.Goals as goal
 
-pub treat-ending-requires-clause-target : goal.treat-ending-requires-clause-target
-treat-ending-requires-clause-target g c lifetimes outlive =
-    subst (λ (v : Verdict). TargetFor v c.args.service.now c.args.rules.now) (sym c.verdict_of-verdict.ensures) (served_target c.args.service.now c.args.rules.now c.args.peer.now c.requires.service)
+pub treat-ending-requires-clause-options : goal.treat-ending-requires-clause-options
+treat-ending-requires-clause-options g c lifetimes outlive =
+    subst (λ (v : Verdict). OptionsFor v c.args.service.now c.args.rules.now) (sym c.verdict_of-verdict.ensures) (served_options c.args.service.now c.args.rules.now c.args.peer.now c.requires.service)
 
 pub returns : goal.returns
 returns g c =
@@ -32,6 +32,6 @@ returns g c =
       home = conn_home c.args.service.now c.args.rules.now c.args.peer.now old new c.treat-ending.result conn;
       untouched = subst (λ (v : Verdict). Untouched c.args.service.now v c.args.port.now c.treat-ending.new.port) c.verdict_of-verdict.ensures c.treat-ending.ensures.untouched;
       unclocked = subst (λ (v : Verdict). Untouched c.args.service.now v c.args.clock.now c.treat-ending.new.clock) c.verdict_of-verdict.ensures c.treat-ending.ensures.unclocked;
-      unthrown = subst (λ (v : Verdict). Untouched c.args.service.now v c.args.dice.now c.treat-ending.new.dice) c.verdict_of-verdict.ensures c.treat-ending.ensures.unthrown;
+      unthrown = subst (λ (v : Verdict). Unthrown c.args.service.now v c.args.dice.now c.treat-ending.new.dice) c.verdict_of-verdict.ensures c.treat-ending.ensures.unthrown;
       keeps = conn_keeps c.args.service.now c.args.rules.now c.args.peer.now old new c.treat-ending.result conn;
     }

@@ -1,19 +1,4 @@
-use Rattle.std.proofs.Common.{subst, sym, ◌∙◌, ◌≡◌, List, ℕ, false}
-use Rattle.authsrv_gate.specs.Dialogue.{rows, session_row}
-use Rattle.gate_rules.specs.declared.verdict.Verdict.TheVariants.{Permit}
-use Rattle.session_acts.specs.Session.{Session}
+use Rattle.std.proofs.Common.{sym, refl, ◌∙◌}
 use Rattle.session_acts.specs.World.{Devices, devices_with}
-use Rattle.client_service.specs.Decision.{decision_text}
-use Rattle.client_service.specs.Meeting.{logged_row, patient, timeout_of}
-use Rattle.client_service.proofs.ServiceLemmas.{permitted_other}
+use Rattle.client_service.proofs.ServiceLemmas.{is_gateway, permitted_gate, permitted_other, unthrown_by}
 use Rattle.client_service.proofs.serving.permit.Goals as goal
-
-pub returns-in-None-clause-permits : goal.returns-in-None-clause-permits
-returns-in-None-clause-permits g c =
-    let old : Devices g.row.P-Origin.Denot = devices_with (g.P.AuthPort.port c.args.port.now) (g.S.Source.source_view c.args.from.now) (g.K.Sink.sink_view c.args.to.now) (g.G.Sink.sink_view c.args.logs.now)
-    (g.D.Dialer.dialer_view c.args.dialer.now) (g.C.Clock.clock_view c.args.clock.now) (g.R.Dice.dice_view c.args.dice.now) in
-    let new : Devices g.row.P-Origin.Denot = devices_with (g.P.AuthPort.port c.admit_by.new.port) (g.S.Source.source_view c.admit_by.new.from) (g.K.Sink.sink_view c.admit_by.new.to) (g.G.Sink.sink_view c.admit_by.new.logs)
-    (g.D.Dialer.dialer_view c.admit_by.new.dialer) (g.C.Clock.clock_view c.admit_by.new.clock) (g.R.Dice.dice_view c.admit_by.new.dice) in
-    let text : c.as_slice.result.now ≡ decision_text (Permit c.args.line) c.args.service.now c.args.peer.now = c.as_slice.ensures.value ∙ c.decision_line-text.ensures in
-    let Line : List ℕ → Type 0 = λ t. Session rows (logged_row t (session_row false)) (patient (timeout_of c.args.rules.now) old) new c.admit_by.result in
-    permitted_other c.args.service.now c.args.line c.args.rules.now c.args.peer.now c.admit_by.result old new (sym c.plug_in.ensures ∙ c.in-None.is) (subst Line text c.admit_by.ensures)

@@ -2,7 +2,7 @@ use Rattle.std.proofs.Common.{refl}
 use Rattle.fw_outside.specs.SinkView.{SinkView}
 use Rattle.session_acts.specs.World.{Devices, devices_with}
 use Rattle.client_service.proofs.DenialLemmas.{denied_session}
-use Rattle.client_service.proofs.ServiceLemmas.{denied_untouched, permitted_untouched, treated_deny, treated_permit}
+use Rattle.client_service.proofs.ServiceLemmas.{denied_untouched, permitted_unthrown, permitted_untouched, same_unthrown, treated_deny, treated_permit}
 use Rattle.client_service.proofs.serving.treat.Goals as goal
 
 pub returns-in-Deny : goal.returns-in-Deny
@@ -17,7 +17,7 @@ returns-in-Deny g c =
           (denied_session c.args.service.now c.in-Deny.line c.args.peer.now c.deny.result old told logs c.deny.ensures);
       untouched = denied_untouched c.args.service.now c.args.verdict c.in-Deny.line c.args.port.now c.args.port.now c.in-Deny.is refl;
       unclocked = denied_untouched c.args.service.now c.args.verdict c.in-Deny.line c.args.clock.now c.args.clock.now c.in-Deny.is refl;
-      unthrown = denied_untouched c.args.service.now c.args.verdict c.in-Deny.line c.args.dice.now c.args.dice.now c.in-Deny.is refl;
+      unthrown = same_unthrown c.args.service.now c.args.verdict c.in-Deny.line c.args.dice.now c.args.dice.now c.in-Deny.is refl;
     }
 
 pub returns-in-Permit : goal.returns-in-Permit
@@ -30,5 +30,5 @@ returns-in-Permit g c =
       treats = treated_permit c.args.verdict c.in-Permit.line c.args.service.now c.args.rules.now c.args.peer.now c.permit.result old new c.in-Permit.is c.permit.ensures.permits;
       untouched = permitted_untouched c.args.service.now c.args.verdict c.in-Permit.line c.args.port.now c.permit.new.port c.in-Permit.is c.permit.ensures.untouched;
       unclocked = permitted_untouched c.args.service.now c.args.verdict c.in-Permit.line c.args.clock.now c.permit.new.clock c.in-Permit.is c.permit.ensures.unclocked;
-      unthrown = permitted_untouched c.args.service.now c.args.verdict c.in-Permit.line c.args.dice.now c.permit.new.dice c.in-Permit.is c.permit.ensures.unthrown;
+      unthrown = permitted_unthrown c.args.service.now c.args.verdict c.in-Permit.line c.args.dice.now c.permit.new.dice c.in-Permit.is c.permit.ensures.unthrown;
     }

@@ -5,7 +5,7 @@ use Rattle.fw_outside.specs.SourceView.{SourceView, waiting}
 use Rattle.session_acts.specs.Session.{Session}
 use Rattle.session_acts.specs.World.{Devices, devices_with}
 use Rattle.client_service.specs.Meeting.{logged_row}
-use Rattle.client_service.proofs.serving.admit_by.Goals as goal
+use Rattle.client_service.proofs.admitting.admit_by.Goals as goal
 
 pub returns : goal.returns
 returns g c =

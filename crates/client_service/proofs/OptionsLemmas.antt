@@ -1,4 +1,4 @@
--- A line of the plug that permits has a destination.
+-- A line that permits has options, and one of the plug a destination among them.
 use Rattle.std.proofs.Common.{◌≡◌, ℕ, Bool, true, false, ◌&&◌, ◌||◌, ◌∙◌, List, [], ◌∷◌, ◌++◌, refl, sym, ap, subst, cond}
 use Rattle.std.specs.Prelude.{◌==◌, IsSome, find, filter, is_none, is_some, Option, Some, None, Result, Ok, Err}
 use Rattle.std.specs.List.{list_any}
@@ -17,7 +17,7 @@ use Rattle.gate_rules.specs.Options.{options_of}
 use Rattle.gate_rules.specs.Reading.{RuleBook, book_of, closed, effect_as, effect_of, effect_then, is_of, plug_effect, rules_of, ruled, setting_effect, where_ours, with_effect, with_target}
 use Rattle.gate_rules.specs.Service.{keyword}
 use Rattle.gate_rules.specs.Settings.{set_to}
-use Rattle.gate_rules.specs.Verdict.{decided_by, rule_matches, verdict_of}
+use Rattle.gate_rules.specs.Verdict.{decided_by, options_at, rule_matches, verdict_of}
 use Rattle.gate_rules.specs.declared.attribute.Attribute.{Attribute}
 use Rattle.gate_rules.specs.declared.attribute.Attribute.TheVariants as attribute
 use Rattle.gate_rules.specs.declared.fault.RuleFault.{RuleFault}
@@ -33,8 +33,8 @@ use Rattle.gate_rules.specs.declared.setting.Setting.{Setting}
 use Rattle.gate_rules.specs.declared.verdict.Verdict.{Verdict}
 use Rattle.gate_rules.specs.declared.verdict.Verdict.TheVariants.{Permit, Deny}
 use Rattle.client_service.specs.Conn.{IsServed}
+use Rattle.client_service.specs.Options.{OptionsFor}
 use Rattle.client_service.specs.PlugService.{target_in, target_of}
-use Rattle.client_service.specs.Targets.{TargetFor}
 
 -- a rule that permits has a destination
 abbrev IsTargeted : Rule → Type 0
@@ -179,19 +179,37 @@ plug_targeted : (at line : ℕ) (lines : List Line) (rules : RuleBook) (peer : P
 unfolding verdict_of
 plug_targeted at line lines rules peer read is = one_targeted line rules.rules (rules_targets at lines rules read) (permits_one peer line rules.rules is)
 
-target_by : (at : ℕ) (lines : List Line) (rules : RuleBook) (peer : Peer) → rules_of (PlugGw at) lines ≡ Ok rules → (verdict : Verdict) → verdict_of rules peer ≡ verdict → TargetFor verdict (PlugGw at) rules
+target_by : (at : ℕ) (lines : List Line) (rules : RuleBook) (peer : Peer) → rules_of (PlugGw at) lines ≡ Ok rules → (verdict : Verdict) → verdict_of rules peer ≡ verdict → OptionsFor verdict (PlugGw at) rules
 target_by at lines rules peer read (Permit line) is = plug_targeted at line lines rules peer read is
 target_by at lines rules peer read (Deny line) is = tt
 
-no_target : (verdict : Verdict) (rules : RuleBook) → TargetFor verdict Authsrv rules
-no_target (Permit line) rules = tt
-no_target (Deny line) rules = tt
+-- a line of `tn-gw` that permits is one of the rules
+found_by : (rule : Rule) (found any : Bool) (more : Option Rule) → (any ≡ true → IsSome (option_map (λ (r : Rule). r.options) more)) → (found || any) ≡ true → IsSome (option_map (λ (r : Rule). r.options) (cond found (Some rule) more))
+found_by rule true any more later is = refl
+found_by rule false any more later is = later is
+
+one_found : (line : ℕ) (rules : List Rule) → list_any (permits_at line) rules ≡ true → IsSome (option_map (λ (rule : Rule). rule.options) (find (permits_at line) rules))
+one_found line [] any = absurd (cc)
+one_found line (rule ∷ rules) any = found_by rule (permits_at line rule) (list_any (permits_at line) rules) (find (permits_at line) rules) (one_found line rules) any
+
+permit_found : (line : ℕ) (rules : RuleBook) (peer : Peer) → verdict_of rules peer ≡ Permit line → IsSome (options_at rules line)
+unfolding verdict_of
+permit_found line rules peer is = one_found line rules.rules (permits_one peer line rules.rules is)
+
+options_by : (rules : RuleBook) (peer : Peer) (verdict : Verdict) → verdict_of rules peer ≡ verdict → OptionsFor verdict TnGw rules
+options_by rules peer (Permit line) is = permit_found line rules peer is
+options_by rules peer (Deny line) is = tt
+
+-- `authsrv` needs none
+none_needed : (verdict : Verdict) (rules : RuleBook) → OptionsFor verdict Authsrv rules
+none_needed (Permit line) rules = tt
+none_needed (Deny line) rules = tt
 
 -- so it is for whom the rules of a service permit
-pub served_target : (service : Service) (rules : RuleBook) (peer : Peer) → IsServed service rules → TargetFor (verdict_of rules peer) service rules
-served_target Authsrv rules peer served = no_target (verdict_of rules peer) rules
-served_target (PlugGw at) rules peer served = target_by at served.lines rules peer served.read (verdict_of rules peer) refl
-served_target (Netacl label) rules peer served = absurd served
-served_target TnGw rules peer served = absurd served
-served_target FtpGw rules peer served = absurd served
-served_target Smap rules peer served = absurd served
+pub served_options : (service : Service) (rules : RuleBook) (peer : Peer) → IsServed service rules → OptionsFor (verdict_of rules peer) service rules
+served_options Authsrv rules peer served = none_needed (verdict_of rules peer) rules
+served_options TnGw rules peer served = options_by rules peer (verdict_of rules peer) refl
+served_options (PlugGw at) rules peer served = target_by at served.lines rules peer served.read (verdict_of rules peer) refl
+served_options (Netacl label) rules peer served = absurd served
+served_options FtpGw rules peer served = absurd served
+served_options Smap rules peer served = absurd served

@@ -1,0 +1,37 @@
+-- A client of the Telnet gateway whom the rules permit: its session is held behind the line of the permission.
+use Rattle.std.specs.Prelude.{◌≡◌, ℕ, ◌⊎◌, Bool, true, false, List}
+use Rattle.fw_types.specs.declared.ending.Ending.{Ending}
+use Rattle.fw_types.specs.declared.peer.Peer.{Peer}
+use Rattle.gate_rules.specs.Reading.{RuleBook}
+use Rattle.gate_rules.specs.declared.service.Service.{Service}
+use Rattle.gate_rules.specs.declared.service.Service.TheVariants.{TnGw}
+use Rattle.gate_rules.specs.declared.verdict.Verdict.TheVariants.{Permit}
+use Rattle.session_acts.specs.Client.{LogFails, with_line}
+use Rattle.session_acts.specs.Relayed.{relayed, then_relay}
+use Rattle.session_acts.specs.Session.{RelaySession}
+use Rattle.session_acts.specs.World.{Devices}
+use Rattle.tn_gate.specs.Dialogue.{tn_row, tn_rows}
+use Rattle.tn_gate.specs.Dummies.{lent}
+use Rattle.tn_gate.specs.Gate.{Gate, gate_at}
+use Rattle.client_service.specs.Decision.{decision_text}
+use Rattle.client_service.specs.Meeting.{patient, timeout_of}
+
+-- the service is the Telnet gateway
+abbrev pub is_gate : Service → Bool
+is_gate TnGw = true
+is_gate service = false
+
+-- the devices that its client meets: dice have no part in its session
+abbrev pub gate_devices : {Origin : Type 0} → Devices Origin → Devices Origin
+gate_devices devices = lent devices.port devices.inlet devices.outlet devices.logs devices.dialer devices.clock
+
+-- either the log failed within this line, and nothing else was done; or it was given the line whole, and then the session of
+-- the gateway was held, a relay at its end
+abbrev pub HeldBehind : {Origin : Type 0} → List ℕ → Gate → Ending → Devices Origin → Devices Origin → Type 0
+HeldBehind line gate ending old new =
+    LogFails line old new ending ⊎ RelaySession (relayed (tn_rows gate)) (then_relay (tn_row gate)) (with_line line old) new ending
+
+-- so it is with the line of the permission, over devices that wait as the table has it; and the dice stay as they are
+pub record LetsIn {Origin : Type 0} (line : ℕ) (rules : RuleBook) (peer : Peer) (ending : Ending) (old new : Devices Origin) : Type 0 where
+  pub held : HeldBehind (decision_text (Permit line) TnGw peer) (gate_at rules line peer) ending (patient (timeout_of rules) (gate_devices old)) (gate_devices new)
+  pub dice : new.dice ≡ old.dice
