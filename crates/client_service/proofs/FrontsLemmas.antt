@@ -14,12 +14,13 @@ use Rattle.gate_rules.specs.Reading.{RuleBook}
 use Rattle.gate_rules.specs.declared.service.Service.TheVariants.{PlugGw}
 use Rattle.gate_rules.specs.declared.verdict.Verdict.TheVariants.{Permit}
 use Rattle.plug_gate.specs.Dialogue.{connect_text, plug_row}
-use Rattle.plug_gate.specs.Laws.{GivesFronts, IsFront, IsWhole}
+use Rattle.plug_gate.specs.Laws.{GivesFronts, IsWhole}
 use Rattle.plug_gate.proofs.EndLemmas.{plug_fronts}
 use Rattle.session_acts.specs.Acts.Act.{Log}
 use Rattle.session_acts.specs.Client.{LogFails, LogsFirst, with_line}
 use Rattle.session_acts.specs.Denying.{no_rows}
 use Rattle.session_acts.specs.Laws.{Adds}
+use Rattle.session_acts.specs.RelayFronts.{IsFront}
 use Rattle.session_acts.specs.Relayed.{relayed}
 use Rattle.session_acts.specs.Session.{RelaySession}
 use Rattle.session_acts.specs.World.{Devices}

@@ -1,7 +1,7 @@
 -- What each ending of a session tells, and what reached each side.
 use Rattle.std.proofs.Common.{arith, ◌≡◌, refl, sym, ap, subst, ◌∙◌, ℕ, Bool, true, false, List, [], ◌∷◌, ◌++◌, ◌⊎◌, inl, inr, Option, Some, None, Result, Ok, Err, append-nil}
 use Rattle.std.specs.Option.{option_map}
-use Rattle.std.specs.Prelude.{IfSome, length, ◌≤◌}
+use Rattle.std.specs.Prelude.{IfSome, length}
 use Rattle.auth_events.specs.declared.port.PortFault.{PortFault}
 use Rattle.auth_events.specs.declared.reply.Reply.{Reply}
 use Rattle.fw_acts.specs.Acts.{Row, PlaceTable}
@@ -18,10 +18,9 @@ use Rattle.fw_types.specs.declared.dest.Dest.{Dest}
 use Rattle.fw_types.specs.declared.ending.Ending.{Ending}
 use Rattle.fw_types.specs.declared.ending.Ending.TheVariants as endings
 use Rattle.plug_gate.specs.Dialogue.{plug_row}
-use Rattle.plug_gate.specs.Laws.{AllIsSaid, Ends, GivesFronts, IsFront, IsPlugged, IsTurnedDown, IsWhole, may_lose_down, may_lose_up}
+use Rattle.plug_gate.specs.Laws.{Ends, GivesFronts, IsPlugged, IsTurnedDown, IsWhole}
 use Rattle.relay_ways.specs.Carried.{Carries, LeavesSink, LeavesSource, Way, is_write_fault}
-use Rattle.relay_ways.specs.Ending as two_ways
-use Rattle.relay_ways.specs.Way.{holding, most_in_piece}
+use Rattle.relay_ways.specs.Way.{holding}
 use Rattle.relay_ways.specs.declared.way_end.WayEnd.{WayEnd}
 use Rattle.relay_ways.specs.declared.way_end.WayEnd.TheVariants as ways
 use Rattle.session_acts.specs.Acts.{Act, Outcome}
@@ -31,53 +30,20 @@ use Rattle.session_acts.specs.Deeds.{Deed, DeedsAll, deeds_ran}
 use Rattle.session_acts.specs.Denying.{no_rows}
 use Rattle.session_acts.specs.Laws.{Adds}
 use Rattle.session_acts.specs.Met.{Carrying, Clears, ClientRelays, Met, ServerCarries, ServerRelays, acts}
-use Rattle.session_acts.specs.Passing.{IsGiven}
+use Rattle.session_acts.specs.RelayFronts.{AllIsSaid, IsFront, may_lose_down, may_lose_up}
 use Rattle.session_acts.specs.RelayLast.{told_by}
 use Rattle.session_acts.specs.Relayed.{relayed}
-use Rattle.session_acts.specs.Relaying.{Flow, Stuck, Through, flow_of, stops_by}
+use Rattle.session_acts.specs.Relaying.{Flow, flow_of, stops_by}
 use Rattle.session_acts.specs.Session.{Held, RelaySession, closing, ending_by, ending_of, freeing, owed}
 use Rattle.session_acts.specs.World.{Devices, Names, Office, Server, Speaker, World, at_first, devices_of, most_taken, unheard}
 use Rattle.session_acts.specs.declared.cause.Cause.{Cause}
-use Rattle.session_acts.specs.declared.cause.Cause.TheVariants as causes
 use Rattle.session_acts.specs.declared.denying.NoPlace.{NoPlace}
 use Rattle.session_acts.proofs.ClientLemmas.{HaltsHere, PassesOn, logs_first, nothing_owed, over_ran, ran_first, world_by}
 use Rattle.session_acts.proofs.DeviceLemmas.{by_nothing, drains_grew, drains_took, supplies_given}
 use Rattle.session_acts.proofs.LinkedLemmas.{adds_none, adds_one}
+use Rattle.session_acts.proofs.RelayEndLemmas.{down_lost, front_by, is_shut, relay_ends, up_lost}
 use Rattle.session_acts.proofs.RelayLemmas.{both_done}
 use Rattle.session_acts.proofs.ServersHeardLemmas.{all_taken, none_taken}
-
--- ---- endings
-
--- a session that stops for the cause of an ending ends so
-stopped_ending : (ending : Ending) (cause : Cause) → stops_by ending ≡ Err cause → ending_by cause ≡ ending
-stopped_ending endings.Done cause is = absurd (cc)
-stopped_ending (endings.Denied line) cause is = absurd (cc)
-stopped_ending endings.ClientFault cause is = let same : cause ≡ causes.ClientFault = cc in ap ending_by same
-stopped_ending endings.ServerFault cause is = let same : cause ≡ causes.ServerFault = cc in ap ending_by same
-stopped_ending endings.LogFault cause is = let same : cause ≡ causes.LogFault = cc in ap ending_by same
-stopped_ending endings.AuthFault cause is = let same : cause ≡ causes.AuthFault = cc in ap ending_by same
-stopped_ending endings.Idle cause is = let same : cause ≡ causes.Idle = cc in ap ending_by same
-stopped_ending endings.NoRoute cause is = let same : cause ≡ causes.NoRoute = cc in ap ending_by same
-stopped_ending endings.Spent cause is = let same : cause ≡ causes.Spent = cc in ap ending_by same
-stopped_ending endings.NoMemory cause is = let same : cause ≡ causes.NoMemory = cc in ap ending_by same
-
-abbrev ends_by_ways : (flow : Flow) → Ending
-ends_by_ways flow = two_ways.ending_of flow.up.end flow.down.end
-
-through_ends : (through : Through) → endings.Done ≡ ends_by_ways through.flow
-through_ends through = sym (ap (λ (e : WayEnd). two_ways.ending_of e through.flow.down.end) through.up ∙ ap (λ (e : WayEnd). two_ways.ending_of ways.Done e) through.down)
-
--- a session that ends at its relay ends by the ends of the ways
-relay_ends : (outcome : Outcome Relay) (flow : Flow) (answer : Result Reply PortFault) → flow_of outcome ≡ Some flow → ending_of (told_by outcome) None answer ≡ ends_by_ways flow
-relay_ends (Ok None) flow answer is = absurd (cc)
-relay_ends (Ok (Some through)) flow answer is = let same : through.flow ≡ flow = some_same through.flow flow is in through_ends through ∙ ap ends_by_ways same
-  where
-    some_same : (one other : Flow) → Some one ≡ Some other → one ≡ other
-    some_same one other same = cc
-relay_ends (Err stuck) flow answer is = let same : stuck.flow ≡ flow = some_same stuck.flow flow is in stopped_ending (ends_by_ways stuck.flow) stuck.cause stuck.is ∙ ap ends_by_ways same
-  where
-    some_same : (one other : Flow) → Some one ≡ Some other → one ≡ other
-    some_same one other same = cc
 
 -- ---- a relay over a link
 
@@ -203,36 +169,6 @@ module _ {Origin : Type 0} where
 
 -- ---- fronts
 
-front_by : (may_lose : Bool) (way : Way) → (may_lose ≡ false → is_write_fault way.end ≡ false) → IsFront may_lose way.given way.taken
-front_by may_lose way lost = record {
-  lost = way.lost;
-  cut = way.cut;
-  short = way.short;
-  whole = λ none. sym (way.cut ∙ ap (λ (z : List ℕ). way.given ++ z) (way.whole (lost none)) ∙ append-nil way.given);
-}
-
-up_lost : (up down : WayEnd) → may_lose_up (two_ways.ending_of up down) ≡ false → is_write_fault up ≡ false
-up_lost ways.Done down is = refl
-up_lost ways.ReadFault down is = refl
-up_lost ways.Idle down is = refl
-up_lost ways.Spent down is = refl
-up_lost ways.WriteFault ways.Done is = absurd (cc)
-up_lost ways.WriteFault ways.ReadFault is = absurd (cc)
-up_lost ways.WriteFault ways.WriteFault is = absurd (cc)
-up_lost ways.WriteFault ways.Idle is = absurd (cc)
-up_lost ways.WriteFault ways.Spent is = absurd (cc)
-
-down_lost : (up down : WayEnd) → may_lose_down (two_ways.ending_of up down) ≡ false → is_write_fault down ≡ false
-down_lost up ways.Done is = refl
-down_lost up ways.ReadFault is = refl
-down_lost up ways.Idle is = refl
-down_lost up ways.Spent is = refl
-down_lost ways.Done ways.WriteFault is = absurd (cc)
-down_lost ways.ReadFault ways.WriteFault is = absurd (cc)
-down_lost ways.WriteFault ways.WriteFault is = absurd (cc)
-down_lost ways.Idle ways.WriteFault is = absurd (cc)
-down_lost ways.Spent ways.WriteFault is = absurd (cc)
-
 no_front : (may_lose : Bool) → IsFront may_lose [] []
 no_front may_lose = record { lost = []; cut = refl; short = omega (arith); whole = λ none. refl }
 
@@ -246,10 +182,6 @@ done_sink : (way : Way) (before after : SinkView) → way.end ≡ ways.Done → 
 done_sink way before after is leaves =
     let so : LeavesSink ways.Done (holding way.given before) after = subst (λ (e : WayEnd). LeavesSink e (holding way.given before) after) is leaves in
     ap (λ (s : SinkView). s.shut) so
-
-is_shut : (before : Option Bool) → IfSome (option_map (λ (shut : Bool). true) before) (λ (shut : Bool). shut ≡ true)
-is_shut None = tt
-is_shut (Some shut) = refl
 
 module _ {Origin : Type 0} where
   -- where no link came up, nothing was taken or given

@@ -1,23 +1,21 @@
 -- What a session of the plug comes to.
-use Rattle.std.specs.Prelude.{◌≡◌, ℕ, ◌≤◌, Bool, true, false, List, [], ◌∷◌, ◌++◌, ◌⊎◌, length, Option, IfSome, Result, Ok, Err}
-use Rattle.std.specs.Option.{option_map}
+use Rattle.std.specs.Prelude.{◌≡◌, ℕ, List, [], ◌∷◌, ◌⊎◌, length, Result, Ok, Err}
 use Rattle.fw_outside.specs.Counts.{Grew}
 use Rattle.fw_outside.specs.DialerView.{ComesUp, DialerView, HangsUp, LinkView, Refuses}
-use Rattle.fw_outside.specs.ToldList.{IsOver, grown}
+use Rattle.fw_outside.specs.ToldList.{grown}
 use Rattle.fw_outside.specs.declared.ask.Ask.TheVariants.{Main}
 use Rattle.fw_types.specs.declared.dest.Dest.{Dest}
 use Rattle.fw_types.specs.declared.ending.Ending.{Ending}
 use Rattle.fw_types.specs.declared.ending.Ending.TheVariants as endings
 use Rattle.relay_ways.specs.Carried.{Carries}
 use Rattle.relay_ways.specs.Ending as ways
-use Rattle.relay_ways.specs.Way.{most_in_piece}
 use Rattle.relay_ways.specs.declared.way_end.WayEnd.{WayEnd}
 use Rattle.session_acts.specs.Acts.{Front, Outcome}
 use Rattle.session_acts.specs.Acts.Act.{Log, Reach, Relay}
 use Rattle.session_acts.specs.Client.{LogFails, line_logged, with_line}
 use Rattle.session_acts.specs.Deeds.{Deed}
 use Rattle.session_acts.specs.Laws.{Adds, CallsDialer, TellsClient, TellsLog}
-use Rattle.session_acts.specs.Passing.{IsGiven}
+use Rattle.session_acts.specs.RelayFronts.{AllIsSaid, IsFront, OverLink, may_lose_down, may_lose_up}
 use Rattle.session_acts.specs.Relaying.{flow_of, given_down}
 use Rattle.session_acts.specs.World.{Devices, World, most_taken}
 use Rattle.session_acts.specs.declared.cause.Cause.{Cause}
@@ -118,37 +116,13 @@ Ends line dest old new ending = LogFails line old new ending ⊎ (IsTurnedDown d
 
 -- ---- what reached each side
 
--- What was given is a front of what was taken, at most 4,096 bytes short; and all of it, unless it may be short.
-pub record IsFront (may_lose : Bool) (given taken : List ℕ) : Type 0 where
-  pub lost : List ℕ
-  pub cut : taken ≡ given ++ lost
-  pub short : length lost ≤ most_in_piece
-  pub whole : may_lose ≡ false → given ≡ taken
-
--- the server may be given less than was taken of the client only if a sink or a source failed, and the client less than was
--- taken of the server only if its own sink did
-abbrev pub may_lose_up : Ending → Bool
-may_lose_up endings.ClientFault = true
-may_lose_up endings.ServerFault = true
-may_lose_up _ = false
-
-abbrev pub may_lose_down : Ending → Bool
-may_lose_down endings.ClientFault = true
-may_lose_down _ = false
-
 -- over the link that was hung up, if one was, the server was given these bytes, and these were taken of it
-abbrev pub OverLink : (given taken : List ℕ) → List LinkView → Type 0
-OverLink given taken [] = (given ≡ []) × (taken ≡ [])
-OverLink given taken (link ∷ []) = IsGiven given link.to.given × IsGiven taken link.from.taken
-OverLink given taken (link ∷ other ∷ links) = ⊥
+abbrev pub OverOne : (given taken : List ℕ) → List LinkView → Type 0
+OverOne given taken [] = (given ≡ []) × (taken ≡ [])
+OverOne given taken (link ∷ []) = OverLink given taken link
+OverOne given taken (link ∷ other ∷ links) = ⊥
 
--- nothing is left of what either side says, and each was told that no more comes
-pub record AllIsSaid {Origin : Type 0} (old new : Devices Origin) (link : LinkView) : Type 0 where
-  pub client : IsOver new.inlet.left
-  pub server : IsOver link.from.left
-  pub client_told : new.outlet.shut ≡ option_map (λ _. true) old.outlet.shut
-  pub server_told : IfSome link.to.shut (λ shut. shut ≡ true)
-
+-- over it all was said
 abbrev pub IsWhole : {Origin : Type 0} → Devices Origin → Devices Origin → List LinkView → Type 0
 IsWhole old new [] = ⊥
 IsWhole old new (link ∷ []) = AllIsSaid old new link
@@ -167,7 +141,7 @@ pub record GivesFronts {Origin : Type 0} (old new : Devices Origin) (ending : En
   pub told : new.outlet.given ≡ grown old.outlet.given to_client
   pub links : List LinkView
   pub ended : Adds links old.dialer.ended new.dialer.ended
-  pub over : OverLink to_server of_server links
+  pub over : OverOne to_server of_server links
   pub up : IsFront (may_lose_up ending) to_server of_client
   pub down : IsFront (may_lose_down ending) to_client of_server
   pub done : ending ≡ endings.Done → IsWhole old new links

@@ -104,7 +104,7 @@ both_sink a b c first next = record { drops = omega (arith, first.drops, next.dr
 pub sink_holds : (old new : SinkView) → SinkKeeps old new → SinkHolds old new
 sink_holds old new keeps = record { drops = keeps.drops; shut = inl keeps.shut }
 
-shut_twice : (shut : Option Bool) → option_map (λ (told : Bool). true) (option_map (λ (told : Bool). true) shut) ≡ option_map (λ (told : Bool). true) shut
+pub shut_twice : (shut : Option Bool) → option_map (λ (told : Bool). true) (option_map (λ (told : Bool). true) shut) ≡ option_map (λ (told : Bool). true) shut
 shut_twice None = refl
 shut_twice (Some shut) = refl
 

@@ -171,7 +171,7 @@ act_hearing Relay outcome old new h = relays_hearing (flow_of outcome) old new h
 -- ---- the session
 
 module _ {Origin : Type 0} where
-  heard_gains : Gains Origin heard_in (λ heards old new. HearsOn heards old.client new.client)
+  pub heard_gains : Gains Origin heard_in (λ heards old new. HearsOn heards old.client new.client)
   heard_gains = record {
     none = λ world. hears_nothing world.client;
     both = λ first more old mid new a b. hears_both first more old.client mid.client new.client a b;

@@ -16,6 +16,7 @@ pub mod OneSessionLemmas
 pub mod OwedLemmas
 pub mod ServerlessLemmas
 pub mod OverLinksLemmas
+pub mod QuietLemmas
 pub mod PassingLemmas
 pub mod ServersHeardLemmas
 pub mod SaidLemmas
@@ -23,6 +24,8 @@ pub mod SpentLemmas
 pub mod StageLemmas
 pub mod ShutLemmas
 pub mod RelayLemmas
+pub mod RelayEndLemmas
+pub mod RelayFrontsLemmas
 pub mod RelayGivesLemmas
 pub mod RelayLastLemmas
 pub mod TalkLemmas

@@ -103,7 +103,7 @@ module _ {A : Type 0} (tale : Tale A) where
 
   -- ---- lists
 
-  over_both : (first more : List (List A)) (links others : List LinkView) → AreOver tale.WasUp first links → AreOver tale.WasUp more others → AreOver tale.WasUp (first ++ more) (links ++ others)
+  pub over_both : (first more : List (List A)) (links others : List LinkView) → AreOver tale.WasUp first links → AreOver tale.WasUp more others → AreOver tale.WasUp (first ++ more) (links ++ others)
   over_both [] more [] others a b = b
   over_both [] more (link ∷ links) others a b = absurd a
   over_both (known ∷ first) more [] others a b = absurd a

@@ -29,7 +29,7 @@ use Rattle.session_acts.proofs.RelayLastLemmas.{done_through}
 
 -- ---- both ways
 
-conveys_by : (up down : Way) (one other one_after other_after : Speaker) → Carrying up down one one_after → Carrying down up other other_after → Conveys up one other one_after other_after
+pub conveys_by : (up down : Way) (one other one_after other_after : Speaker) → Carrying up down one one_after → Carrying down up other other_after → Conveys up one other one_after other_after
 conveys_by up down one other one_after other_after here there = record {
   bytes = here.drains.bytes;
   took = ap (λ (s : Speaker). s.inlet.taken) here.is ∙ drains_took up one.reader.pending one.reader.room here.room one.inlet here.inlet here.drains;
@@ -40,24 +40,25 @@ conveys_by up down one other one_after other_after here there = record {
 }
 
 -- a relay with a flow has a link
-record OverLink (flow : Flow) (client client_after : Speaker) (old new : Server) : Type 0 where
-  link : Speaker
-  after : Speaker
-  was : old.link ≡ Some link
-  is : new.link ≡ Some after
-  here : Carrying flow.up flow.down client client_after
-  there : Carrying flow.down flow.up link after
+pub record RelayOver (flow : Flow) (client client_after : Speaker) (old new : Server) : Type 0 where
+  pub link : Speaker
+  pub after : Speaker
+  pub was : old.link ≡ Some link
+  pub is : new.link ≡ Some after
+  pub here : Carrying flow.up flow.down client client_after
+  pub there : Carrying flow.down flow.up link after
+  pub dialer : new.dialer ≡ old.dialer
 
-over_link : (flow : Flow) (link : Option Speaker) (client client_after : Speaker) (old new : Server) → old.link ≡ link → ClientRelays (Some flow) client client_after → ServerRelays (Some flow) link old new → OverLink flow client client_after old new
+over_link : (flow : Flow) (link : Option Speaker) (client client_after : Speaker) (old new : Server) → old.link ≡ link → ClientRelays (Some flow) client client_after → ServerRelays (Some flow) link old new → RelayOver flow client client_after old new
 over_link flow None client client_after old new is here there = absurd there
-over_link flow (Some link) client client_after old new is here there = record { link = link; after = there.speaker; was = is; is = ap (λ (s : Server). s.link) there.is; here = here; there = there.carries }
+over_link flow (Some link) client client_after old new is here there = record { link = link; after = there.speaker; was = is; is = ap (λ (s : Server). s.link) there.is; here = here; there = there.carries; dialer = ap (λ (s : Server). s.dialer) there.is }
 
 module _ {Origin : Type 0} where
-  met_over : (outcome : Outcome Relay) (flow : Flow) (old new : World Origin) → Met Relay outcome old new → flow_of outcome ≡ Some flow → OverLink flow old.client new.client old.server new.server
+  pub met_over : (outcome : Outcome Relay) (flow : Flow) (old new : World Origin) → Met Relay outcome old new → flow_of outcome ≡ Some flow → RelayOver flow old.client new.client old.server new.server
   met_over outcome flow old new met is =
       over_link flow old.server.link old.client new.client old.server new.server refl (subst (λ (f : Option Flow). ClientRelays f old.client new.client) is met.client) (subst (λ (f : Option Flow). ServerRelays f old.server.link old.server new.server) is met.server)
 
-  abbrev both_by : (flow : Flow) (old new : World Origin) → OverLink flow old.client new.client old.server new.server → ConveysBoth flow old new
+  abbrev both_by : (flow : Flow) (old new : World Origin) → RelayOver flow old.client new.client old.server new.server → ConveysBoth flow old new
   both_by flow old new over = record {
     link = over.link;
     link_after = over.after;

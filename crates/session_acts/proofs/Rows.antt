@@ -10,7 +10,7 @@ use Rattle.fw_outside.specs.declared.heard.Stop.TheVariants as stops
 use Rattle.fw_types.specs.declared.dest.Dest.{Dest}
 use Rattle.fw_types.specs.declared.ending.Ending.TheVariants as endings
 use Rattle.session_acts.specs.Acts.{Front, cause_by}
-use Rattle.session_acts.specs.Acts.Act.{Hear, Say, Try, Log, Note, Renew, Dial, Reach, Take, Pass, HangUp}
+use Rattle.session_acts.specs.Acts.Act.{Hear, Say, Try, Log, Note, Renew, Dial, Reach, Take, Pass, HangUp, Relay}
 use Rattle.session_acts.specs.Deeds.{gives}
 use Rattle.session_acts.specs.FullPort.{limit_told}
 use Rattle.session_acts.specs.Hearing.{heard_in}
@@ -18,6 +18,7 @@ use Rattle.session_acts.specs.Hearing.Fate.{IsHeard}
 use Rattle.session_acts.specs.Laws.{logged, told}
 use Rattle.session_acts.specs.Passing.{passed_over}
 use Rattle.session_acts.specs.Met.{opened_then}
+use Rattle.session_acts.specs.RelayFronts.{before_relay, flow_in, is_quiet, may_lose_down, may_lose_up}
 use Rattle.session_acts.specs.Session.{closing, ending_of}
 use Rattle.session_acts.specs.Talk.{asked, numbers_told, thrown}
 use Rattle.session_acts.specs.declared.cause.Cause.TheVariants as causes
@@ -81,6 +82,21 @@ an_idle_client_is_heard_so = refl
 
 a_full_port_tells_its_limit : limit_told (replies.Denied (denials.Full 3)) ≡ Some 3
 a_full_port_tells_its_limit = refl
+
+no_link_no_flow : flow_in (record { act = Relay; outcome = Ok None } ∷ []) ≡ None
+no_link_no_flow = refl
+
+the_talk_is_before_the_relay : before_relay (record { act = Say (codes "a"); outcome = Ok tt } ∷ record { act = Relay; outcome = Ok None } ∷ record { act = HangUp; outcome = Ok tt } ∷ []) ≡ record { act = Say (codes "a"); outcome = Ok tt } ∷ []
+the_talk_is_before_the_relay = refl
+
+a_take_is_not_quiet : is_quiet Take ≡ false
+a_take_is_not_quiet = refl
+
+a_fault_of_the_server_may_lose : may_lose_up endings.ServerFault ≡ true
+a_fault_of_the_server_may_lose = refl
+
+but_nothing_for_the_client : may_lose_down endings.ServerFault ≡ false
+but_nothing_for_the_client = refl
 
 nothing_is_owed : closing None (Err faults.Link) ≡ []
 nothing_is_owed = refl

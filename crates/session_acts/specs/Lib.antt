@@ -16,6 +16,7 @@ pub mod Passing
 pub mod ServersHeard
 pub mod Relayed
 pub mod Relaying
+pub mod RelayFronts
 pub mod RelayLast
 pub mod Finishing
 pub mod Said

@@ -21,15 +21,16 @@ ghost use Rattle.session_acts.specs.LastStop.{StopsLast, one_lacked_memory};
 ghost use Rattle.session_acts.specs.Laws.{CallsDialer, CountsRefusals, LinksDialer, TellsClient, TellsLog, called, linked, logged, refused, told};
 ghost use Rattle.session_acts.specs.Met.{Met, acts};
 ghost use Rattle.session_acts.specs.Passing.{GivesServers, passed_over};
+ghost use Rattle.session_acts.specs.RelayFronts.{KeepsQuiet, RelaysFronts};
 ghost use Rattle.session_acts.specs.RelayLast.{CarriesAll, ConveysBoth, GivesLast, RelaysLast, StopsBefore};
 ghost use Rattle.session_acts.specs.Relayed.{relayed, then_relay};
 ghost use Rattle.session_acts.specs.Relaying.{Flow, Through, flow_of};
 ghost use Rattle.session_acts.specs.Said.{SaysLines};
 ghost use Rattle.session_acts.specs.Serverless.{CausedAlone, KeepsServerless, TakesExactly};
 ghost use Rattle.session_acts.specs.ServersHeard.{HearsServers, heard_over};
-ghost use Rattle.session_acts.specs.Session.{Held, Session, SessionAs, deeds_of};
+ghost use Rattle.session_acts.specs.Session.{Held, RelaySession, Session, SessionAs, deeds_of};
 ghost use Rattle.session_acts.specs.Talk.{CountsAsks, Entered, ThrowsSalts, answered, asked, is_entered, is_refused_as_full, said_of, thrown};
-ghost use Rattle.session_acts.specs.World.{Devices, Speaker, World, most_taken};
+ghost use Rattle.session_acts.specs.World.{Devices, Speaker, World, devices_of, most_taken};
 ghost use Rattle.session_acts.specs.declared.cause.Cause.{Cause};
 
 /// What a client was given by a session is what its deeds say and try to say, one after another: of a text at which the
@@ -243,6 +244,26 @@ pub fn a_relay_carries<Origin, P>()
     ensures given { (rows : PlaceTable (acts Origin) P) (first : Row (acts Origin) P) (old new : World Origin) (ending : Ending)
         (held : Held (relayed rows) (then_relay first) old new ending) (last : RelaysLast rows first held) (flow : Flow) →
         old.server.link ≡ None → flow_of last.outcome ≡ Some flow → GivesLast (deeds_ran last.talk) flow.up old new }
+{}
+
+/// What reached each side of a session with a relay whose rows take nothing of a server and give it nothing, where no link was
+/// up and nothing was pending before. If nothing was relayed, the client was given what the session told, of it was taken what
+/// the session heard, with at most 4,096 bytes behind, and over no link anything was given or taken. Else of the client was
+/// taken what the dialogue heard and then, from the first byte that it didn't hear, what was taken for the way to the server;
+/// it was given what the dialogue told, and then what was relayed to it. The last link that was hung up, where the dialer tells,
+/// is that of the relay: its server was given what was relayed to it and nothing else, and of it nothing else was taken; over
+/// the links before it nothing was given or taken. What was given to one side is a front of what was taken of the other, at
+/// most 4,096 bytes short, and whole, to the server unless the ending is `ClientFault` or `ServerFault`, to the client unless
+/// it is `ClientFault`. If it is `Done`, nothing is left on either side, and each was told that no more comes. `held` says so
+/// of the worlds, `session` of a session over its devices, before which no link is up and nothing is pending.
+pub fn fronts_are_relayed<Origin, P>()
+    ensures held { (rows : PlaceTable (acts Origin) P) (first : Row (acts Origin) P) (old new : World Origin)
+        (ending : Ending) (held : Held (relayed rows) (then_relay first) old new ending) → KeepsQuiet rows first →
+        old.server.link ≡ None → old.client.reader.pending ≡ [] →
+        RelaysFronts (deeds_of held) (devices_of old) (devices_of new) ending }
+    ensures session { (rows : PlaceTable (acts Origin) P) (first : Row (acts Origin) P) (old new : Devices Origin)
+        (ending : Ending) (session : RelaySession (relayed rows) (then_relay first) old new ending) →
+        KeepsQuiet rows first → RelaysFronts (deeds_of session.held) old new ending }
 {}
 
 /// A session with a relay keeps the course of requests if its rows do.
