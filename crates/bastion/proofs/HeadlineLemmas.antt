@@ -5,6 +5,7 @@ use Rattle.std.specs.Prelude.{Option, Some, None, Result, Ok, Err}
 use Rattle.auth_machine.specs.Book.{BookView}
 use Rattle.auth_machine.specs.Port.{BookOrigin, book_port}
 use Rattle.authsrv_gate.specs.Dialogue.{rows}
+use Rattle.client_service.specs.Conn.{NotedIf}
 use Rattle.client_service.specs.Decision.{decision_text}
 use Rattle.client_service.specs.Endings.{denied_text}
 use Rattle.fw_outside.specs.SinkView.{Gives, SinkView}
@@ -29,7 +30,7 @@ use Rattle.bastion.specs.Asking.{IsUndecided}
 use Rattle.bastion.specs.Gateway.{IsGated, IsUnmet}
 use Rattle.bastion.specs.Headline.{Headline, HeadlineFor, IsDenied, IsPermitted, IsToldOffAway, LogsDenial, OfHistory, begins, lent_to}
 use Rattle.bastion.specs.Inputs.{Inputs}
-use Rattle.bastion.specs.Outcome.{fault_line_of, status_of, verdict_status}
+use Rattle.bastion.specs.Outcome.{fault_line_of, is_stopped, status_of, verdict_status}
 use Rattle.bastion.specs.Run.{DoesLine, ReadsOnly, Run, Stops, TellsIf, Worked, verdict_for}
 use Rattle.bastion.specs.Serving.{Attended, UntouchedAt, book_at_first, devices_at, most_entries, origin_of}
 use Rattle.bastion.specs.Status.{IsHeld, IsServed}
@@ -53,7 +54,7 @@ use Rattle.bastion.proofs.GatewayLemmas.{gated_headline}
 use Rattle.bastion.proofs.LaunchLemmas.{Launching, launched, run_status_by}
 use Rattle.bastion.proofs.LinkedLemmas.{linked_headline}
 use Rattle.bastion.proofs.SessionLemmas.{OfClient, OfSession, lent_outlet, lent_port, serves_so}
-use Rattle.bastion.proofs.TalkLemmas.{concluded, legal_talk, was}
+use Rattle.bastion.proofs.TalkLemmas.{concluded, legal_talk, tells_noted, was}
 use Rattle.bastion.proofs.RunLemmas.{Later, only_left, stops_left, tells_later, worked_unasked}
 
 -- ---- nothing was done
@@ -78,22 +79,41 @@ silent_headline name (TnGw peer) status old new h none =
     let unmet : IsUnmet status old new = record { undecided = none; unserved = h } in record { replies_legal = inl unmet; asks_permitted = inl unmet; denials_logged = inl h.silent }
 silent_headline name (PlugGw caller) status old new h none = record { replies_legal = tt; asks_permitted = inl none; denials_logged = (inl h.silent, λ denied. none.output) }
 
-stops_undone : (name : List ℕ) (command : Command) (outcome : Outcome) (old new : WorldView) → Stops name command outcome old new → status_of outcome ≢ 0
-stops_undone name command (Unread refusal) old new h is = omega (arith, is)
-stops_undone name command (Failed which) old new h is = omega (arith, is)
-stops_undone name command (NoMemory step) old new h is = omega (arith, is)
-stops_undone name command Usage old new h is = omega (arith, is)
-stops_undone name command (Decided verdict) old new h is = h
-stops_undone name command (Ended ending refused) old new h is = h
+-- ---- what such a run comes to
 
-stops_undecided : (name : List ℕ) (command : Command) (outcome : Outcome) (old mid new : WorldView) → Stops name command outcome old mid → Later mid new → IsUndecided (status_of outcome) old new
-stops_undecided name command outcome old mid new h later =
+stops_stopped : (name : List ℕ) (command : Command) (outcome : Outcome) (old new : WorldView) → Stops name command outcome old new → is_stopped outcome ≡ true
+stops_stopped name command (Unread refusal) old new h = refl
+stops_stopped name command (Failed which) old new h = refl
+stops_stopped name command (NoMemory step) old new h = refl
+stops_stopped name command Usage old new h = absurd h
+stops_stopped name command (Decided verdict) old new h = absurd h
+stops_stopped name command (Ended ending refused) old new h = absurd h
+
+stopped_unheld : (outcome : Outcome) → is_stopped outcome ≡ true → (status_of outcome ≢ 0) × (status_of outcome ≢ 6)
+stopped_unheld (Unread refusal) stopped = (λ is. omega (arith, is), λ is. omega (arith, is))
+stopped_unheld (Failed which) stopped = (λ is. omega (arith, is), λ is. omega (arith, is))
+stopped_unheld (NoMemory step) stopped = (λ is. omega (arith, is), λ is. omega (arith, is))
+stopped_unheld Usage stopped = absurd (cc)
+stopped_unheld (Decided verdict) stopped = absurd (cc)
+stopped_unheld (Ended ending refused) stopped = absurd (cc)
+
+stops_undecided : (name : List ℕ) (command : Command) (outcome : Outcome) (old mid new : WorldView) → Stops name command outcome old mid → TellsIf (fault_line_of outcome) mid new → IsUndecided (status_of outcome) old new
+stops_undecided name command outcome old mid new h tells =
     let left = stops_left name command outcome old mid h in
-    record { dialer = ap (λ (i : SessionInputs). i.dialer) later.inputs ∙ left.dialer; output = later.output ∙ left.output; undone = stops_undone name command outcome old mid h }
+    let later = tells_later (fault_line_of outcome) mid new tells in
+    record {
+      outcome = outcome;
+      stopped = stops_stopped name command outcome old mid h;
+      noted = subst (λ (s : SinkView). NotedIf (fault_line_of outcome) s new.logs) left.logs (tells_noted (fault_line_of outcome) mid new tells);
+      dialer = ap (λ (i : SessionInputs). i.dialer) later.inputs ∙ left.dialer;
+      output = later.output ∙ left.output;
+      status_is = refl;
+    }
 
 stops_unserved : (name : List ℕ) (command : Command) (outcome : Outcome) (old mid new : WorldView) → Stops name command outcome old mid → Later mid new → IsUnserved (status_of outcome) old new
 stops_unserved name command outcome old mid new h later = record {
   silent = stops_silent name command outcome old mid new h later;
+  unheld = stopped_unheld outcome (stops_stopped name command outcome old mid h);
   kept = ap table_kept later.inputs ∙ (stops_left name command outcome old mid h).table;
 }
 
@@ -247,6 +267,7 @@ denial_headline client inputs out old mid new h tells line outside denied (inl f
     let four : status_of out ≡ 4 = ended_log out h.ending h.book.refused h.over.comes fails.ends in
     inl (record {
       silent = record { output = later.output ∙ ap (λ (d : Devices BookOrigin). d.outlet) fails.same; undenied = λ one. omega (arith, four, one) };
+      unheld = (λ none. omega (arith, four, none), λ six. omega (arith, four, six));
       kept =
           ap (option_map (λ (k : KeeperView). k.table)) (ap (λ (i : SessionInputs). i.keeper) later.inputs ∙ h.over.kept ∙ ap (λ (k : KeeperView). Some k) kept ∙ sym h.over.keeper);
     })
@@ -279,7 +300,7 @@ silent_from : (status : ℕ) (old mid new : WorldView) → mid.output ≡ old.ou
 silent_from status old mid new is h = record { output = h.output ∙ is; undenied = h.undenied }
 
 unserved_from : (name : List ℕ) (status : ℕ) (old mid new : WorldView) → ReadsOnly name true old mid → IsUnserved status mid new → IsUnserved status old new
-unserved_from name status old mid new only h = record { silent = silent_from status old mid new only.output h.silent; kept = h.kept ∙ (only_left name true old mid only).table }
+unserved_from name status old mid new only h = record { silent = silent_from status old mid new only.output h.silent; unheld = h.unheld; kept = h.kept ∙ (only_left name true old mid only).table }
 
 netacl_headline : (name : List ℕ) (query : Query) (outcome : Outcome) (status : ℕ) (old mid new : WorldView) (h : Worked name (Netacl query) outcome old mid) → new.inputs.dialer ≡ old.inputs.dialer
     → IsSilent status h.middle new ⊎ (IsPermitted (Netacl query) h.inputs status ⊎ IsDenied (Netacl query) query.service query.peer h.inputs status h.middle new) → HeadlineFor name (Netacl query) status old new
@@ -339,7 +360,7 @@ worked_headline name (TnGw peer) outcome old mid new h tells =
 does_headline : (line : Option LineView) (outcome : Outcome) (old mid new : WorldView) → DoesLine line outcome old mid → TellsIf (fault_line_of outcome) mid new → Headline line (status_of outcome) old new
 does_headline None outcome old mid new h tells = ap (λ (i : SessionInputs). i.dialer) (tells_later (fault_line_of outcome) mid new tells).inputs ∙ ap (λ (w : WorldView). w.inputs.dialer) h.is
 does_headline (Some line) outcome old mid new (inl h) tells =
-    silent_headline line.table line.command (status_of outcome) old new (stops_unserved line.table line.command outcome old mid new h (tells_later (fault_line_of outcome) mid new tells)) (stops_undecided line.table line.command outcome old mid new h (tells_later (fault_line_of outcome) mid new tells))
+    silent_headline line.table line.command (status_of outcome) old new (stops_unserved line.table line.command outcome old mid new h (tells_later (fault_line_of outcome) mid new tells)) (stops_undecided line.table line.command outcome old mid new h tells)
 does_headline (Some line) outcome old mid new (inr h) tells = worked_headline line.table line.command outcome old mid new h tells
 
 pub run_headline : (line : Option LineView) (status : ℕ) (old new : WorldView) → Run line status old new → Headline line status old new

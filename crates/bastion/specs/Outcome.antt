@@ -1,5 +1,5 @@
 -- What a run comes to: its status, its line in the log, and whose count has risen. Three tables, by cases.
-use Rattle.std.specs.Prelude.{ℕ, ◌⊎◌, Bool, false, List, ◌++◌, Option, Some, None, unwrap_or, codes, if◌then◌else◌}
+use Rattle.std.specs.Prelude.{ℕ, ◌⊎◌, Bool, true, false, List, ◌++◌, Option, Some, None, unwrap_or, codes, if◌then◌else◌}
 use Rattle.std.specs.Fmt.{decimal}
 use Rattle.fw_outside.specs.Counts.{Rose}
 use Rattle.fw_outside.specs.KeeperView.{KeeperView}
@@ -51,6 +51,13 @@ status_of (Failed which) = 4
 status_of (NoMemory step) = 5
 status_of (Decided verdict) = verdict_status verdict
 status_of (Ended ending refused) = if is_at_limit ending refused then 6 else ending_status ending
+
+-- what the command needs couldn't be had
+abbrev pub is_stopped : Outcome → Bool
+is_stopped (Unread refusal) = true
+is_stopped (Failed which) = true
+is_stopped (NoMemory step) = true
+is_stopped _ = false
 
 -- ---- the line in the log
 

@@ -46,6 +46,7 @@ pub record IsSilent (status : ℕ) (old new : WorldView) : Type 0 where
 -- No session was held, and nobody was told that it is denied: the client was told nothing, and the keeper has what it had.
 pub record IsUnserved (status : ℕ) (old new : WorldView) : Type 0 where
   pub silent : IsSilent status old new
+  pub unheld : (status ≢ 0) × (status ≢ 6)
   pub kept : table_kept new.inputs ≡ table_kept old.inputs
 
 -- the requests that a session asked and that were answered, with their replies
