@@ -37,7 +37,7 @@ use Rattle.tn_gate.specs.Asked.{Role, asked_for, asked_in, candidate, grants, is
 use Rattle.tn_gate.specs.Asked.Role.{IsName, IsResponse, IsCommand}
 use Rattle.tn_gate.specs.Dialogue.{heard_form, tn_row, tn_rows}
 use Rattle.tn_gate.specs.Gate.{Gate, asks_login}
-use Rattle.tn_gate.specs.Laws.{AsksExactly, DenialsLogged, DialsCleared, IsCleared, IsLoggedFirst}
+use Rattle.tn_gate.specs.Laws.{AsksExactly, DialsCleared, IsCleared}
 use Rattle.tn_gate.specs.declared.place.Place.{Place}
 use Rattle.tn_gate.proofs.AccountLemmas.{Noted, Talk, all_asked, all_calls, all_deeds, all_talk, asks_now, at_start, deed_of, note, noted_after, noted_both, total, turn}
 use Rattle.tn_gate.proofs.WatchLemmas.{Behind, May, MayDial, first_keeps, rows_keep, tn_watch}
@@ -46,7 +46,6 @@ use Rattle.tn_gate.proofs.WatchLemmas.{Behind, May, MayDial, first_keeps, rows_k
 
 record Fits (gate : Gate) (n : Noted) (deed : Deed) : Type 0 where
   dials : (dest : Dest) → called deed.act deed.outcome ≡ Main dest ∷ [] → MayDial gate dest n
-  tells : (text : List ℕ) → deed.act ≡ Say text → IsLoggedFirst gate text n.deeds
 
 abbrev AllFit : Gate → Noted → List Deed → Type 0
 AllFit gate n [] = Unit {0}
@@ -58,20 +57,16 @@ no_calls = []
 no_call : {A : Type 0} (dest : Dest) → no_calls ≡ Main dest ∷ [] → A
 no_call dest is = absurd (cc)
 
-abbrev text_of : Act → List ℕ
-text_of (Say text) = text
-text_of act = []
-
 abbrev dest_in : List outside.Ask → Dest → Dest
 dest_in (Main dest ∷ more) other = dest
 dest_in calls other = other
 
 fits_by : (gate : Gate) (n : Noted) (act : Act) (outcome : Outcome act) → May gate n act → Fits gate n (deed_of act outcome)
-fits_by gate n (Say text) outcome may = record { dials = λ dest is. no_call dest is; tells = λ other is. subst (λ (t : List ℕ). IsLoggedFirst gate t n.deeds) (ap text_of is) may.0 }
-fits_by gate n (Dial dest) outcome may = record { dials = λ other is. subst (λ (d : Dest). MayDial gate d n) (ap (λ (z : List outside.Ask). dest_in z dest) is) may.0; tells = λ text is. absurd (cc) }
-fits_by gate n (Hear form) outcome may = record { dials = λ dest is. no_call dest is; tells = λ text is. absurd (cc) }
-fits_by gate n (Log line) outcome may = record { dials = λ dest is. no_call dest is; tells = λ text is. absurd (cc) }
-fits_by gate n (Ask request) outcome may = record { dials = λ dest is. no_call dest is; tells = λ text is. absurd (cc) }
+fits_by gate n (Say text) outcome may = record { dials = λ dest is. no_call dest is }
+fits_by gate n (Dial dest) outcome may = record { dials = λ other is. subst (λ (d : Dest). MayDial gate d n) (ap (λ (z : List outside.Ask). dest_in z dest) is) may.0 }
+fits_by gate n (Hear form) outcome may = record { dials = λ dest is. no_call dest is }
+fits_by gate n (Log line) outcome may = record { dials = λ dest is. no_call dest is }
+fits_by gate n (Ask request) outcome may = record { dials = λ dest is. no_call dest is }
 fits_by gate n (Try text) outcome may = absurd may
 fits_by gate n (Note text) outcome may = absurd may
 fits_by gate n (Renew name hash) outcome may = absurd may
@@ -82,13 +77,13 @@ fits_by gate n HangUp outcome may = absurd may
 fits_by gate n Relay outcome may = absurd may
 
 fits_hang_up : (gate : Gate) (n : Noted) (outcome : Outcome HangUp) → Fits gate n (deed_of HangUp outcome)
-fits_hang_up gate n outcome = record { dials = λ dest is. no_call dest is; tells = λ text is. absurd (cc) }
+fits_hang_up gate n outcome = record { dials = λ dest is. no_call dest is }
 
 fits_relay : (gate : Gate) (n : Noted) (outcome : Outcome Relay) → Fits gate n (deed_of Relay outcome)
-fits_relay gate n outcome = record { dials = λ dest is. no_call dest is; tells = λ text is. absurd (cc) }
+fits_relay gate n outcome = record { dials = λ dest is. no_call dest is }
 
 fits_close : (gate : Gate) (n : Noted) (outcome : Outcome (Ask requests.Close)) → Fits gate n (deed_of (Ask requests.Close) outcome)
-fits_close gate n outcome = record { dials = λ dest is. no_call dest is; tells = λ text is. absurd (cc) }
+fits_close gate n outcome = record { dials = λ dest is. no_call dest is }
 
 fit_both : (gate : Gate) (n : Noted) (first more : List Deed) → AllFit gate n first → AllFit gate (noted_after gate n first) more → AllFit gate n (first ++ more)
 fit_both gate n [] more a b = b
@@ -106,7 +101,7 @@ no_candidate IsResponse stop = refl
 no_candidate IsCommand stop = refl
 
 stop_behind : (gate : Gate) (n : Noted) (act : Act) (halt : Halt act) → May gate n act → Behind gate (note gate n act (Err halt))
-stop_behind gate n (Say text) halt may = record { rest = may.1.rest; is = may.1.is }
+stop_behind gate n (Say text) halt may = record { rest = may.rest; is = may.is }
 stop_behind gate n (Dial dest) halt may = absurd halt
 stop_behind gate n (Hear form) halt may =
     let next = note gate n (Hear form) (Err halt) in
@@ -295,11 +290,6 @@ fits_cleared gate deeds all before after deed dest is calls =
     let fit = fit_each gate (at_start gate) before after deed (subst (λ (d : List Deed). AllFit gate (at_start gate) d) is all) in
     cleared_by gate before dest (fit.dials dest calls)
 
-fits_logged : (gate : Gate) (deeds : List Deed) → AllFit gate (at_start gate) deeds → DenialsLogged gate deeds
-fits_logged gate deeds all before after deed text is says =
-    let fit = fit_each gate (at_start gate) before after deed (subst (λ (d : List Deed). AllFit gate (at_start gate) d) is all) in
-    subst (λ (d : List Deed). IsLoggedFirst gate text d) (all_deeds gate before) (fit.tells text says)
-
 module _ {Origin : Type 0} (gate : Gate) (old new : World Origin) (ending : Ending) (held : Held (relayed (tn_rows gate)) (then_relay (tn_row gate)) old new ending) where
   -- how the dialogue came out, and what followed it
   stops_followed : (stops : StopsBefore (tn_rows gate) (tn_row gate) held) → Followed gate (Err stops.cause) (deeds_of held)
@@ -333,9 +323,6 @@ module _ {Origin : Type 0} (gate : Gate) (old new : World Origin) (ending : Endi
 
   pub held_cleared : DialsCleared gate (deeds_of held)
   held_cleared = fits_cleared gate (deeds_of held) held_fits
-
-  pub held_logged : DenialsLogged gate (deeds_of held)
-  held_logged = fits_logged gate (deeds_of held) held_fits
 
   asks_by : StopsBefore (tn_rows gate) (tn_row gate) held ⊎ RelaysLast (tn_rows gate) (tn_row gate) held → AsksExactly gate held
   asks_by (inl stops) =

@@ -1,5 +1,7 @@
 mod AccountLemmas
 pub mod CourseLemmas
+pub mod DueLawLemmas
+mod DueLemmas
 pub mod LawLemmas
 pub mod LoginLemmas
 mod RowLemmas

@@ -1,5 +1,4 @@
--- What the rows keep: which line of the client asks for which destination, when a destination is dialed, and when a denial is
--- told.
+-- What the rows keep: which line of the client asks for which destination, and when a destination is dialed.
 use Rattle.std.proofs.Common.{◌≡◌, refl, sym, ap, subst, ◌∙◌, ℕ, Bool, true, false, not, ◌&&◌, ◌||◌, List, [], ◌∷◌, ◌++◌, Option, Some, None, Result, Ok, Err, inl, inr, codes, append_assoc, append-nil}
 use mathlib.Core.Bool.{true≢false}
 use Rattle.std.specs.Prelude.{cond, filter, is_some, if◌then◌else◌}
@@ -26,7 +25,6 @@ use Rattle.fw_types.specs.declared.host.Host.{Host}
 use Rattle.fw_types.specs.declared.host.Host.TheVariants as hosts
 use Rattle.gate_rules.specs.Verdict.{allows}
 use Rattle.md5.specs.Md5.{md5}
-use Rattle.otp_md5.specs.Challenge.{challenge}
 use Rattle.otp_md5.specs.Hexadecimal.{read_of}
 use Rattle.session_acts.specs.Acts.{Act, Outcome}
 use Rattle.session_acts.specs.Acts.Act.{Hear, Say, Log, Ask, Dial}
@@ -38,7 +36,7 @@ use Rattle.tn_gate.specs.Asked.Role.{IsName, IsResponse, IsCommand}
 use Rattle.tn_gate.specs.Command.{command_of}
 use Rattle.tn_gate.specs.Dialogue.{answered_row, answering_row, ask_command, ask_name, authenticate_row, command_row, commanding_row, connect_row, dest_row, dialed_row, failed_row, first_by, heard_form, name_row, named_row, naming_row, opened_row, operated_row, permitted_row, reason_of, refuse_row, refusing_line, respond_row, response_row, tn_row, tn_rows}
 use Rattle.tn_gate.specs.Gate.{Gate, asks_login}
-use Rattle.tn_gate.specs.Laws.{IsLoggedFirst, IsNoName, begins, clearing, granted, granted_if}
+use Rattle.tn_gate.specs.Laws.{clearing, granted, granted_if}
 use Rattle.tn_gate.specs.LogLines.{connect_line, fail_line, login_line, refuse_line}
 use Rattle.tn_gate.specs.Texts.{challenge_asked, command_prompt, connected, goodbye, help, login_denied, name_prompt, no_route, password_asked, password_ended, refusal, unknown_command}
 use Rattle.tn_gate.specs.declared.command.Command.{Command}
@@ -64,7 +62,7 @@ pub record MayDial (gate : Gate) (dest : Dest) (n : Noted) : Type 0 where
   pub login : asks_login gate.options ≡ true → login_in (n.talk ++ n.said) ≡ true
 
 abbrev pub May : Gate → Noted → Act → Type 0
-May gate n (Say text) = IsLoggedFirst gate text n.deeds × Behind gate n
+May gate n (Say text) = Behind gate n
 May gate n (Dial dest) = MayDial gate dest n × Behind gate n
 May gate n (Hear form) = Behind gate n
 May gate n (Log text) = Behind gate n
@@ -94,15 +92,6 @@ tn_watch Origin gate = record {
   holds = λ n place. StandsAt gate n place;
   over = λ n. total gate n ≡ n.calls;
 }
-
--- ---- texts
-
-plain : (gate : Gate) (text : List ℕ) (deeds : List Deed) → begins text (codes "Denied") ≡ false → begins text (codes "Login denied") ≡ false → IsLoggedFirst gate text deeds
-plain gate text deeds refused failed = record { refused = λ is. clash (sym refused ∙ is); failed = λ is. clash (sym failed ∙ is) }
-
-challenge_plain : (gate : Gate) (number : ℕ) (word_seed : List ℕ) (deeds : List Deed) → IsLoggedFirst gate (challenge_asked number word_seed) deeds
-unfolding challenge
-challenge_plain gate number word_seed deeds = plain gate (challenge_asked number word_seed) deeds refl refl
 
 -- ---- tests
 
@@ -155,25 +144,22 @@ module _ (Origin : Type 0) (gate : Gate) (asks calls : List Dest) (even : asks �
   settled : (role : Role) (deeds : List Deed) (said : Talk) → AsksNothing role said → total gate (at role deeds said) ≡ calls
   settled role deeds said none = ap (λ (z : List Dest). asks ++ z) none ∙ append-nil asks ∙ even
 
-  ask_name_leaves : (role : Role) (deeds : List Deed) (said : Talk) (words : List ℕ) (open_ : Bool) → AsksNothing role said → role_after role (turn heard said) ≡ IsName → IsLoggedFirst gate (words ++ name_prompt) deeds
+  ask_name_leaves : (role : Role) (deeds : List Deed) (said : Talk) (words : List ℕ) (open_ : Bool) → AsksNothing role said → role_after role (turn heard said) ≡ IsName
       → Leaves watch (ask_name words open_) (at role deeds said)
-  ask_name_leaves role deeds said words open_ none next logged =
-      ((logged, behind role deeds said), λ done. record { even = settled role deeds said none; role = next; login = tt })
+  ask_name_leaves role deeds said words open_ none next =
+      (behind role deeds said, λ done. record { even = settled role deeds said none; role = next; login = tt })
 
-  ask_command_leaves : (role : Role) (deeds : List Deed) (said : Talk) (words : List ℕ) → AsksNothing role said → role_after role (turn heard said) ≡ IsCommand → (asks_login gate.options ≡ true → login_in (talk ++ said) ≡ true) → IsLoggedFirst gate (words ++ command_prompt) deeds
+  ask_command_leaves : (role : Role) (deeds : List Deed) (said : Talk) (words : List ℕ) → AsksNothing role said → role_after role (turn heard said) ≡ IsCommand → (asks_login gate.options ≡ true → login_in (talk ++ said) ≡ true)
       → Leaves watch (ask_command words) (at role deeds said)
-  ask_command_leaves role deeds said words none next login logged =
-      ((logged, behind role deeds said), λ done. record { even = settled role deeds said none; role = next; login = login })
+  ask_command_leaves role deeds said words none next login =
+      (behind role deeds said, λ done. record { even = settled role deeds said none; role = next; login = login })
 
   -- ---- the login
-
-  failure : (name : List ℕ) (denial : Denial) (deeds : List Deed) → IsLoggedFirst gate (login_denied ++ name_prompt) (deeds ++ line_logged (fail_line gate name denial) ∷ [])
-  failure name denial deeds = record { refused = λ is. clash is; failed = λ is. inl (record { name = name; denial = denial; logged = (deeds, refl) }) }
 
   failed_leaves : (role : Role) (deeds : List Deed) (said : Talk) (name : List ℕ) (denial : Denial) (open_ : Bool) → AsksNothing role said → role_after role (turn heard said) ≡ IsName
       → Leaves watch (failed_row gate name denial open_) (at role deeds said)
   failed_leaves role deeds said name denial open_ none next =
-      (behind role deeds said, λ logged. ask_name_leaves role (deeds ++ line_logged (fail_line gate name denial) ∷ []) said login_denied open_ none next (failure name denial deeds))
+      (behind role deeds said, λ logged. ask_name_leaves role (deeds ++ line_logged (fail_line gate name denial) ∷ []) said login_denied open_ none next)
 
   abbrev back_if : Bool → Role
   back_if b = if b then IsResponse else IsName
@@ -183,11 +169,11 @@ module _ (Origin : Type 0) (gate : Gate) (asks calls : List Dest) (even : asks �
 
   named_leaves : (said : Talk) → AsksLast said → (deeds : List Deed) (name : List ℕ) (reply : Reply) → Leaves watch (named_row gate name reply) (at IsName deeds (said ++ (requests.Authenticate name, reply) ∷ []))
   named_leaves said last deeds name replies.Password = (
-    (plain gate password_asked deeds refl refl, behind IsName deeds (said ++ (requests.Authenticate name, replies.Password) ∷ [])),
+    behind IsName deeds (said ++ (requests.Authenticate name, replies.Password) ∷ []),
     λ done. record { even = settled IsName deeds (said ++ (requests.Authenticate name, replies.Password) ∷ []) refl; role = ap back_if (last (requests.Authenticate name, replies.Password)); login = tt },
   )
   named_leaves said last deeds name (replies.Challenge number word_seed) = (
-    (challenge_plain gate number word_seed deeds, behind IsName deeds (said ++ (requests.Authenticate name, replies.Challenge number word_seed) ∷ [])),
+    behind IsName deeds (said ++ (requests.Authenticate name, replies.Challenge number word_seed) ∷ []),
     λ done. record { even = settled IsName deeds (said ++ (requests.Authenticate name, replies.Challenge number word_seed) ∷ []) refl; role = ap back_if (last (requests.Authenticate name, replies.Challenge number word_seed)); login = tt },
   )
   named_leaves said last deeds name (replies.Denied denial) = failed_leaves IsName deeds (said ++ (requests.Authenticate name, replies.Denied denial) ∷ []) name denial true refl (ap back_if (last (requests.Authenticate name, replies.Denied denial)))
@@ -212,10 +198,8 @@ module _ (Origin : Type 0) (gate : Gate) (asks calls : List Dest) (even : asks �
   name_leaves deeds false name = (behind IsName deeds [], λ reply. opened_leaves (deeds ++ deed_of (Ask (requests.Open false)) (Ok reply) ∷ []) name reply)
 
   -- a line that is no name was heard last
-  no_name_leaves : (deeds : List Deed) (open_ : Bool) → IsNoName heard → Leaves watch (name_row gate open_ None) (at IsName (deeds ++ deed_of (Hear heard_form) (Ok heard) ∷ []) [])
-  no_name_leaves deeds open_ none =
-      ask_name_leaves IsName (deeds ++ deed_of (Hear heard_form) (Ok heard) ∷ []) [] login_denied open_ refl refl
-      (record { refused = λ is. clash is; failed = λ is. inr (record { heard = heard; is = none; last = (deeds, refl) }) })
+  no_name_leaves : (deeds : List Deed) (open_ : Bool) → Leaves watch (name_row gate open_ None) (at IsName (deeds ++ deed_of (Hear heard_form) (Ok heard) ∷ []) [])
+  no_name_leaves deeds open_ = ask_name_leaves IsName (deeds ++ deed_of (Hear heard_form) (Ok heard) ∷ []) [] login_denied open_ refl refl
 
   -- ---- the response
 
@@ -224,7 +208,7 @@ module _ (Origin : Type 0) (gate : Gate) (asks calls : List Dest) (even : asks �
       let said : Talk = (requests.Response (md5 text) (read_of text), replies.Ok) ∷ [] in (
         behind IsResponse deeds said,
         λ logged. ask_command_leaves IsResponse (deeds ++ line_logged (login_line gate name) ∷ []) said [] refl refl
-            (λ asked. then_stands talk (requests.Response (md5 text) (read_of text), replies.Ok)) (plain gate command_prompt (deeds ++ line_logged (login_line gate name) ∷ []) refl refl),
+            (λ asked. then_stands talk (requests.Response (md5 text) (read_of text), replies.Ok)),
       )
   answered_leaves deeds name text (replies.Denied denial) = failed_leaves IsResponse deeds ((requests.Response (md5 text) (read_of text), replies.Denied denial) ∷ []) name denial true refl refl
   answered_leaves deeds name text (replies.Opened sid) = failed_leaves IsResponse deeds ((requests.Response (md5 text) (read_of text), replies.Opened sid) ∷ []) name NotIn true refl refl
@@ -238,7 +222,7 @@ module _ (Origin : Type 0) (gate : Gate) (asks calls : List Dest) (even : asks �
 
   response_leaves : (deeds : List Deed) (name : List ℕ) (hidden : Bool) (text : List ℕ) → Leaves watch (response_row gate name hidden text) (at IsResponse deeds [])
   response_leaves deeds name true text =
-      ((plain gate password_ended deeds refl refl, behind IsResponse deeds []), λ done. respond_leaves (deeds ++ deed_of (Say password_ended) (Ok done) ∷ []) name text)
+      (behind IsResponse deeds [], λ done. respond_leaves (deeds ++ deed_of (Say password_ended) (Ok done) ∷ []) name text)
   response_leaves deeds name false text = respond_leaves deeds name text
 
   -- ---- destinations
@@ -247,8 +231,7 @@ module _ (Origin : Type 0) (gate : Gate) (asks calls : List Dest) (even : asks �
       → Leaves watch (refuse_row gate dest number) (at IsCommand deeds said)
   refuse_leaves deeds said dest number none login = (
     behind IsCommand deeds said,
-    λ logged. ask_command_leaves IsCommand (deeds ++ line_logged (refuse_line gate dest number) ∷ []) said (refusal number) none refl login
-        (record { refused = λ is. record { dest = dest; line = number; is = refl; logged = (deeds, refl) }; failed = λ is. clash is }),
+    λ logged. ask_command_leaves IsCommand (deeds ++ line_logged (refuse_line gate dest number) ∷ []) said (refusal number) none refl login,
   )
 
   module _ (dest : Dest) (said : Talk) (one : asked_in gate IsCommand talk (turn heard said) ≡ dest ∷ []) (login : asks_login gate.options ≡ true → login_in (talk ++ said) ≡ true) where
@@ -262,9 +245,9 @@ module _ (Origin : Type 0) (gate : Gate) (asks calls : List Dest) (even : asks �
     nothing_left deeds = record { rest = []; is = all_dialed deeds ∙ sym (append-nil (calls ++ dest ∷ [])) }
 
     dialed_leaves : (deeds : List Deed) (up : Bool) → Leaves watch (dialed_row up) (past deeds)
-    dialed_leaves deeds true = ((plain gate connected deeds refl refl, nothing_left deeds), λ done. all_dialed deeds)
+    dialed_leaves deeds true = (nothing_left deeds, λ done. all_dialed deeds)
     dialed_leaves deeds false =
-        ((plain gate (no_route ++ command_prompt) deeds refl refl, nothing_left deeds), λ done. record { even = all_dialed deeds; role = refl; login = login })
+        (nothing_left deeds, λ done. record { even = all_dialed deeds; role = refl; login = login })
 
     connect_leaves : (deeds earlier : List Deed) → deeds ++ line_logged (connect_line gate dest) ∷ [] ≡ earlier ++ clearing gate dest → allows gate.options dest ≡ true → Leaves watch (connect_row gate dest) (at IsCommand deeds said)
     connect_leaves deeds earlier stands allowed = (
@@ -336,15 +319,15 @@ module _ (Origin : Type 0) (gate : Gate) (asks calls : List Dest) (even : asks �
     no_dest : (is : line_dest heard ≡ []) → AsksNothing IsCommand []
     no_dest is = ap (λ (z : List Dest). filter (is_asked gate talk (turn heard [])) z) is
 
-    words_leaves : (deeds : List Deed) (words : List ℕ) → line_dest heard ≡ [] → IsLoggedFirst gate (words ++ command_prompt) deeds → Leaves watch (ask_command words) (at IsCommand deeds [])
-    words_leaves deeds words is logged = ask_command_leaves IsCommand deeds [] words (no_dest is) refl login_nil logged
+    words_leaves : (deeds : List Deed) (words : List ℕ) → line_dest heard ≡ [] → Leaves watch (ask_command words) (at IsCommand deeds [])
+    words_leaves deeds words is = ask_command_leaves IsCommand deeds [] words (no_dest is) refl login_nil
 
     command_leaves : (deeds : List Deed) (command : Command) → line_dest heard ≡ dest_of command → Leaves watch (command_row gate command) (at IsCommand deeds [])
-    command_leaves deeds Nothing is = words_leaves deeds [] is (plain gate command_prompt deeds refl refl)
+    command_leaves deeds Nothing is = words_leaves deeds [] is
     command_leaves deeds (Connect dest) is = dest_leaves dest is deeds (allows gate.options dest) refl
-    command_leaves deeds Quit is = ((plain gate goodbye deeds refl refl, behind IsCommand deeds []), λ done. settled IsCommand deeds [] (no_dest is))
-    command_leaves deeds Help is = words_leaves deeds help is (plain gate (help ++ command_prompt) deeds refl refl)
-    command_leaves deeds Unknown is = words_leaves deeds unknown_command is (plain gate (unknown_command ++ command_prompt) deeds refl refl)
+    command_leaves deeds Quit is = (behind IsCommand deeds [], λ done. settled IsCommand deeds [] (no_dest is))
+    command_leaves deeds Help is = words_leaves deeds help is
+    command_leaves deeds Unknown is = words_leaves deeds unknown_command is
 
 -- ---- the table
 
@@ -357,9 +340,9 @@ module _ (Origin : Type 0) (gate : Gate) where
   naming_leaves open_ deeds asks calls even (Line line) talk = choose (name_of line.items) refl
     where
       choose : (name : Option (List ℕ)) → name_of line.items ≡ name → Leaves (tn_watch Origin gate) (name_row gate open_ name) (at Origin gate asks calls even (Line line) talk IsName (deeds ++ deed_of (Hear heard_form) (Ok (Line line)) ∷ []) [])
-      choose None is = no_name_leaves Origin gate asks calls even (Line line) talk deeds open_ is
+      choose None is = no_name_leaves Origin gate asks calls even (Line line) talk deeds open_
       choose (Some name) is = name_leaves Origin gate asks calls even (Line line) talk (deeds ++ deed_of (Hear heard_form) (Ok (Line line)) ∷ []) open_ name
-  naming_leaves open_ deeds asks calls even TooLong talk = no_name_leaves Origin gate asks calls even TooLong talk deeds open_ tt
+  naming_leaves open_ deeds asks calls even TooLong talk = no_name_leaves Origin gate asks calls even TooLong talk deeds open_
   naming_leaves open_ deeds asks calls even (Stopped stop) talk = settled Origin gate asks calls even (Stopped stop) talk IsName deeds [] refl
 
   answering_leaves : (name : List ℕ) (hidden : Bool) (deeds : List Deed) (asks calls : List Dest) (even : asks ≡ calls) (heard : Heard) (talk : Talk)
@@ -393,9 +376,9 @@ module _ (Origin : Type 0) (gate : Gate) where
 
   first_leaves : (asked : Bool) → asks_login gate.options ≡ asked → Leaves (tn_watch Origin gate) (first_by asked) (at_start gate)
   first_leaves true asked =
-      ((plain gate name_prompt [] refl refl, even_behind (at_start gate) refl), λ done. record { even = refl; role = ap (λ (b : Bool). if b then IsName else IsCommand) asked; login = tt })
+      (even_behind (at_start gate) refl, λ done. record { even = refl; role = ap (λ (b : Bool). if b then IsName else IsCommand) asked; login = tt })
   first_leaves false asked = (
-    (plain gate command_prompt [] refl refl, even_behind (at_start gate) refl),
+    even_behind (at_start gate) refl,
     λ done. record { even = refl; role = ap (λ (b : Bool). if b then IsName else IsCommand) asked; login = λ asks. clash (sym asked ∙ asks) },
   )
 

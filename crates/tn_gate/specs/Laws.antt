@@ -1,10 +1,11 @@
 -- What a session of `tn-gw` comes to.
 use Rattle.std.specs.Prelude.{◌≡◌, ℕ, nat_eq, ◌⊎◌, Bool, true, false, List, [], ◌∷◌, ◌++◌, map, None, Ok, codes}
 use Rattle.std.specs.List.{starts_with}
-use Rattle.auth_events.specs.Login.{login_in}
-use Rattle.auth_events.specs.declared.denial.Denial.{Denial}
+use Rattle.auth_events.specs.Login.{is_ok, login_in}
+use Rattle.auth_events.specs.declared.reply.Reply.{Reply}
 use Rattle.auth_events.specs.declared.reply.Reply.TheVariants as replies
 use Rattle.auth_events.specs.declared.request.OpService.TheVariants as services
+use Rattle.auth_events.specs.declared.request.Request.{Request}
 use Rattle.auth_events.specs.declared.request.Request.TheVariants as requests
 use Rattle.fw_outside.specs.declared.ask.Ask.TheVariants.{Main}
 use Rattle.fw_outside.specs.declared.heard.Heard.{Heard}
@@ -14,7 +15,7 @@ use Rattle.fw_types.specs.declared.dest.Dest.{Dest}
 use Rattle.fw_types.specs.declared.ending.Ending.{Ending}
 use Rattle.fw_types.specs.declared.host.Host.{Host}
 use Rattle.gate_rules.specs.Verdict.{allows}
-use Rattle.session_acts.specs.Acts.Act.{Ask, Hear, Say}
+use Rattle.session_acts.specs.Acts.Act.{Ask, Dial, Hear, Say}
 use Rattle.session_acts.specs.Client.{line_logged}
 use Rattle.session_acts.specs.Deeds.{Deed, gives}
 use Rattle.session_acts.specs.Laws.{called}
@@ -23,8 +24,9 @@ use Rattle.session_acts.specs.Relayed.{relayed, then_relay}
 use Rattle.session_acts.specs.Session.{Held, deeds_of}
 use Rattle.session_acts.specs.Talk.{answered, asked}
 use Rattle.session_acts.specs.World.{World}
-use Rattle.tn_gate.specs.Asked.{asked_for}
-use Rattle.tn_gate.specs.Dialogue.{heard_form, tn_row, tn_rows}
+use Rattle.tn_gate.specs.Asked.{asked_for, line_dest}
+use Rattle.tn_gate.specs.Dialogue.{heard_form, reason_of, refusing_line, tn_row, tn_rows}
+use Rattle.tn_gate.specs.Due.{asks_last, fails, user_asking}
 use Rattle.tn_gate.specs.Gate.{Gate, asks_login}
 use Rattle.tn_gate.specs.LogLines.{connect_line, fail_line, refuse_line}
 use Rattle.tn_gate.specs.Texts.{command_prompt, refusal}
@@ -62,18 +64,48 @@ DialsCleared gate deeds =
 abbrev pub EndsWith : Deed → List Deed → Type 0
 EndsWith deed before = (earlier : List Deed) × (before ≡ earlier ++ deed ∷ [])
 
--- the text is the refusal of a destination, by the line with that number, which the log has whole
+-- the port was asked this last, and answered so
+abbrev pub asked_so : Request → Reply → Deed
+asked_so request reply = record { act = Ask request; outcome = Ok reply }
+
+-- a line that asks for a link to the destination was heard last
+pub record IsWanted (dest : Dest) (before : List Deed) : Type 0 where
+  pub heard : Heard
+  pub wants : line_dest heard ≡ dest ∷ []
+  pub last : EndsWith (record { act = Hear heard_form; outcome = Ok heard }) before
+
+-- The permission line's destinations don't let it pass, so that line refuses it.
+pub record IsDisallowed (gate : Gate) (dest : Dest) (line : ℕ) (before : List Deed) : Type 0 where
+  pub wanted : IsWanted dest before
+  pub denied : allows gate.options dest ≡ false
+  pub by : line ≡ gate.line
+
+-- Permission to reach the host was asked last, and not given: the line that the answer names refuses it, or else the
+-- permission line.
+pub record IsUnpermitted (gate : Gate) (dest : Dest) (line : ℕ) (before : List Deed) : Type 0 where
+  pub earlier : List Deed
+  pub wanted : IsWanted dest earlier
+  pub reply : Reply
+  pub last : before ≡ earlier ++ asked_so (requests.Operation services.Telnet dest.host) reply ∷ []
+  pub denied : is_ok reply ≡ false
+  pub by : line ≡ refusing_line gate.line reply
+
+-- The text is the refusal of the destination that is wanted, by the line that refuses it, and the log has that whole.
 pub record IsRefusal (gate : Gate) (text : List ℕ) (before : List Deed) : Type 0 where
   pub dest : Dest
   pub line : ℕ
   pub is : text ≡ refusal line ++ command_prompt
-  pub logged : EndsWith (line_logged (refuse_line gate dest line)) before
+  pub earlier : List Deed
+  pub logged : before ≡ earlier ++ line_logged (refuse_line gate dest line) ∷ []
+  pub cause : IsDisallowed gate dest line earlier ⊎ IsUnpermitted gate dest line earlier
 
--- a failed login, which the log has whole
+-- What was asked last for a login failed, and the log has whole whose login that was and why it failed.
 pub record IsFailure (gate : Gate) (before : List Deed) : Type 0 where
-  pub name : List ℕ
-  pub denial : Denial
-  pub logged : EndsWith (line_logged (fail_line gate name denial)) before
+  pub request : Request
+  pub reply : Reply
+  pub failed : fails request reply ≡ true
+  pub earlier : List Deed
+  pub logged : before ≡ earlier ++ asked_so request reply ∷ line_logged (fail_line gate (user_asking earlier request) (reason_of reply)) ∷ []
 
 -- a line that is no name, or too long
 abbrev pub IsNoName : Heard → Type 0
@@ -81,11 +113,12 @@ IsNoName (Line line) = name_of line.items ≡ None
 IsNoName TooLong = Unit {0}
 IsNoName (Stopped stop) = ⊥
 
--- such a line was heard, and nothing asked for it
+-- such a line was heard where no response was asked for, and nothing asked for it
 pub record HeardNoName (before : List Deed) : Type 0 where
   pub heard : Heard
   pub is : IsNoName heard
   pub last : EndsWith (record { act = Hear heard_form; outcome = Ok heard }) before
+  pub unasked : asks_last (answered (gives asked before)) ≡ false
 
 abbrev pub begins : List ℕ → List ℕ → Bool
 begins text word = starts_with nat_eq text word
@@ -99,6 +132,21 @@ pub record IsLoggedFirst (gate : Gate) (text : List ℕ) (before : List Deed) : 
 abbrev pub DenialsLogged : Gate → List Deed → Type 0
 DenialsLogged gate deeds =
     (before after : List Deed) (deed : Deed) (text : List ℕ) → deeds ≡ before ++ deed ∷ after → deed.act ≡ Say text → IsLoggedFirst gate text before
+
+-- ---- each connect line
+
+-- right behind the line its destination is dialed
+pub record IsDialed (gate : Gate) (line : List ℕ) (after : List Deed) : Type 0 where
+  pub dest : Dest
+  pub up : Bool
+  pub more : List Deed
+  pub is : line ≡ connect_line gate dest
+  pub dials : after ≡ record { act = Dial dest; outcome = Ok up } ∷ more
+
+-- so it is behind each connect line that the log has whole
+abbrev pub LinesDialed : Gate → List Deed → Type 0
+LinesDialed gate deeds =
+    (before after : List Deed) (line : List ℕ) → deeds ≡ before ++ line_logged line ∷ after → begins line (codes "connect ") ≡ true → IsDialed gate line after
 
 -- ---- all destinations
 

@@ -3,6 +3,7 @@ pub mod Command
 pub mod Course
 pub mod Dialogue
 pub mod Distance
+pub mod Due
 pub mod Dummies
 pub mod Gate
 pub mod Laws

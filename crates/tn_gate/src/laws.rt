@@ -12,25 +12,36 @@ ghost use Rattle.session_acts.specs.Talk.{asked};
 ghost use Rattle.session_acts.specs.World.{World};
 ghost use Rattle.tn_gate.specs.Course.{OpensOnce};
 ghost use Rattle.tn_gate.specs.Dialogue.{tn_row, tn_rows};
+ghost use Rattle.tn_gate.specs.Due.{LogsWhatIsDue};
 ghost use Rattle.tn_gate.specs.Gate.{Gate, asks_login};
-ghost use Rattle.tn_gate.specs.Laws.{AsksExactly, DenialsLogged, DialsCleared};
+ghost use Rattle.tn_gate.specs.Laws.{AsksExactly, DenialsLogged, DialsCleared, LinesDialed};
 ghost use Rattle.tn_gate.specs.Login.{LoginStandsIn, number_opened};
 
 /// A destination is asked for right behind its connect line, which the log has whole, and behind the permission for its host
 /// where the permission line has `-extnd`; the line's `-dest` allows it; and where the line asks for a login, one stands in
-/// what this session has asked and was answered up to there.
+/// what this session has asked and was answered up to there (`dials`). Right behind each connect line that the log has whole
+/// its destination is asked for (`lines`).
 pub fn each_dial_is_cleared<Origin>()
-    ensures { (gate : Gate) (old new : World Origin) (ending : Ending)
+    ensures dials { (gate : Gate) (old new : World Origin) (ending : Ending)
         (held : Held (relayed (tn_rows gate)) (then_relay (tn_row gate)) old new ending) →
         DialsCleared gate (deeds_of held) }
+    ensures lines { (gate : Gate) (old new : World Origin) (ending : Ending)
+        (held : Held (relayed (tn_rows gate)) (then_relay (tn_row gate)) old new ending) →
+        LinesDialed gate (deeds_of held) }
 {}
 
 /// Where the client is told that a destination is denied, or a login, the log was given the line of that denial right before,
-/// whole. A text that is no name is denied without one.
+/// whole: for the destination that was wanted, by the line that refuses it; for the user whose login failed by the answer
+/// right before, with the reason of that answer. A text that is no name is denied without a line, where no response is
+/// waited for (`told`). The log is given each line that is due, be it for a denial, a login or a link, and no other, right
+/// behind what it is due for (`due`).
 pub fn each_denial_is_logged<Origin>()
-    ensures { (gate : Gate) (old new : World Origin) (ending : Ending)
+    ensures told { (gate : Gate) (old new : World Origin) (ending : Ending)
         (held : Held (relayed (tn_rows gate)) (then_relay (tn_row gate)) old new ending) →
         DenialsLogged gate (deeds_of held) }
+    ensures due { (gate : Gate) (old new : World Origin) (ending : Ending)
+        (held : Held (relayed (tn_rows gate)) (then_relay (tn_row gate)) old new ending) →
+        LogsWhatIsDue gate (deeds_of held) }
 {}
 
 /// The destinations that are asked for are those that the client's lines ask for, in order: the commands to connect to a
