@@ -36,7 +36,8 @@ use Rattle.session_acts.specs.Session.{RelaySession, deeds_of}
 use Rattle.session_acts.specs.Talk.{asked}
 use Rattle.session_acts.specs.World.{Devices, World, at_first}
 use Rattle.tn_gate.proofs.CourseLemmas.{held_once}
-use Rattle.tn_gate.proofs.LawLemmas.{held_asks, held_cleared, held_logged}
+use Rattle.tn_gate.proofs.DueLawLemmas.{held_dialed, held_due, held_logged}
+use Rattle.tn_gate.proofs.LawLemmas.{held_asks, held_cleared}
 use Rattle.tn_gate.proofs.LoginLemmas.{held_login}
 use Rattle.tn_gate.specs.Dialogue.{tn_row, tn_rows}
 use Rattle.tn_gate.specs.Dummies.{lent}
@@ -146,6 +147,8 @@ module _ (peer : Peer) (inputs : Inputs) (out : Outcome) (old mid new : WorldVie
       logins =
           λ asks before after deed dest is calls.
           subst (λ (p : Port BookOrigin). LoginStandsIn (number_opened (gives asked deeds)) (gives asked before) p.seen) port_is (held_login (gate line) begun session.last h.ending session.held refl refl own asks before after deed dest is calls);
+      dialed = held_dialed (gate line) begun session.last h.ending session.held;
+      due = held_due (gate line) begun session.last h.ending session.held;
       denials = held_logged (gate line) begun session.last h.ending session.held;
       opened = held_once (gate line) begun session.last h.ending session.held refl;
     }

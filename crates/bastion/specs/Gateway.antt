@@ -25,9 +25,10 @@ use Rattle.session_acts.specs.Talk.{asked}
 use Rattle.session_acts.specs.World.{Devices, World}
 use Rattle.tn_gate.specs.Course.{OpensOnce}
 use Rattle.tn_gate.specs.Dialogue.{tn_row, tn_rows}
+use Rattle.tn_gate.specs.Due.{LogsWhatIsDue}
 use Rattle.tn_gate.specs.Dummies.{lent}
 use Rattle.tn_gate.specs.Gate.{Gate, asks_login, gate_at}
-use Rattle.tn_gate.specs.Laws.{AsksExactly, DenialsLogged, DialsCleared}
+use Rattle.tn_gate.specs.Laws.{AsksExactly, DenialsLogged, DialsCleared, LinesDialed}
 use Rattle.tn_gate.specs.Login.{LoginStandsIn, number_opened}
 use Rattle.tn_gate.specs.Texts.{refusal}
 use Rattle.bastion.specs.Asking.{FailsWithin, IsUndecided}
@@ -56,13 +57,17 @@ LoginsStand gate deeds history =
 -- text that it took of the client, in order. The destinations that it asked for are those that these lines ask for, up to
 -- where the dialogue stopped. Each was asked for right behind its connect line, which the log has whole, and behind the
 -- permission for its host with `-extnd`; the permission line allows it; and where that asks for a login, one of this session
--- stands in the history. What the client was told as a denial, of a destination or of a login, the log was given right before,
--- whole. After openings in vain a session was opened at most once, and closed once, as the last.
+-- stands in the history. Right behind each connect line that the log has whole its destination was asked for. The log was
+-- given each line that was due, for a destination, a login or a login that failed, right behind what it was due for, and no
+-- other. What the client was told as a denial, of a destination or of a login, the log was given right before, whole. After
+-- openings in vain a session was opened at most once, and closed once, as the last.
 pub record IsGuarded (gate : Gate) (history : List Entry) {old new : World BookOrigin} {ending : Ending} (held : Held (relayed (tn_rows gate)) (then_relay (tn_row gate)) old new ending) : Type 0 where
   pub lines : SaysLines (gives heard_in (deeds_of held)) old.client new.client
   pub exactly : AsksExactly gate held
   pub cleared : DialsCleared gate (deeds_of held)
   pub logins : LoginsStand gate (deeds_of held) history
+  pub dialed : LinesDialed gate (deeds_of held)
+  pub due : LogsWhatIsDue gate (deeds_of held)
   pub denials : DenialsLogged gate (deeds_of held)
   pub opened : OpensOnce (gives asked (deeds_of held))
 
