@@ -4,7 +4,8 @@
 //! `specs/Request.antt`. [`reply_text`] writes a reply and [`read_reply`] reads one; both are proved against the one
 //! text of each reply, `reply_line` of `specs/Reply.antt`. So `read_reply` gives a reply exactly for the text that
 //! `reply_text` writes of it, but for the answer to an Open, whose text doesn't hold the session's number. All lines
-//! are without their ends. None of these takes memory.
+//! are without their ends. [`next_word`] and its like give the words of a line, as every command reads them. None of these
+//! takes memory.
 #![tactic(auto)]
 
 mod command;
@@ -24,3 +25,4 @@ pub use reply_reading::read_reply;
 pub use reply_writing::reply_text;
 pub use request::read_request;
 pub use wire::{Wire, WireFault};
+pub use words::{has_no_word, next_word, one_or_two_words};

@@ -31,9 +31,9 @@ fn body(text: &[u8]) -> &[u8]
     text.split_at(count_of_blanks(text)).1
 }
 
-/// The first word, and what follows it.
+/// The first word of a text, and what follows it. Words stand between runs of blanks, which are spaces and tabs.
 #[tactic(auto, using(crate::proofs::WordLemmas::words_step, crate::proofs::WordLemmas::words_over), unfolding(crate::specs::Words::after_word))]
-pub(crate) fn next_word(text: &[u8]) -> Option<(&[u8], &[u8])>
+pub fn next_word(text: &[u8]) -> Option<(&[u8], &[u8])>
     ensures some { IfSome result (λ r. words text.now ≡ r.0.now ∷ words r.1.now) }
     ensures after { IfSome result (λ r. r.1.now ≡ after_word text.now) }
     ensures none { IfNone result (words text.now ≡ []) }
@@ -76,8 +76,8 @@ pub(crate) fn two_words(text: &[u8]) -> Option<(&[u8], &[u8])>
     Some((first, second))
 }
 
-/// The words, where there are one or two.
-pub(crate) fn one_or_two_words(text: &[u8]) -> Option<(&[u8], Option<&[u8]>)>
+/// The words of a text, where there are one or two.
+pub fn one_or_two_words(text: &[u8]) -> Option<(&[u8], Option<&[u8]>)>
     ensures { option_map (λ r. (r.0.now, option_map (λ s. s.now) r.1)) result ≡ one_or_two (words text.now) }
 {
     let (first, rest) = next_word(text)?;
@@ -90,8 +90,8 @@ pub(crate) fn one_or_two_words(text: &[u8]) -> Option<(&[u8], Option<&[u8]>)>
     }
 }
 
-/// Whether there is no word.
-pub(crate) fn has_no_word(text: &[u8]) -> bool
+/// Whether there is no word in a text.
+pub fn has_no_word(text: &[u8]) -> bool
     ensures { result ≡ has_none (words text.now) }
 {
     next_word(text).is_none()

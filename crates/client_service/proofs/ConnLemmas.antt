@@ -1,5 +1,5 @@
 -- What a client's ending says.
-use Rattle.std.proofs.Common.{arith, ◌≡◌, ◌≤◌, ◌∙◌, refl, sym, subst, ap, ℕ, Bool, List, [], inl, inr, true, false}
+use Rattle.std.proofs.Common.{arith, ◌≡◌, ◌∙◌, refl, sym, subst, ap, ℕ, List, [], inl, inr, true, false}
 use Rattle.std.specs.Prelude.{Option, Some, None}
 use Rattle.auth_events.specs.Port.{Port}
 use Rattle.authsrv_gate.specs.Dialogue.{rows, session_row}
@@ -17,7 +17,7 @@ use Rattle.gate_rules.specs.declared.service.Service.{Service}
 use Rattle.gate_rules.specs.declared.service.Service.TheVariants.{Authsrv, FtpGw, Netacl, PlugGw, Smap, TnGw}
 use Rattle.gate_rules.specs.declared.verdict.Verdict.{Verdict}
 use Rattle.gate_rules.specs.declared.verdict.Verdict.TheVariants.{Permit, Deny}
-use Rattle.session_acts.specs.Causes.{KeepsAs, LinkWaitedInVain, RelayKeeps, RelayTakesFor, SessionKeeps, WaitedInVain, WaitsFor, is_spent_ending}
+use Rattle.session_acts.specs.Causes.{KeepsAs, RelayKeeps, RelayTakesFor, SessionKeeps, WaitsFor, is_spent_ending}
 use Rattle.session_acts.specs.Client.{Denies, LogFails}
 use Rattle.session_acts.specs.Denying.{no_rows}
 use Rattle.session_acts.specs.Serverless.{CausedAlone, TakesExactly}
@@ -49,6 +49,15 @@ use Rattle.client_service.proofs.WaitLemmas.{session_waits}
 -- a log that failed is told no ending
 unended : (service : Service) (peer : Peer) (ending : Ending) → ending ≡ LogFault → ending_line service peer ending ≡ None
 unended service peer ending is = ap (ending_line service peer) is
+
+-- whom the rules deny reaches nobody
+denied_alone : (service : Service) (line : ℕ) → kind_of service (Deny line) ≡ Alone
+denied_alone (PlugGw at) line = refl
+denied_alone TnGw line = refl
+denied_alone Authsrv line = refl
+denied_alone (Netacl label) line = refl
+denied_alone FtpGw line = refl
+denied_alone Smap line = refl
 
 module _ {Origin : Type 0} where
   -- how long the devices wait counts for nothing
@@ -188,25 +197,17 @@ module _ {Origin : Type 0} where
   away_facts line text None rules told ending old new ends session = silent_by line text rules told ending old new ends (session_keeps session) (silent_denial text old new told session)
   away_facts line text (Some words) rules told ending old new ends session = words_by line text words rules told ending old new ends (session_keeps session) (denies text words old new told session)
 
-  denied_alone : (service : Service) (line : ℕ) → kind_of service (Deny line) ≡ Alone
-  denied_alone (PlugGw at) line = refl
-  denied_alone TnGw line = refl
-  denied_alone Authsrv line = refl
-  denied_alone (Netacl label) line = refl
-  denied_alone FtpGw line = refl
-  denied_alone Smap line = refl
-
   denied_facts : (line : ℕ) (service : Service) (rules : RuleBook) (peer : Peer) (ending : Ending) (old new : Devices Origin) → TurnsAway line service peer ending old new → Facts (kind_of service (Deny line)) (Deny line) rules ending old new
   denied_facts line service rules peer ending old new h =
       subst (λ (k : Kind). Facts k (Deny line) rules ending old new) (sym (denied_alone service line))
       (away_facts line (decision_text (Deny line) service peer) (denied_words service line) rules h.told ending old new h.ends h.session)
 
   -- a session of `authsrv`
-  held_facts : (line : ℕ) (service : Service) (rules : RuleBook) (peer : Peer) (ending : Ending) (old new : Devices Origin) → Permits line service rules peer ending old new → Facts Alone (Permit line) rules ending old new
-  held_facts line service rules peer ending old new h =
-      let first = logged_row (decision_text (Permit line) service peer) (session_row false) in
+  held_facts : (line : ℕ) (rules : RuleBook) (peer : Peer) (ending : Ending) (old new : Devices Origin) → Permits line rules peer ending old new → Facts Alone (Permit line) rules ending old new
+  held_facts line rules peer ending old new h =
+      let first = logged_row (decision_text (Permit line) Authsrv peer) (session_row false) in
       let lent = patient (timeout_of rules) old in
-      let alone = logged_serverless (decision_text (Permit line) service peer) (keeps_serverless Origin false) in
+      let alone = logged_serverless (decision_text (Permit line) Authsrv peer) (keeps_serverless Origin false) in
       let keeps = session_keeps h in
       record {
         caused = causes_of Alone (Permit line) ending old new (caused_patient (timeout_of rules) ending old new (session_alone rows first lent new ending h alone));
@@ -256,10 +257,10 @@ module _ {Origin : Type 0} where
   treats_facts (Deny line) service rules peer ending old new h = denied_facts line service rules peer ending old new h
   treats_facts (Permit line) (PlugGw at) rules peer ending old new h = linked_facts at line rules peer ending old new h
   treats_facts (Permit line) TnGw rules peer ending old new h = gated_facts line rules peer ending old new h
-  treats_facts (Permit line) Authsrv rules peer ending old new h = held_facts line Authsrv rules peer ending old new h
-  treats_facts (Permit line) (Netacl label) rules peer ending old new h = held_facts line (Netacl label) rules peer ending old new h
-  treats_facts (Permit line) FtpGw rules peer ending old new h = held_facts line FtpGw rules peer ending old new h
-  treats_facts (Permit line) Smap rules peer ending old new h = held_facts line Smap rules peer ending old new h
+  treats_facts (Permit line) Authsrv rules peer ending old new h = held_facts line rules peer ending old new h
+  treats_facts (Permit line) (Netacl label) rules peer ending old new h = absurd h
+  treats_facts (Permit line) FtpGw rules peer ending old new h = absurd h
+  treats_facts (Permit line) Smap rules peer ending old new h = absurd h
 
   conn_facts : (service : Service) (rules : RuleBook) (peer : Peer) (old new : Devices Origin) (ending : Ending) → Conn service rules peer old new ending → Facts (kind_of service (verdict_of rules peer)) (verdict_of rules peer) rules ending old new
   conn_facts service rules peer old new ending conn =
@@ -326,10 +327,10 @@ module _ {Origin : Type 0} where
   denied_dials FtpGw line rules peer ending old new h = h
   denied_dials Smap line rules peer ending old new h = h
 
-  held_undialed : (line : ℕ) (service : Service) (rules : RuleBook) (peer : Peer) (ending : Ending) (old new : Devices Origin) → Permits line service rules peer ending old new → new.dialer ≡ dialer_then (Permit line) rules old.dialer
-  held_undialed line service rules peer ending old new h =
-      session_serverless rows (logged_row (decision_text (Permit line) service peer) (session_row false)) (patient (timeout_of rules) old) new ending h
-      (logged_serverless (decision_text (Permit line) service peer) (keeps_serverless Origin false))
+  held_undialed : (line : ℕ) (rules : RuleBook) (peer : Peer) (ending : Ending) (old new : Devices Origin) → Permits line rules peer ending old new → new.dialer ≡ dialer_then (Permit line) rules old.dialer
+  held_undialed line rules peer ending old new h =
+      session_serverless rows (logged_row (decision_text (Permit line) Authsrv peer) (session_row false)) (patient (timeout_of rules) old) new ending h
+      (logged_serverless (decision_text (Permit line) Authsrv peer) (keeps_serverless Origin false))
 
   treats_dialed : (verdict : Verdict) (service : Service) (rules : RuleBook) (peer : Peer) (ending : Ending) (old new : Devices Origin) (logs : SinkView) → Treats verdict service rules peer ending old (with_logs new logs)
       → NotedIf (ending_line service peer ending) logs new.logs → Dials service verdict rules peer ending old new
@@ -337,10 +338,10 @@ module _ {Origin : Type 0} where
       denied_dials service line rules peer ending old new (away_undialed (decision_text (Deny line) service peer) (denied_words service line) h.told old (with_logs new logs) h.session)
   treats_dialed (Permit line) (PlugGw at) rules peer ending old new logs h noted = plug_dials at line rules peer ending old new logs (ending_line (PlugGw at) peer ending) (unended (PlugGw at) peer ending) h noted
   treats_dialed (Permit line) TnGw rules peer ending old new logs h noted = tt
-  treats_dialed (Permit line) Authsrv rules peer ending old new logs h noted = held_undialed line Authsrv rules peer ending old (with_logs new logs) h
-  treats_dialed (Permit line) (Netacl label) rules peer ending old new logs h noted = held_undialed line (Netacl label) rules peer ending old (with_logs new logs) h
-  treats_dialed (Permit line) FtpGw rules peer ending old new logs h noted = held_undialed line FtpGw rules peer ending old (with_logs new logs) h
-  treats_dialed (Permit line) Smap rules peer ending old new logs h noted = held_undialed line Smap rules peer ending old (with_logs new logs) h
+  treats_dialed (Permit line) Authsrv rules peer ending old new logs h noted = held_undialed line rules peer ending old (with_logs new logs) h
+  treats_dialed (Permit line) (Netacl label) rules peer ending old new logs h noted = absurd h
+  treats_dialed (Permit line) FtpGw rules peer ending old new logs h noted = absurd h
+  treats_dialed (Permit line) Smap rules peer ending old new logs h noted = absurd h
 
   pub conn_dialed : (service : Service) (rules : RuleBook) (peer : Peer) (old new : Devices Origin) (ending : Ending) → Conn service rules peer old new ending → Dials service (verdict_of rules peer) rules peer ending old new
   conn_dialed service rules peer old new ending conn = treats_dialed (verdict_of rules peer) service rules peer ending old new conn.logs conn.treats conn.noted

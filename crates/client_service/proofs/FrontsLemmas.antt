@@ -1,11 +1,10 @@
 -- What a client of the plug that was linked was given, and its server, is a front of what was taken of the other.
-use Rattle.std.proofs.Common.{arith, ◌≡◌, ◌∙◌, refl, sym, ap, subst, ℕ, Bool, true, false, List, [], ◌∷◌, inl, inr}
+use Rattle.std.proofs.Common.{arith, ◌≡◌, ◌∙◌, refl, sym, ap, subst, ℕ, Bool, List, [], ◌∷◌, inl, inr}
 use Rattle.fw_acts.specs.Acts.Row.{Do}
 use Rattle.fw_outside.proofs.CountLemmas.{grew_none}
 use Rattle.fw_outside.specs.Counts.{Grew}
-use Rattle.fw_outside.specs.DialerView.{DialerView, LinkView}
+use Rattle.fw_outside.specs.DialerView.{LinkView}
 use Rattle.fw_outside.specs.SinkView.{SinkView}
-use Rattle.fw_outside.specs.SourceView.{SourceView}
 use Rattle.fw_types.specs.declared.dest.Dest.{Dest}
 use Rattle.fw_types.specs.declared.ending.Ending.{Ending}
 use Rattle.fw_types.specs.declared.ending.Ending.TheVariants.{Done, LogFault}

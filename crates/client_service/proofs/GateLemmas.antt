@@ -1,13 +1,11 @@
 -- What a client of the Telnet gateway comes to that is let in.
-use Rattle.std.proofs.Common.{arith, ◌≡◌, ◌≤◌, ◌∙◌, refl, sym, ap, subst, ℕ, true, List, [], inl, inr, ◌⊎◌}
-use Rattle.std.specs.Prelude.{length}
-use Rattle.auth_events.specs.Port.{Port}
+use Rattle.std.proofs.Common.{arith, ◌≡◌, ◌∙◌, sym, ap, subst, ℕ, true, List, [], inl, inr, ◌⊎◌}
 use Rattle.fw_outside.proofs.CountLemmas.{grew_none}
 use Rattle.fw_outside.specs.Counts.{Grew, Rose}
 use Rattle.fw_outside.specs.SinkView.{SinkView}
 use Rattle.fw_types.specs.declared.ending.Ending.{Ending}
 use Rattle.fw_types.specs.declared.ending.Ending.TheVariants.{Done, Denied, ClientFault, ServerFault, LogFault, AuthFault, Idle, NoRoute, Spent, NoMemory}
-use Rattle.session_acts.specs.Causes.{Caused, KeepsAs, LinkTookMost, RelayTakesFor, TookMost, WaitsFor, is_spent_or}
+use Rattle.session_acts.specs.Causes.{Caused, KeepsAs, LinkTookMost, RelayTakesFor, TookMost, WaitsFor}
 use Rattle.session_acts.specs.Client.{LogFails, LogsFirst, with_line}
 use Rattle.session_acts.specs.Relayed.{relayed, then_relay}
 use Rattle.session_acts.specs.Session.{RelaySession}
@@ -22,6 +20,10 @@ use Rattle.tn_gate.specs.Gate.{Gate}
 use Rattle.client_service.specs.GateService.{HeldBehind, gate_devices}
 use Rattle.client_service.specs.Meeting.{logged_row, patient}
 use Rattle.client_service.proofs.SinkLemmas.{rose_at, same_low}
+
+-- no bytes aren't as many as may be
+none_most : 0 ≡ most_taken → ⊥
+none_most long = omega (arith, long)
 
 module _ {Origin : Type 0} where
   -- ---- a session behind a line
@@ -62,9 +64,6 @@ module _ {Origin : Type 0} where
   gate_caused line gate seconds ending old new (inr session) = caused_with line seconds ending old new (session_caused session)
 
   -- ---- bytes
-
-  none_most : 0 ≡ most_taken → ⊥
-  none_most long = absurd (omega (arith, long))
 
   pub gate_takes : (line : List ℕ) (gate : Gate) (seconds : ℕ) (ending : Ending) (old new : Devices Origin) → HeldBehind line gate ending (patient seconds (gate_devices old)) (gate_devices new) → RelayTakesFor ending old new
   gate_takes line gate seconds ending old new (inl fails) =

@@ -1,5 +1,5 @@
 -- A line that permits has options, and one of the plug a destination among them.
-use Rattle.std.proofs.Common.{◌≡◌, ℕ, Bool, true, false, ◌&&◌, ◌||◌, ◌∙◌, List, [], ◌∷◌, ◌++◌, refl, sym, ap, subst, cond}
+use Rattle.std.proofs.Common.{◌≡◌, ℕ, Bool, true, false, ◌&&◌, ◌||◌, List, [], ◌∷◌, ◌++◌, refl, sym, ap, subst, cond}
 use Rattle.std.specs.Prelude.{◌==◌, IsSome, find, filter, is_none, is_some, Option, Some, None, Result, Ok, Err}
 use Rattle.std.specs.List.{list_any}
 use Rattle.std.specs.Option.{option_map}
@@ -14,7 +14,7 @@ use Rattle.netperm_table.specs.declared.line.Line.{Line}
 use Rattle.gate_rules.specs.Attribute.{attribute_named, is_for}
 use Rattle.gate_rules.specs.Lists.{hosts_in, mapped, options_in, patterns_of}
 use Rattle.gate_rules.specs.Options.{options_of}
-use Rattle.gate_rules.specs.Reading.{RuleBook, book_of, closed, effect_as, effect_of, effect_then, is_of, plug_effect, rules_of, ruled, setting_effect, where_ours, with_effect, with_target}
+use Rattle.gate_rules.specs.Reading.{RuleBook, book_of, closed, effect_as, effect_of, effect_then, is_of, plug_effect, rules_of, ruled, where_ours, with_effect, with_target}
 use Rattle.gate_rules.specs.Service.{keyword}
 use Rattle.gate_rules.specs.Settings.{set_to}
 use Rattle.gate_rules.specs.Verdict.{decided_by, options_at, rule_matches, verdict_of}

@@ -1,5 +1,5 @@
 -- What a client of the plug comes to.
-use Rattle.std.proofs.Common.{arith, ◌≡◌, ◌≢◌, ◌≤◌, ◌∙◌, refl, sym, ap, subst, append_assoc, ℕ, List, [], ◌∷◌, ◌++◌, inl, inr, ◌⊎◌, true}
+use Rattle.std.proofs.Common.{arith, ◌≡◌, ◌≢◌, ◌∙◌, refl, sym, ap, subst, append_assoc, ℕ, List, [], ◌∷◌, ◌++◌, inl, inr, ◌⊎◌}
 use Rattle.std.specs.Prelude.{Option, Some, None, Result, Ok, Err}
 use Rattle.std.proofs.lemmas.List.{append-nil}
 use Rattle.fw_acts.specs.Acts.{Row, Step}
@@ -11,7 +11,6 @@ use Rattle.fw_outside.specs.DialerView.{DialerView}
 use Rattle.fw_outside.specs.SinkView.{Gives, SinkView}
 use Rattle.fw_outside.specs.ToldList.{grown}
 use Rattle.fw_outside.specs.declared.failed.Failed.{Failed}
-use Rattle.fw_outside.specs.declared.ask.Ask.{Ask}
 use Rattle.fw_outside.specs.declared.ask.Ask.TheVariants.{Main}
 use Rattle.fw_types.specs.declared.dest.Dest.{Dest}
 use Rattle.fw_types.specs.declared.ending.Ending.{Ending}
@@ -19,14 +18,14 @@ use Rattle.fw_types.specs.declared.ending.Ending.TheVariants as endings
 use Rattle.fw_types.specs.declared.peer.Peer.{Peer}
 use Rattle.gate_rules.specs.Reading.{RuleBook}
 use Rattle.gate_rules.specs.declared.service.Service.TheVariants.{PlugGw}
-use Rattle.gate_rules.specs.declared.verdict.Verdict.TheVariants.{Permit, Deny}
+use Rattle.gate_rules.specs.declared.verdict.Verdict.TheVariants.{Permit}
 use Rattle.plug_gate.specs.Dialogue.{connect_text, plug_row}
 use Rattle.plug_gate.specs.Laws.{Links}
 use Rattle.plug_gate.proofs.PlugLemmas.{held_links}
 use Rattle.session_acts.specs.Acts.{Front}
 use Rattle.session_acts.specs.Acts.Act.{Log}
 use Rattle.session_acts.specs.Causes.{Caused, LinkTookMost, TookMost}
-use Rattle.session_acts.specs.Client.{GoesOn, LogFails, LogsFirst, with_line}
+use Rattle.session_acts.specs.Client.{LogFails, LogsFirst, with_line}
 use Rattle.session_acts.specs.Deeds.{DeedsAll}
 use Rattle.session_acts.specs.Denying.{no_rows}
 use Rattle.session_acts.specs.Laws.{Adds}
@@ -42,7 +41,7 @@ use Rattle.session_acts.proofs.ToldLemmas.{by_both, by_nothing}
 use Rattle.client_service.specs.Conn.{Noted, NotedIf}
 use Rattle.client_service.specs.Decision.{decision_text}
 use Rattle.client_service.specs.Meeting.{patient, silent_row, timeout_of}
-use Rattle.client_service.specs.PlugService.{AsksLogged, CausedLinked, IsAsked, IsUnasked, LinksOver, LinksTo, plug_devices, target_of}
+use Rattle.client_service.specs.PlugService.{AsksLogged, CausedLinked, IsAsked, IsUnasked, LinksTo, plug_devices}
 use Rattle.client_service.proofs.NoMemoryLemmas.{plug_remembers}
 
 -- ---- a denial

@@ -22,6 +22,14 @@ is_gateway (Netacl label) is = absurd (cc)
 is_gateway FtpGw is = absurd (cc)
 is_gateway Smap is = absurd (cc)
 
+pub is_authsrv : (service : Service) (rules : RuleBook) (line : ℕ) → plug_in service ≡ None → is_gate service ≡ false → HasOptions service rules line → service ≡ Authsrv
+is_authsrv Authsrv rules line unplugged ungated h = refl
+is_authsrv (PlugGw port) rules line unplugged ungated h = absurd (cc)
+is_authsrv TnGw rules line unplugged ungated h = absurd (cc)
+is_authsrv (Netacl label) rules line unplugged ungated h = absurd h
+is_authsrv FtpGw rules line unplugged ungated h = absurd h
+is_authsrv Smap rules line unplugged ungated h = absurd h
+
 -- ---- what is left as it was
 
 pub denied_untouched : {A : Type 0} (service : Service) (verdict : Verdict) (line : ℕ) (old new : A) → verdict ≡ Deny line → new ≡ old → Untouched service verdict old new
@@ -64,13 +72,8 @@ module _ {Origin : Type 0} where
   pub permitted_gate : (service : Service) (line : ℕ) (rules : RuleBook) (peer : Peer) (ending : Ending) (old new : Devices Origin) → is_gate service ≡ true → LetsIn line rules peer ending old new → PermitsBy service line rules peer ending old new
   permitted_gate service line rules peer ending old new is h = subst (λ (s : Service). PermitsBy s line rules peer ending old new) (sym (is_gateway service is)) h
 
-  pub permitted_other : (service : Service) (line : ℕ) (rules : RuleBook) (peer : Peer) (ending : Ending) (old new : Devices Origin) → plug_in service ≡ None → is_gate service ≡ false → Permits line service rules peer ending old new → PermitsBy service line rules peer ending old new
-  permitted_other (PlugGw port) line rules peer ending old new unplugged ungated h = absurd (cc)
-  permitted_other TnGw line rules peer ending old new unplugged ungated h = absurd (cc)
-  permitted_other Authsrv line rules peer ending old new unplugged ungated h = h
-  permitted_other (Netacl label) line rules peer ending old new unplugged ungated h = h
-  permitted_other FtpGw line rules peer ending old new unplugged ungated h = h
-  permitted_other Smap line rules peer ending old new unplugged ungated h = h
+  pub permitted_alone : (service : Service) (line : ℕ) (rules : RuleBook) (peer : Peer) (ending : Ending) (old new : Devices Origin) → service ≡ Authsrv → Permits line rules peer ending old new → PermitsBy service line rules peer ending old new
+  permitted_alone service line rules peer ending old new is h = subst (λ (s : Service). PermitsBy s line rules peer ending old new) (sym is) h
 
   pub treated_deny : (verdict : Verdict) (line : ℕ) (service : Service) (rules : RuleBook) (peer : Peer) (ending : Ending) (old new : Devices Origin) → verdict ≡ Deny line → TurnsAway line service peer ending old new → Treats verdict service rules peer ending old new
   treated_deny verdict line service rules peer ending old new is h = subst (λ (v : Verdict). Treats v service rules peer ending old new) (sym is) h

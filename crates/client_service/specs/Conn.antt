@@ -2,7 +2,7 @@
 use Rattle.std.specs.Prelude.{◌≡◌, ℕ, ◌⊎◌, true, false, List, Option, Some, None, Result}
 use Rattle.authsrv_gate.specs.Dialogue.{rows, session_row}
 use Rattle.fw_outside.specs.SinkView.{Gives, SinkView}
-use Rattle.fw_outside.specs.SourceView.{SourceView, waiting}
+use Rattle.fw_outside.specs.SourceView.{SourceView}
 use Rattle.fw_outside.specs.declared.failed.Failed.{Failed}
 use Rattle.fw_types.specs.declared.ending.Ending.{Ending}
 use Rattle.fw_types.specs.declared.ending.Ending.TheVariants as endings
@@ -43,15 +43,16 @@ pub record TurnsAway {Origin : Type 0} (line : ℕ) (service : Service) (peer : 
   pub ends : ending ≡ denied_by line told
 
 -- the line of the permission is logged, and then the session of `authsrv` held, over devices that wait as the table has it
-abbrev pub Permits : {Origin : Type 0} → ℕ → Service → RuleBook → Peer → Ending → Devices Origin → Devices Origin → Type 0
-Permits line service rules peer ending old new =
-    Session rows (logged_row (decision_text (Permit line) service peer) (session_row false)) (patient (timeout_of rules) old) new ending
+abbrev pub Permits : {Origin : Type 0} → ℕ → RuleBook → Peer → Ending → Devices Origin → Devices Origin → Type 0
+Permits line rules peer ending old new =
+    Session rows (logged_row (decision_text (Permit line) Authsrv peer) (session_row false)) (patient (timeout_of rules) old) new ending
 
 -- whom the rules permit: a row a service
 abbrev pub PermitsBy : {Origin : Type 0} → Service → ℕ → RuleBook → Peer → Ending → Devices Origin → Devices Origin → Type 0
 PermitsBy (PlugGw port) line rules peer ending old new = LinksTo port line rules peer ending old new
 PermitsBy TnGw line rules peer ending old new = LetsIn line rules peer ending old new
-PermitsBy service line rules peer ending old new = Permits line service rules peer ending old new
+PermitsBy Authsrv line rules peer ending old new = Permits line rules peer ending old new
+PermitsBy service line rules peer ending old new = ⊥
 
 abbrev pub Treats : {Origin : Type 0} → Verdict → Service → RuleBook → Peer → Ending → Devices Origin → Devices Origin → Type 0
 Treats (Deny line) service rules peer ending old new = TurnsAway line service peer ending old new

@@ -1,8 +1,9 @@
 //! Sessions of `authsrv`: of a client whom the rules permit, and at the console.
-ghost use Rattle.std.specs.Prelude.{true, false};
+ghost use Rattle.std.specs.Prelude.{◌≡◌, true, false};
 ghost use Rattle.authsrv_gate.specs.Dialogue.{rows, session_row};
 ghost use Rattle.client_service.specs.Conn.{AtConsole, Permits};
 ghost use Rattle.client_service.specs.Meeting.{logged_row, patient, timeout_of};
+ghost use Rattle.gate_rules.specs.declared.service.Service.TheVariants.{Authsrv};
 ghost use Rattle.session_acts.specs.Session.{Session};
 ghost use Rattle.session_acts.specs.World.{devices_with};
 
@@ -106,7 +107,8 @@ where
     D: Dialer,
     C: Clock,
     R: Dice,
-    ensures { Permits line service.now rules.now peer.now result
+    requires { service.now ≡ Authsrv }
+    ensures { Permits line rules.now peer.now result
         (devices_with (P.port port.old) (S.source_view from.old) (K.sink_view to.old) (G.sink_view logs.old)
         (D.dialer_view dialer.old) (C.clock_view clock.old) (R.dice_view dice.old))
         (devices_with (P.port port.new) (S.source_view from.new) (K.sink_view to.new) (G.sink_view logs.new)

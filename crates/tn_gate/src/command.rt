@@ -4,7 +4,7 @@ ghost use Rattle.std.specs.Str.{str_eq_ignore_ascii_case};
 ghost use Rattle.authsrv_lines.specs.Words.{has_none, one_or_two, words};
 ghost use Rattle.tn_gate.specs.Command.{alone, by_word, command_of, connect_of, is_connect, is_help, is_quit};
 
-use crate::words::{has_no_word, next_word, one_or_two_words};
+use authsrv_lines::{has_no_word, next_word, one_or_two_words};
 use fw_types::{Dest, Host, read_port};
 
 /// What a line asks for.

@@ -6,10 +6,11 @@ ghost use Rattle.fw_types.specs.declared.dest.Dest.{Dest};
 ghost use Rattle.fw_types.specs.declared.ending.Ending.{Ending};
 ghost use Rattle.session_acts.specs.Deeds.{Deed, gives};
 ghost use Rattle.session_acts.specs.Laws.{called};
+ghost use Rattle.session_acts.specs.RelayFronts.{RelaysFronts};
 ghost use Rattle.session_acts.specs.Relayed.{relayed, then_relay};
-ghost use Rattle.session_acts.specs.Session.{Held, deeds_of};
+ghost use Rattle.session_acts.specs.Session.{Held, RelaySession, deeds_of};
 ghost use Rattle.session_acts.specs.Talk.{asked};
-ghost use Rattle.session_acts.specs.World.{World};
+ghost use Rattle.session_acts.specs.World.{Devices, World, devices_of};
 ghost use Rattle.tn_gate.specs.Course.{OpensOnce};
 ghost use Rattle.tn_gate.specs.Dialogue.{tn_row, tn_rows};
 ghost use Rattle.tn_gate.specs.Due.{LogsWhatIsDue};
@@ -70,4 +71,19 @@ pub fn the_login_is_this_sessions<Origin>()
         asks_login gate.options ≡ true → (before after : List Deed) (deed : Deed) (dest : Dest) →
         deeds_of held ≡ before ++ deed ∷ after → called deed.act deed.outcome ≡ Main dest ∷ [] →
         LoginStandsIn (number_opened (gives asked (deeds_of held))) (gives asked before) new.office.port.seen }
+{}
+
+/// What reached each side. Where a destination came up, of the client was taken what the dialogue heard and then, from the
+/// first byte that it didn't hear, what was relayed: the server was given a front of that, and nothing else. The client was
+/// given what the dialogue told, and then a front of what was taken of the server. Each is at most 4,096 bytes short, and whole
+/// unless a source or a sink failed, as `fronts_are_relayed` of `session_acts` says. Over any other link, and where none came
+/// up, nothing was given or taken. `held` says so where no link was up and nothing pending before, `session` of a session over
+/// its devices.
+pub fn fronts_are_relayed<Origin>()
+    ensures held { (gate : Gate) (old new : World Origin) (ending : Ending)
+        (held : Held (relayed (tn_rows gate)) (then_relay (tn_row gate)) old new ending) → old.server.link ≡ None →
+        old.client.reader.pending ≡ [] → RelaysFronts (deeds_of held) (devices_of old) (devices_of new) ending }
+    ensures session { (gate : Gate) (old new : Devices Origin) (ending : Ending)
+        (session : RelaySession (relayed (tn_rows gate)) (then_relay (tn_row gate)) old new ending) →
+        RelaysFronts (deeds_of session.held) old new ending }
 {}

@@ -16,7 +16,6 @@ mod place;
 mod script;
 mod session;
 mod texts;
-mod words;
 
 pub use command::{Command, read_command};
 pub use dummies::NoDice;

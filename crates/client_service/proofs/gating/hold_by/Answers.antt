@@ -11,7 +11,7 @@ returns g c =
     let met : SourceView → DialerView → Devices g.row.P-Origin.Denot = λ s d. lent (g.P.AuthPort.port c.args.port.now) s (g.K.Sink.sink_view c.args.to.now) (g.G.Sink.sink_view c.args.logs.now) d (g.C.Clock.clock_view c.args.clock.now) in
     let new : Devices g.row.P-Origin.Denot = lent (g.P.AuthPort.port c.hold.new.port) (g.S.Source.source_view c.hold.new.from) (g.K.Sink.sink_view c.hold.new.to) (g.G.Sink.sink_view c.hold.new.logs)
     (g.D.Dialer.dialer_view c.hold.new.dialer) (g.C.Clock.clock_view c.hold.new.clock) in
-    let At : SourceView → DialerView → Type 0 = λ s d. HeldBehind c.args.said.now _ c.hold.result (met s d) new in
+    let At : SourceView → DialerView → Type 0 = λ s d. HeldBehind c.args.said.now c.args.script.now c.hold.result (met s d) new in
     let inlet : SourceView = g.S.Source.source_view c.args.from.now in
     let links : DialerView = g.D.Dialer.dialer_view c.args.dialer.now in
     subst (λ (n : ℕ). At (waiting inlet n) (dialer_waiting links n)) c.timeout_of-seconds.ensures
