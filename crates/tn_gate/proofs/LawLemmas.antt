@@ -106,13 +106,13 @@ stop_behind gate n (Dial dest) halt may = absurd halt
 stop_behind gate n (Hear form) halt may =
     let next = note gate n (Hear form) (Err halt) in
     record {
-      rest = may.rest;
+      rest = may.1.rest;
       is =
-          ap (λ (z : List Dest). total gate n ++ filter (is_asked gate (n.talk ++ n.said) (turn (Stopped (stop_of halt)) [])) z) (no_candidate next.role (stop_of halt)) ∙ append-nil (total gate n) ∙ may.is;
+          ap (λ (z : List Dest). total gate n ++ filter (is_asked gate (n.talk ++ n.said) (turn (Stopped (stop_of halt)) [])) z) (no_candidate next.role (stop_of halt)) ∙ append-nil (total gate n) ∙ may.1.is;
     }
 stop_behind gate n (Log line) halt may = record { rest = may.rest; is = may.is }
 stop_behind gate n (Ask request) halt may =
-    record { rest = may.rest; is = ap (λ (z : Talk). n.asks ++ asks_now gate n.heard n.role n.talk z) (append-nil n.said) ∙ may.is }
+    record { rest = may.1.rest; is = ap (λ (z : Talk). n.asks ++ asks_now gate n.heard n.role n.talk z) (append-nil n.said) ∙ may.1.is }
 stop_behind gate n (Try text) halt may = absurd may
 stop_behind gate n (Note text) halt may = absurd may
 stop_behind gate n (Renew name hash) halt may = absurd may

@@ -4,6 +4,7 @@ pub mod DueLawLemmas
 mod DueLemmas
 pub mod LawLemmas
 pub mod LoginLemmas
+pub mod OwnLemmas
 pub mod QuietLemmas
 mod RowLemmas
 pub mod SessionLemmas

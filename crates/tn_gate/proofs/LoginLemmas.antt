@@ -23,7 +23,7 @@ use Rattle.session_acts.specs.Laws.{called}
 use Rattle.session_acts.specs.Met.{number_told, opened_then}
 use Rattle.session_acts.specs.Relayed.{relayed, then_relay}
 use Rattle.session_acts.specs.Session.{Held, deeds_of}
-use Rattle.session_acts.specs.Talk.{AreOf, answered, asked, if_entered, is_entered, numbers_told, of_entered, replied, said_of, says_full}
+use Rattle.session_acts.specs.Talk.{AreOf, Entered, answered, asked, if_entered, is_entered, numbers_told, of_entered, replied, said_of, says_full}
 use Rattle.session_acts.specs.World.{World}
 use Rattle.session_acts.proofs.CourseLemmas.{asked_both, stays_open}
 use Rattle.session_acts.proofs.DeedLemmas.{all_gain, held_deeds}
@@ -261,18 +261,23 @@ stands_in sid asks later history own said login =
 -- ---- the session
 
 module _ {Origin : Type 0} (gate : Gate) (old new : World Origin) (ending : Ending) (held : Held (relayed (tn_rows gate)) (then_relay (tn_row gate)) old new ending) where
-  -- where the port's own entries are the whole history
-  pub held_login : old.office.opened ≡ None → old.office.port.mine ≡ [] → new.office.port.mine ≡ places (length new.office.port.seen) → asks_login gate.options ≡ true
-      → (before after : List Deed) (deed : Deed) (dest : Dest) → deeds_of held ≡ before ++ deed ∷ after → called deed.act deed.outcome ≡ Main dest ∷ []
-      → LoginStandsIn (number_opened (gives asked (deeds_of held))) (gives asked before) new.office.port.seen
-  held_login none empty all asks before after deed dest is calls =
+  -- in what the session entered
+  pub held_login : old.office.opened ≡ None → (entered : Entered (gives asked (deeds_of held)) old.office new.office) → asks_login gate.options ≡ true → (before after : List Deed) (deed : Deed) (dest : Dest) → deeds_of held ≡ before ++ deed ∷ after
+      → called deed.act deed.outcome ≡ Main dest ∷ [] → LoginStandsIn (number_opened (gives asked (deeds_of held))) (gives asked before) entered.port.entries
+  held_login none entered asks before after deed dest is calls =
       let every = gives asked (deeds_of held) in
-      let entered = all_gain entered_gains (deeds_of held) old new (held_deeds held) in
-      let whole = whole_entries (numbers_told old.office.opened every) entered.moments every old.office.port new.office.port empty all entered.port in
       let numbered = subst (λ (opened : Option ℕ). AreOf (of_entered (numbers_told opened every) every) entered.port.places entered.port.entries) none entered.port.numbered in
       let own = once_own every entered.port.places entered.port.entries (held_once gate old new ending held none) numbered entered.port.said in
       let split : every ≡ gives asked before ++ gives asked (deed ∷ after) = ap (λ (d : List Deed). gives asked d) is ∙ asked_both before (deed ∷ after) in
-      let said : map said_of new.office.port.seen ≡ filter is_entered (answered (gives asked before ++ gives asked (deed ∷ after))) =
-      subst (λ (z : List Entry). map said_of z ≡ filter is_entered (answered (gives asked before ++ gives asked (deed ∷ after)))) whole.1 (entered.port.said ∙ ap (λ (z : Asks). filter is_entered (answered z)) split) in
-      stands_in (number_opened every) (gives asked before) (gives asked (deed ∷ after)) new.office.port.seen (subst (λ (z : List Entry). AllByRecursion (Own (number_opened every)) z) whole.1 own) said
+      stands_in (number_opened every) (gives asked before) (gives asked (deed ∷ after)) entered.port.entries own (entered.port.said ∙ ap (λ (z : Asks). filter is_entered (answered z)) split)
       ((held_cleared gate old new ending held before after deed dest is calls).login asks)
+
+  -- where the port's own entries are the whole history
+  pub whole_login : old.office.opened ≡ None → old.office.port.mine ≡ [] → new.office.port.mine ≡ places (length new.office.port.seen) → asks_login gate.options ≡ true
+      → (before after : List Deed) (deed : Deed) (dest : Dest) → deeds_of held ≡ before ++ deed ∷ after → called deed.act deed.outcome ≡ Main dest ∷ []
+      → LoginStandsIn (number_opened (gives asked (deeds_of held))) (gives asked before) new.office.port.seen
+  whole_login none empty all asks before after deed dest is calls =
+      let every = gives asked (deeds_of held) in
+      let entered = all_gain entered_gains (deeds_of held) old new (held_deeds held) in
+      let whole = whole_entries (numbers_told old.office.opened every) entered.moments every old.office.port new.office.port empty all entered.port in
+      subst (λ (z : List Entry). LoginStandsIn (number_opened every) (gives asked before) z) whole.1 (held_login none entered asks before after deed dest is calls)

@@ -64,9 +64,9 @@ pub record MayDial (gate : Gate) (dest : Dest) (n : Noted) : Type 0 where
 abbrev pub May : Gate → Noted → Act → Type 0
 May gate n (Say text) = Behind gate n
 May gate n (Dial dest) = MayDial gate dest n × Behind gate n
-May gate n (Hear form) = Behind gate n
+May gate n (Hear form) = (form ≡ heard_form) × Behind gate n
 May gate n (Log text) = Behind gate n
-May gate n (Ask request) = Behind gate n
+May gate n (Ask request) = (asks_login gate.options ≡ true) × Behind gate n
 May gate n act = ⊥
 
 abbrev role_at : Place → Role
@@ -75,8 +75,8 @@ role_at (Answering name hidden) = IsResponse
 role_at Commanding = IsCommand
 
 abbrev LoginAt : Gate → Place → Talk → Type 0
-LoginAt gate (Naming open_) talk = Unit {0}
-LoginAt gate (Answering name hidden) talk = Unit {0}
+LoginAt gate (Naming open_) talk = asks_login gate.options ≡ true
+LoginAt gate (Answering name hidden) talk = asks_login gate.options ≡ true
 LoginAt gate Commanding talk = asks_login gate.options ≡ true → login_in talk ≡ true
 
 pub record StandsAt (gate : Gate) (n : Noted) (place : Place) : Type 0 where
@@ -144,11 +144,6 @@ module _ (Origin : Type 0) (gate : Gate) (asks calls : List Dest) (even : asks �
   settled : (role : Role) (deeds : List Deed) (said : Talk) → AsksNothing role said → total gate (at role deeds said) ≡ calls
   settled role deeds said none = ap (λ (z : List Dest). asks ++ z) none ∙ append-nil asks ∙ even
 
-  ask_name_leaves : (role : Role) (deeds : List Deed) (said : Talk) (words : List ℕ) (open_ : Bool) → AsksNothing role said → role_after role (turn heard said) ≡ IsName
-      → Leaves watch (ask_name words open_) (at role deeds said)
-  ask_name_leaves role deeds said words open_ none next =
-      (behind role deeds said, λ done. record { even = settled role deeds said none; role = next; login = tt })
-
   ask_command_leaves : (role : Role) (deeds : List Deed) (said : Talk) (words : List ℕ) → AsksNothing role said → role_after role (turn heard said) ≡ IsCommand → (asks_login gate.options ≡ true → login_in (talk ++ said) ≡ true)
       → Leaves watch (ask_command words) (at role deeds said)
   ask_command_leaves role deeds said words none next login =
@@ -156,74 +151,80 @@ module _ (Origin : Type 0) (gate : Gate) (asks calls : List Dest) (even : asks �
 
   -- ---- the login
 
-  failed_leaves : (role : Role) (deeds : List Deed) (said : Talk) (name : List ℕ) (denial : Denial) (open_ : Bool) → AsksNothing role said → role_after role (turn heard said) ≡ IsName
-      → Leaves watch (failed_row gate name denial open_) (at role deeds said)
-  failed_leaves role deeds said name denial open_ none next =
-      (behind role deeds said, λ logged. ask_name_leaves role (deeds ++ line_logged (fail_line gate name denial) ∷ []) said login_denied open_ none next)
+  module _ (wants : asks_login gate.options ≡ true) where
+    ask_name_leaves : (role : Role) (deeds : List Deed) (said : Talk) (words : List ℕ) (open_ : Bool) → AsksNothing role said → role_after role (turn heard said) ≡ IsName
+        → Leaves watch (ask_name words open_) (at role deeds said)
+    ask_name_leaves role deeds said words open_ none next =
+        (behind role deeds said, λ done. record { even = settled role deeds said none; role = next; login = wants })
 
-  abbrev back_if : Bool → Role
-  back_if b = if b then IsResponse else IsName
+    failed_leaves : (role : Role) (deeds : List Deed) (said : Talk) (name : List ℕ) (denial : Denial) (open_ : Bool) → AsksNothing role said → role_after role (turn heard said) ≡ IsName
+        → Leaves watch (failed_row gate name denial open_) (at role deeds said)
+    failed_leaves role deeds said name denial open_ none next =
+        (behind role deeds said, λ logged. ask_name_leaves role (deeds ++ line_logged (fail_line gate name denial) ∷ []) said login_denied open_ none next)
 
-  abbrev AsksLast : Talk → Type 0
-  AsksLast said = (one : Request × Reply) → list_any asks_back (said ++ one ∷ []) ≡ asks_back one
+    abbrev back_if : Bool → Role
+    back_if b = if b then IsResponse else IsName
 
-  named_leaves : (said : Talk) → AsksLast said → (deeds : List Deed) (name : List ℕ) (reply : Reply) → Leaves watch (named_row gate name reply) (at IsName deeds (said ++ (requests.Authenticate name, reply) ∷ []))
-  named_leaves said last deeds name replies.Password = (
-    behind IsName deeds (said ++ (requests.Authenticate name, replies.Password) ∷ []),
-    λ done. record { even = settled IsName deeds (said ++ (requests.Authenticate name, replies.Password) ∷ []) refl; role = ap back_if (last (requests.Authenticate name, replies.Password)); login = tt },
-  )
-  named_leaves said last deeds name (replies.Challenge number word_seed) = (
-    behind IsName deeds (said ++ (requests.Authenticate name, replies.Challenge number word_seed) ∷ []),
-    λ done. record { even = settled IsName deeds (said ++ (requests.Authenticate name, replies.Challenge number word_seed) ∷ []) refl; role = ap back_if (last (requests.Authenticate name, replies.Challenge number word_seed)); login = tt },
-  )
-  named_leaves said last deeds name (replies.Denied denial) = failed_leaves IsName deeds (said ++ (requests.Authenticate name, replies.Denied denial) ∷ []) name denial true refl (ap back_if (last (requests.Authenticate name, replies.Denied denial)))
-  named_leaves said last deeds name (replies.Opened sid) = failed_leaves IsName deeds (said ++ (requests.Authenticate name, replies.Opened sid) ∷ []) name NotIn true refl (ap back_if (last (requests.Authenticate name, replies.Opened sid)))
-  named_leaves said last deeds name replies.Ok = failed_leaves IsName deeds (said ++ (requests.Authenticate name, replies.Ok) ∷ []) name NotIn true refl (ap back_if (last (requests.Authenticate name, replies.Ok)))
-  named_leaves said last deeds name (replies.Shown summary) = failed_leaves IsName deeds (said ++ (requests.Authenticate name, replies.Shown summary) ∷ []) name NotIn true refl (ap back_if (last (requests.Authenticate name, replies.Shown summary)))
+    abbrev AsksLast : Talk → Type 0
+    AsksLast said = (one : Request × Reply) → list_any asks_back (said ++ one ∷ []) ≡ asks_back one
 
-  authenticate_leaves : (said : Talk) → AsksLast said → (deeds : List Deed) (name : List ℕ) → Leaves watch (authenticate_row gate name) (at IsName deeds said)
-  authenticate_leaves said last deeds name =
-      (behind IsName deeds said, λ reply. named_leaves said last (deeds ++ deed_of (Ask (requests.Authenticate name)) (Ok reply) ∷ []) name reply)
+    named_leaves : (said : Talk) → AsksLast said → (deeds : List Deed) (name : List ℕ) (reply : Reply) → Leaves watch (named_row gate name reply) (at IsName deeds (said ++ (requests.Authenticate name, reply) ∷ []))
+    named_leaves said last deeds name replies.Password = (
+      behind IsName deeds (said ++ (requests.Authenticate name, replies.Password) ∷ []),
+      λ done. record { even = settled IsName deeds (said ++ (requests.Authenticate name, replies.Password) ∷ []) refl; role = ap back_if (last (requests.Authenticate name, replies.Password)); login = wants },
+    )
+    named_leaves said last deeds name (replies.Challenge number word_seed) = (
+      behind IsName deeds (said ++ (requests.Authenticate name, replies.Challenge number word_seed) ∷ []),
+      λ done. record { even = settled IsName deeds (said ++ (requests.Authenticate name, replies.Challenge number word_seed) ∷ []) refl; role = ap back_if (last (requests.Authenticate name, replies.Challenge number word_seed)); login = wants },
+    )
+    named_leaves said last deeds name (replies.Denied denial) = failed_leaves IsName deeds (said ++ (requests.Authenticate name, replies.Denied denial) ∷ []) name denial true refl (ap back_if (last (requests.Authenticate name, replies.Denied denial)))
+    named_leaves said last deeds name (replies.Opened sid) = failed_leaves IsName deeds (said ++ (requests.Authenticate name, replies.Opened sid) ∷ []) name NotIn true refl (ap back_if (last (requests.Authenticate name, replies.Opened sid)))
+    named_leaves said last deeds name replies.Ok = failed_leaves IsName deeds (said ++ (requests.Authenticate name, replies.Ok) ∷ []) name NotIn true refl (ap back_if (last (requests.Authenticate name, replies.Ok)))
+    named_leaves said last deeds name (replies.Shown summary) = failed_leaves IsName deeds (said ++ (requests.Authenticate name, replies.Shown summary) ∷ []) name NotIn true refl (ap back_if (last (requests.Authenticate name, replies.Shown summary)))
 
-  opened_leaves : (deeds : List Deed) (name : List ℕ) (reply : Reply) → Leaves watch (opened_row gate name reply) (at IsName deeds ((requests.Open false, reply) ∷ []))
-  opened_leaves deeds name (replies.Opened sid) = authenticate_leaves ((requests.Open false, replies.Opened sid) ∷ []) (λ one. or_false (asks_back one)) deeds name
-  opened_leaves deeds name (replies.Denied denial) = failed_leaves IsName deeds ((requests.Open false, replies.Denied denial) ∷ []) name denial false refl refl
-  opened_leaves deeds name replies.Password = failed_leaves IsName deeds ((requests.Open false, replies.Password) ∷ []) name NotIn false refl refl
-  opened_leaves deeds name (replies.Challenge number word_seed) = failed_leaves IsName deeds ((requests.Open false, replies.Challenge number word_seed) ∷ []) name NotIn false refl refl
-  opened_leaves deeds name replies.Ok = failed_leaves IsName deeds ((requests.Open false, replies.Ok) ∷ []) name NotIn false refl refl
-  opened_leaves deeds name (replies.Shown summary) = failed_leaves IsName deeds ((requests.Open false, replies.Shown summary) ∷ []) name NotIn false refl refl
+    authenticate_leaves : (said : Talk) → AsksLast said → (deeds : List Deed) (name : List ℕ) → Leaves watch (authenticate_row gate name) (at IsName deeds said)
+    authenticate_leaves said last deeds name =
+        ((wants, behind IsName deeds said), λ reply. named_leaves said last (deeds ++ deed_of (Ask (requests.Authenticate name)) (Ok reply) ∷ []) name reply)
 
-  name_leaves : (deeds : List Deed) (open_ : Bool) (name : List ℕ) → Leaves watch (name_row gate open_ (Some name)) (at IsName deeds [])
-  name_leaves deeds true name = authenticate_leaves [] (λ one. or_false (asks_back one)) deeds name
-  name_leaves deeds false name = (behind IsName deeds [], λ reply. opened_leaves (deeds ++ deed_of (Ask (requests.Open false)) (Ok reply) ∷ []) name reply)
+    opened_leaves : (deeds : List Deed) (name : List ℕ) (reply : Reply) → Leaves watch (opened_row gate name reply) (at IsName deeds ((requests.Open false, reply) ∷ []))
+    opened_leaves deeds name (replies.Opened sid) = authenticate_leaves ((requests.Open false, replies.Opened sid) ∷ []) (λ one. or_false (asks_back one)) deeds name
+    opened_leaves deeds name (replies.Denied denial) = failed_leaves IsName deeds ((requests.Open false, replies.Denied denial) ∷ []) name denial false refl refl
+    opened_leaves deeds name replies.Password = failed_leaves IsName deeds ((requests.Open false, replies.Password) ∷ []) name NotIn false refl refl
+    opened_leaves deeds name (replies.Challenge number word_seed) = failed_leaves IsName deeds ((requests.Open false, replies.Challenge number word_seed) ∷ []) name NotIn false refl refl
+    opened_leaves deeds name replies.Ok = failed_leaves IsName deeds ((requests.Open false, replies.Ok) ∷ []) name NotIn false refl refl
+    opened_leaves deeds name (replies.Shown summary) = failed_leaves IsName deeds ((requests.Open false, replies.Shown summary) ∷ []) name NotIn false refl refl
 
-  -- a line that is no name was heard last
-  no_name_leaves : (deeds : List Deed) (open_ : Bool) → Leaves watch (name_row gate open_ None) (at IsName (deeds ++ deed_of (Hear heard_form) (Ok heard) ∷ []) [])
-  no_name_leaves deeds open_ = ask_name_leaves IsName (deeds ++ deed_of (Hear heard_form) (Ok heard) ∷ []) [] login_denied open_ refl refl
+    name_leaves : (deeds : List Deed) (open_ : Bool) (name : List ℕ) → Leaves watch (name_row gate open_ (Some name)) (at IsName deeds [])
+    name_leaves deeds true name = authenticate_leaves [] (λ one. or_false (asks_back one)) deeds name
+    name_leaves deeds false name = ((wants, behind IsName deeds []), λ reply. opened_leaves (deeds ++ deed_of (Ask (requests.Open false)) (Ok reply) ∷ []) name reply)
 
-  -- ---- the response
+    -- a line that is no name was heard last
+    no_name_leaves : (deeds : List Deed) (open_ : Bool) → Leaves watch (name_row gate open_ None) (at IsName (deeds ++ deed_of (Hear heard_form) (Ok heard) ∷ []) [])
+    no_name_leaves deeds open_ = ask_name_leaves IsName (deeds ++ deed_of (Hear heard_form) (Ok heard) ∷ []) [] login_denied open_ refl refl
 
-  answered_leaves : (deeds : List Deed) (name text : List ℕ) (reply : Reply) → Leaves watch (answered_row gate name reply) (at IsResponse deeds ((requests.Response (md5 text) (read_of text), reply) ∷ []))
-  answered_leaves deeds name text replies.Ok =
-      let said : Talk = (requests.Response (md5 text) (read_of text), replies.Ok) ∷ [] in (
-        behind IsResponse deeds said,
-        λ logged. ask_command_leaves IsResponse (deeds ++ line_logged (login_line gate name) ∷ []) said [] refl refl
-            (λ asked. then_stands talk (requests.Response (md5 text) (read_of text), replies.Ok)),
-      )
-  answered_leaves deeds name text (replies.Denied denial) = failed_leaves IsResponse deeds ((requests.Response (md5 text) (read_of text), replies.Denied denial) ∷ []) name denial true refl refl
-  answered_leaves deeds name text (replies.Opened sid) = failed_leaves IsResponse deeds ((requests.Response (md5 text) (read_of text), replies.Opened sid) ∷ []) name NotIn true refl refl
-  answered_leaves deeds name text replies.Password = failed_leaves IsResponse deeds ((requests.Response (md5 text) (read_of text), replies.Password) ∷ []) name NotIn true refl refl
-  answered_leaves deeds name text (replies.Challenge number word_seed) = failed_leaves IsResponse deeds ((requests.Response (md5 text) (read_of text), replies.Challenge number word_seed) ∷ []) name NotIn true refl refl
-  answered_leaves deeds name text (replies.Shown summary) = failed_leaves IsResponse deeds ((requests.Response (md5 text) (read_of text), replies.Shown summary) ∷ []) name NotIn true refl refl
+    -- ---- the response
 
-  respond_leaves : (deeds : List Deed) (name text : List ℕ) → Leaves watch (respond_row gate name text) (at IsResponse deeds [])
-  respond_leaves deeds name text =
-      (behind IsResponse deeds [], λ reply. answered_leaves (deeds ++ deed_of (Ask (requests.Response (md5 text) (read_of text))) (Ok reply) ∷ []) name text reply)
+    answered_leaves : (deeds : List Deed) (name text : List ℕ) (reply : Reply) → Leaves watch (answered_row gate name reply) (at IsResponse deeds ((requests.Response (md5 text) (read_of text), reply) ∷ []))
+    answered_leaves deeds name text replies.Ok =
+        let said : Talk = (requests.Response (md5 text) (read_of text), replies.Ok) ∷ [] in (
+          behind IsResponse deeds said,
+          λ logged. ask_command_leaves IsResponse (deeds ++ line_logged (login_line gate name) ∷ []) said [] refl refl
+              (λ asked. then_stands talk (requests.Response (md5 text) (read_of text), replies.Ok)),
+        )
+    answered_leaves deeds name text (replies.Denied denial) = failed_leaves IsResponse deeds ((requests.Response (md5 text) (read_of text), replies.Denied denial) ∷ []) name denial true refl refl
+    answered_leaves deeds name text (replies.Opened sid) = failed_leaves IsResponse deeds ((requests.Response (md5 text) (read_of text), replies.Opened sid) ∷ []) name NotIn true refl refl
+    answered_leaves deeds name text replies.Password = failed_leaves IsResponse deeds ((requests.Response (md5 text) (read_of text), replies.Password) ∷ []) name NotIn true refl refl
+    answered_leaves deeds name text (replies.Challenge number word_seed) = failed_leaves IsResponse deeds ((requests.Response (md5 text) (read_of text), replies.Challenge number word_seed) ∷ []) name NotIn true refl refl
+    answered_leaves deeds name text (replies.Shown summary) = failed_leaves IsResponse deeds ((requests.Response (md5 text) (read_of text), replies.Shown summary) ∷ []) name NotIn true refl refl
 
-  response_leaves : (deeds : List Deed) (name : List ℕ) (hidden : Bool) (text : List ℕ) → Leaves watch (response_row gate name hidden text) (at IsResponse deeds [])
-  response_leaves deeds name true text =
-      (behind IsResponse deeds [], λ done. respond_leaves (deeds ++ deed_of (Say password_ended) (Ok done) ∷ []) name text)
-  response_leaves deeds name false text = respond_leaves deeds name text
+    respond_leaves : (deeds : List Deed) (name text : List ℕ) → Leaves watch (respond_row gate name text) (at IsResponse deeds [])
+    respond_leaves deeds name text =
+        ((wants, behind IsResponse deeds []), λ reply. answered_leaves (deeds ++ deed_of (Ask (requests.Response (md5 text) (read_of text))) (Ok reply) ∷ []) name text reply)
+
+    response_leaves : (deeds : List Deed) (name : List ℕ) (hidden : Bool) (text : List ℕ) → Leaves watch (response_row gate name hidden text) (at IsResponse deeds [])
+    response_leaves deeds name true text =
+        (behind IsResponse deeds [], λ done. respond_leaves (deeds ++ deed_of (Say password_ended) (Ok done) ∷ []) name text)
+    response_leaves deeds name false text = respond_leaves deeds name text
 
   -- ---- destinations
 
@@ -303,7 +304,8 @@ module _ (Origin : Type 0) (gate : Gate) (asks calls : List Dest) (even : asks �
       operated_leaves deeds (replies.Shown summary) allowed extnd = refused_leaves (deeds ++ deed_of (Ask operation) (Ok (replies.Shown summary)) ∷ []) (replies.Shown summary) extnd refl
 
       permitted_leaves : (deeds : List Deed) (extnd : Bool) → gate.options.extnd ≡ extnd → allows gate.options dest ≡ true → Leaves watch (permitted_row extnd gate dest) (at IsCommand deeds [])
-      permitted_leaves deeds true extnd allowed = (behind IsCommand deeds [], λ reply. operated_leaves deeds reply allowed extnd)
+      permitted_leaves deeds true extnd allowed =
+          ((or_last (is_some gate.options.auth) gate.options.authall gate.options.extnd extnd, behind IsCommand deeds []), λ reply. operated_leaves deeds reply allowed extnd)
       permitted_leaves deeds false extnd allowed =
           let clear : (not gate.options.extnd || false) ≡ true = rw extnd refl in
           let test = passes (allows gate.options dest) (asks_login gate.options) (login_in talk) gate.options.extnd false allowed login clear in
@@ -335,21 +337,21 @@ module _ (Origin : Type 0) (gate : Gate) where
   abbrev own : PlaceTable (acts Origin) Place
   own = tn_rows gate
 
-  naming_leaves : (open_ : Bool) (deeds : List Deed) (asks calls : List Dest) (even : asks ≡ calls) (heard : Heard) (talk : Talk)
+  naming_leaves : (open_ : Bool) (deeds : List Deed) (asks calls : List Dest) (even : asks ≡ calls) (heard : Heard) (talk : Talk) → asks_login gate.options ≡ true
       → Leaves (tn_watch Origin gate) (naming_row gate open_ heard) (at Origin gate asks calls even heard talk IsName (deeds ++ deed_of (Hear heard_form) (Ok heard) ∷ []) [])
-  naming_leaves open_ deeds asks calls even (Line line) talk = choose (name_of line.items) refl
+  naming_leaves open_ deeds asks calls even (Line line) talk wants = choose (name_of line.items) refl
     where
       choose : (name : Option (List ℕ)) → name_of line.items ≡ name → Leaves (tn_watch Origin gate) (name_row gate open_ name) (at Origin gate asks calls even (Line line) talk IsName (deeds ++ deed_of (Hear heard_form) (Ok (Line line)) ∷ []) [])
-      choose None is = no_name_leaves Origin gate asks calls even (Line line) talk deeds open_
-      choose (Some name) is = name_leaves Origin gate asks calls even (Line line) talk (deeds ++ deed_of (Hear heard_form) (Ok (Line line)) ∷ []) open_ name
-  naming_leaves open_ deeds asks calls even TooLong talk = no_name_leaves Origin gate asks calls even TooLong talk deeds open_
-  naming_leaves open_ deeds asks calls even (Stopped stop) talk = settled Origin gate asks calls even (Stopped stop) talk IsName deeds [] refl
+      choose None is = no_name_leaves Origin gate asks calls even (Line line) talk wants deeds open_
+      choose (Some name) is = name_leaves Origin gate asks calls even (Line line) talk wants (deeds ++ deed_of (Hear heard_form) (Ok (Line line)) ∷ []) open_ name
+  naming_leaves open_ deeds asks calls even TooLong talk wants = no_name_leaves Origin gate asks calls even TooLong talk wants deeds open_
+  naming_leaves open_ deeds asks calls even (Stopped stop) talk wants = settled Origin gate asks calls even (Stopped stop) talk IsName deeds [] refl
 
-  answering_leaves : (name : List ℕ) (hidden : Bool) (deeds : List Deed) (asks calls : List Dest) (even : asks ≡ calls) (heard : Heard) (talk : Talk)
+  answering_leaves : (name : List ℕ) (hidden : Bool) (deeds : List Deed) (asks calls : List Dest) (even : asks ≡ calls) (heard : Heard) (talk : Talk) → asks_login gate.options ≡ true
       → Leaves (tn_watch Origin gate) (answering_row gate name hidden heard) (at Origin gate asks calls even heard talk IsResponse deeds [])
-  answering_leaves name hidden deeds asks calls even (Line line) talk = response_leaves Origin gate asks calls even (Line line) talk deeds name hidden line.items
-  answering_leaves name hidden deeds asks calls even TooLong talk = response_leaves Origin gate asks calls even TooLong talk deeds name hidden []
-  answering_leaves name hidden deeds asks calls even (Stopped stop) talk = settled Origin gate asks calls even (Stopped stop) talk IsResponse deeds [] refl
+  answering_leaves name hidden deeds asks calls even (Line line) talk wants = response_leaves Origin gate asks calls even (Line line) talk wants deeds name hidden line.items
+  answering_leaves name hidden deeds asks calls even TooLong talk wants = response_leaves Origin gate asks calls even TooLong talk wants deeds name hidden []
+  answering_leaves name hidden deeds asks calls even (Stopped stop) talk wants = settled Origin gate asks calls even (Stopped stop) talk IsResponse deeds [] refl
 
   commanding_leaves : (deeds : List Deed) (asks calls : List Dest) (even : asks ≡ calls) (heard : Heard) (talk : Talk) → (asks_login gate.options ≡ true → login_in talk ≡ true)
       → Leaves (tn_watch Origin gate) (commanding_row gate heard) (at Origin gate asks calls even heard talk IsCommand deeds [])
@@ -360,10 +362,10 @@ module _ (Origin : Type 0) (gate : Gate) where
   place_leaves : (place : Place) (n : Noted) (heard : Heard) → StandsAt gate n place → Leaves (tn_watch Origin gate) (own.go place heard) (note gate n (Hear heard_form) (Ok heard))
   place_leaves (Naming open_) n heard stands =
       let Leaves_so : Role → Type 0 = λ role. Leaves (tn_watch Origin gate) (naming_row gate open_ heard) (at Origin gate (total gate n) n.calls stands.even heard (n.talk ++ n.said) role (n.deeds ++ deed_of (Hear heard_form) (Ok heard) ∷ []) []) in
-      subst Leaves_so (sym stands.role) (naming_leaves open_ n.deeds (total gate n) n.calls stands.even heard (n.talk ++ n.said))
+      subst Leaves_so (sym stands.role) (naming_leaves open_ n.deeds (total gate n) n.calls stands.even heard (n.talk ++ n.said) stands.login)
   place_leaves (Answering name hidden) n heard stands =
       let Leaves_so : Role → Type 0 = λ role. Leaves (tn_watch Origin gate) (answering_row gate name hidden heard) (at Origin gate (total gate n) n.calls stands.even heard (n.talk ++ n.said) role (n.deeds ++ deed_of (Hear heard_form) (Ok heard) ∷ []) []) in
-      subst Leaves_so (sym stands.role) (answering_leaves name hidden (n.deeds ++ deed_of (Hear heard_form) (Ok heard) ∷ []) (total gate n) n.calls stands.even heard (n.talk ++ n.said))
+      subst Leaves_so (sym stands.role) (answering_leaves name hidden (n.deeds ++ deed_of (Hear heard_form) (Ok heard) ∷ []) (total gate n) n.calls stands.even heard (n.talk ++ n.said) stands.login)
   place_leaves Commanding n heard stands =
       let Leaves_so : Role → Type 0 = λ role. Leaves (tn_watch Origin gate) (commanding_row gate heard) (at Origin gate (total gate n) n.calls stands.even heard (n.talk ++ n.said) role (n.deeds ++ deed_of (Hear heard_form) (Ok heard) ∷ []) []) in
       subst Leaves_so (sym stands.role) (commanding_leaves (n.deeds ++ deed_of (Hear heard_form) (Ok heard) ∷ []) (total gate n) n.calls stands.even heard (n.talk ++ n.said) stands.login)
@@ -372,11 +374,11 @@ module _ (Origin : Type 0) (gate : Gate) where
   even_behind n even = record { rest = []; is = even ∙ sym (append-nil n.calls) }
 
   pub rows_keep : Keeps own (tn_watch Origin gate)
-  rows_keep place n stands = (even_behind n stands.even, λ heard. place_leaves place n heard stands)
+  rows_keep place n stands = ((refl, even_behind n stands.even), λ heard. place_leaves place n heard stands)
 
   first_leaves : (asked : Bool) → asks_login gate.options ≡ asked → Leaves (tn_watch Origin gate) (first_by asked) (at_start gate)
   first_leaves true asked =
-      (even_behind (at_start gate) refl, λ done. record { even = refl; role = ap (λ (b : Bool). if b then IsName else IsCommand) asked; login = tt })
+      (even_behind (at_start gate) refl, λ done. record { even = refl; role = ap (λ (b : Bool). if b then IsName else IsCommand) asked; login = asked })
   first_leaves false asked = (
     even_behind (at_start gate) refl,
     λ done. record { even = refl; role = ap (λ (b : Bool). if b then IsName else IsCommand) asked; login = λ asks. clash (sym asked ∙ asks) },

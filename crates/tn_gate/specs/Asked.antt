@@ -19,7 +19,9 @@ use Rattle.session_acts.specs.Acts.{Act, Outcome}
 use Rattle.session_acts.specs.Acts.Act.{Hear}
 use Rattle.session_acts.specs.Deeds.{Deed}
 use Rattle.session_acts.specs.Hearing.{heard_by}
+use Rattle.session_acts.specs.Said.{said_by}
 use Rattle.session_acts.specs.Talk.{answered, asked}
+use Rattle.session_acts.specs.declared.form.Form.TheVariants.{Telnet}
 use Rattle.tn_gate.specs.Command.{command_of}
 use Rattle.tn_gate.specs.Gate.{Gate, asks_login}
 use Rattle.tn_gate.specs.declared.command.Command.{Command}
@@ -55,6 +57,11 @@ turn_in act outcome talk = []
 abbrev pub turns_of : List Deed → List Turn
 turns_of [] = []
 turns_of (deed ∷ deeds) = turn_in deed.act deed.outcome (talk_before deeds) ++ turns_of deeds
+
+-- the lines that were heard, up to the end of them
+abbrev pub lines_in : List Turn → List (Option (List ℕ))
+lines_in [] = []
+lines_in (turn ∷ turns) = said_by Telnet turn.heard (lines_in turns)
 
 -- ---- the role of each line
 

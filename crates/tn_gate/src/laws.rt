@@ -1,16 +1,20 @@
 //! What holds of every session of the Telnet gateway.
-ghost use Rattle.std.specs.Prelude.{◌≡◌, true, List, [], ◌∷◌, ◌++◌, length, None};
+ghost use Rattle.std.specs.Prelude.{◌≡◌, ◌≢◌, true, false, List, [], ◌∷◌, ◌++◌, length, None};
 ghost use Rattle.auth_events.specs.Port.{places};
 ghost use Rattle.fw_outside.specs.declared.ask.Ask.TheVariants.{Main};
 ghost use Rattle.fw_types.specs.declared.dest.Dest.{Dest};
 ghost use Rattle.fw_types.specs.declared.ending.Ending.{Ending};
+ghost use Rattle.fw_types.specs.declared.ending.Ending.TheVariants.{AuthFault, NoMemory, NoRoute};
 ghost use Rattle.session_acts.specs.Deeds.{Deed, gives};
+ghost use Rattle.session_acts.specs.Hearing.{heard_in};
 ghost use Rattle.session_acts.specs.Laws.{called};
 ghost use Rattle.session_acts.specs.RelayFronts.{RelaysFronts};
 ghost use Rattle.session_acts.specs.Relayed.{relayed, then_relay};
+ghost use Rattle.session_acts.specs.Said.{lines_said};
 ghost use Rattle.session_acts.specs.Session.{Held, RelaySession, deeds_of};
-ghost use Rattle.session_acts.specs.Talk.{asked};
+ghost use Rattle.session_acts.specs.Talk.{Entered, asked};
 ghost use Rattle.session_acts.specs.World.{Devices, World, devices_of};
+ghost use Rattle.tn_gate.specs.Asked.{lines_in, turns_of};
 ghost use Rattle.tn_gate.specs.Course.{OpensOnce};
 ghost use Rattle.tn_gate.specs.Dialogue.{tn_row, tn_rows};
 ghost use Rattle.tn_gate.specs.Due.{LogsWhatIsDue};
@@ -47,10 +51,14 @@ pub fn each_denial_is_logged<Origin>()
 
 /// The destinations that are asked for are those that the client's lines ask for, in order: the commands to connect to a
 /// destination that the permission line allows and that is cleared. All of them are asked for, unless the dialogue stopped;
-/// then a front of them is.
+/// then a front of them is (`asks`). The lines are those that were heard (`lines`), which are the first lines of the client's
+/// text (`the_lines_of_telnet_are_heard` of `session_acts`).
 pub fn the_destinations_are_those_asked_for<Origin>()
-    ensures { (gate : Gate) (old new : World Origin) (ending : Ending)
+    ensures asks { (gate : Gate) (old new : World Origin) (ending : Ending)
         (held : Held (relayed (tn_rows gate)) (then_relay (tn_row gate)) old new ending) → AsksExactly gate held }
+    ensures lines { (gate : Gate) (old new : World Origin) (ending : Ending)
+        (held : Held (relayed (tn_rows gate)) (then_relay (tn_row gate)) old new ending) →
+        lines_in (turns_of (deeds_of held)) ≡ lines_said (gives heard_in (deeds_of held)) }
 {}
 
 /// Where no session was open before: openings that opened none, and then nothing is asked, or Open once more; where that is
@@ -61,11 +69,17 @@ pub fn a_session_is_opened_once<Origin>()
         OpensOnce (gives asked (deeds_of held)) }
 {}
 
-/// Where a login is asked for and the port's own entries are the whole history, whatever asks for a destination comes after a
-/// login that stands there: what the session had asked by then and was entered is a front of the history, and in that a login
-/// stands for the number that this session's opening was given.
+/// Where a login is asked for, whatever asks for a destination comes after a login that stands in what this session entered:
+/// what it had asked by then and was entered is a front of that, and in this front a login stands for the number that this
+/// session's opening was given (`own`). If the port's own entries are the whole history, they are a front of it (`whole`).
 pub fn the_login_is_this_sessions<Origin>()
-    ensures { (gate : Gate) (old new : World Origin) (ending : Ending)
+    ensures own { (gate : Gate) (old new : World Origin) (ending : Ending)
+        (held : Held (relayed (tn_rows gate)) (then_relay (tn_row gate)) old new ending) → old.office.opened ≡ None →
+        (entered : Entered (gives asked (deeds_of held)) old.office new.office) → asks_login gate.options ≡ true →
+        (before after : List Deed) (deed : Deed) (dest : Dest) → deeds_of held ≡ before ++ deed ∷ after →
+        called deed.act deed.outcome ≡ Main dest ∷ [] →
+        LoginStandsIn (number_opened (gives asked (deeds_of held))) (gives asked before) entered.port.entries }
+    ensures whole { (gate : Gate) (old new : World Origin) (ending : Ending)
         (held : Held (relayed (tn_rows gate)) (then_relay (tn_row gate)) old new ending) → old.office.opened ≡ None →
         old.office.port.mine ≡ [] → new.office.port.mine ≡ places (length new.office.port.seen) →
         asks_login gate.options ≡ true → (before after : List Deed) (deed : Deed) (dest : Dest) →
@@ -86,4 +100,20 @@ pub fn fronts_are_relayed<Origin>()
     ensures session { (gate : Gate) (old new : Devices Origin) (ending : Ending)
         (session : RelaySession (relayed (tn_rows gate)) (then_relay (tn_row gate)) old new ending) →
         RelaysFronts (deeds_of session.held) old new ending }
+{}
+
+/// Where the permission line asks for no login, nothing is asked of the port (`unasked`), and so no session ends for want of
+/// memory (`ample`) or by the port (`unfailed`). None ends since a destination couldn't be reached (`routed`).
+pub fn what_ends_no_session<Origin>()
+    ensures unasked { (gate : Gate) (old new : World Origin) (ending : Ending)
+        (held : Held (relayed (tn_rows gate)) (then_relay (tn_row gate)) old new ending) → old.office.opened ≡ None →
+        asks_login gate.options ≡ false → gives asked (deeds_of held) ≡ [] }
+    ensures ample { (gate : Gate) (old new : World Origin) (ending : Ending) →
+        Held (relayed (tn_rows gate)) (then_relay (tn_row gate)) old new ending → old.office.opened ≡ None →
+        asks_login gate.options ≡ false → ending ≢ NoMemory }
+    ensures unfailed { (gate : Gate) (old new : World Origin) (ending : Ending) →
+        Held (relayed (tn_rows gate)) (then_relay (tn_row gate)) old new ending → old.office.opened ≡ None →
+        asks_login gate.options ≡ false → ending ≢ AuthFault }
+    ensures routed { (gate : Gate) (old new : World Origin) (ending : Ending) →
+        Held (relayed (tn_rows gate)) (then_relay (tn_row gate)) old new ending → ending ≢ NoRoute }
 {}

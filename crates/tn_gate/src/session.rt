@@ -21,8 +21,9 @@ use std::thread::Threads;
 /// where that line wants to know it; then commands are heard, up to the first destination that comes up; then what both sides
 /// say is relayed, both ways at once, until both are done, and the link is hung up. At most 2^40 bytes are taken of each.
 ///
-/// The answer is `Done` at the client's end or `quit`, or where both ways of the relay were; else why the session stopped,
-/// which the device that failed or was idle has counted. A session that is open at the port is asked to close.
+/// A session that is open at the port is asked to close. The answer is `Done` at the client's end or `quit`, or where both
+/// ways of the relay were, unless the close that is owed gets no answer; else why the session stopped. A device that failed
+/// or was idle has counted it.
 pub fn tn_session<H, P, S, K, G, D, C>(
     rt: &H,
     rules: &Rules,
