@@ -1,5 +1,5 @@
 -- A client of the gateway: a session was held, or it was denied; and what that comes to, by its ending.
-use Rattle.std.proofs.Common.{◌≡◌, ◌∙◌, ◌<◌, ℕ, length, refl, sym, ap, subst, inl, inr, ◌⊎◌, ◌==◌, Bool, true, false}
+use Rattle.std.proofs.Common.{◌≡◌, ◌≢◌, ◌∙◌, ◌<◌, ℕ, length, refl, sym, ap, subst, inl, inr, ◌⊎◌, ◌==◌, Bool, true, false}
 use Rattle.std.specs.Prelude.{if◌then◌else◌}
 use Rattle.auth_machine.specs.Book.{BookView}
 use Rattle.auth_machine.specs.Port.{BookOrigin, book_port}
@@ -9,7 +9,7 @@ use Rattle.client_service.specs.Decision.{decision_text}
 use Rattle.client_service.specs.Endings.{ending_line}
 use Rattle.client_service.specs.GateService.{HeldBehind, gate_devices}
 use Rattle.client_service.specs.Kind.{kind_of}
-use Rattle.client_service.specs.Kind.Kind.{Alone, Gated as IsGated}
+use Rattle.client_service.specs.Kind.Kind as kinds
 use Rattle.client_service.specs.Meeting.{patient, timeout_of}
 use Rattle.fw_outside.specs.KeeperView.{KeeperView}
 use Rattle.fw_outside.specs.SinkView.{SinkView}
@@ -23,14 +23,16 @@ use Rattle.gate_rules.specs.declared.verdict.Verdict.{Verdict}
 use Rattle.gate_rules.specs.declared.verdict.Verdict.TheVariants.{Permit, Deny}
 use Rattle.session_acts.specs.Causes.{LinkTookMost, TookMost}
 use Rattle.session_acts.specs.Relayed.{relayed, then_relay}
-use Rattle.session_acts.specs.World.{Devices, most_taken}
+use Rattle.session_acts.specs.Client.{with_line}
+use Rattle.session_acts.specs.World.{Devices, at_first, most_taken}
+use Rattle.tn_gate.proofs.OwnLemmas.{held_routed}
 use Rattle.tn_gate.specs.Dialogue.{tn_row, tn_rows}
 use Rattle.tn_gate.specs.Gate.{gate_at}
 use Rattle.tn_gate.specs.Texts.{refusal}
 use Rattle.bastion.specs.Gateway.{let_in}
 use Rattle.bastion.specs.Gating.{Gated, devices_over}
 use Rattle.bastion.specs.Inputs.{Inputs}
-use Rattle.bastion.specs.Outcome.{LinkRose, RoseFor, status_of}
+use Rattle.bastion.specs.Outcome.{GateRose, LinkRose, RoseFor, status_of}
 use Rattle.bastion.specs.Serving.{book_at_first, most_entries, origin_of}
 use Rattle.bastion.specs.Status.{IsAtLimit, IsFull, IsPassed, LinkSpent, TakesOver}
 use Rattle.bastion.specs.WorldView.{WorldView}
@@ -74,7 +76,7 @@ gated_so peer inputs out old new h = conn_so inputs.rules peer (begun_for inputs
 
 -- ---- what each ending has counted
 
-permit_rose : (line : ℕ) (ending : Ending) (old new : WorldView) (first book : BookView) → Causes IsGated (Permit line) ending (devices_over old first) (devices_over new book) → LinkRose ending old new
+permit_rose : (line : ℕ) (ending : Ending) (old new : WorldView) (first book : BookView) → Causes kinds.Gated (Permit line) ending (devices_over old first) (devices_over new book) → LinkRose ending old new
 permit_rose line Done old new first book h = tt
 permit_rose line (Denied other) old new first book h = tt
 permit_rose line ClientFault old new first book h = h
@@ -86,18 +88,40 @@ permit_rose line NoRoute old new first book h = h
 permit_rose line Spent old new first book h = tt
 permit_rose line NoMemory old new first book h = tt
 
-causes_rose : (verdict : Verdict) (ending : Ending) (old new : WorldView) (first book : BookView) → Causes (kind_of services.TnGw verdict) verdict ending (devices_over old first) (devices_over new book) → LinkRose ending old new
-causes_rose (Permit line) ending old new first book h = permit_rose line ending old new first book h
-causes_rose (Deny line) ending old new first book h = deny_rose (book_port first) (book_port book) line ending old new (λ rose. port_rose rose) h
-
 gated_caused : (peer : Peer) (inputs : Inputs) (out : Outcome) (old new : WorldView) (h : Gated peer inputs out old new)
     → Causes (kind_of services.TnGw (verdict_of inputs.rules peer)) (verdict_of inputs.rules peer) h.ending (begun_for inputs h.before old) (devices_over new h.book)
 gated_caused peer inputs out old new h = conn_caused services.TnGw inputs.rules peer (begun_for inputs h.before old) (devices_over new h.book) h.ending h.serves
 
+causes_rose : (verdict : Verdict) (ending : Ending) (old new : WorldView) (first book : BookView) → Causes (kind_of services.TnGw verdict) verdict ending (devices_over old first) (devices_over new book) → LinkRose ending old new
+causes_rose (Permit line) ending old new first book h = permit_rose line ending old new first book h
+causes_rose (Deny line) ending old new first book h = deny_rose (book_port first) (book_port book) line ending old new (λ rose. port_rose rose) h
+
+-- no client ends since a destination couldn't be reached
+held_routed_by : (line : ℕ) (rules : RuleBook) (peer : Peer) (old new : Devices BookOrigin) (ending : Ending) → HeldBehind (decision_text (Permit line) services.TnGw peer) (gate_at rules line peer) ending old new → ending ≢ NoRoute
+held_routed_by line rules peer old new ending (inl fails) is = let clash : LogFault ≡ NoRoute = sym fails.ends ∙ is in absurd (cc)
+held_routed_by line rules peer old new ending (inr session) is =
+    held_routed (gate_at rules line peer) (at_first (with_line (decision_text (Permit line) services.TnGw peer) old) session.names) session.last ending session.held is
+
+refused_routed : (line : ℕ) (ending : Ending) → IsRefused (Deny line) ending → ending ≢ NoRoute
+refused_routed line ending (inl denied) is = let clash : Denied line ≡ NoRoute = sym denied ∙ is in absurd (cc)
+refused_routed line ending (inr fault) is = let clash : LogFault ≡ NoRoute = sym fault ∙ is in absurd (cc)
+
+gated_routed : (peer : Peer) (inputs : Inputs) (out : Outcome) (old new : WorldView) (h : Gated peer inputs out old new)
+    → OfCaller (verdict_of inputs.rules peer) inputs.rules peer (begun_for inputs h.before old) (devices_over new h.book) h.ending → h.ending ≢ NoRoute
+gated_routed peer inputs out old new h (inl s) =
+    held_routed_by s.line inputs.rules peer (patient (timeout_of inputs.rules) (gate_devices (begun_for inputs h.before old))) (gate_devices (record (devices_over new h.book) { logs = s.logs })) h.ending s.held
+gated_routed peer inputs out old new h (inr d) =
+    refused_routed d.line h.ending (subst (λ (v : Verdict). IsRefused v h.ending) d.denied (conn_refused services.TnGw inputs.rules peer (begun_for inputs h.before old) (devices_over new h.book) h.ending h.serves))
+
+gate_rose : (ending : Ending) (old new : WorldView) → ending ≢ NoRoute → LinkRose ending old new → GateRose ending old new
+gate_rose NoRoute old new routed h = absurd (routed refl)
+gate_rose ending old new routed h = h
+
 pub gated_rose : (peer : Peer) (inputs : Inputs) (out : Outcome) (old new : WorldView) → Gated peer inputs out old new → RoseFor (TnGw peer) out old new
 gated_rose peer inputs out old new h =
     subst (λ (o : Outcome). RoseFor (TnGw peer) o old new) (sym h.over.comes)
-    (causes_rose (verdict_of inputs.rules peer) h.ending old new (book_at_first (origin_of inputs) most_entries h.before) h.book (gated_caused peer inputs out old new h))
+    (gate_rose h.ending old new (gated_routed peer inputs out old new h (gated_so peer inputs out old new h))
+    (causes_rose (verdict_of inputs.rules peer) h.ending old new (book_at_first (origin_of inputs) most_entries h.before) h.book (gated_caused peer inputs out old new h)))
 
 -- ---- bytes
 
@@ -122,7 +146,7 @@ spent_passed : (old new : WorldView) (first book : BookView) → TookMost (devic
 spent_passed old new first book (inl took) = inl (inl took)
 spent_passed old new first book (inr took) = inr (link_spent (book_port book) new took)
 
-permit_status : (line : ℕ) (ending : Ending) (refused : Bool) (old new : WorldView) (first book : BookView) → (refused ≡ true → IsFull old.inputs new.inputs) → Causes IsGated (Permit line) ending (devices_over old first) (devices_over new book)
+permit_status : (line : ℕ) (ending : Ending) (refused : Bool) (old new : WorldView) (first book : BookView) → (refused ≡ true → IsFull old.inputs new.inputs) → Causes kinds.Gated (Permit line) ending (devices_over old first) (devices_over new book)
     → ((status_of (Ended ending refused) ≡ 4) ⊎ (status_of (Ended ending refused) ≡ 5)) ⊎ IsPassed (Permit line) (status_of (Ended ending refused)) old.inputs new.inputs
 permit_status line Done refused old new first book full h = inr (done_passed line refused old new full)
 permit_status line (Denied other) refused old new first book full h = absurd (cc)

@@ -26,6 +26,7 @@ use Rattle.gate_rules.specs.declared.verdict.Verdict.TheVariants.{Permit, Deny}
 use Rattle.session_acts.proofs.CauseLemmas.{relay_keeps}
 use Rattle.session_acts.proofs.DeedLemmas.{all_gain, held_deeds}
 use Rattle.session_acts.proofs.LinkedLemmas.{called_gains}
+use Rattle.session_acts.proofs.RelayFrontsLemmas.{session_fronts}
 use Rattle.session_acts.proofs.SaidLemmas.{held_says}
 use Rattle.session_acts.proofs.ToldLemmas.{by_both, logged_gains}
 use Rattle.session_acts.specs.Client.{LogFails}
@@ -38,7 +39,9 @@ use Rattle.session_acts.specs.World.{Devices, World, at_first}
 use Rattle.tn_gate.proofs.CourseLemmas.{held_once}
 use Rattle.tn_gate.proofs.DueLawLemmas.{held_dialed, held_due, held_logged}
 use Rattle.tn_gate.proofs.LawLemmas.{held_asks, held_cleared}
-use Rattle.tn_gate.proofs.LoginLemmas.{held_login}
+use Rattle.tn_gate.proofs.LoginLemmas.{whole_login}
+use Rattle.tn_gate.proofs.OwnLemmas.{held_lines}
+use Rattle.tn_gate.proofs.QuietLemmas.{tn_keeps_quiet}
 use Rattle.tn_gate.specs.Dialogue.{tn_row, tn_rows}
 use Rattle.tn_gate.specs.Dummies.{lent}
 use Rattle.tn_gate.specs.Gate.{Gate, gate_at}
@@ -142,11 +145,12 @@ module _ (peer : Peer) (inputs : Inputs) (out : Outcome) (old mid new : WorldVie
     guarded : IsGuarded (gate line) h.book.history session.held
     guarded = record {
       lines = held_says (relayed (tn_rows (gate line))) (then_relay (tn_row (gate line))) begun session.last h.ending session.held refl;
+      heard = held_lines (gate line) begun session.last h.ending session.held;
       exactly = held_asks (gate line) begun session.last h.ending session.held;
       cleared = held_cleared (gate line) begun session.last h.ending session.held;
       logins =
           λ asks before after deed dest is calls.
-          subst (λ (p : Port BookOrigin). LoginStandsIn (number_opened (gives asked deeds)) (gives asked before) p.seen) port_is (held_login (gate line) begun session.last h.ending session.held refl refl own asks before after deed dest is calls);
+          subst (λ (p : Port BookOrigin). LoginStandsIn (number_opened (gives asked deeds)) (gives asked before) p.seen) port_is (whole_login (gate line) begun session.last h.ending session.held refl refl own asks before after deed dest is calls);
       dialed = held_dialed (gate line) begun session.last h.ending session.held;
       due = held_due (gate line) begun session.last h.ending session.held;
       denials = held_logged (gate line) begun session.last h.ending session.held;
@@ -187,6 +191,7 @@ module _ (peer : Peer) (inputs : Inputs) (out : Outcome) (old mid new : WorldVie
         asked = asked_for line permitted logs here;
         logged = logged_so line permitted logs here;
         told = session_gave here;
+        relayed_fronts = session_fronts (tn_rows (gate line)) (tn_row (gate line)) start left h.ending here (tn_keeps_quiet (gate line));
         concluded =
             concluded services.TnGw peer h.ending h.book.refused (was_refused (deeds_of here.held)) out logs mid new h.over.comes (was rows row start left h.ending here inputs h.before h.book out old mid h.over refl refl) noted tells;
       }

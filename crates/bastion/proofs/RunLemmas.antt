@@ -20,9 +20,9 @@ use Rattle.gate_rules.specs.declared.verdict.Verdict.{Verdict}
 use Rattle.gate_rules.specs.declared.verdict.Verdict.TheVariants.{Permit, Deny}
 use Rattle.bastion.specs.Talk.{table_kept}
 use Rattle.bastion.specs.Inputs.{Inputs, is_of_line, needs_records}
-use Rattle.bastion.specs.Outcome.{CountRose, DeviceRose, EndingRose, KeeperRose, LinkRose, RoseFor, RoseIn, fault_line_of, status_of, verdict_status}
+use Rattle.bastion.specs.Outcome.{CountRose, DeviceRose, EndingRose, GateRose, KeeperRose, LinkRose, RoseFor, RoseIn, fault_line_of, status_of, verdict_status}
 use Rattle.bastion.specs.Run.{CallsIf, DoesLine, FilesFailed, ReadsOnly, Run, Stops, TellsIf, Worked}
-use Rattle.bastion.specs.Status.{IsAtLimit, IsFull, IsHeld, IsLinked, IsPassed, IsServed, IsStatus, IsStatusFor, LinkSpent, LinksRose, RoseBy, SomeRose, TakesBy, TakesFor, TakesIn}
+use Rattle.bastion.specs.Status.{IsAtLimit, IsFull, IsHeld, IsLinked, IsPassed, IsServed, IsStatus, IsStatusFor, LinkSpent, LinksFailed, LinksRose, RoseBy, SomeRose, TakesBy, TakesFor, TakesIn}
 use Rattle.bastion.specs.Words.{LineView}
 use Rattle.bastion.specs.Works.{Works}
 use Rattle.bastion.specs.WorldView.{SessionInputs, WorldView}
@@ -168,9 +168,13 @@ ending_link endings.NoRoute old new h = absurd h
 ending_link endings.Spent old new h = h
 ending_link endings.NoMemory old new h = h
 
+ending_gate : (ending : Ending) (old new : WorldView) → EndingRose ending old new → GateRose ending old new
+ending_gate endings.NoRoute old new h = h
+ending_gate ending old new h = ending_link ending old new h
+
 pub rose_for : (command : Command) (outcome : Outcome) (old new : WorldView) → CountRose outcome old new → RoseFor command outcome old new
 rose_for (PlugGw caller) (Ended ending refused) old new h = ending_link ending old new h
-rose_for (TnGw peer) (Ended ending refused) old new h = ending_link ending old new h
+rose_for (TnGw peer) (Ended ending refused) old new h = ending_gate ending old new h
 rose_for (PlugGw caller) Usage old new h = h
 rose_for (PlugGw caller) (Unread refusal) old new h = h
 rose_for (PlugGw caller) (Failed which) old new h = h
@@ -256,6 +260,10 @@ link_only name records ending old mid new only h =
     let left = only_left name records old mid only in
     link_from ending old mid new left.input left.dialer only.output only.logs h
 
+gate_only : (name : List ℕ) (records : Bool) (ending : Ending) (old mid new : WorldView) → ReadsOnly name records old mid → GateRose ending mid new → GateRose ending old new
+gate_only name records endings.NoRoute old mid new only h = h
+gate_only name records ending old mid new only h = link_only name records ending old mid new only h
+
 count_from : (name : List ℕ) (records : Bool) (outcome : Outcome) (old mid new : WorldView) → ReadsOnly name records old mid → CountRose outcome mid new → CountRose outcome old new
 count_from name records (Failed which) old mid new only h = device_from name records which old mid new only h
 count_from name records (Ended ending refused) old mid new only h = ending_from ending old mid new (only_left name records old mid only).input only.output only.logs h
@@ -263,7 +271,7 @@ count_from name records outcome old mid new only h = tt
 
 rose_from : (name : List ℕ) (command : Command) (outcome : Outcome) (old mid new : WorldView) → ReadsOnly name (needs_records command) old mid → RoseFor command outcome mid new → RoseFor command outcome old new
 rose_from name (PlugGw caller) (Ended ending refused) old mid new only h = link_only name false ending old mid new only h
-rose_from name (TnGw peer) (Ended ending refused) old mid new only h = link_only name true ending old mid new only h
+rose_from name (TnGw peer) (Ended ending refused) old mid new only h = gate_only name true ending old mid new only h
 rose_from name (PlugGw caller) Usage old mid new only h = tt
 rose_from name (PlugGw caller) (Unread refusal) old mid new only h = tt
 rose_from name (PlugGw caller) (Failed which) old mid new only h = device_from name false which old mid new only h
@@ -320,9 +328,17 @@ links_later : (old mid new : WorldView) → Later mid new → SomeOrLinks old mi
 links_later old mid new later (inl some) = inl (some_later old mid new later some)
 links_later old mid new later (inr links) = inr (subst (λ (i : SessionInputs). LinksRose old.inputs.dialer i.dialer) (sym later.inputs) links)
 
+-- or that of a link that had failed or been idle
+abbrev SomeOrFailed : WorldView → WorldView → Type 0
+SomeOrFailed old new = SomeRose old new ⊎ LinksFailed old.inputs.dialer new.inputs.dialer
+
+failed_later : (old mid new : WorldView) → Later mid new → SomeOrFailed old mid → SomeOrFailed old new
+failed_later old mid new later (inl some) = inl (some_later old mid new later some)
+failed_later old mid new later (inr links) = inr (subst (λ (i : SessionInputs). LinksFailed old.inputs.dialer i.dialer) (sym later.inputs) links)
+
 pub by_later : (command : Command) (old mid new : WorldView) → Later mid new → RoseBy command old mid → RoseBy command old new
 by_later (PlugGw caller) old mid new later h = links_later old mid new later h
-by_later (TnGw peer) old mid new later h = links_later old mid new later h
+by_later (TnGw peer) old mid new later h = failed_later old mid new later h
 by_later (Netacl query) old mid new later h = some_later old mid new later h
 by_later (NetaclRun query) old mid new later h = some_later old mid new later h
 by_later (Table query) old mid new later h = some_later old mid new later h
@@ -390,6 +406,13 @@ link_some endings.NoRoute refused old new h is = inr (inl h)
 link_some endings.Spent refused old new h is = inl (ending_some endings.Spent refused old new h is)
 link_some endings.NoMemory refused old new h is = inl (ending_some endings.NoMemory refused old new h is)
 
+gate_some : (ending : Ending) (refused : Bool) (old new : WorldView) → GateRose ending old new → status_of (Ended ending refused) ≡ 4 → SomeOrFailed old new
+gate_some endings.ServerFault refused old new h is = inr (inl h)
+gate_some endings.Idle refused old new (inl source) is = inl (ending_some endings.Idle refused old new source is)
+gate_some endings.Idle refused old new (inr link) is = inr (inr link)
+gate_some endings.NoRoute refused old new h is = absurd h
+gate_some ending refused old new h is = inl (ending_some ending refused old new h is)
+
 pub rose_some : (command : Command) (outcome : Outcome) (old new : WorldView) → RoseFor command outcome old new → status_of outcome ≡ 4 → RoseBy command old new
 rose_some (PlugGw caller) (Ended ending refused) old new h is = link_some ending refused old new h is
 rose_some (PlugGw caller) Usage old new h is = inl (count_some Usage old new h is)
@@ -397,7 +420,7 @@ rose_some (PlugGw caller) (Unread refusal) old new h is = inl (count_some (Unrea
 rose_some (PlugGw caller) (Failed which) old new h is = inl (count_some (Failed which) old new h is)
 rose_some (PlugGw caller) (NoMemory step) old new h is = inl (count_some (NoMemory step) old new h is)
 rose_some (PlugGw caller) (Decided verdict) old new h is = inl (count_some (Decided verdict) old new h is)
-rose_some (TnGw peer) (Ended ending refused) old new h is = link_some ending refused old new h is
+rose_some (TnGw peer) (Ended ending refused) old new h is = gate_some ending refused old new h is
 rose_some (TnGw peer) Usage old new h is = inl (count_some Usage old new h is)
 rose_some (TnGw peer) (Unread refusal) old new h is = inl (count_some (Unread refusal) old new h is)
 rose_some (TnGw peer) (Failed which) old new h is = inl (count_some (Failed which) old new h is)

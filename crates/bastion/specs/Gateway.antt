@@ -19,10 +19,12 @@ use Rattle.session_acts.specs.Deeds.{Deed, gives}
 use Rattle.session_acts.specs.Hearing.{heard_in}
 use Rattle.session_acts.specs.Laws.{Adds, called, logged, told}
 use Rattle.session_acts.specs.Relayed.{relayed, then_relay}
-use Rattle.session_acts.specs.Said.{SaysLines}
+use Rattle.session_acts.specs.RelayFronts.{RelaysFronts}
+use Rattle.session_acts.specs.Said.{SaysLines, lines_said}
 use Rattle.session_acts.specs.Session.{Held, RelaySession, deeds_of}
 use Rattle.session_acts.specs.Talk.{asked}
 use Rattle.session_acts.specs.World.{Devices, World}
+use Rattle.tn_gate.specs.Asked.{lines_in, turns_of}
 use Rattle.tn_gate.specs.Course.{OpensOnce}
 use Rattle.tn_gate.specs.Dialogue.{tn_row, tn_rows}
 use Rattle.tn_gate.specs.Due.{LogsWhatIsDue}
@@ -54,8 +56,8 @@ LoginsStand gate deeds history =
     asks_login gate.options ≡ true → (before after : List Deed) (deed : Deed) (dest : Dest) → deeds ≡ before ++ deed ∷ after → called deed.act deed.outcome ≡ Main dest ∷ [] → LoginStandsIn (number_opened (gives asked deeds)) (gives asked before) history
 
 -- What holds of a session of the gateway over a book with this history. The lines that it heard are the first lines of the
--- text that it took of the client, in order. The destinations that it asked for are those that these lines ask for, up to
--- where the dialogue stopped. Each was asked for right behind its connect line, which the log has whole, and behind the
+-- text that it took of the client, in order (`lines`), and it goes by these (`heard`). The destinations that it asked for are
+-- those that these lines ask for, up to where the dialogue stopped. Each was asked for right behind its connect line, which the log has whole, and behind the
 -- permission for its host with `-extnd`; the permission line allows it; and where that asks for a login, one of this session
 -- stands in the history. Right behind each connect line that the log has whole its destination was asked for. The log was
 -- given each line that was due, for a destination, a login or a login that failed, right behind what it was due for, and no
@@ -63,6 +65,7 @@ LoginsStand gate deeds history =
 -- openings in vain a session was opened at most once, and closed once, as the last.
 pub record IsGuarded (gate : Gate) (history : List Entry) {old new : World BookOrigin} {ending : Ending} (held : Held (relayed (tn_rows gate)) (then_relay (tn_row gate)) old new ending) : Type 0 where
   pub lines : SaysLines (gives heard_in (deeds_of held)) old.client new.client
+  pub heard : lines_in (turns_of (deeds_of held)) ≡ lines_said (gives heard_in (deeds_of held))
   pub exactly : AsksExactly gate held
   pub cleared : DialsCleared gate (deeds_of held)
   pub logins : LoginsStand gate (deeds_of held) history
@@ -74,7 +77,9 @@ pub record IsGuarded (gate : Gate) (history : List Entry) {old new : World BookO
 -- The rules permit the client, and the log has the line of that whole. Then a session of the gateway was held, over the run's
 -- devices and a book of the records that the keeper had. What it asked and was answered is one legal history, and the keeper
 -- has the records after it. The log was given what the session's deeds log, and the client what they tell; the dialer was
--- asked for the destinations that they ask for, in order, and for no other.
+-- asked for the destinations that they ask for, in order, and for no other. If one came up, its server was given a front of
+-- what was taken of the client behind the lines that were heard, and the client, behind what it was told, a front of what was
+-- taken of the server; else nothing was given to a server, and nothing taken of one.
 pub record OfTelnet (peer : Peer) (inputs : Inputs) (status : ℕ) (old new : WorldView) : Type 0 where
   pub before : KeeperView
   pub keeper : old.inputs.keeper ≡ Some before
@@ -90,6 +95,7 @@ pub record OfTelnet (peer : Peer) (inputs : Inputs) (status : ℕ) (old new : Wo
   pub asked : Adds (gives called (deeds_of session.held)) old.inputs.dialer.asked new.inputs.dialer.asked
   pub logged : logs.given ≡ grown old.logs.given (decision_text (Permit line) services.TnGw peer ++ gives logged (deeds_of session.held))
   pub told : new.output.given ≡ grown old.output.given (gives told (deeds_of session.held))
+  pub relayed_fronts : RelaysFronts (deeds_of session.held) (let_in inputs peer line (gated_devices old (book_at_first (origin_of inputs) most_entries before))) (record (gated_devices new book) { logs = logs }) ending
   pub concluded : IsConcluded services.TnGw peer ending (was_refused (deeds_of session.held)) status logs new.logs
 
 -- the rules deny the client, and no destination was asked for

@@ -129,10 +129,15 @@ LinkRose endings.Idle old new = Rose old.inputs.input.idles new.inputs.input.idl
 LinkRose endings.NoRoute old new = Rose old.inputs.dialer.refusals new.inputs.dialer.refusals
 LinkRose ending old new = EndingRose ending old new
 
+-- and of one of the gateway, which no link that is refused ends
+abbrev pub GateRose : Ending → WorldView → WorldView → Type 0
+GateRose endings.NoRoute old new = ⊥
+GateRose ending old new = LinkRose ending old new
+
 -- only a session of the plug or of the gateway has a link
 abbrev pub RoseFor : Command → Outcome → WorldView → WorldView → Type 0
 RoseFor (PlugGw caller) (Ended ending refused) old new = LinkRose ending old new
-RoseFor (TnGw peer) (Ended ending refused) old new = LinkRose ending old new
+RoseFor (TnGw peer) (Ended ending refused) old new = GateRose ending old new
 RoseFor command outcome old new = CountRose outcome old new
 
 abbrev pub RoseIn : Option LineView → Outcome → WorldView → WorldView → Type 0

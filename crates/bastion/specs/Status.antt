@@ -26,14 +26,19 @@ SomeRose old new =
     ⊎ (Rose old.inputs.input.faults new.inputs.input.faults ⊎ Rose old.inputs.input.idles new.inputs.input.idles)
     ⊎ (KeeperRose old.inputs.keeper new.inputs.keeper ⊎ Rose old.inputs.launcher.faults new.inputs.launcher.faults)
 
--- a link was refused, or one that was hung up had failed or been idle
-abbrev pub LinksRose : DialerView → DialerView → Type 0
-LinksRose old new = Rose old.refusals new.refusals ⊎ (Rose old.link_faults new.link_faults ⊎ Rose old.link_idles new.link_idles)
+-- a link that was hung up had failed or been idle
+abbrev pub LinksFailed : DialerView → DialerView → Type 0
+LinksFailed old new = Rose old.link_faults new.link_faults ⊎ Rose old.link_idles new.link_idles
 
--- a device's own count rose: the dialer's, too, where the command has a link
+-- so it was, or a link was refused
+abbrev pub LinksRose : DialerView → DialerView → Type 0
+LinksRose old new = Rose old.refusals new.refusals ⊎ LinksFailed old new
+
+-- a device's own count rose: the dialer's, too, where the command has a link; but a link that is refused is no failure of a
+-- session of `tn-gw`, which goes on
 abbrev pub RoseBy : Command → WorldView → WorldView → Type 0
 RoseBy (PlugGw caller) old new = SomeRose old new ⊎ LinksRose old.inputs.dialer new.inputs.dialer
-RoseBy (TnGw peer) old new = SomeRose old new ⊎ LinksRose old.inputs.dialer new.inputs.dialer
+RoseBy (TnGw peer) old new = SomeRose old new ⊎ LinksFailed old.inputs.dialer new.inputs.dialer
 RoseBy command old new = SomeRose old new
 
 abbrev pub RoseOf : Option LineView → WorldView → WorldView → Type 0
