@@ -269,7 +269,6 @@ worked_complete name (PlugGw caller) outcome old mid new none h tells =
     let later = tells_later (fault_line_of outcome) mid new tells in
     let never : status_of outcome ≡ 4 → ⊥ = λ four. none (by_later (PlugGw caller) old mid new later (rose_some (PlugGw caller) outcome old mid (worked_rose name (PlugGw caller) outcome old mid h) four)) in
     linked_done name caller h.inputs outcome old new h.read (linked_whole name caller h.inputs outcome old h.middle mid new (quiet old new (λ some. none (inl some))) never h.only h.works tells)
-
 worked_complete name (TnGw peer) outcome old mid new none h tells = gated_done name peer outcome old mid new none h tells (gated_status peer h.inputs outcome h.middle mid h.works)
 
 does_complete : (line : Option LineView) (outcome : Outcome) (old mid new : WorldView) → (RoseOf line old new → ⊥) → DoesLine line outcome old mid → TellsIf (fault_line_of outcome) mid new → IsComplete line (status_of outcome) old new

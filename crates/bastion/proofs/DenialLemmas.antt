@@ -193,7 +193,7 @@ untold : (out : Outcome) (line : ℕ) (refused : Bool) (mid new : WorldView) →
 untold out line refused mid new is h = let P : Outcome → Type 0 = λ o. TellsIf (fault_line_of o) mid new in subst P is h
 
 module _ (command : Command) (service : Service) (words : ℕ → List ℕ) (peer : Peer) (inputs : Inputs) (dialer left : DialerView) (before : KeeperView) (book : BookView) (ending : Ending) (out : Outcome) (old mid new : WorldView)
-  (over_book : OverBook inputs before book ending out old mid) (tells : TellsIf (fault_line_of out) mid new) (line : ℕ) (denied : verdict_for command inputs ≡ Deny line) where
+    (over_book : OverBook inputs before book ending out old mid) (tells : TellsIf (fault_line_of out) mid new) (line : ℕ) (denied : verdict_for command inputs ≡ Deny line) where
   abbrev first : Devices BookOrigin
   first = devices_at old (book_at_first (origin_of inputs) most_entries before) dialer
 
@@ -239,7 +239,7 @@ got_whole words (Ok done) old new never gets = ap (λ (s : SinkView). s.given) g
 got_whole words (Err front) old new never gets = absurd (never (subst (λ (s : SinkView). Rose old.faults s.faults) (sym gets.is) gets.rose))
 
 module _ (command : Command) (service : Service) (words : ℕ → List ℕ) (peer : Peer) (inputs : Inputs) (dialer left : DialerView) (before : KeeperView) (book : BookView) (ending : Ending) (out : Outcome) (old middle mid new : WorldView)
-  (over_book : OverBook inputs before book ending out middle mid) (tells : TellsIf (fault_line_of out) mid new) (line : ℕ) (denied : verdict_for command inputs ≡ Deny line) (q : Quiet old new) (logs : middle.logs ≡ old.logs) (output : middle.output ≡ old.output) (later : mid.logs.faults ≤ new.logs.faults) where
+    (over_book : OverBook inputs before book ending out middle mid) (tells : TellsIf (fault_line_of out) mid new) (line : ℕ) (denied : verdict_for command inputs ≡ Deny line) (q : Quiet old new) (logs : middle.logs ≡ old.logs) (output : middle.output ≡ old.output) (later : mid.logs.faults ≤ new.logs.faults) where
   abbrev begun : Devices BookOrigin
   begun = devices_at middle (book_at_first (origin_of inputs) most_entries before) dialer
 

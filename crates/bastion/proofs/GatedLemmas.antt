@@ -9,7 +9,7 @@ use Rattle.client_service.specs.Decision.{decision_text}
 use Rattle.client_service.specs.Endings.{ending_line}
 use Rattle.client_service.specs.GateService.{HeldBehind, gate_devices}
 use Rattle.client_service.specs.Kind.{kind_of}
-use Rattle.client_service.specs.Kind.Kind as kinds
+use Rattle.client_service.specs.Kind.Kind.{Gated as ByGate}
 use Rattle.client_service.specs.Meeting.{patient, timeout_of}
 use Rattle.fw_outside.specs.KeeperView.{KeeperView}
 use Rattle.fw_outside.specs.SinkView.{SinkView}
@@ -76,7 +76,7 @@ gated_so peer inputs out old new h = conn_so inputs.rules peer (begun_for inputs
 
 -- ---- what each ending has counted
 
-permit_rose : (line : ℕ) (ending : Ending) (old new : WorldView) (first book : BookView) → Causes kinds.Gated (Permit line) ending (devices_over old first) (devices_over new book) → LinkRose ending old new
+permit_rose : (line : ℕ) (ending : Ending) (old new : WorldView) (first book : BookView) → Causes ByGate (Permit line) ending (devices_over old first) (devices_over new book) → LinkRose ending old new
 permit_rose line Done old new first book h = tt
 permit_rose line (Denied other) old new first book h = tt
 permit_rose line ClientFault old new first book h = h
@@ -146,7 +146,7 @@ spent_passed : (old new : WorldView) (first book : BookView) → TookMost (devic
 spent_passed old new first book (inl took) = inl (inl took)
 spent_passed old new first book (inr took) = inr (link_spent (book_port book) new took)
 
-permit_status : (line : ℕ) (ending : Ending) (refused : Bool) (old new : WorldView) (first book : BookView) → (refused ≡ true → IsFull old.inputs new.inputs) → Causes kinds.Gated (Permit line) ending (devices_over old first) (devices_over new book)
+permit_status : (line : ℕ) (ending : Ending) (refused : Bool) (old new : WorldView) (first book : BookView) → (refused ≡ true → IsFull old.inputs new.inputs) → Causes ByGate (Permit line) ending (devices_over old first) (devices_over new book)
     → ((status_of (Ended ending refused) ≡ 4) ⊎ (status_of (Ended ending refused) ≡ 5)) ⊎ IsPassed (Permit line) (status_of (Ended ending refused)) old.inputs new.inputs
 permit_status line Done refused old new first book full h = inr (done_passed line refused old new full)
 permit_status line (Denied other) refused old new first book full h = absurd (cc)

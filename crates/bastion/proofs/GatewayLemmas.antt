@@ -1,5 +1,5 @@
 -- From what a client of the gateway did to the headline, and to a run in which no count rose.
-use Rattle.std.proofs.Common.{◌≡◌, ◌≢◌, ◌≤◌, ◌∙◌, ℕ, List, [], ◌∷◌, ◌++◌, length, refl, sym, ap, subst, inl, inr, arith, ◌⊎◌, Bool, false}
+use Rattle.std.proofs.Common.{◌≡◌, ◌≢◌, ◌≤◌, ◌∙◌, ℕ, List, [], ◌∷◌, ◌++◌, length, refl, sym, ap, subst, inl, inr, arith, ◌⊎◌, Bool, true, false}
 use Rattle.std.specs.Prelude.{Option, Some}
 use Rattle.auth_events.specs.Port.{Port, places}
 use Rattle.auth_events.specs.declared.entry.Entry.{Entry}
@@ -129,7 +129,7 @@ module _ (peer : Peer) (inputs : Inputs) (out : Outcome) (old mid new : WorldVie
   -- ---- a session was held
 
   module _ (line : ℕ) (permitted : verdict_for (TnGw peer) inputs ≡ Permit line) (logs : SinkView)
-    (session : RelaySession (relayed (tn_rows (gate line))) (then_relay (tn_row (gate line))) (let_in inputs peer line first) (record (gated_devices new h.book) { logs = logs }) h.ending) where
+      (session : RelaySession (relayed (tn_rows (gate line))) (then_relay (tn_row (gate line))) (let_in inputs peer line first) (record (gated_devices new h.book) { logs = logs }) h.ending) where
     abbrev deeds : List Deed
     deeds = deeds_of session.held
 
@@ -232,8 +232,7 @@ module _ (peer : Peer) (inputs : Inputs) (out : Outcome) (old mid new : WorldVie
       (inl cut, inl (record { output = cut.output; undenied = λ one. omega (arith, four, one) }))
   denied_comes line denied (inr whole) =
       let kept : h.book.keeper ≡ h.before = untouched_deny (verdict_for (TnGw peer) inputs) line h.before h.book.keeper denied h.untouched in
-      let same : new ≡ mid = denial_same (TnGw peer) services.TnGw refusal peer inputs old.inputs.dialer mid.inputs.dialer h.before h.book h.ending out old mid new h.over tells line denied whole in
-      (
+      let same : new ≡ mid = denial_same (TnGw peer) services.TnGw refusal peer inputs old.inputs.dialer mid.inputs.dialer h.before h.book h.ending out old mid new h.over tells line denied whole in (
         inr (inl (record {
           off = told_off (TnGw peer) services.TnGw refusal peer inputs old.inputs.dialer mid.inputs.dialer h.before h.book h.ending out old mid new h.over tells line denied whole kept;
           dialer = ap (λ (w : WorldView). w.inputs.dialer) same ∙ whole.dialer;
@@ -242,11 +241,10 @@ module _ (peer : Peer) (inputs : Inputs) (out : Outcome) (old mid new : WorldVie
       )
 
   headline_by : OfCaller (verdict_for (TnGw peer) inputs) inputs.rules peer (begun_for inputs h.before old) (devices_over mid h.book) h.ending → Comes × Denials
-  headline_by (inl s) =
-      (
-        held_comes s.line s.permitted s.logs s.noted s.held,
-        inr (inl (record { permitted = λ outside. ap verdict_status s.permitted; undenied = permit_undenied s.line s.permitted })),
-      )
+  headline_by (inl s) = (
+    held_comes s.line s.permitted s.logs s.noted s.held,
+    inr (inl (record { permitted = λ outside. ap verdict_status s.permitted; undenied = permit_undenied s.line s.permitted })),
+  )
   headline_by (inr d) =
       denied_comes d.line d.denied (denial_so services.TnGw refusal false (verdict_for (TnGw peer) inputs) peer (begun_for inputs h.before old) (devices_over mid h.book) h.ending d)
 
@@ -259,17 +257,13 @@ passed_so : (line : ℕ) (status : ℕ) (old new : SessionInputs) → IsPassed (
 passed_so line status old new (inl zero) = inl zero
 passed_so line status old new (inr six) = inr six.0
 
--- no count of the log fell in a session
-logs_low : {P : Type 0} {table : _} {row : _} {old new : Devices BookOrigin} {ending : Ending} → RelaySession {BookOrigin} {P} table row old new ending → old.logs.faults ≤ new.logs.faults
-logs_low session = (relay_keeps session).log_drops
-
 telnet_whole : (name : List ℕ) (peer : Peer) (inputs : Inputs) (status : ℕ) (old middle new : WorldView) → Quiet old new → ReadsOnly name true old middle → (x : OfTelnet peer inputs status middle new) → IsPassed (Permit x.line) status old.inputs new.inputs → IsPassedWhole name peer inputs status old new
 telnet_whole name peer inputs status old middle new q only x passed =
     let refused = was_refused (deeds_of x.session.held) in
     let closing : List ℕ = closing_text services.TnGw peer x.ending refused in
     let said : List ℕ = decision_text (Permit x.line) services.TnGw peer ++ gives logged (deeds_of x.session.held) in
     let start : old.logs.faults ≤ middle.logs.faults = same_from old.logs middle.logs only.logs in
-    let low : middle.logs.faults ≤ x.logs.faults = logs_low x.session in
+    let low : middle.logs.faults ≤ x.logs.faults = (relay_keeps x.session).log_drops in
     let closed : new.logs.given ≡ grown x.logs.given closing =
     concluded_whole services.TnGw peer x.ending refused status x.logs new.logs (λ a b more high rose. q.logs a b (omega (arith, start, low, more)) high rose) x.concluded in
     record {

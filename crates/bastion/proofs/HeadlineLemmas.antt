@@ -351,7 +351,6 @@ worked_headline name (PlugGw caller) outcome old mid new h tells =
       asks_permitted = inr (record { inputs = h.inputs; read = h.read; middle = h.middle; only = h.only; so = so.asks });
       denials_logged = (caller_denials name caller outcome (status_of outcome) old mid new h so.denials, λ denied. so.untold denied ∙ h.only.output);
     }
-
 worked_headline name (TnGw peer) outcome old mid new h tells =
     let so = gated_headline peer h.inputs outcome h.middle mid new h.works tells in
     let gated : IsGated name peer (status_of outcome) old new = inr (record { inputs = h.inputs; read = h.read; middle = h.middle; only = h.only; so = so.0 }) in

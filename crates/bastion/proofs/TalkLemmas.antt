@@ -77,7 +77,7 @@ abbrev fresh : Inputs → KeeperView → Port BookOrigin
 fresh inputs before = book_port (book_at_first (origin_of inputs) most_entries before)
 
 module _ {P : Type 0} {relays : Bool} (table : PlaceTable (acts BookOrigin) P) (first : Row (acts BookOrigin) P) (old new : Devices BookOrigin) (ending : Ending) (session : SessionAs relays table first old new ending)
-  (inputs : Inputs) (before : KeeperView) (book : BookView) (out : Outcome) (begun ended : WorldView) (over : OverBook inputs before book ending out begun ended) (starts : old.port ≡ fresh inputs before) (leaves : new.port ≡ book_port book) where
+    (inputs : Inputs) (before : KeeperView) (book : BookView) (out : Outcome) (begun ended : WorldView) (over : OverBook inputs before book ending out begun ended) (starts : old.port ≡ fresh inputs before) (leaves : new.port ≡ book_port book) where
   abbrev asks : List (Request × Option Reply)
   asks = gives asked (deeds_of session.held)
 
