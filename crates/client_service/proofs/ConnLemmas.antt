@@ -34,13 +34,13 @@ use Rattle.session_acts.proofs.WaitedLemmas.{session_waited}
 use Rattle.client_service.specs.Conn.{AtConsole, CausedBy, Causes, Conn, Dials, FrontsBy, IsRefused, NotedIf, Permits, TakesBy, Treats, TurnsAway, WaitsAs}
 use Rattle.client_service.specs.Decision.{decision_text}
 use Rattle.client_service.specs.Endings.{denied_words, ending_line}
-use Rattle.client_service.specs.GateService.{LetsIn}
+use Rattle.client_service.specs.GateService.{LetsIn, gate_devices}
 use Rattle.client_service.specs.Kind.{Kind, kind_of, may_relay}
 use Rattle.client_service.specs.Kind.Kind.{Alone, Gated, Plugged}
 use Rattle.client_service.specs.Meeting.{away_row, denied_by, dialer_then, lent_by, logged_row, patient, timeout_of}
 use Rattle.client_service.specs.PlugService.{LinksTo, plug_devices}
 use Rattle.client_service.proofs.FrontsLemmas.{fronts_later, plug_gives}
-use Rattle.client_service.proofs.GateLemmas.{gate_caused, gate_keeps, gate_takes, gate_waits}
+use Rattle.client_service.proofs.GateLemmas.{fronts_behind, gate_caused, gate_keeps, gate_takes, gate_waits}
 use Rattle.client_service.proofs.LaterLemmas.{caused_later, causes_later, keeps_later, noted_most, noted_shut, takes_later, waits_with, with_logs}
 use Rattle.client_service.proofs.PlugLemmas.{LogsOnly, plug_caused, plug_dials, silent_denial}
 use Rattle.client_service.proofs.SinkLemmas.{same_low}
@@ -150,7 +150,6 @@ module _ {Origin : Type 0} where
     spent : TakesBy kind ending old new
     waited : WaitsAs kind verdict rules ending old new
     refused : IsRefused verdict ending
-    fronts : FrontsBy kind ending old new
     keeps : KeepsAs (may_relay kind) (lent_by verdict rules old) new
     origin : new.port.origin ≡ old.port.origin
     home : new.port.home ≡ old.port.home
@@ -164,7 +163,6 @@ module _ {Origin : Type 0} where
         spent = takes_none ending old new (ap is_spent_ending is) (ap (λ (d : Devices Origin). d.inlet) fails.same);
         waited = tt;
         refused = inr is;
-        fronts = tt;
         keeps = keeps;
         origin = keeps.origin;
         home = keeps.home;
@@ -178,7 +176,6 @@ module _ {Origin : Type 0} where
         spent = takes_none ending old new (ap is_spent_ending is) inlet;
         waited = tt;
         refused = inl is;
-        fronts = tt;
         keeps = keeps;
         origin = keeps.origin;
         home = keeps.home;
@@ -214,7 +211,6 @@ module _ {Origin : Type 0} where
         spent = takes_patient (timeout_of rules) ending old new (session_exact rows first lent new ending h alone);
         waited = session_waits rows first lent new ending h alone;
         refused = tt;
-        fronts = tt;
         keeps = keeps;
         origin = keeps.origin;
         home = keeps.home;
@@ -229,7 +225,6 @@ module _ {Origin : Type 0} where
         spent = relay_takes seconds ending old new (session_spent h.over.session);
         waited = relay_waits seconds ending old new (session_waited h.over.session);
         refused = tt;
-        fronts = plug_gives at line rules peer ending old new h;
         keeps = relay_keeps_all seconds old new h.port (relay_keeps h.over.session);
         origin = ap (λ (p : Port Origin). p.origin) h.port;
         home = ap (λ (p : Port Origin). p.home) h.port;
@@ -247,7 +242,6 @@ module _ {Origin : Type 0} where
         spent = gate_takes text gate seconds ending old new h.held;
         waited = gate_waits text gate seconds ending old new h.held;
         refused = tt;
-        fronts = tt;
         keeps = keeps;
         origin = keeps.origin;
         home = keeps.home;
@@ -273,7 +267,6 @@ module _ {Origin : Type 0} where
         spent = takes_later kind ending old new conn.logs so.spent;
         waited = waits_with kind verdict rules ending old new conn.logs so.waited;
         refused = so.refused;
-        fronts = fronts_later kind ending old new conn.logs so.fronts;
         keeps = keeps_later (may_relay kind) (lent_by verdict rules old) new conn.logs most (noted_shut (ending_line service peer ending) conn.logs new.logs conn.noted) so.keeps;
         origin = so.origin;
         home = so.home;
@@ -291,9 +284,6 @@ module _ {Origin : Type 0} where
 
   pub conn_refused : (service : Service) (rules : RuleBook) (peer : Peer) (old new : Devices Origin) (ending : Ending) → Conn service rules peer old new ending → IsRefused (verdict_of rules peer) ending
   conn_refused service rules peer old new ending conn = (conn_facts service rules peer old new ending conn).refused
-
-  pub conn_fronts : (service : Service) (rules : RuleBook) (peer : Peer) (old new : Devices Origin) (ending : Ending) → Conn service rules peer old new ending → FrontsBy (kind_of service (verdict_of rules peer)) ending old new
-  conn_fronts service rules peer old new ending conn = (conn_facts service rules peer old new ending conn).fronts
 
   pub conn_keeps : (service : Service) (rules : RuleBook) (peer : Peer) (old new : Devices Origin) (ending : Ending) → Conn service rules peer old new ending → KeepsAs (may_relay (kind_of service (verdict_of rules peer))) (lent_by (verdict_of rules peer) rules old) new
   conn_keeps service rules peer old new ending conn = (conn_facts service rules peer old new ending conn).keeps
@@ -345,6 +335,29 @@ module _ {Origin : Type 0} where
 
   pub conn_dialed : (service : Service) (rules : RuleBook) (peer : Peer) (old new : Devices Origin) (ending : Ending) → Conn service rules peer old new ending → Dials service (verdict_of rules peer) rules peer ending old new
   conn_dialed service rules peer old new ending conn = treats_dialed (verdict_of rules peer) service rules peer ending old new conn.logs conn.treats conn.noted
+
+  -- ---- what reached each side
+
+  none_front : (service : Service) (line : ℕ) (rules : RuleBook) (peer : Peer) (ending : Ending) (old new : Devices Origin) → FrontsBy service (Deny line) rules peer ending old new
+  none_front (PlugGw at) line rules peer ending old new = tt
+  none_front TnGw line rules peer ending old new = tt
+  none_front Authsrv line rules peer ending old new = tt
+  none_front (Netacl label) line rules peer ending old new = tt
+  none_front FtpGw line rules peer ending old new = tt
+  none_front Smap line rules peer ending old new = tt
+
+  treats_fronts : (verdict : Verdict) (service : Service) (rules : RuleBook) (peer : Peer) (ending : Ending) (old new : Devices Origin) (logs : SinkView) → Treats verdict service rules peer ending old (with_logs new logs) → FrontsBy service verdict rules peer ending old new
+  treats_fronts (Deny line) service rules peer ending old new logs h = none_front service line rules peer ending old new
+  treats_fronts (Permit line) (PlugGw at) rules peer ending old new logs h = fronts_later ending old new logs (plug_gives at line rules peer ending old (with_logs new logs) h)
+  treats_fronts (Permit line) TnGw rules peer ending old new logs h =
+      record { logs = logs; so = fronts_behind (decision_text (Permit line) TnGw peer) (gate_at rules line peer) ending (patient (timeout_of rules) (gate_devices old)) (gate_devices (with_logs new logs)) h.held }
+  treats_fronts (Permit line) Authsrv rules peer ending old new logs h = tt
+  treats_fronts (Permit line) (Netacl label) rules peer ending old new logs h = absurd h
+  treats_fronts (Permit line) FtpGw rules peer ending old new logs h = absurd h
+  treats_fronts (Permit line) Smap rules peer ending old new logs h = absurd h
+
+  pub conn_fronts : (service : Service) (rules : RuleBook) (peer : Peer) (old new : Devices Origin) (ending : Ending) → Conn service rules peer old new ending → FrontsBy service (verdict_of rules peer) rules peer ending old new
+  conn_fronts service rules peer old new ending conn = treats_fronts (verdict_of rules peer) service rules peer ending old new conn.logs conn.treats
 
   -- ---- at the console
 

@@ -25,10 +25,7 @@ use Rattle.session_acts.specs.Session.{RelaySession}
 use Rattle.session_acts.specs.World.{Devices}
 use Rattle.session_acts.proofs.ClientLemmas.{logs_first}
 use Rattle.session_acts.proofs.DeviceLemmas.{by_nothing}
-use Rattle.client_service.specs.Conn.{FrontsBy}
 use Rattle.client_service.specs.Decision.{decision_text}
-use Rattle.client_service.specs.Kind.{Kind}
-use Rattle.client_service.specs.Kind.Kind.{Alone, Gated, Plugged}
 use Rattle.client_service.specs.Meeting.{patient, timeout_of}
 use Rattle.client_service.specs.PlugService.{LinksTo, plug_devices}
 use Rattle.client_service.proofs.PlugLemmas.{adds_none}
@@ -103,10 +100,8 @@ whole_later old new logs [] h = h
 whole_later old new logs (link ∷ []) h = record { client = h.client; server = h.server; client_told = h.client_told; server_told = h.server_told }
 whole_later old new logs (link ∷ other ∷ links) h = h
 
-pub fronts_later : {Origin : Type 0} (kind : Kind) (ending : Ending) (old new : Devices Origin) (logs : SinkView) → FrontsBy kind ending old (record new { logs = logs }) → FrontsBy kind ending old new
-fronts_later Alone ending old new logs h = tt
-fronts_later Gated ending old new logs h = tt
-fronts_later Plugged ending old new logs h = record {
+pub fronts_later : {Origin : Type 0} (ending : Ending) (old new : Devices Origin) (logs : SinkView) → GivesFronts old (record new { logs = logs }) ending → GivesFronts old new ending
+fronts_later ending old new logs h = record {
   of_client = h.of_client;
   to_server = h.to_server;
   of_server = h.of_server;

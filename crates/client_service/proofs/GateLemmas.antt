@@ -13,11 +13,13 @@ use Rattle.session_acts.specs.World.{Devices, most_taken}
 use Rattle.session_acts.proofs.CauseLemmas.{relay_keeps, session_caused}
 use Rattle.session_acts.proofs.ClientLemmas.{logs_first}
 use Rattle.session_acts.proofs.DeviceLemmas.{by_nothing}
+use Rattle.session_acts.proofs.RelayFrontsLemmas.{session_fronts}
 use Rattle.session_acts.proofs.SpentLemmas.{session_spent}
 use Rattle.session_acts.proofs.WaitedLemmas.{session_waited}
 use Rattle.tn_gate.specs.Dialogue.{tn_row, tn_rows}
 use Rattle.tn_gate.specs.Gate.{Gate}
-use Rattle.client_service.specs.GateService.{HeldBehind, gate_devices}
+use Rattle.tn_gate.proofs.QuietLemmas.{tn_keeps_quiet}
+use Rattle.client_service.specs.GateService.{FrontsBehind, HeldBehind, gate_devices}
 use Rattle.client_service.specs.Meeting.{logged_row, patient}
 use Rattle.client_service.proofs.SinkLemmas.{rose_at, same_low}
 
@@ -35,6 +37,12 @@ module _ {Origin : Type 0} where
 
   pub held_behind : (line : List ℕ) (gate : Gate) (old new : Devices Origin) (ending : Ending) → RelaySession (relayed (tn_rows gate)) (logged_row line (then_relay (tn_row gate))) old new ending → HeldBehind line gate ending old new
   held_behind line gate old new ending session = behind_by line gate old new ending session (logs_first line (relayed (tn_rows gate)) (then_relay (tn_row gate)) old new ending session)
+
+  -- and what reached each side
+  pub fronts_behind : (line : List ℕ) (gate : Gate) (ending : Ending) (old new : Devices Origin) → HeldBehind line gate ending old new → FrontsBehind line gate ending old new
+  fronts_behind line gate ending old new (inl fails) = inl fails
+  fronts_behind line gate ending old new (inr session) =
+      inr (record { session = session; fronts = session_fronts (tn_rows gate) (tn_row gate) (with_line line old) new ending session (tn_keeps_quiet gate) })
 
   -- ---- causes
 

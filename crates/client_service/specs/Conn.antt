@@ -21,7 +21,7 @@ use Rattle.session_acts.specs.Session.{Session}
 use Rattle.session_acts.specs.World.{Devices}
 use Rattle.client_service.specs.Decision.{decision_text}
 use Rattle.client_service.specs.Endings.{denied_words, ending_line}
-use Rattle.client_service.specs.GateService.{LetsIn}
+use Rattle.client_service.specs.GateService.{LetsIn, RelaysIn}
 use Rattle.client_service.specs.Kind.{Kind}
 use Rattle.client_service.specs.Kind.Kind.{Alone, Gated, Plugged}
 use Rattle.client_service.specs.Meeting.{away_row, denied_by, dialer_then, logged_row, patient, timeout_of}
@@ -134,11 +134,13 @@ Dials (PlugGw port) (Permit line) rules peer ending old new = AsksLogged port li
 Dials TnGw (Permit line) rules peer ending old new = Unit {0}
 Dials service verdict rules peer ending old new = new.dialer ≡ dialer_then verdict rules old.dialer
 
--- where a client of the plug is linked, what its server was given is a front of what was taken of the client, and what the
--- client was given a front of what was taken of the server
-abbrev pub FrontsBy : {Origin : Type 0} → Kind → Ending → Devices Origin → Devices Origin → Type 0
-FrontsBy Plugged ending old new = GivesFronts old new ending
-FrontsBy kind ending old new = Unit {0}
+-- Whom the verdict permits: what the server of a client of the plug was given is a front of what was taken of the client, and
+-- what the client was given a front of what was taken of the server. So it is for a client of `tn-gw`, behind what its session
+-- heard and told.
+abbrev pub FrontsBy : {Origin : Type 0} → Service → Verdict → RuleBook → Peer → Ending → Devices Origin → Devices Origin → Type 0
+FrontsBy (PlugGw port) (Permit line) rules peer ending old new = GivesFronts old new ending
+FrontsBy TnGw (Permit line) rules peer ending old new = RelaysIn line rules peer ending old new
+FrontsBy service verdict rules peer ending old new = Unit {0}
 
 -- the port, and the clock: where the verdict denies, and for each client of the plug, they are left as they were
 abbrev pub Untouched : {A : Type 0} → Service → Verdict → A → A → Type 0

@@ -1,5 +1,6 @@
 -- A client of the Telnet gateway whom the rules permit: its session is held behind the line of the permission.
 use Rattle.std.specs.Prelude.{◌≡◌, ℕ, ◌⊎◌, Bool, true, false, List}
+use Rattle.fw_outside.specs.SinkView.{SinkView}
 use Rattle.fw_types.specs.declared.ending.Ending.{Ending}
 use Rattle.fw_types.specs.declared.peer.Peer.{Peer}
 use Rattle.gate_rules.specs.Reading.{RuleBook}
@@ -7,8 +8,9 @@ use Rattle.gate_rules.specs.declared.service.Service.{Service}
 use Rattle.gate_rules.specs.declared.service.Service.TheVariants.{TnGw}
 use Rattle.gate_rules.specs.declared.verdict.Verdict.TheVariants.{Permit}
 use Rattle.session_acts.specs.Client.{LogFails, with_line}
+use Rattle.session_acts.specs.RelayFronts.{RelaysFronts}
 use Rattle.session_acts.specs.Relayed.{relayed, then_relay}
-use Rattle.session_acts.specs.Session.{RelaySession}
+use Rattle.session_acts.specs.Session.{RelaySession, deeds_of}
 use Rattle.session_acts.specs.World.{Devices}
 use Rattle.tn_gate.specs.Dialogue.{tn_row, tn_rows}
 use Rattle.tn_gate.specs.Dummies.{lent}
@@ -35,3 +37,18 @@ HeldBehind line gate ending old new =
 pub record LetsIn {Origin : Type 0} (line : ℕ) (rules : RuleBook) (peer : Peer) (ending : Ending) (old new : Devices Origin) : Type 0 where
   pub held : HeldBehind (decision_text (Permit line) TnGw peer) (gate_at rules line peer) ending (patient (timeout_of rules) (gate_devices old)) (gate_devices new)
   pub dice : new.dice ≡ old.dice
+
+-- ---- what that comes to
+
+-- the session of the gateway was held behind this line, and each side was given a front of what was taken of the other
+pub record RelaysBehind {Origin : Type 0} (line : List ℕ) (gate : Gate) (ending : Ending) (old new : Devices Origin) : Type 0 where
+  pub session : RelaySession (relayed (tn_rows gate)) (then_relay (tn_row gate)) (with_line line old) new ending
+  pub fronts : RelaysFronts (deeds_of session.held) (with_line line old) new ending
+
+abbrev pub FrontsBehind : {Origin : Type 0} → List ℕ → Gate → Ending → Devices Origin → Devices Origin → Type 0
+FrontsBehind line gate ending old new = LogFails line old new ending ⊎ RelaysBehind line gate ending old new
+
+-- so it was with the line of the permission, up to the line of the ending
+pub record RelaysIn {Origin : Type 0} (line : ℕ) (rules : RuleBook) (peer : Peer) (ending : Ending) (old new : Devices Origin) : Type 0 where
+  pub logs : SinkView
+  pub so : FrontsBehind (decision_text (Permit line) TnGw peer) (gate_at rules line peer) ending (patient (timeout_of rules) (gate_devices old)) (gate_devices (record new { logs = logs }))

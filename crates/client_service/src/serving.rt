@@ -183,9 +183,10 @@ where
         (D.dialer_view dialer.old) (C.clock_view clock.old) (R.dice_view dice.old))
         (devices_with (P.port port.new) (S.source_view from.new) (K.sink_view to.new) (G.sink_view logs.new)
         (D.dialer_view dialer.new) (C.clock_view clock.new) (R.dice_view dice.new)) }
-    // What was given to the server of a client of the plug is a front of what was taken of the client, and what was given
-    // to the client one of what was taken of the server: all of it, unless a source or a sink failed.
-    ensures fronts { FrontsBy (kind_of service.now (verdict_of rules.now peer.now)) result
+    // For whom the rules permit of `tn-gw` or the plug: what was given to the server is a front of what was taken of the client,
+    // and what was given to the client one of what was taken of the server: all of it, unless a source or a sink failed. For
+    // `tn-gw` this is behind what the session heard and told before.
+    ensures fronts { FrontsBy service.now (verdict_of rules.now peer.now) rules.now peer.now result
         (devices_with (P.port port.old) (S.source_view from.old) (K.sink_view to.old) (G.sink_view logs.old)
         (D.dialer_view dialer.old) (C.clock_view clock.old) (R.dice_view dice.old))
         (devices_with (P.port port.new) (S.source_view from.new) (K.sink_view to.new) (G.sink_view logs.new)
