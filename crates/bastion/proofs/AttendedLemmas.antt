@@ -21,6 +21,7 @@ use Rattle.session_acts.specs.Dummies.{nowhere}
 use Rattle.session_acts.specs.World.{Devices, most_taken}
 use Rattle.session_acts.proofs.DeviceLemmas.{by_nothing}
 use Rattle.client_service.specs.Conn.{Causes, IsRefused}
+use Rattle.client_service.specs.Kind.Kind.{Alone}
 use Rattle.bastion.specs.Inputs.{Inputs}
 use Rattle.bastion.specs.Outcome.{CountRose, EndingRose, status_of}
 use Rattle.bastion.specs.Serving.{Attended, Serves, book_at_first, devices_at, most_entries, origin_of}
@@ -53,7 +54,7 @@ caused_rose NoRoute old new first last dialer h = h
 caused_rose Spent old new first last dialer h = tt
 caused_rose NoMemory old new first last dialer h = tt
 
-causes_rose : (verdict : Verdict) (ending : Ending) (old new : WorldView) (first last : BookView) (dialer : DialerView) → Causes false verdict ending (devices_at old first nowhere) (devices_at new last dialer) → EndingRose ending old new
+causes_rose : (verdict : Verdict) (ending : Ending) (old new : WorldView) (first last : BookView) (dialer : DialerView) → Causes Alone verdict ending (devices_at old first nowhere) (devices_at new last dialer) → EndingRose ending old new
 causes_rose verdict (Denied line) old new first last dialer h = tt
 causes_rose verdict ending old new first last dialer h = caused_rose ending old new first last dialer h
 
@@ -66,7 +67,7 @@ serves_rose false rules peer ending old new first last dialer h =
 
 pub attended_rose : (client : Client) (inputs : Inputs) (out : Outcome) (old new : WorldView) → Attended client inputs out old new → CountRose out old new
 attended_rose client inputs out old new h =
-    subst (λ (o : Outcome). CountRose o old new) (sym h.comes)
+    subst (λ (o : Outcome). CountRose o old new) (sym h.over.comes)
     (serves_rose client.console inputs.rules client.peer h.ending old new (book_at_first (origin_of inputs) most_entries h.before) h.book h.dialer h.serves)
 
 -- ---- bytes
@@ -90,7 +91,7 @@ serves_spent false rules peer old new ending h = conn_spent Authsrv rules peer o
 pub attended_takes : (client : Client) (inputs : Inputs) (out : Outcome) (old new : WorldView) → Attended client inputs out old new → TakesIn (status_of out) old.inputs.input new.inputs.input
 attended_takes client inputs out old new h =
     let takes = serves_spent client.console inputs.rules client.peer (devices_at old (book_at_first (origin_of inputs) most_entries h.before) nowhere) (devices_at new h.book h.dialer) h.ending h.serves in
-    let six : h.ending ≡ Spent → status_of out ≡ 6 = λ spent. ap status_of (h.comes ∙ ap (λ (e : Ending). Ended e h.book.refused) spent) in
+    let six : h.ending ≡ Spent → status_of out ≡ 6 = λ spent. ap status_of (h.over.comes ∙ ap (λ (e : Ending). Ended e h.book.refused) spent) in
     record { took = takes.took; all = λ long. six (spent_is h.ending (takes.all ∙ ap (λ (n : ℕ). n == most_taken) long)) }
 
 pub takes_same : (status : ℕ) (old new : SourceView) → new ≡ old → TakesIn status old new
@@ -120,11 +121,11 @@ ending_by NoRoute book old new first dialer full h = inl (inl refl)
 ending_by Spent book old new first dialer full h = inr (inr (refl, inl h))
 ending_by NoMemory book old new first dialer full h = inl (inr refl)
 
-denied_status : (line : ℕ) (ending : Ending) (refused : Bool) (old new : WorldView) → IsRefused (Deny line) ending → ((status_of (Ended ending refused) ≡ 4) ⊎ (status_of (Ended ending refused) ≡ 5)) ⊎ (status_of (Ended ending refused) ≡ 1)
-denied_status line ending refused old new (inl denied) = inr (ap (λ (e : Ending). status_of (Ended e refused)) denied)
-denied_status line ending refused old new (inr fault) = inl (inl (ap (λ (e : Ending). status_of (Ended e refused)) fault))
+pub denied_status : (line : ℕ) (ending : Ending) (refused : Bool) → IsRefused (Deny line) ending → ((status_of (Ended ending refused) ≡ 4) ⊎ (status_of (Ended ending refused) ≡ 5)) ⊎ (status_of (Ended ending refused) ≡ 1)
+denied_status line ending refused (inl denied) = inr (ap (λ (e : Ending). status_of (Ended e refused)) denied)
+denied_status line ending refused (inr fault) = inl (inl (ap (λ (e : Ending). status_of (Ended e refused)) fault))
 
-causes_permit : (line : ℕ) (ending : Ending) (old new : Devices BookOrigin) → Causes false (Permit line) ending old new → CausedAlone ending old new
+causes_permit : (line : ℕ) (ending : Ending) (old new : Devices BookOrigin) → Causes Alone (Permit line) ending old new → CausedAlone ending old new
 causes_permit line (Denied other) old new h = absurd (cc)
 causes_permit line Done old new h = h
 causes_permit line ClientFault old new h = h
@@ -137,9 +138,9 @@ causes_permit line Spent old new h = h
 causes_permit line NoMemory old new h = h
 
 verdict_by : (verdict : Verdict) (ending : Ending) (book : BookView) (old new : WorldView) (first : BookView) (dialer : DialerView) → (book.refused ≡ true → IsFull old.inputs new.inputs)
-    → Causes false verdict ending (devices_at old first nowhere) (devices_at new book dialer) → IsRefused verdict ending → ((status_of (Ended ending book.refused) ≡ 4) ⊎ (status_of (Ended ending book.refused) ≡ 5)) ⊎ IsServed false verdict (status_of (Ended ending book.refused)) old.inputs new.inputs
+    → Causes Alone verdict ending (devices_at old first nowhere) (devices_at new book dialer) → IsRefused verdict ending → ((status_of (Ended ending book.refused) ≡ 4) ⊎ (status_of (Ended ending book.refused) ≡ 5)) ⊎ IsServed false verdict (status_of (Ended ending book.refused)) old.inputs new.inputs
 verdict_by (Permit line) ending book old new first dialer full h refused = ending_by ending book old new first dialer full (causes_permit line ending (devices_at old first nowhere) (devices_at new book dialer) h)
-verdict_by (Deny line) ending book old new first dialer full h refused = denied_status line ending book.refused old new refused
+verdict_by (Deny line) ending book old new first dialer full h refused = denied_status line ending book.refused refused
 
 serves_by : (console : Bool) (rules : RuleBook) (peer : Peer) (ending : Ending) (book : BookView) (old new : WorldView) (first : BookView) (dialer : DialerView) → (book.refused ≡ true → IsFull old.inputs new.inputs)
     → Serves console rules peer (devices_at old first nowhere) (devices_at new book dialer) ending
@@ -152,11 +153,11 @@ serves_by false rules peer ending book old new first dialer full h =
 
 attended_full : (client : Client) (inputs : Inputs) (out : Outcome) (old new : WorldView) (h : Attended client inputs out old new) → h.book.refused ≡ true → IsFull old.inputs new.inputs
 attended_full client inputs out old new h refused =
-    let takes = serves_takes client.console inputs.rules client.peer (origin_of inputs) h.before old new h.book h.dialer h.ending h.serves refused in
-    record { moments = takes.moments; told = takes.told; many = subst (λ (n : ℕ). n < length takes.moments) (h.full refused) takes.many }
+    let takes = serves_takes client.console inputs client.peer h.before old new h.book h.dialer h.ending out h.over h.serves refused in
+    record { moments = takes.moments; told = takes.told; many = subst (λ (n : ℕ). n < length takes.moments) (h.over.full refused) takes.many }
 
 pub attended_status : (client : Client) (inputs : Inputs) (out : Outcome) (old new : WorldView) → Attended client inputs out old new
     → ((status_of out ≡ 4) ⊎ (status_of out ≡ 5)) ⊎ IsServed client.console (verdict_of inputs.rules client.peer) (status_of out) old.inputs new.inputs
 attended_status client inputs out old new h =
     let By : Outcome → Type 0 = λ o. ((status_of o ≡ 4) ⊎ (status_of o ≡ 5)) ⊎ IsServed client.console (verdict_of inputs.rules client.peer) (status_of o) old.inputs new.inputs in
-    subst By (sym h.comes) (serves_by client.console inputs.rules client.peer h.ending h.book old new (book_at_first (origin_of inputs) most_entries h.before) h.dialer (attended_full client inputs out old new h) h.serves)
+    subst By (sym h.over.comes) (serves_by client.console inputs.rules client.peer h.ending h.book old new (book_at_first (origin_of inputs) most_entries h.before) h.dialer (attended_full client inputs out old new h) h.serves)

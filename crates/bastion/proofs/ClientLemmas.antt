@@ -1,127 +1,125 @@
--- From the book that was opened to what a session comes to and leaves.
-use Rattle.std.proofs.Common.{◌≡◌, sym, ◌∙◌, ap, subst, refl, ℕ, Bool, true, false, length}
-use Rattle.std.specs.Bool.{OnTrue}
-use Rattle.std.specs.Prelude.{Option, Some, None}
+-- From the book that was opened to what a session over it comes to and leaves.
+use Rattle.std.proofs.Common.{◌≡◌, sym, ◌∙◌, ap, subst, refl, inr, ℕ, List, Bool, true, false, length}
+use Rattle.std.specs.Prelude.{Option}
 use Rattle.auth_machine.specs.Book.{BookView}
 use Rattle.auth_machine.specs.History.{CountsCalls, CountsUnkept, HasRecords, IsLegal, IsSound, Origin}
 use Rattle.auth_machine.specs.Port.{BookOrigin, book_origin}
+use Rattle.client_service.proofs.ConnLemmas.{conn_origin, console_origin}
+use Rattle.client_service.specs.Conn.{Conn, Untouched}
+use Rattle.client_service.specs.Meeting.{dialer_then}
 use Rattle.fw_outside.specs.DialerView.{DialerView}
 use Rattle.fw_outside.specs.KeeperView.{KeeperView}
 use Rattle.fw_types.specs.declared.ending.Ending.{Ending}
 use Rattle.fw_types.specs.declared.peer.Peer.{Peer}
 use Rattle.gate_rules.specs.Reading.{RuleBook}
 use Rattle.gate_rules.specs.Verdict.{verdict_of}
-use Rattle.gate_rules.specs.declared.service.Service.TheVariants.{Authsrv}
+use Rattle.gate_rules.specs.declared.service.Service.{Service}
+use Rattle.gate_rules.specs.declared.service.Service.TheVariants as services
 use Rattle.gate_rules.specs.declared.verdict.Verdict.{Verdict}
 use Rattle.gate_rules.specs.declared.verdict.Verdict.TheVariants.{Permit, Deny}
 use Rattle.session_acts.specs.Dummies.{nowhere}
-use Rattle.client_service.specs.Meeting.{dialer_then}
+use Rattle.bastion.specs.Gating.{Gated, devices_over}
 use Rattle.bastion.specs.Inputs.{Inputs}
-use Rattle.bastion.specs.Serving.{Serves, UntouchedAt, book_at_first, devices_at, most_entries, origin_of}
-use Rattle.bastion.specs.SessionSteps.{GivesBack, HoldsOver, IsUndialed, OfRecords, Opened, Proceeds}
+use Rattle.bastion.specs.Run.{DoesFor}
+use Rattle.bastion.specs.Serving.{Attended, OverBook, Serves, UntouchedAt, book_at_first, devices_at, most_entries, origin_of}
+use Rattle.bastion.specs.SessionSteps.{EndsOver, HoldsOver, IsUndialed, Opens, PassesOver}
 use Rattle.bastion.specs.WorldView.{WorldView}
 use Rattle.bastion.specs.declared.outcome.Outcome.{Outcome}
-use Rattle.bastion.specs.declared.outcome.Outcome.TheVariants.{Ended}
-use Rattle.bastion.specs.declared.server_rules.ServerRules.{ServerRules}
 use Rattle.bastion.specs.declared.words.Client.{Client}
-use Rattle.client_service.proofs.ConnLemmas.{conn_origin, console_origin}
+use Rattle.bastion.specs.declared.words.Command.TheVariants as commands
 
--- what the keeper is doesn't matter to those who meet
-with_keeper_back : (client : Client) (rules : RuleBook) (first book : BookView) (before dialer : DialerView) (ending : Ending) (old mid new : WorldView) (keeper : Option KeeperView) → new ≡ record mid { inputs = record (mid.inputs) { keeper = keeper } }
-    → Serves client.console rules client.peer (devices_at old first before) (devices_at mid book dialer) ending → Serves client.console rules client.peer (devices_at old first before) (devices_at new book dialer) ending
-with_keeper_back client rules first book before dialer ending old mid new keeper is h =
-    subst (λ (d : WorldView). Serves client.console rules client.peer (devices_at old first before) (devices_at d book dialer) ending) (sym is) h
-
-on_true : (b : Bool) (P : Type 0) → OnTrue b P → b ≡ true → P
-on_true true P h is = h
-on_true false P h is = absurd (cc)
-
--- the session was held, and then the keeper given back
-pub held_over : (client : Client) (rules : RuleBook) (first book : BookView) (dialer : DialerView) (ending : Ending) (refused : Bool) (old mid new : WorldView)
-    → Serves client.console rules client.peer (devices_at old first nowhere) (devices_at mid book dialer) ending → IsUndialed nowhere dialer → UntouchedAt client.console (verdict_of rules client.peer) first book → mid.files ≡ old.files → mid.inputs.dialer ≡ old.inputs.dialer → mid.inputs.launcher ≡ old.inputs.launcher
-    → refused ≡ book.refused → OnTrue refused (length book.history ≡ book.limit) → GivesBack book mid new → HoldsOver client rules first (Ended ending refused) old new
-held_over client rules first book dialer ending refused old mid new serves undialed untouched files links launcher refused_is full back = record {
-  book = book;
-  ending = ending;
-  dialer = dialer;
-  serves = with_keeper_back client rules first book nowhere dialer ending old mid new (Some book.keeper) back.is serves;
-  undialed = undialed;
-  untouched = untouched;
-  sound = back.sound;
-  legal = back.legal;
-  has = back.has;
-  faults = back.faults;
-  called = back.called;
-  full = λ was. on_true refused (length book.history ≡ book.limit) full (refused_is ∙ was);
-  comes = ap (Ended ending) refused_is;
-  kept = ap (λ (d : WorldView). d.inputs.keeper) back.is;
-  files = ap (λ (d : WorldView). d.files) back.is ∙ files;
-  links = ap (λ (d : WorldView). d.inputs.dialer) back.is ∙ links;
-  launcher = ap (λ (d : WorldView). d.inputs.launcher) back.is ∙ launcher;
-}
+-- ---- what the history stands on stays
 
 serves_origin : (console : Bool) (rules : RuleBook) (peer : Peer) (old new : WorldView) (first last : BookView) (before after : DialerView) (ending : Ending) → Serves console rules peer (devices_at old first before) (devices_at new last after) ending
     → book_origin last ≡ book_origin first
-serves_origin true rules peer old new first last before after ending h = console_origin Authsrv peer (devices_at old first before) (devices_at new last after) ending h
-serves_origin false rules peer old new first last before after ending h = conn_origin Authsrv rules peer (devices_at old first before) (devices_at new last after) ending h
+serves_origin true rules peer old new first last before after ending h = console_origin services.Authsrv peer (devices_at old first before) (devices_at new last after) ending h
+serves_origin false rules peer old new first last before after ending h = conn_origin services.Authsrv rules peer (devices_at old first before) (devices_at new last after) ending h
 
--- the same session from the records on, and from the world that has its keeper
-from_first : (client : Client) (rules : RuleBook) (first other last : BookView) (dialer : DialerView) (ending : Ending) (old mid new : WorldView) (keeper : Option KeeperView) → first ≡ other → mid ≡ record old { inputs = record (old.inputs) { keeper = keeper } }
-    → Serves client.console rules client.peer (devices_at mid first nowhere) (devices_at new last dialer) ending → Serves client.console rules client.peer (devices_at old other nowhere) (devices_at new last dialer) ending
-from_first client rules first other last dialer ending old mid new keeper is without h =
-    subst (λ (b : BookView). Serves client.console rules client.peer (devices_at old b nowhere) (devices_at new last dialer) ending) is
-    (subst (λ (d : WorldView). Serves client.console rules client.peer (devices_at d first nowhere) (devices_at new last dialer) ending) without h)
+-- ---- the book
 
-untouched_keeper : (console : Bool) (verdict : Verdict) (old new : BookView) → UntouchedAt console verdict old new → UntouchedAt console verdict old.keeper new.keeper
-untouched_keeper true verdict old new h = tt
-untouched_keeper false (Permit line) old new h = tt
-untouched_keeper false (Deny line) old new h = ap (λ (b : BookView). b.keeper) h
+module _ (name : List ℕ) (service : Service) (rules : RuleBook) (first : BookView) (old mid : WorldView) (o : Opens name service rules first old mid) where
+  abbrev begun : BookView
+  begun = book_at_first (origin_of o.inputs) most_entries o.before
 
-of_records : (client : Client) (server_rules : ServerRules) (first : BookView) (outcome : Outcome) (old mid new : WorldView) → Opened server_rules.policy first old mid → (over : HoldsOver client server_rules.rules first outcome mid new)
-    → OfRecords client server_rules (Ended over.ending over.book.refused) old new
-of_records client server_rules first outcome old mid new opened over =
-    let inputs : Inputs = record { rules = server_rules.rules; policy = server_rules.policy; records = first.origin.records } in
-    let same : book_origin over.book ≡ book_origin first = serves_origin client.console server_rules.rules client.peer mid new first over.book nowhere over.dialer over.ending over.serves in
-    let stands : first.origin ≡ origin_of inputs = ap (λ (p : _). record { policy = p; records = first.origin.records }) opened.policy_is in
-    let origin : over.book.origin ≡ origin_of inputs = ap (λ (b : BookOrigin). b.origin) same ∙ stands in
-    let limit : over.book.limit ≡ most_entries = ap (λ (b : BookOrigin). b.limit) same ∙ ap (λ (b : BookView). b.limit) opened.at_first in
-    let failed : over.book.failed_before ≡ first.keeper.faults = ap (λ (b : BookOrigin). b.failed_before) same ∙ ap (λ (b : BookView). b.failed_before) opened.at_first in
-    let calls : over.book.called_before ≡ first.keeper.calls = ap (λ (b : BookOrigin). b.called_before) same ∙ ap (λ (b : BookView). b.called_before) opened.at_first in
-    let begun : first ≡ book_at_first (origin_of inputs) most_entries first.keeper = opened.at_first ∙ ap (λ (o : Origin). book_at_first o most_entries first.keeper) stands in
-    record {
-      before = opened.before;
-      keeper = opened.keeper;
-      after = first.keeper;
-      called = opened.called;
-      records = first.origin.records;
-      read = opened.records;
-      attended = record {
-        before = first.keeper;
-        keeper = refl;
-        book = over.book;
-        ending = over.ending;
-        dialer = over.dialer;
-        serves = from_first client server_rules.rules first (book_at_first (origin_of inputs) most_entries first.keeper) over.book over.dialer over.ending old mid new None begun opened.is over.serves;
-        undialed = over.undialed;
-        untouched = untouched_keeper client.console (verdict_of server_rules.rules client.peer) first over.book over.untouched;
-        sound = subst (λ (o : Origin). IsSound o) origin over.sound;
-        legal = subst (λ (o : Origin). IsLegal o over.book.history) origin over.legal;
-        has = subst (λ (o : Origin). HasRecords o over.book.history over.book.keeper) origin over.has;
-        faults = subst (λ (n : ℕ). CountsUnkept n over.book.history over.book.keeper) failed over.faults;
-        called = subst (λ (n : ℕ). CountsCalls n (origin_of inputs) over.book.history over.book.asks over.book.keeper) calls
-            (subst (λ (o : Origin). CountsCalls over.book.called_before o over.book.history over.book.asks over.book.keeper) origin over.called);
-        full = λ was. over.full was ∙ limit;
-        comes = refl;
-        kept = over.kept;
-        files = over.files ∙ ap (λ (d : WorldView). d.files) opened.is;
-        links = over.links ∙ ap (λ (d : WorldView). d.inputs.dialer) opened.is;
-        launcher = over.launcher ∙ ap (λ (d : WorldView). d.inputs.launcher) opened.is;
-      };
-    }
+  over_book : (book : BookView) (ending : Ending) (out : Outcome) (held new : WorldView) → book_origin book ≡ book_origin first → held.files ≡ mid.files → held.inputs.launcher ≡ mid.inputs.launcher → EndsOver book ending out held new
+      → OverBook o.inputs o.before book ending out o.middle new
+  over_book book ending out held new same files launcher ends =
+      let back = ends.back in
+      let origin : book.origin ≡ origin_of o.inputs = ap (λ (b : BookOrigin). b.origin) same ∙ ap (λ (b : BookView). b.origin) o.at_first in
+      let limit : book.limit ≡ most_entries = ap (λ (b : BookOrigin). b.limit) same ∙ ap (λ (b : BookView). b.limit) o.at_first in
+      let failed : book.failed_before ≡ o.before.faults = ap (λ (b : BookOrigin). b.failed_before) same ∙ ap (λ (b : BookView). b.failed_before) o.at_first in
+      let calls : book.called_before ≡ o.before.calls = ap (λ (b : BookOrigin). b.called_before) same ∙ ap (λ (b : BookView). b.called_before) o.at_first in
+      record {
+        keeper = o.keeper;
+        sound = subst (λ (g : Origin). IsSound g) origin back.sound;
+        legal = subst (λ (g : Origin). IsLegal g book.history) origin back.legal;
+        has = subst (λ (g : Origin). HasRecords g book.history book.keeper) origin back.has;
+        faults = subst (λ (n : ℕ). CountsUnkept n book.history book.keeper) failed back.faults;
+        called = subst (λ (n : ℕ). CountsCalls n (origin_of o.inputs) book.history book.asks book.keeper) calls
+            (subst (λ (g : Origin). CountsCalls book.called_before g book.history book.asks book.keeper) origin back.called);
+        full = λ was. ends.full was ∙ limit;
+        comes = ends.comes;
+        kept = ap (λ (d : WorldView). d.inputs.keeper) back.is;
+        files = ap (λ (d : WorldView). d.files) back.is ∙ files ∙ ap (λ (d : WorldView). d.files) o.is;
+        launcher = ap (λ (d : WorldView). d.inputs.launcher) back.is ∙ launcher ∙ ap (λ (d : WorldView). d.inputs.launcher) o.is;
+      }
 
-pub proceeds : (client : Client) (server_rules : ServerRules) (first : BookView) (outcome : Outcome) (old mid new : WorldView) → Opened server_rules.policy first old mid → HoldsOver client server_rules.rules first outcome mid new → Proceeds client server_rules outcome old new
-proceeds client server_rules first outcome old mid new opened over =
-    subst (λ (o : Outcome). Proceeds client server_rules o old new) (sym over.comes) (of_records client server_rules first outcome old mid new opened over)
+  -- ---- a client of the authentication server
+
+  untouched_at : (console : Bool) (verdict : Verdict) (book : BookView) → UntouchedAt console verdict first book → UntouchedAt console verdict o.before book.keeper
+  untouched_at true verdict book h = tt
+  untouched_at false (Permit line) book h = tt
+  untouched_at false (Deny line) book h = ap (λ (b : BookView). b.keeper) h ∙ ap (λ (b : BookView). b.keeper) o.at_first
+
+  -- the same session by the inputs, from the world that has its keeper to the one that has it again
+  holds_attended : (client : Client) (out : Outcome) (new : WorldView) → HoldsOver client rules first out mid new → Attended client o.inputs out o.middle new
+  holds_attended client out new h =
+      let Meets : RuleBook → BookView → WorldView → WorldView → Type 0 = λ r b one other. Serves client.console r client.peer (devices_at one b nowhere) (devices_at other h.book h.dialer) h.ending in
+      let same : book_origin h.book ≡ book_origin first = serves_origin client.console rules client.peer mid h.middle first h.book nowhere h.dialer h.ending h.serves in
+      let back : Meets rules first mid new = subst (λ (w : WorldView). Meets rules first mid w) (sym h.ends.back.is) h.serves in
+      let here : Meets rules first o.middle new = subst (λ (w : WorldView). Meets rules first w new) o.is back in
+      record {
+        before = o.before;
+        book = h.book;
+        ending = h.ending;
+        over = over_book h.book h.ending out h.middle new same h.files h.launcher h.ends;
+        dialer = h.dialer;
+        serves = subst (λ (r : RuleBook). Meets r begun o.middle new) o.rules_are (subst (λ (b : BookView). Meets rules b o.middle new) o.at_first here);
+        undialed = h.undialed;
+        untouched = subst (λ (r : RuleBook). UntouchedAt client.console (verdict_of r client.peer) o.before h.book.keeper) o.rules_are (untouched_at client.console (verdict_of rules client.peer) h.book h.untouched);
+        links = ap (λ (d : WorldView). d.inputs.dialer) h.ends.back.is ∙ h.links ∙ ap (λ (d : WorldView). d.inputs.dialer) o.is;
+      }
+
+  -- ---- a client of the gateway
+
+  untouched_by : (verdict : Verdict) (book : BookView) → Untouched services.TnGw verdict first book → Untouched services.TnGw verdict o.before book.keeper
+  untouched_by (Permit line) book h = tt
+  untouched_by (Deny line) book h = ap (λ (b : BookView). b.keeper) h ∙ ap (λ (b : BookView). b.keeper) o.at_first
+
+  passes_gated : (peer : Peer) (out : Outcome) (new : WorldView) → PassesOver peer rules first out mid new → Gated peer o.inputs out o.middle new
+  passes_gated peer out new h =
+      let Meets : RuleBook → BookView → WorldView → WorldView → Type 0 = λ r b one other. Conn services.TnGw r peer (devices_over one b) (devices_over other h.book) h.ending in
+      let same : book_origin h.book ≡ book_origin first = conn_origin services.TnGw rules peer (devices_over mid first) (devices_over h.middle h.book) h.ending h.serves in
+      let back : Meets rules first mid new = subst (λ (w : WorldView). Meets rules first mid w) (sym h.ends.back.is) h.serves in
+      let here : Meets rules first o.middle new = subst (λ (w : WorldView). Meets rules first w new) o.is back in
+      record {
+        before = o.before;
+        book = h.book;
+        ending = h.ending;
+        over = over_book h.book h.ending out h.middle new same h.files h.launcher h.ends;
+        serves = subst (λ (r : RuleBook). Meets r begun o.middle new) o.rules_are (subst (λ (b : BookView). Meets rules b o.middle new) o.at_first here);
+        untouched = subst (λ (r : RuleBook). Untouched services.TnGw (verdict_of r peer) o.before h.book.keeper) o.rules_are (untouched_by (verdict_of rules peer) h.book h.untouched);
+      }
+
+-- ---- the commands
+
+pub holds_does : (name : List ℕ) (client : Client) (rules : RuleBook) (first : BookView) (out : Outcome) (old mid new : WorldView) → Opens name services.Authsrv rules first old mid → HoldsOver client rules first out mid new → DoesFor name (commands.Authsrv client) out old new
+holds_does name client rules first out old mid new o h =
+    inr (record { inputs = o.inputs; read = o.read (commands.Authsrv client) refl; middle = o.middle; only = o.only; works = holds_attended name services.Authsrv rules first old mid o client out new h })
+
+pub passes_does : (name : List ℕ) (peer : Peer) (rules : RuleBook) (first : BookView) (out : Outcome) (old mid new : WorldView) → Opens name services.TnGw rules first old mid → PassesOver peer rules first out mid new → DoesFor name (commands.TnGw peer) out old new
+passes_does name peer rules first out old mid new o h =
+    inr (record { inputs = o.inputs; read = o.read (commands.TnGw peer) refl; middle = o.middle; only = o.only; works = passes_gated name services.TnGw rules first old mid o peer out new h })
 
 -- ---- the dialer
 

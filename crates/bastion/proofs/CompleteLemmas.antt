@@ -7,6 +7,7 @@ use Rattle.fw_outside.specs.ToldList.{grown}
 use Rattle.fw_outside.specs.declared.failed.Failed as sink
 use Rattle.fw_outside.specs.declared.started.Started.{Started}
 use Rattle.fw_outside.specs.declared.started.Started.TheVariants as program
+use Rattle.fw_types.specs.declared.peer.Peer.{Peer}
 use Rattle.gate_rules.specs.Verdict.{verdict_of}
 use Rattle.gate_rules.specs.declared.verdict.Verdict.{Verdict}
 use Rattle.session_acts.proofs.ToldLemmas.{by_both, by_nothing}
@@ -14,7 +15,7 @@ use Rattle.bastion.specs.Complete.{AllDone, IsComplete, IsLaunchedWhole, IsLinke
 use Rattle.bastion.specs.Inputs.{HasInputs, Inputs}
 use Rattle.bastion.specs.Outcome.{fault_line_of, refusal_text, status_of, verdict_status}
 use Rattle.bastion.specs.Run.{DoesLine, Run, Stops, TellsIf, Worked, verdict_for}
-use Rattle.bastion.specs.Status.{IsServed, RoseBy, RoseOf, SomeRose}
+use Rattle.bastion.specs.Status.{IsPassed, IsServed, RoseBy, RoseOf, SomeRose}
 use Rattle.client_service.specs.Decision.{decision_text}
 use Rattle.bastion.specs.Texts.{ended_text, print_text, program_of}
 use Rattle.bastion.specs.Words.{LineView}
@@ -24,13 +25,15 @@ use Rattle.bastion.specs.declared.outcome.Device.TheVariants as device
 use Rattle.bastion.specs.declared.outcome.Outcome.{Outcome}
 use Rattle.bastion.specs.declared.outcome.Outcome.TheVariants.{Usage, Unread, Failed, NoMemory, Decided, Ended}
 use Rattle.bastion.specs.declared.words.Command.{Command}
-use Rattle.bastion.specs.declared.words.Command.TheVariants.{Netacl, NetaclRun, Table, Authsrv, PlugGw}
+use Rattle.bastion.specs.declared.words.Command.TheVariants.{Netacl, NetaclRun, Table, Authsrv, PlugGw, TnGw}
 use Rattle.bastion.specs.declared.words.Caller.{Caller}
 use Rattle.bastion.specs.declared.words.Client.{Client}
 use Rattle.bastion.specs.declared.words.Query.{Query}
 use Rattle.bastion.proofs.AttendedLemmas.{attended_status}
+use Rattle.bastion.proofs.GatedLemmas.{gated_status}
+use Rattle.bastion.proofs.GatewayLemmas.{gated_whole}
 use Rattle.bastion.proofs.LaunchLemmas.{Launching, launched}
-use Rattle.bastion.proofs.RunLemmas.{by_later, calls_launcher, count_some, only_left, rose_some, served_then, some_by, some_later, stops_left, stops_rose, tells_later, worked_rose}
+use Rattle.bastion.proofs.RunLemmas.{by_later, calls_launcher, count_some, only_left, passed_then, rose_some, served_then, some_by, some_later, stops_left, stops_rose, tells_later, worked_rose}
 use Rattle.bastion.proofs.LinkedLemmas.{linked_whole}
 use Rattle.bastion.proofs.QuietLemmas.{Quiet, gave_whole, quiet, same_from, same_to}
 use Rattle.bastion.proofs.ServedLemmas.{attended_whole}
@@ -218,6 +221,23 @@ linked_done : (name : List ℕ) (caller : Caller) (inputs : Inputs) (outcome : O
 linked_done name caller inputs outcome old new read (inl five) = inl five
 linked_done name caller inputs outcome old new read (inr whole) = inr (record { read = Ok inputs; inputs = read; does = whole })
 
+gated_done : (name : List ℕ) (peer : Peer) (outcome : Outcome) (old mid new : WorldView) → (RoseBy (TnGw peer) old new → ⊥) → (h : Worked name (TnGw peer) outcome old mid) → TellsIf (fault_line_of outcome) mid new
+    → ((status_of outcome ≡ 4) ⊎ (status_of outcome ≡ 5)) ⊎ IsPassed (verdict_of h.inputs.rules peer) (status_of outcome) h.middle.inputs mid.inputs
+    → (status_of outcome ≡ 5) ⊎ AllDone name (TnGw peer) (status_of outcome) old new
+gated_done name peer outcome old mid new none h tells (inl (inl four)) =
+    absurd (none (by_later (TnGw peer) old mid new (tells_later (fault_line_of outcome) mid new tells) (rose_some (TnGw peer) outcome old mid (worked_rose name (TnGw peer) outcome old mid h) four)))
+gated_done name peer outcome old mid new none h tells (inl (inr five)) = inl five
+gated_done name peer outcome old mid new none h tells (inr passed) =
+    let later = tells_later (fault_line_of outcome) mid new tells in
+    let left = only_left name true old h.middle h.only in
+    inr (record {
+      read = Ok h.inputs;
+      inputs = h.read;
+      does =
+          gated_whole name peer h.inputs outcome old h.middle mid new (quiet old new (λ some. none (inl some))) h.only h.works tells
+          (passed_then (verdict_of h.inputs.rules peer) (status_of outcome) h.middle.inputs mid.inputs old.inputs new.inputs left.input left.clock later.inputs passed);
+    })
+
 worked_complete : (name : List ℕ) (command : Command) (outcome : Outcome) (old mid new : WorldView) → (RoseBy command old new → ⊥) → Worked name command outcome old mid → TellsIf (fault_line_of outcome) mid new
     → (status_of outcome ≡ 5) ⊎ AllDone name command (status_of outcome) old new
 worked_complete name (Netacl query) outcome old mid new none h tells =
@@ -249,6 +269,7 @@ worked_complete name (PlugGw caller) outcome old mid new none h tells =
     let later = tells_later (fault_line_of outcome) mid new tells in
     let never : status_of outcome ≡ 4 → ⊥ = λ four. none (by_later (PlugGw caller) old mid new later (rose_some (PlugGw caller) outcome old mid (worked_rose name (PlugGw caller) outcome old mid h) four)) in
     linked_done name caller h.inputs outcome old new h.read (linked_whole name caller h.inputs outcome old h.middle mid new (quiet old new (λ some. none (inl some))) never h.only h.works tells)
+worked_complete name (TnGw peer) outcome old mid new none h tells = gated_done name peer outcome old mid new none h tells (gated_status peer h.inputs outcome h.middle mid h.works)
 
 does_complete : (line : Option LineView) (outcome : Outcome) (old mid new : WorldView) → (RoseOf line old new → ⊥) → DoesLine line outcome old mid → TellsIf (fault_line_of outcome) mid new → IsComplete line (status_of outcome) old new
 does_complete None outcome old mid new none h tells =

@@ -1,6 +1,9 @@
 -- From the rules that were found to what a command comes to.
 use Rattle.std.proofs.Common.{◌≡◌, ◌∙◌, ℕ, List, ap, refl, sym, subst, inl, inr, ◌⊎◌, Bool, true, false}
 use Rattle.std.specs.Prelude.{Some, Result, Ok, Err, not}
+use Rattle.auth_machine.specs.Book.{BookView}
+use Rattle.auth_machine.specs.History.{Origin}
+use Rattle.auth_machine.specs.Policy.{PolicyView}
 use Rattle.fw_outside.specs.FilesView.{FilesView}
 use Rattle.fw_outside.specs.KeeperView.{IsCalled, KeeperView}
 use Rattle.gate_rules.specs.Reading.{RuleBook, rules_of}
@@ -10,30 +13,30 @@ use Rattle.gate_rules.specs.declared.service.Service.TheVariants as services
 use Rattle.gate_rules.specs.declared.verdict.Verdict.{Verdict}
 use Rattle.gate_rules.specs.declared.verdict.Verdict.TheVariants.{Permit, Deny}
 use Rattle.bastion.specs.Deciding.{Decides, DecidesRun, Reports, RunsBy}
-use Rattle.bastion.specs.Inputs.{HasInputs, Inputs, needs_records, no_inputs}
+use Rattle.bastion.specs.Inputs.{HasInputs, Inputs, book_needs, needs, needs_records, no_inputs}
 use Rattle.bastion.specs.Outcome.{verdict_status}
 use Rattle.bastion.specs.Linking.{Linked}
 use Rattle.bastion.specs.Reading.{Unfound, Finds, is_early, ruling_in, server_rules_of}
 use Rattle.bastion.specs.Run.{AsksTable, DoesFor, Lacks, ReadsOnly, Stops, verdict_for}
-use Rattle.bastion.specs.SessionSteps.{Proceeds, Unopened}
+use Rattle.bastion.specs.Serving.{book_at_first, most_entries, origin_of}
+use Rattle.bastion.specs.SessionSteps.{OpenedBy, Opens, StopsEach, Unopened}
 use Rattle.bastion.specs.TableReport.{report_text}
 use Rattle.bastion.specs.Texts.{print_text}
 use Rattle.bastion.specs.Works.{Announced, Shown, Works}
 use Rattle.bastion.specs.WorldView.{SessionInputs, WorldView}
 use Rattle.bastion.specs.declared.outcome.Device.TheVariants as device
 use Rattle.bastion.specs.declared.outcome.Outcome.{Outcome}
-use Rattle.bastion.specs.declared.outcome.Outcome.TheVariants.{Unread, Failed, NoMemory, Ended}
+use Rattle.bastion.specs.declared.outcome.Outcome.TheVariants.{Unread, Failed, NoMemory}
 use Rattle.bastion.specs.declared.outcome.Refusal.{Refusal}
 use Rattle.bastion.specs.declared.outcome.Refusal.TheVariants.{Record}
 use Rattle.bastion.specs.declared.outcome.Step.{Step}
 use Rattle.bastion.specs.declared.outcome.Step.TheVariants as steps
 use Rattle.bastion.specs.declared.server_rules.ServerRules.{ServerRules}
 use Rattle.bastion.specs.declared.words.Caller.{Caller}
-use Rattle.bastion.specs.declared.words.Client.{Client}
 use Rattle.bastion.specs.declared.words.Command.{Command}
 use Rattle.bastion.specs.declared.words.Command.TheVariants as commands
 use Rattle.bastion.specs.declared.words.Query.{Query}
-use Rattle.bastion.proofs.InputLemmas.{NeedsRules, inputs_rules, inputs_server, refuses_record, refuses_rules, refuses_server}
+use Rattle.bastion.proofs.InputLemmas.{NeedsRules, inputs_rules, inputs_server, needs_them, refuses_record, refuses_rules, refuses_server}
 
 -- only the files were asked
 pub record AskedFiles (old new : WorldView) : Type 0 where
@@ -147,11 +150,7 @@ pub table_does : (name : List ℕ) (query : Query) (rules : RuleBook) (outcome :
 table_does name query rules outcome old mid new found asked reports =
     reported_does name query _ (verdict_of rules query.peer) outcome old mid new (inputs_rules (commands.Table query) query.service (needs_table query) name rules old found.of_text) (only_files name old mid found.asks asked) refl reports
 
--- ---- a client of the authentication server
-
-pub stops_server : (name : List ℕ) (client : Client) (outcome : Outcome) (old new : WorldView) → Unfound (ruling_in server_rules_of) name outcome old.files new.files → AskedFiles old new → DoesFor name (commands.Authsrv client) outcome old new
-stops_server name client outcome old new h asked =
-    inl (stops_by (ruling_in server_rules_of) name (commands.Authsrv client) outcome old new h asked (λ refusal found. refuses_server client name refusal old found.of_line found.of_text))
+-- ---- the book of the records
 
 -- the keeper was called then, and nothing else happened
 calls_then : (name : List ℕ) (old mid new : WorldView) (before after : KeeperView) → AsksTable name old.files mid.files → AskedFiles old mid → mid.inputs.keeper ≡ Some before → IsCalled before after
@@ -172,35 +171,48 @@ calls_then name old mid new before after asks asked keeper called is = record {
 old_keeper : (old mid : WorldView) (before : KeeperView) → AskedFiles old mid → mid.inputs.keeper ≡ Some before → old.inputs.keeper ≡ Some before
 old_keeper old mid before asked keeper = ap (λ (i : SessionInputs). i.keeper) (sym asked.inputs) ∙ keeper
 
-unopened_does : (name : List ℕ) (client : Client) (server_rules : ServerRules) (outcome : Outcome) (old mid new : WorldView) → Finds (ruling_in server_rules_of) name (Ok server_rules) old.files mid.files → AskedFiles old mid
-    → Unopened outcome mid new → DoesFor name (commands.Authsrv client) outcome old new
-unopened_does name client server_rules (Failed device.Records) old mid new found asked h = inl (record {
-  needed = refl;
-  files = subst (λ (f : FilesView). AsksTable name old.files f) (sym (ap (λ (w : WorldView). w.files) h.is)) found.asks;
-  before = h.before;
-  keeper = old_keeper old mid h.before asked h.keeper;
-  after = h.after;
-  failed = h.missed;
-  inputs = ap (λ (w : WorldView). w.inputs) h.is ∙ ap (λ (i : SessionInputs). record i { keeper = Some h.after }) asked.inputs;
-  output = ap (λ (w : WorldView). w.output) h.is ∙ asked.output;
-  logs = ap (λ (w : WorldView). w.logs) h.is ∙ asked.logs;
-})
-unopened_does name client server_rules (Unread (Record user at)) old mid new found asked h = inl (record {
-  read = refuses_record client name server_rules user at h.before h.after old (old_keeper old mid h.before asked h.keeper) found.of_text h.bad;
-  only = calls_then name old mid new h.before h.after found.asks asked h.keeper h.called h.is;
-})
-unopened_does name client server_rules (NoMemory steps.Records) old mid new found asked h = inl (calls_then name old mid new h.before h.after found.asks asked h.keeper h.called h.is)
-unopened_does name client server_rules outcome old mid new found asked h = absurd h
+-- where the records are needed, the keeper was called
+calls_needed : (name : List ℕ) (command : Command) (service : Service) → needs command ≡ book_needs service → (old new : WorldView) → ReadsOnly name true old new → ReadsOnly name (needs_records command) old new
+calls_needed name command service needed old new only = subst (λ (b : Bool). ReadsOnly name b old new) (sym (needs_them command service needed)) only
 
-pub proceeds_does : (name : List ℕ) (client : Client) (server_rules : ServerRules) (outcome : Outcome) (old mid new : WorldView) → Finds (ruling_in server_rules_of) name (Ok server_rules) old.files mid.files → AskedFiles old mid
-    → Proceeds client server_rules outcome mid new → DoesFor name (commands.Authsrv client) outcome old new
-proceeds_does name client server_rules (Ended ending refused) old mid new found asked h =
-    let middle : WorldView = record mid { inputs = record (mid.inputs) { keeper = Some h.after } } in
-    inr (record {
-      inputs = _;
-      read = inputs_server client name server_rules h.records h.before h.after old (old_keeper old mid h.before asked h.keeper) found.of_text h.read;
-      middle = middle;
-      only = calls_then name old mid middle h.before h.after found.asks asked h.keeper h.called refl;
-      works = h.attended;
-    })
-proceeds_does name client server_rules outcome old mid new found asked h = unopened_does name client server_rules outcome old mid new found asked h
+module _ (name : List ℕ) (service : Service) (server_rules : ServerRules) (old mid : WorldView) (found : Finds (ruling_in (server_rules_of service)) name (Ok server_rules) old.files mid.files) (asked : AskedFiles old mid) where
+  pub unopened_stops : (outcome : Outcome) (new : WorldView) → Unopened outcome mid new → StopsEach name service outcome old new
+  unopened_stops (Failed device.Records) new h = λ command needed. record {
+    needed = needs_them command service needed;
+    files = subst (λ (f : FilesView). AsksTable name old.files f) (sym (ap (λ (w : WorldView). w.files) h.is)) found.asks;
+    before = h.before;
+    keeper = old_keeper old mid h.before asked h.keeper;
+    after = h.after;
+    failed = h.missed;
+    inputs = ap (λ (w : WorldView). w.inputs) h.is ∙ ap (λ (i : SessionInputs). record i { keeper = Some h.after }) asked.inputs;
+    output = ap (λ (w : WorldView). w.output) h.is ∙ asked.output;
+    logs = ap (λ (w : WorldView). w.logs) h.is ∙ asked.logs;
+  }
+  unopened_stops (Unread (Record user at)) new h = λ command needed. record {
+    read = refuses_record command service needed name server_rules user at h.before h.after old (old_keeper old mid h.before asked h.keeper) found.of_text h.bad;
+    only = calls_then name old mid new h.before h.after found.asks asked h.keeper h.called h.is;
+  }
+  unopened_stops (NoMemory steps.Records) new h = λ command needed. calls_needed name command service needed old new (calls_then name old mid new h.before h.after found.asks asked h.keeper h.called h.is)
+  unopened_stops outcome new h = λ command needed. absurd h
+
+  pub opened_opens : (rules : RuleBook) (book : BookView) (new : WorldView) → OpenedBy server_rules rules book mid new → Opens name service rules book old new
+  opened_opens rules book new h =
+      let o = h.opened in
+      let inputs : Inputs = record { rules = server_rules.rules; policy = server_rules.policy; records = book.origin.records } in
+      let middle : WorldView = record mid { inputs = record (mid.inputs) { keeper = Some book.keeper } } in
+      let stands : book.origin ≡ origin_of inputs = ap (λ (p : PolicyView). record { policy = p; records = book.origin.records }) o.policy_is in
+      record {
+        inputs = inputs;
+        rules_are = h.rules_are;
+        read = λ command needed. inputs_server command service needed name server_rules book.origin.records o.before book.keeper old (old_keeper old mid o.before asked o.keeper) found.of_text o.records;
+        middle = middle;
+        only = calls_then name old mid middle o.before book.keeper found.asks asked o.keeper o.called refl;
+        before = book.keeper;
+        keeper = refl;
+        at_first = o.at_first ∙ ap (λ (g : Origin). book_at_first g most_entries book.keeper) stands;
+        is = o.is;
+      }
+
+pub unfound_stops : (name : List ℕ) (service : Service) (outcome : Outcome) (old new : WorldView) → Unfound (ruling_in (server_rules_of service)) name outcome old.files new.files → AskedFiles old new → StopsEach name service outcome old new
+unfound_stops name service outcome old new h asked =
+    λ command needed. stops_by (ruling_in (server_rules_of service)) name command outcome old new h asked (λ refusal found. refuses_server command service needed name refusal old found.of_line found.of_text)

@@ -1,21 +1,13 @@
 -- From what a run did to the headline.
-use Rattle.std.proofs.Common.{◌≡◌, ◌≢◌, ℕ, List, [], ◌∷◌, ◌++◌, length, map, filter, refl, sym, ◌∙◌, ap, subst, inl, inr, arith, ◌⊎◌, ◌||◌, Bool, true, false}
-use Rattle.std.specs.List.{list_any}
+use Rattle.std.proofs.Common.{◌≡◌, ◌≢◌, ℕ, List, [], ◌∷◌, refl, sym, ◌∙◌, ap, subst, inl, inr, arith, ◌⊎◌, Bool, true, false}
 use Rattle.std.specs.Option.{option_map}
 use Rattle.std.specs.Prelude.{Option, Some, None, Result, Ok, Err}
-use Rattle.auth_events.specs.Port.{Port, places}
 use Rattle.auth_machine.specs.Book.{BookView}
 use Rattle.auth_machine.specs.Port.{BookOrigin, book_port}
 use Rattle.authsrv_gate.specs.Dialogue.{rows}
-use Rattle.auth_events.specs.declared.port.PortFault.{PortFault}
-use Rattle.auth_events.specs.declared.reply.Reply.{Reply}
-use Rattle.fw_acts.specs.Acts.{PlaceTable, Row, Step}
-use Rattle.fw_acts.specs.Acts.Row.{Over}
-use Rattle.fw_acts.specs.Ran.{Comes, Ran}
-use Rattle.fw_acts.specs.Runs as runs
-use Rattle.session_acts.specs.declared.cause.Cause.{Cause}
-use Rattle.session_acts.specs.declared.cause.Cause.TheVariants as causes
-use Rattle.session_acts.specs.declared.denying.NoPlace.{NoPlace}
+use Rattle.client_service.specs.Conn.{NotedIf}
+use Rattle.client_service.specs.Decision.{decision_text}
+use Rattle.client_service.specs.Endings.{denied_text}
 use Rattle.fw_outside.specs.SinkView.{Gives, SinkView}
 use Rattle.fw_outside.specs.DialerView.{DialerView}
 use Rattle.fw_outside.specs.KeeperView.{KeeperView}
@@ -24,41 +16,28 @@ use Rattle.fw_outside.specs.declared.failed.Failed as sink
 use Rattle.fw_types.specs.declared.ending.Ending.{Ending}
 use Rattle.fw_types.specs.declared.ending.Ending.TheVariants as endings
 use Rattle.fw_types.specs.declared.peer.Peer.{Peer}
-use Rattle.gate_rules.specs.Reading.{RuleBook}
 use Rattle.gate_rules.specs.Verdict.{verdict_of}
 use Rattle.gate_rules.specs.declared.service.Service.TheVariants as services
 use Rattle.gate_rules.specs.declared.verdict.Verdict.{Verdict}
 use Rattle.gate_rules.specs.declared.verdict.Verdict.TheVariants.{Permit, Deny}
-use Rattle.session_acts.specs.Acts.{Front}
-use Rattle.session_acts.specs.Acts.Act.{Try}
-use Rattle.session_acts.specs.Client.{Denies, line_logged}
-use Rattle.session_acts.specs.Deeds.{Deed, deed_last, deeds_ran, done, gives}
-use Rattle.session_acts.specs.Denying.{denying_row, no_rows}
-use Rattle.session_acts.specs.Laws.{told}
+use Rattle.session_acts.specs.Client.{LogFails}
+use Rattle.session_acts.specs.Deeds.{gives}
 use Rattle.session_acts.specs.Dummies.{nowhere}
-use Rattle.session_acts.specs.Met.{acts}
-use Rattle.session_acts.specs.Session.{Session, deeds_of, ending_of}
-use Rattle.session_acts.specs.Talk.{asked, is_entered, is_refused_as_full, numbers_told, said_of}
-use Rattle.session_acts.specs.World.{Devices, World, at_first, devices_with}
-use Rattle.session_acts.proofs.ClientLemmas.{denies}
-use Rattle.session_acts.proofs.DeedLemmas.{all_gain, held_deeds}
-use Rattle.session_acts.proofs.EntryLemmas.{whole_talk}
-use Rattle.session_acts.proofs.TalkLemmas.{entered_gains}
-use Rattle.session_acts.proofs.ToldLemmas.{told_gains}
-use Rattle.client_service.specs.Conn.{NotedIf}
-use Rattle.client_service.specs.Meeting.{denied_by}
-use Rattle.client_service.specs.Endings.{denied_text, ending_line}
+use Rattle.session_acts.specs.Laws.{told}
+use Rattle.session_acts.specs.Session.{Session, deeds_of}
+use Rattle.session_acts.specs.World.{Devices, devices_with}
 use Rattle.bastion.specs.Asking.{IsUndecided}
-use Rattle.bastion.specs.Headline.{Headline, HeadlineFor, IsDenied, IsPermitted, IsSilent, IsToldOff, IsUnserved, LogsDenial, OfHistory, begins, lent_to, table_kept, talk_of}
+use Rattle.bastion.specs.Gateway.{IsGated, IsUnmet}
+use Rattle.bastion.specs.Headline.{Headline, HeadlineFor, IsDenied, IsPermitted, IsToldOffAway, LogsDenial, OfHistory, begins, lent_to}
 use Rattle.bastion.specs.Inputs.{Inputs}
-use Rattle.bastion.specs.Outcome.{fault_line_of, status_of, verdict_status}
+use Rattle.bastion.specs.Outcome.{fault_line_of, is_stopped, status_of, verdict_status}
 use Rattle.bastion.specs.Run.{DoesLine, ReadsOnly, Run, Stops, TellsIf, Worked, verdict_for}
 use Rattle.bastion.specs.Serving.{Attended, UntouchedAt, book_at_first, devices_at, most_entries, origin_of}
 use Rattle.bastion.specs.Status.{IsHeld, IsServed}
-use Rattle.bastion.specs.Words.{LineView}
-use Rattle.client_service.specs.Decision.{decision_text}
+use Rattle.bastion.specs.Talk.{IsSilent, IsUnserved, table_kept, was_refused}
 use Rattle.bastion.specs.Texts.{print_text, program_of}
-use Rattle.bastion.specs.Works.{Announced, AnnouncedRun, PrintsAfter, StaysSo, announced, with_given}
+use Rattle.bastion.specs.Words.{LineView}
+use Rattle.bastion.specs.Works.{Announced, AnnouncedRun, PrintsAfter, StaysSo, announced}
 use Rattle.bastion.specs.WorldView.{SessionInputs, WorldView}
 use Rattle.bastion.specs.declared.outcome.Device.TheVariants as device
 use Rattle.bastion.specs.declared.outcome.Outcome.{Outcome}
@@ -66,13 +45,16 @@ use Rattle.bastion.specs.declared.outcome.Outcome.TheVariants.{Usage, Unread, Fa
 use Rattle.bastion.specs.declared.words.Caller.{Caller}
 use Rattle.bastion.specs.declared.words.Client.{Client}
 use Rattle.bastion.specs.declared.words.Command.{Command}
-use Rattle.bastion.specs.declared.words.Command.TheVariants.{Netacl, NetaclRun, Table, Authsrv, PlugGw}
+use Rattle.bastion.specs.declared.words.Command.TheVariants.{Netacl, NetaclRun, Table, Authsrv, PlugGw, TnGw}
 use Rattle.bastion.specs.declared.words.Query.{Query}
 use Rattle.bastion.proofs.AttendedLemmas.{attended_status}
 use Rattle.bastion.proofs.DecidedLemmas.{ByVerdict}
+use Rattle.bastion.proofs.DenialLemmas.{DeniesWhole, denial_so, session_gave, told_denied, told_off}
+use Rattle.bastion.proofs.GatewayLemmas.{gated_headline}
 use Rattle.bastion.proofs.LaunchLemmas.{Launching, launched, run_status_by}
 use Rattle.bastion.proofs.LinkedLemmas.{linked_headline}
-use Rattle.bastion.proofs.SessionLemmas.{OfDenial, OfSession, called_in, lent_outlet, lent_port, serves_so, tells_noted}
+use Rattle.bastion.proofs.SessionLemmas.{OfClient, OfSession, lent_outlet, lent_port, serves_so}
+use Rattle.bastion.proofs.TalkLemmas.{concluded, legal_talk, tells_noted, was}
 use Rattle.bastion.proofs.RunLemmas.{Later, only_left, stops_left, tells_later, worked_unasked}
 
 -- ---- nothing was done
@@ -93,24 +75,45 @@ silent_headline name (Netacl query) status old new h none = record { replies_leg
 silent_headline name (NetaclRun query) status old new h none = record { replies_legal = tt; asks_permitted = none.dialer; denials_logged = inl h.silent }
 silent_headline name (Table query) status old new h none = record { replies_legal = tt; asks_permitted = none.dialer; denials_logged = tt }
 silent_headline name (Authsrv client) status old new h none = record { replies_legal = inl h; asks_permitted = none.dialer; denials_logged = inl h.silent }
+silent_headline name (TnGw peer) status old new h none =
+    let unmet : IsUnmet status old new = record { undecided = none; unserved = h } in record { replies_legal = inl unmet; asks_permitted = inl unmet; denials_logged = inl h.silent }
 silent_headline name (PlugGw caller) status old new h none = record { replies_legal = tt; asks_permitted = inl none; denials_logged = (inl h.silent, λ denied. none.output) }
 
-stops_undone : (name : List ℕ) (command : Command) (outcome : Outcome) (old new : WorldView) → Stops name command outcome old new → status_of outcome ≢ 0
-stops_undone name command (Unread refusal) old new h is = omega (arith, is)
-stops_undone name command (Failed which) old new h is = omega (arith, is)
-stops_undone name command (NoMemory step) old new h is = omega (arith, is)
-stops_undone name command Usage old new h is = omega (arith, is)
-stops_undone name command (Decided verdict) old new h is = h
-stops_undone name command (Ended ending refused) old new h is = h
+-- ---- what such a run comes to
 
-stops_undecided : (name : List ℕ) (command : Command) (outcome : Outcome) (old mid new : WorldView) → Stops name command outcome old mid → Later mid new → IsUndecided (status_of outcome) old new
-stops_undecided name command outcome old mid new h later =
+stops_stopped : (name : List ℕ) (command : Command) (outcome : Outcome) (old new : WorldView) → Stops name command outcome old new → is_stopped outcome ≡ true
+stops_stopped name command (Unread refusal) old new h = refl
+stops_stopped name command (Failed which) old new h = refl
+stops_stopped name command (NoMemory step) old new h = refl
+stops_stopped name command Usage old new h = absurd h
+stops_stopped name command (Decided verdict) old new h = absurd h
+stops_stopped name command (Ended ending refused) old new h = absurd h
+
+stopped_unheld : (outcome : Outcome) → is_stopped outcome ≡ true → (status_of outcome ≢ 0) × (status_of outcome ≢ 6)
+stopped_unheld (Unread refusal) stopped = (λ is. omega (arith, is), λ is. omega (arith, is))
+stopped_unheld (Failed which) stopped = (λ is. omega (arith, is), λ is. omega (arith, is))
+stopped_unheld (NoMemory step) stopped = (λ is. omega (arith, is), λ is. omega (arith, is))
+stopped_unheld Usage stopped = absurd (cc)
+stopped_unheld (Decided verdict) stopped = absurd (cc)
+stopped_unheld (Ended ending refused) stopped = absurd (cc)
+
+stops_undecided : (name : List ℕ) (command : Command) (outcome : Outcome) (old mid new : WorldView) → Stops name command outcome old mid → TellsIf (fault_line_of outcome) mid new → IsUndecided (status_of outcome) old new
+stops_undecided name command outcome old mid new h tells =
     let left = stops_left name command outcome old mid h in
-    record { dialer = ap (λ (i : SessionInputs). i.dialer) later.inputs ∙ left.dialer; output = later.output ∙ left.output; undone = stops_undone name command outcome old mid h }
+    let later = tells_later (fault_line_of outcome) mid new tells in
+    record {
+      outcome = outcome;
+      stopped = stops_stopped name command outcome old mid h;
+      noted = subst (λ (s : SinkView). NotedIf (fault_line_of outcome) s new.logs) left.logs (tells_noted (fault_line_of outcome) mid new tells);
+      dialer = ap (λ (i : SessionInputs). i.dialer) later.inputs ∙ left.dialer;
+      output = later.output ∙ left.output;
+      status_is = refl;
+    }
 
 stops_unserved : (name : List ℕ) (command : Command) (outcome : Outcome) (old mid new : WorldView) → Stops name command outcome old mid → Later mid new → IsUnserved (status_of outcome) old new
 stops_unserved name command outcome old mid new h later = record {
   silent = stops_silent name command outcome old mid new h later;
+  unheld = stopped_unheld outcome (stops_stopped name command outcome old mid h);
   kept = ap table_kept later.inputs ∙ (stops_left name command outcome old mid h).table;
 }
 
@@ -177,83 +180,6 @@ netacl_run_by query inputs outcome old mid new h tells =
 
 -- ---- a session
 
-session_gave : {P : Type 0} (table : PlaceTable (acts BookOrigin) P) (first : Row (acts BookOrigin) P) (old new : Devices BookOrigin) (ending : Ending) (session : Session table first old new ending)
-    → new.outlet.given ≡ grown old.outlet.given (gives told (deeds_of session.held))
-session_gave table first old new ending session =
-    ap (λ (d : Devices BookOrigin). d.outlet.given) (sym session.leaves) ∙ all_gain told_gains (deeds_of session.held) (at_first old session.names) session.last (held_deeds session.held)
-
--- ---- the two deeds of a denial
-
-abbrev over : Unit {0} → Row (acts BookOrigin) NoPlace
-over done = Over
-
-record TwoDeeds (line words : List ℕ) (deeds : List Deed) : Type 0 where
-  tried : Result (Unit {0}) (Front words)
-  are : deeds ≡ line_logged line ∷ record { act = Try words; outcome = Ok tried } ∷ []
-
-two_deeds : (line words : List ℕ) (steps : List (Step (acts BookOrigin))) (left : Row (acts BookOrigin) NoPlace) (mid new : World BookOrigin) → runs.Run no_rows (denying_row line words) steps left → (comes : Comes no_rows over (Ok tt) new left mid)
-    → TwoDeeds line words (map done steps ++ deed_last no_rows over (Ok tt) new left mid comes)
-two_deeds line words [] left mid new run comes = absurd (cc (run ∙ comes.0))
-two_deeds line words (a ∷ []) left mid new run comes = absurd (cc (run.2 ∙ comes.0))
-two_deeds line words (a ∷ b ∷ []) left mid new run comes = record {
-  tried = run.2.0;
-  are = ap (λ (s : Step (acts BookOrigin)). done s ∷ done b ∷ []) run.1 ∙ ap (λ (s : Step (acts BookOrigin)). line_logged line ∷ done s ∷ []) run.2.1;
-}
-two_deeds line words (a ∷ b ∷ d ∷ steps) left mid new run comes = absurd run.2.2
-
--- a dialogue that stopped doesn't end as done
-done_only : (dialogue : Result (Unit {0}) Cause) (opened : Option ℕ) (answer : Result Reply PortFault) → endings.Done ≡ ending_of dialogue opened answer → dialogue ≡ Ok tt
-done_only (Ok done) opened answer is = refl
-done_only (Err causes.ClientFault) opened answer is = absurd (cc)
-done_only (Err causes.ServerFault) opened answer is = absurd (cc)
-done_only (Err causes.LogFault) opened answer is = absurd (cc)
-done_only (Err causes.AuthFault) opened answer is = absurd (cc)
-done_only (Err causes.Idle) opened answer is = absurd (cc)
-done_only (Err causes.NoRoute) opened answer is = absurd (cc)
-done_only (Err causes.Spent) opened answer is = absurd (cc)
-done_only (Err causes.NoMemory) opened answer is = absurd (cc)
-
-ran_deeds_by : (line words : List ℕ) (old mid : World BookOrigin) (dialogue : Result (Unit {0}) Cause) → dialogue ≡ Ok tt → (ran : Ran no_rows (denying_row line words) over old mid dialogue) → TwoDeeds line words (deeds_ran ran)
-ran_deeds_by line words old mid (Ok done) is ran = two_deeds line words ran.steps ran.left ran.mid mid ran.run ran.comes
-ran_deeds_by line words old mid (Err cause) is ran = absurd (cc)
-
-denying_deeds : (line words : List ℕ) (old new : Devices BookOrigin) (session : Session no_rows (denying_row line words) old new endings.Done) → TwoDeeds line words (deeds_ran session.held.ran)
-denying_deeds line words old new session =
-    let held = session.held in
-    ran_deeds_by line words (at_first old session.names) held.mid held.dialogue (done_only held.dialogue held.mid.office.opened held.answer held.ends) held.ran
-
--- the log failed within the line of the denial, or has it whole
-record DeniesCut (old new : Devices BookOrigin) (ending : Ending) : Type 0 where
-  outlet : new.outlet ≡ old.outlet
-  ends : ending ≡ endings.LogFault
-
-record DeniesWhole (line : ℕ) (peer : Peer) (old new : Devices BookOrigin) (ending : Ending) : Type 0 where
-  logs : new.logs ≡ with_given old.logs (decision_text (Deny line) services.Authsrv peer)
-  session : Session no_rows (denying_row (decision_text (Deny line) services.Authsrv peer) (denied_text line)) old new endings.Done
-  ends : ending ≡ endings.Denied line
-
-unnoted : (line : ℕ) (peer : Peer) (ending : Ending) (logs new : SinkView) → ending ≡ endings.Denied line → NotedIf (ending_line services.Authsrv peer ending) logs new → new ≡ logs
-unnoted line peer ending logs new is h = let P : Ending → Type 0 = λ e. NotedIf (ending_line services.Authsrv peer e) logs new in subst P is h
-
-denial_by : (line : ℕ) (peer : Peer) (old new : Devices BookOrigin) (logs : SinkView) (told ending : Ending) → ending ≡ denied_by line told → NotedIf (ending_line services.Authsrv peer ending) logs new.logs
-    → Session no_rows (denying_row (decision_text (Deny line) services.Authsrv peer) (denied_text line)) old (record new { logs = logs }) told
-    → Denies (decision_text (Deny line) services.Authsrv peer) (denied_text line) old (record new { logs = logs }) told → DeniesCut old new ending ⊎ DeniesWhole line peer old new ending
-denial_by line peer old new logs told ending ends noted session (inl fails) = inl (record { outlet = ap (λ (d : Devices BookOrigin). d.outlet) fails.same; ends = ends ∙ ap (denied_by line) fails.ends })
-denial_by line peer old new logs told ending ends noted session (inr away) =
-    let denied : ending ≡ endings.Denied line = ends ∙ ap (denied_by line) away.ends in
-    let same : new.logs ≡ logs = unnoted line peer ending logs new.logs denied noted in
-    let Ends : Ending → Type 0 = λ e. Session no_rows (denying_row (decision_text (Deny line) services.Authsrv peer) (denied_text line)) old (record new { logs = logs }) e in
-    let Logs : SinkView → Type 0 = λ s. Session no_rows (denying_row (decision_text (Deny line) services.Authsrv peer) (denied_text line)) old (record new { logs = s }) endings.Done in
-    inr (record {
-      logs = same ∙ ap (λ (d : Devices BookOrigin). d.logs) away.same;
-      session = subst Logs (sym same) (subst Ends away.ends session);
-      ends = denied;
-    })
-
-denial_so : (console : Bool) (verdict : Verdict) (peer : Peer) (old new : Devices BookOrigin) (ending : Ending) → (h : OfDenial console verdict peer old new ending) → DeniesCut old new ending ⊎ DeniesWhole h.line peer old new ending
-denial_so console verdict peer old new ending h =
-    denial_by h.line peer old new h.logs h.told ending h.ends h.noted h.session (denies (decision_text (Deny h.line) services.Authsrv peer) (denied_text h.line) old (record new { logs = h.logs }) h.told h.session)
-
 abbrev left_so : SessionInputs → SinkView → BookView → DialerView → SinkView → Devices BookOrigin
 left_so inputs output book dialer logs = devices_with (book_port book) inputs.input output logs dialer inputs.clock inputs.dice
 
@@ -263,28 +189,17 @@ pub of_history : (client : Client) (inputs : Inputs) (out : Outcome) (old mid ne
     → OfHistory client inputs (status_of out) old new
 of_history client inputs out old mid new h tells s =
     let later = tells_later (fault_line_of out) mid new tells in
-    let first : Devices BookOrigin = lent_to client.console inputs.rules (devices_at old (book_at_first (origin_of inputs) most_entries h.before) nowhere) in
+    let begun : Devices BookOrigin = devices_at old (book_at_first (origin_of inputs) most_entries h.before) nowhere in
+    let first : Devices BookOrigin = lent_to client.console inputs.rules begun in
     let row = begins client.console client.peer s.line in
+    let left : Devices BookOrigin = left_so new.inputs new.output h.book h.dialer s.logs in
     let Left : SessionInputs → SinkView → Type 0 = λ i o. Session rows row first (left_so i o h.book h.dialer s.logs) h.ending in
-    let session : Session rows row first (left_so new.inputs new.output h.book h.dialer s.logs) h.ending =
+    let session : Session rows row first left h.ending =
     subst (λ (o : SinkView). Left new.inputs o) (sym later.output) (subst (λ (i : SessionInputs). Left i mid.output) (sym later.inputs) s.session) in
-    let held = session.held in
-    let last : World BookOrigin = session.last in
-    let begun : World BookOrigin = at_first first session.names in
-    let port : last.office.port ≡ book_port h.book = ap (λ (d : Devices BookOrigin). d.port) session.leaves in
-    let fresh : first.port ≡ book_port (book_at_first (origin_of inputs) most_entries h.before) = lent_port client.console inputs.rules (devices_at old (book_at_first (origin_of inputs) most_entries h.before) nowhere) in
-    let none : begun.office.port.mine ≡ [] = ap (λ (p : Port BookOrigin). p.mine) fresh in
-    let mine : last.office.port.mine ≡ places (length last.office.port.seen) = subst (λ (p : Port BookOrigin). p.mine ≡ places (length p.seen)) (sym port) refl in
-    let deeds = deeds_of held in
-    let entered = all_gain entered_gains deeds begun last (held_deeds held) in
-    let whole = (whole_talk (numbers_told begun.office.opened (gives asked deeds)) entered.moments (gives asked deeds) begun.office.port last.office.port none mine entered.port).0 in
-    let was : h.book.refused ≡ list_any is_refused_as_full (talk_of deeds) =
-    ap (λ (p : Port BookOrigin). p.refused) (sym port) ∙ entered.port.refused ∙ ap (λ (p : Port BookOrigin). (p.refused || list_any is_refused_as_full (talk_of deeds))) fresh in
-    let same : first.outlet ≡ old.output = lent_outlet client.console inputs.rules (devices_at old (book_at_first (origin_of inputs) most_entries h.before) nowhere) in
-    let comes : out ≡ Ended h.ending (list_any is_refused_as_full (talk_of deeds)) = h.comes ∙ ap (λ (r : Bool). Ended h.ending r) was in
+    let fresh : first.port ≡ begun.port = lent_port client.console inputs.rules begun in
     record {
       before = h.before;
-      keeper = h.keeper;
+      keeper = h.over.keeper;
       line = s.line;
       admitted = s.admitted;
       book = h.book;
@@ -292,19 +207,11 @@ of_history client inputs out old mid new h tells s =
       logs = s.logs;
       ending = h.ending;
       session = session;
-      sound = h.sound;
-      legal = h.legal;
-      talk = subst (λ (p : Port BookOrigin). map said_of p.seen ≡ filter is_entered (talk_of deeds)) port whole;
-      has = h.has;
-      faults = h.faults;
-      called = called_in rows row first (left_so new.inputs new.output h.book h.dialer s.logs) h.ending session h.before.calls (origin_of inputs) h.book.history h.book.keeper (ap (λ (p : Port BookOrigin). p.asks) fresh) h.called;
-      kept = ap (λ (i : SessionInputs). i.keeper) later.inputs ∙ h.kept;
-      told = session_gave rows row first (left_so new.inputs new.output h.book h.dialer s.logs) h.ending session ∙ ap (λ (o : SinkView). grown o.given (gives told deeds)) same;
-      ended = mid.logs;
-      noted = s.noted;
-      limited = subst (λ (o : Outcome). NotedIf (fault_line_of o) mid.logs new.logs) comes (tells_noted (fault_line_of out) mid new tells);
-      full = λ yes. h.full (was ∙ yes);
-      status_is = ap status_of comes;
+      talk = legal_talk rows row first left h.ending session inputs h.before h.book out old mid h.over fresh refl;
+      kept = ap (λ (i : SessionInputs). i.keeper) later.inputs ∙ h.over.kept;
+      told = session_gave session ∙ ap (λ (o : SinkView). grown o.given (gives told (deeds_of session.held))) (lent_outlet client.console inputs.rules begun);
+      concluded =
+          concluded services.Authsrv client.peer h.ending h.book.refused (was_refused (deeds_of session.held)) out s.logs mid new h.over.comes (was rows row first left h.ending session inputs h.before h.book out old mid h.over fresh refl) s.noted tells;
     }
 
 -- ---- a client of the authentication server
@@ -323,17 +230,14 @@ session_undenied console verdict line status old new admitted (inl (inl four)) i
 session_undenied console verdict line status old new admitted (inl (inr five)) is = omega (arith, five, is)
 session_undenied console verdict line status old new admitted (inr served) is = served_undenied console verdict line status old new admitted served is
 
-ended_log : (out : Outcome) (ending : Ending) (refused : Bool) → out ≡ Ended ending refused → ending ≡ endings.LogFault → status_of out ≢ 1
-ended_log out ending refused comes ends is = let four = ap status_of (comes ∙ ap (λ (e : Ending). Ended e refused) ends) in omega (arith, four, is)
-
-ended_line : (out : Outcome) (line : ℕ) (refused : Bool) (mid new : WorldView) → out ≡ Ended (endings.Denied line) refused → TellsIf (fault_line_of out) mid new → new ≡ mid
-ended_line out line refused mid new is h = let P : Outcome → Type 0 = λ o. TellsIf (fault_line_of o) mid new in subst P is h
+ended_log : (out : Outcome) (ending : Ending) (refused : Bool) → out ≡ Ended ending refused → ending ≡ endings.LogFault → status_of out ≡ 4
+ended_log out ending refused comes ends = ap status_of (comes ∙ ap (λ (e : Ending). Ended e refused) ends)
 
 -- what the headline says of a client, by its inputs
 abbrev ClientHeadline : Client → Inputs → ℕ → WorldView → WorldView → Type 0
 ClientHeadline client inputs status old new =
     IsUnserved status old new
-    ⊎ ((IsToldOff client inputs old new ⊎ OfHistory client inputs status old new) × (IsPermitted (Authsrv client) inputs status ⊎ IsDenied (Authsrv client) services.Authsrv client.peer inputs status old new))
+    ⊎ ((IsToldOffAway client inputs old new ⊎ OfHistory client inputs status old new) × (IsPermitted (Authsrv client) inputs status ⊎ IsDenied (Authsrv client) services.Authsrv client.peer inputs status old new))
 
 session_headline : (client : Client) (inputs : Inputs) (out : Outcome) (old mid new : WorldView) → (h : Attended client inputs out old mid) → TellsIf (fault_line_of out) mid new
     → OfSession client.console (verdict_for (Authsrv client) inputs) inputs.rules client.peer (devices_at old (book_at_first (origin_of inputs) most_entries h.before) nowhere) (devices_at mid h.book h.dialer) h.ending
@@ -353,55 +257,37 @@ untouched_deny true verdict line old new outside denied h = absurd (cc)
 untouched_deny false (Permit other) line old new outside denied h = absurd (cc)
 untouched_deny false (Deny other) line old new outside denied h = h
 
-denied_keeper : (client : Client) (inputs : Inputs) (out : Outcome) (old mid new : WorldView) (line : ℕ) (h : Attended client inputs out old mid) → client.console ≡ false → verdict_for (Authsrv client) inputs ≡ Deny line → new.inputs ≡ mid.inputs
-    → new.inputs.keeper ≡ Some h.before
-denied_keeper client inputs out old mid new line h outside denied same =
-    ap (λ (i : SessionInputs). i.keeper) same ∙ h.kept ∙ ap (λ (k : KeeperView). Some k) (untouched_deny client.console (verdict_for (Authsrv client) inputs) line h.before h.book.keeper outside denied h.untouched)
-
 denial_headline : (client : Client) (inputs : Inputs) (out : Outcome) (old mid new : WorldView) → (h : Attended client inputs out old mid) → TellsIf (fault_line_of out) mid new → (line : ℕ) → client.console ≡ false → verdict_for (Authsrv client) inputs ≡ Deny line
-    → DeniesCut (devices_at old (book_at_first (origin_of inputs) most_entries h.before) nowhere) (devices_at mid h.book h.dialer) h.ending
-    ⊎ DeniesWhole line client.peer (devices_at old (book_at_first (origin_of inputs) most_entries h.before) nowhere) (devices_at mid h.book h.dialer) h.ending
+    → LogFails (decision_text (Deny line) services.Authsrv client.peer) (devices_at old (book_at_first (origin_of inputs) most_entries h.before) nowhere) (devices_at mid h.book h.dialer) h.ending
+    ⊎ DeniesWhole services.Authsrv denied_text line client.peer (devices_at old (book_at_first (origin_of inputs) most_entries h.before) nowhere) (devices_at mid h.book h.dialer) h.ending
     → ClientHeadline client inputs (status_of out) old new
-denial_headline client inputs out old mid new h tells line outside denied (inl cut) =
+denial_headline client inputs out old mid new h tells line outside denied (inl fails) =
     let later = tells_later (fault_line_of out) mid new tells in
+    let kept : h.book.keeper ≡ h.before = untouched_deny client.console (verdict_for (Authsrv client) inputs) line h.before h.book.keeper outside denied h.untouched in
+    let four : status_of out ≡ 4 = ended_log out h.ending h.book.refused h.over.comes fails.ends in
     inl (record {
-      silent = record { output = later.output ∙ cut.outlet; undenied = ended_log out h.ending h.book.refused h.comes cut.ends };
-      kept = ap (option_map (λ (k : KeeperView). k.table)) (denied_keeper client inputs out old mid new line h outside denied later.inputs ∙ sym h.keeper);
+      silent = record { output = later.output ∙ ap (λ (d : Devices BookOrigin). d.outlet) fails.same; undenied = λ one. omega (arith, four, one) };
+      unheld = (λ none. omega (arith, four, none), λ six. omega (arith, four, six));
+      kept =
+          ap (option_map (λ (k : KeeperView). k.table)) (ap (λ (i : SessionInputs). i.keeper) later.inputs ∙ h.over.kept ∙ ap (λ (k : KeeperView). Some k) kept ∙ sym h.over.keeper);
     })
 denial_headline client inputs out old mid new h tells line outside denied (inr whole) =
-    let comes : out ≡ Ended (endings.Denied line) h.book.refused = h.comes ∙ ap (λ (e : Ending). Ended e h.book.refused) whole.ends in
-    let same : new ≡ mid = ended_line out line h.book.refused mid new comes tells in
-    let text : List ℕ = decision_text (Deny line) services.Authsrv client.peer in
-    let first : Devices BookOrigin = devices_at old (book_at_first (origin_of inputs) most_entries h.before) nowhere in
-    let Left : WorldView → Type 0 = λ w. Session no_rows (denying_row text (denied_text line)) first (devices_at w h.book h.dialer) endings.Done in
-    let session : Session no_rows (denying_row text (denied_text line)) first (devices_at new h.book h.dialer) endings.Done = subst Left (sym same) whole.session in
-    let two = denying_deeds text (denied_text line) first (devices_at new h.book h.dialer) session in
+    let kept : h.book.keeper ≡ h.before = untouched_deny client.console (verdict_for (Authsrv client) inputs) line h.before h.book.keeper outside denied h.untouched in
     inr (
       inl (record {
         outside = outside;
-        line = line;
-        denied = denied;
-        before = h.before;
-        keeper = h.keeper;
-        book = h.book;
-        dialer = h.dialer;
-        session = session;
-        tried = two.tried;
-        deeds = two.are;
-        told = session_gave no_rows (denying_row text (denied_text line)) first (devices_at new h.book h.dialer) endings.Done session;
-        kept = denied_keeper client inputs out old mid new line h outside denied (ap (λ (w : WorldView). w.inputs) same);
+        off = told_off (Authsrv client) services.Authsrv denied_text client.peer inputs nowhere h.dialer h.before h.book h.ending out old mid new h.over tells line denied whole kept;
       }),
-      inr (record { line = line; denied = denied; logged = ap (λ (w : WorldView). w.logs) same ∙ whole.logs; status_is = ap status_of comes }),
+      inr (told_denied (Authsrv client) services.Authsrv denied_text client.peer inputs nowhere h.dialer h.before h.book h.ending out old mid new h.over tells line denied whole),
     )
 
 attended_by : (client : Client) (inputs : Inputs) (out : Outcome) (old mid new : WorldView) → (h : Attended client inputs out old mid) → TellsIf (fault_line_of out) mid new
-    → OfSession client.console (verdict_of inputs.rules client.peer) inputs.rules client.peer (devices_at old (book_at_first (origin_of inputs) most_entries h.before) nowhere) (devices_at mid h.book h.dialer) h.ending
-    ⊎ OfDenial client.console (verdict_of inputs.rules client.peer) client.peer (devices_at old (book_at_first (origin_of inputs) most_entries h.before) nowhere) (devices_at mid h.book h.dialer) h.ending
+    → OfClient client.console (verdict_of inputs.rules client.peer) inputs.rules client.peer (devices_at old (book_at_first (origin_of inputs) most_entries h.before) nowhere) (devices_at mid h.book h.dialer) h.ending
     → ClientHeadline client inputs (status_of out) old new
 attended_by client inputs out old mid new h tells (inl s) = session_headline client inputs out old mid new h tells s
 attended_by client inputs out old mid new h tells (inr d) =
     denial_headline client inputs out old mid new h tells d.line d.outside d.denied
-    (denial_so client.console (verdict_of inputs.rules client.peer) client.peer (devices_at old (book_at_first (origin_of inputs) most_entries h.before) nowhere) (devices_at mid h.book h.dialer) h.ending d)
+    (denial_so services.Authsrv denied_text client.console (verdict_of inputs.rules client.peer) client.peer (devices_at old (book_at_first (origin_of inputs) most_entries h.before) nowhere) (devices_at mid h.book h.dialer) h.ending d)
 
 attended_headline : (client : Client) (inputs : Inputs) (out : Outcome) (old mid new : WorldView) → Attended client inputs out old mid → TellsIf (fault_line_of out) mid new → ClientHeadline client inputs (status_of out) old new
 attended_headline client inputs out old mid new h tells =
@@ -414,7 +300,7 @@ silent_from : (status : ℕ) (old mid new : WorldView) → mid.output ≡ old.ou
 silent_from status old mid new is h = record { output = h.output ∙ is; undenied = h.undenied }
 
 unserved_from : (name : List ℕ) (status : ℕ) (old mid new : WorldView) → ReadsOnly name true old mid → IsUnserved status mid new → IsUnserved status old new
-unserved_from name status old mid new only h = record { silent = silent_from status old mid new only.output h.silent; kept = h.kept ∙ (only_left name true old mid only).table }
+unserved_from name status old mid new only h = record { silent = silent_from status old mid new only.output h.silent; unheld = h.unheld; kept = h.kept ∙ (only_left name true old mid only).table }
 
 netacl_headline : (name : List ℕ) (query : Query) (outcome : Outcome) (status : ℕ) (old mid new : WorldView) (h : Worked name (Netacl query) outcome old mid) → new.inputs.dialer ≡ old.inputs.dialer
     → IsSilent status h.middle new ⊎ (IsPermitted (Netacl query) h.inputs status ⊎ IsDenied (Netacl query) query.service query.peer h.inputs status h.middle new) → HeadlineFor name (Netacl query) status old new
@@ -441,6 +327,11 @@ caller_denials : (name : List ℕ) (caller : Caller) (outcome : Outcome) (status
 caller_denials name caller outcome status old mid new h (inl silent) = inl (silent_from status old h.middle new h.only.output silent)
 caller_denials name caller outcome status old mid new h (inr so) = inr (record { inputs = h.inputs; read = h.read; middle = h.middle; only = h.only; so = so })
 
+gate_denials : (name : List ℕ) (peer : Peer) (outcome : Outcome) (status : ℕ) (old mid new : WorldView) (h : Worked name (TnGw peer) outcome old mid)
+    → IsSilent status h.middle new ⊎ (IsPermitted (TnGw peer) h.inputs status ⊎ IsDenied (TnGw peer) services.TnGw peer h.inputs status h.middle new) → LogsDenial name (TnGw peer) services.TnGw peer status old new
+gate_denials name peer outcome status old mid new h (inl silent) = inl (silent_from status old h.middle new h.only.output silent)
+gate_denials name peer outcome status old mid new h (inr so) = inr (record { inputs = h.inputs; read = h.read; middle = h.middle; only = h.only; so = so })
+
 worked_headline : (name : List ℕ) (command : Command) (outcome : Outcome) (old mid new : WorldView) → Worked name command outcome old mid → TellsIf (fault_line_of outcome) mid new → HeadlineFor name command (status_of outcome) old new
 worked_headline name (Netacl query) outcome old mid new h tells =
     netacl_headline name query outcome (status_of outcome) old mid new h (worked_unasked name (Netacl query) outcome old mid new h (tells_later (fault_line_of outcome) mid new tells))
@@ -460,11 +351,15 @@ worked_headline name (PlugGw caller) outcome old mid new h tells =
       asks_permitted = inr (record { inputs = h.inputs; read = h.read; middle = h.middle; only = h.only; so = so.asks });
       denials_logged = (caller_denials name caller outcome (status_of outcome) old mid new h so.denials, λ denied. so.untold denied ∙ h.only.output);
     }
+worked_headline name (TnGw peer) outcome old mid new h tells =
+    let so = gated_headline peer h.inputs outcome h.middle mid new h.works tells in
+    let gated : IsGated name peer (status_of outcome) old new = inr (record { inputs = h.inputs; read = h.read; middle = h.middle; only = h.only; so = so.0 }) in
+    record { replies_legal = gated; asks_permitted = gated; denials_logged = gate_denials name peer outcome (status_of outcome) old mid new h so.1 }
 
 does_headline : (line : Option LineView) (outcome : Outcome) (old mid new : WorldView) → DoesLine line outcome old mid → TellsIf (fault_line_of outcome) mid new → Headline line (status_of outcome) old new
 does_headline None outcome old mid new h tells = ap (λ (i : SessionInputs). i.dialer) (tells_later (fault_line_of outcome) mid new tells).inputs ∙ ap (λ (w : WorldView). w.inputs.dialer) h.is
 does_headline (Some line) outcome old mid new (inl h) tells =
-    silent_headline line.table line.command (status_of outcome) old new (stops_unserved line.table line.command outcome old mid new h (tells_later (fault_line_of outcome) mid new tells)) (stops_undecided line.table line.command outcome old mid new h (tells_later (fault_line_of outcome) mid new tells))
+    silent_headline line.table line.command (status_of outcome) old new (stops_unserved line.table line.command outcome old mid new h (tells_later (fault_line_of outcome) mid new tells)) (stops_undecided line.table line.command outcome old mid new h tells)
 does_headline (Some line) outcome old mid new (inr h) tells = worked_headline line.table line.command outcome old mid new h tells
 
 pub run_headline : (line : Option LineView) (status : ℕ) (old new : WorldView) → Run line status old new → Headline line status old new

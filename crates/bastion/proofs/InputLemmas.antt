@@ -1,5 +1,6 @@
 -- From what the table says to the inputs of a command.
 use Rattle.std.proofs.Common.{◌≡◌, ◌∙◌, ℕ, List, [], ◌∷◌, ap, refl, sym, subst, true, false}
+use Rattle.std.specs.List.{list_any}
 use Rattle.std.specs.Prelude.{Option, Some, Result, Ok, Err, IfSome}
 use Rattle.auth_machine.specs.Opening.{ReadsAs, records_in}
 use Rattle.auth_machine.specs.Policy.{PolicyView, policy_of}
@@ -8,11 +9,10 @@ use Rattle.fw_outside.specs.KeeperView.{AreLoaded, KeeperView, NamedBytes}
 use Rattle.gate_rules.specs.Reading.{RuleBook, rules_of}
 use Rattle.gate_rules.specs.declared.fault.RuleFault.{RuleFault}
 use Rattle.gate_rules.specs.declared.service.Service.{Service}
-use Rattle.gate_rules.specs.declared.service.Service.TheVariants as services
 use Rattle.netperm_table.specs.Table.{table_of}
 use Rattle.netperm_table.specs.declared.line.Line.{Line}
 use Rattle.netperm_table.specs.declared.table_fault.TableFault.{TableFault}
-use Rattle.bastion.specs.Inputs.{HasInputs, Inputs, IsAllOf, Need, OfText, inputs_by, inputs_of, is_of_line, is_of_table, need_then, needs, needs_records, needs_then, no_inputs, with_policy, with_records, with_rules}
+use Rattle.bastion.specs.Inputs.{HasInputs, Inputs, IsAllOf, Need, OfText, book_needs, inputs_by, inputs_of, is_of_line, is_of_records, is_of_table, need_then, needs, needs_records, needs_then, no_inputs, with_policy, with_records, with_rules}
 use Rattle.bastion.specs.Inputs.Need.{RulesOf, ThePolicy, TheRecords}
 use Rattle.bastion.specs.Reading.{both_of, or_rule_fault, ruling_by, ruling_in, server_rules_of}
 use Rattle.bastion.specs.WorldView.{WorldView}
@@ -20,8 +20,6 @@ use Rattle.bastion.specs.declared.outcome.Refusal.{Refusal}
 use Rattle.bastion.specs.declared.outcome.Refusal.TheVariants.{Table, Rule, Record}
 use Rattle.bastion.specs.declared.server_rules.ServerRules.{ServerRules}
 use Rattle.bastion.specs.declared.words.Command.{Command}
-use Rattle.bastion.specs.declared.words.Command.TheVariants as commands
-use Rattle.bastion.specs.declared.words.Client.{Client}
 use Rattle.bastion.proofs.ReadingLemmas.{of_text}
 
 -- ---- the rules of a service alone
@@ -77,7 +75,7 @@ refuses_rules command service needed name refusal world h = record {
   of_keeper = λ wanted come. never_needed command needed.no_records wanted;
 }
 
--- ---- what the authentication server needs
+-- ---- what a session over the records needs
 
 abbrev server_inputs : ServerRules → List Fields → Inputs
 server_inputs server_rules records = record { rules = server_rules.rules; policy = server_rules.policy; records = records }
@@ -86,9 +84,6 @@ abbrev folded : Result RuleBook RuleFault → Result PolicyView RuleFault → Re
 folded (Ok rules) (Ok policy) records = with_records (record no_inputs { rules = rules; policy = policy }) records
 folded (Ok rules) (Err fault) records = Err (Rule fault)
 folded (Err fault) policy records = Err (Rule fault)
-
-abbrev server_needs : List Need
-server_needs = RulesOf services.Authsrv ∷ ThePolicy ∷ TheRecords ∷ []
 
 fold_policy : (lines : List Line) (loaded : NamedBytes) (rules : RuleBook) (policy : Result PolicyView RuleFault)
     → need_then lines loaded TheRecords (with_policy (of_rules rules) policy) ≡ folded (Ok rules) policy (records_in loaded)
@@ -100,8 +95,8 @@ fold_rules : (lines : List Line) (loaded : NamedBytes) (read : Result RuleBook R
 fold_rules lines loaded (Ok rules) = fold_policy lines loaded rules (policy_of lines)
 fold_rules lines loaded (Err fault) = refl
 
-fold : (lines : List Line) (loaded : NamedBytes) → needs_then lines loaded server_needs (Ok no_inputs) ≡ folded (rules_of services.Authsrv lines) (policy_of lines) (records_in loaded)
-fold lines loaded = fold_rules lines loaded (rules_of services.Authsrv lines)
+fold : (service : Service) (lines : List Line) (loaded : NamedBytes) → needs_then lines loaded (book_needs service) (Ok no_inputs) ≡ folded (rules_of service lines) (policy_of lines) (records_in loaded)
+fold service lines loaded = fold_rules lines loaded (rules_of service lines)
 
 both_ok : (read : Result RuleBook RuleFault) (policy : Result PolicyView RuleFault) (server_rules : ServerRules) (records : Result (List Fields) (List ℕ × ℕ)) → or_rule_fault (both_of read policy) ≡ Ok server_rules
     → folded read policy records ≡ with_records (server_inputs server_rules []) records
@@ -116,50 +111,55 @@ both_err (Ok rules) (Ok policy) refusal records h = absurd (cc)
 both_err (Ok rules) (Err fault) refusal records h = let same : Rule fault ≡ refusal = cc in ap (λ (r : Refusal). Err r) same
 both_err (Err fault) policy refusal records h = let same : Rule fault ≡ refusal = cc in ap (λ (r : Refusal). Err r) same
 
-table_server_ok : (loaded : NamedBytes) (read : Result (List Line) TableFault) (server_rules : ServerRules) → ruling_by server_rules_of read ≡ Ok server_rules
-    → inputs_by loaded server_needs read ≡ with_records (server_inputs server_rules []) (records_in loaded)
-table_server_ok loaded (Ok lines) server_rules h = fold lines loaded ∙ both_ok (rules_of services.Authsrv lines) (policy_of lines) server_rules (records_in loaded) h
-table_server_ok loaded (Err fault) server_rules h = absurd (cc)
+table_server_ok : (service : Service) (loaded : NamedBytes) (read : Result (List Line) TableFault) (server_rules : ServerRules) → ruling_by (server_rules_of service) read ≡ Ok server_rules
+    → inputs_by loaded (book_needs service) read ≡ with_records (server_inputs server_rules []) (records_in loaded)
+table_server_ok service loaded (Ok lines) server_rules h = fold service lines loaded ∙ both_ok (rules_of service lines) (policy_of lines) server_rules (records_in loaded) h
+table_server_ok service loaded (Err fault) server_rules h = absurd (cc)
 
-table_server_err : (loaded : NamedBytes) (read : Result (List Line) TableFault) (refusal : Refusal) → ruling_by server_rules_of read ≡ Err refusal → inputs_by loaded server_needs read ≡ Err refusal
-table_server_err loaded (Ok lines) refusal h = fold lines loaded ∙ both_err (rules_of services.Authsrv lines) (policy_of lines) refusal (records_in loaded) h
-table_server_err loaded (Err fault) refusal h = let same : Table fault ≡ refusal = cc in ap (λ (r : Refusal). Err r) same
+table_server_err : (service : Service) (loaded : NamedBytes) (read : Result (List Line) TableFault) (refusal : Refusal) → ruling_by (server_rules_of service) read ≡ Err refusal → inputs_by loaded (book_needs service) read ≡ Err refusal
+table_server_err service loaded (Ok lines) refusal h = fold service lines loaded ∙ both_err (rules_of service lines) (policy_of lines) refusal (records_in loaded) h
+table_server_err service loaded (Err fault) refusal h = let same : Table fault ≡ refusal = cc in ap (λ (r : Refusal). Err r) same
 
-text_server_ok : (loaded : NamedBytes) (text : List ℕ) (server_rules : ServerRules) → ruling_in server_rules_of text ≡ Ok server_rules → inputs_of server_needs text loaded ≡ with_records (server_inputs server_rules []) (records_in loaded)
+text_server_ok : (service : Service) (loaded : NamedBytes) (text : List ℕ) (server_rules : ServerRules) → ruling_in (server_rules_of service) text ≡ Ok server_rules → inputs_of (book_needs service) text loaded ≡ with_records (server_inputs server_rules []) (records_in loaded)
 unfolding ruling_in
-text_server_ok loaded text server_rules h = table_server_ok loaded (table_of text) server_rules h
+text_server_ok service loaded text server_rules h = table_server_ok service loaded (table_of text) server_rules h
 
-text_server_err : (loaded : NamedBytes) (text : List ℕ) (refusal : Refusal) → ruling_in server_rules_of text ≡ Err refusal → inputs_of server_needs text loaded ≡ Err refusal
+text_server_err : (service : Service) (loaded : NamedBytes) (text : List ℕ) (refusal : Refusal) → ruling_in (server_rules_of service) text ≡ Err refusal → inputs_of (book_needs service) text loaded ≡ Err refusal
 unfolding ruling_in
-text_server_err loaded text refusal h = table_server_err loaded (table_of text) refusal h
+text_server_err service loaded text refusal h = table_server_err service loaded (table_of text) refusal h
 
 kept_loaded : (keeper : Option KeeperView) (before : KeeperView) (loaded : NamedBytes) (after : KeeperView) → keeper ≡ Some before → AreLoaded loaded before after → IfSome keeper (IsAllOf loaded)
 kept_loaded keeper before loaded after is are = let all : IsAllOf loaded before = record { ordered = are.ordered; told = are.told } in subst (λ (k : Option KeeperView). IfSome k (IsAllOf loaded)) (sym is) all
 
--- the rules and the policy by the table, and the records that the keeper has
-pub inputs_server : (client : Client) (name : List ℕ) (server_rules : ServerRules) (records : List Fields) (before after : KeeperView) (world : WorldView) → world.inputs.keeper ≡ Some before
-    → OfText world.files.holds name (λ text. ruling_in server_rules_of text ≡ Ok server_rules) → ReadsAs (Ok records) before after → HasInputs name (commands.Authsrv client) (Ok (server_inputs server_rules records)) world
-inputs_server client name server_rules records before after world keeper said read = record {
+-- the rules and the policy by the table, and the records that the keeper has, or the first that can't be read
+read_server : (command : Command) (service : Service) → needs command ≡ book_needs service → (name : List ℕ) (server_rules : ServerRules) (records : Result (List Fields) (List ℕ × ℕ)) (before after : KeeperView) (world : WorldView)
+    → world.inputs.keeper ≡ Some before → OfText world.files.holds name (λ text. ruling_in (server_rules_of service) text ≡ Ok server_rules) → ReadsAs records before after
+    → HasInputs name command (with_records (server_inputs server_rules []) records) world
+read_server command service needed name server_rules records before after world keeper said read = record {
   loaded = read.loaded;
-  of_table = of_text world.files.holds name (λ text h. text_server_ok read.loaded text server_rules h ∙ ap (with_records (server_inputs server_rules [])) read.is) said;
+  of_table = of_text world.files.holds name (λ text h. subst (λ (some : List Need). inputs_of some text read.loaded ≡ with_records (server_inputs server_rules []) records) (sym needed) (text_server_ok service read.loaded text server_rules h ∙ ap (with_records (server_inputs server_rules [])) read.is)) said;
   of_keeper = λ wanted come. kept_loaded world.inputs.keeper before read.loaded after keeper read.are;
 }
 
-pub refuses_record : (client : Client) (name : List ℕ) (server_rules : ServerRules) (user : List ℕ) (at : ℕ) (before after : KeeperView) (world : WorldView) → world.inputs.keeper ≡ Some before
-    → OfText world.files.holds name (λ text. ruling_in server_rules_of text ≡ Ok server_rules) → ReadsAs (Err (user, at)) before after → HasInputs name (commands.Authsrv client) (Err (Record user at)) world
-refuses_record client name server_rules user at before after world keeper said read = record {
-  loaded = read.loaded;
-  of_table = of_text world.files.holds name (λ text h. text_server_ok read.loaded text server_rules h ∙ ap (with_records (server_inputs server_rules [])) read.is) said;
-  of_keeper = λ wanted come. kept_loaded world.inputs.keeper before read.loaded after keeper read.are;
-}
+pub inputs_server : (command : Command) (service : Service) → needs command ≡ book_needs service → (name : List ℕ) (server_rules : ServerRules) (records : List Fields) (before after : KeeperView) (world : WorldView) → world.inputs.keeper ≡ Some before
+    → OfText world.files.holds name (λ text. ruling_in (server_rules_of service) text ≡ Ok server_rules) → ReadsAs (Ok records) before after → HasInputs name command (Ok (server_inputs server_rules records)) world
+inputs_server command service needed name server_rules records before after world keeper said read = read_server command service needed name server_rules (Ok records) before after world keeper said read
+
+pub refuses_record : (command : Command) (service : Service) → needs command ≡ book_needs service → (name : List ℕ) (server_rules : ServerRules) (user : List ℕ) (at : ℕ) (before after : KeeperView) (world : WorldView) → world.inputs.keeper ≡ Some before
+    → OfText world.files.holds name (λ text. ruling_in (server_rules_of service) text ≡ Ok server_rules) → ReadsAs (Err (user, at)) before after → HasInputs name command (Err (Record user at)) world
+refuses_record command service needed name server_rules user at before after world keeper said read = read_server command service needed name server_rules (Err (user, at)) before after world keeper said read
 
 of_no_records : {A : Type 0} (refusal : Refusal) → is_of_line refusal ≡ true → is_of_table (Err refusal) ≡ false → A
 of_no_records refusal line record_ = absurd (cc)
 
-pub refuses_server : (client : Client) (name : List ℕ) (refusal : Refusal) (world : WorldView) → is_of_line refusal ≡ true → OfText world.files.holds name (λ text. ruling_in server_rules_of text ≡ Err refusal)
-    → HasInputs name (commands.Authsrv client) (Err refusal) world
-refuses_server client name refusal world of_line said = record {
+pub refuses_server : (command : Command) (service : Service) → needs command ≡ book_needs service → (name : List ℕ) (refusal : Refusal) (world : WorldView) → is_of_line refusal ≡ true → OfText world.files.holds name (λ text. ruling_in (server_rules_of service) text ≡ Err refusal)
+    → HasInputs name command (Err refusal) world
+refuses_server command service needed name refusal world of_line said = record {
   loaded = [];
-  of_table = of_text world.files.holds name (λ text h. text_server_err [] text refusal h) said;
+  of_table = of_text world.files.holds name (λ text h. subst (λ (some : List Need). inputs_of some text [] ≡ Err refusal) (sym needed) (text_server_err service [] text refusal h)) said;
   of_keeper = λ wanted come. of_no_records refusal of_line come;
 }
+
+-- it needs the records
+pub needs_them : (command : Command) (service : Service) → needs command ≡ book_needs service → needs_records command ≡ true
+needs_them command service needed = ap (list_any is_of_records) needed

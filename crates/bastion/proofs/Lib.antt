@@ -2,7 +2,10 @@ pub mod AttendedLemmas
 pub mod ClientLemmas
 pub mod CompleteLemmas
 pub mod DecidedLemmas
+pub mod DenialLemmas
 pub mod DoesLemmas
+pub mod GatedLemmas
+pub mod GatewayLemmas
 pub mod HeadlineLemmas
 pub mod InputLemmas
 pub mod LaunchLemmas
@@ -14,3 +17,4 @@ pub mod ReadingLemmas
 pub mod RunLemmas
 pub mod ServedLemmas
 pub mod SessionLemmas
+pub mod TalkLemmas

@@ -36,12 +36,13 @@ use Rattle.client_service.specs.PlugService.{LinksTo, target_of}
 use Rattle.bastion.specs.Asking.{FailsAtLog, IsAsked, IsUnasked, linking_text}
 use Rattle.bastion.specs.Complete as complete
 use Rattle.bastion.specs.Complete.{IsLinkedWhole, IsPutThrough}
-use Rattle.bastion.specs.Headline.{IsDenied, IsPermitted, IsSilent}
+use Rattle.bastion.specs.Headline.{IsDenied, IsPermitted}
 use Rattle.bastion.specs.Inputs.{Inputs}
 use Rattle.bastion.specs.Linking.{Linked, devices_for, linked_devices}
 use Rattle.bastion.specs.Outcome.{ending_status, fault_line_of, is_at_limit, status_of, verdict_status}
 use Rattle.bastion.specs.Run.{ReadsOnly, TellsIf, verdict_for}
 use Rattle.bastion.specs.Status.{IsLinked}
+use Rattle.bastion.specs.Talk.{IsSilent}
 use Rattle.bastion.specs.Works.{with_given}
 use Rattle.bastion.specs.WorldView.{SessionInputs, WorldView}
 use Rattle.bastion.specs.declared.outcome.Outcome.{Outcome}
@@ -149,7 +150,7 @@ permit_some caller line is = absurd (cc)
 connect_some : (caller : Caller) (dest : Dest) (line : ℕ) → connect_text caller.port caller.peer dest line ≢ []
 connect_some caller dest line is = absurd (cc)
 
-waits_only : (old new : DialerView) (seconds : ℕ) → new ≡ dialer_waiting old seconds → new ≡ record old { waits = new.waits }
+pub waits_only : (old new : DialerView) (seconds : ℕ) → new ≡ dialer_waiting old seconds → new ≡ record old { waits = new.waits }
 waits_only old new seconds is = is ∙ ap (λ (d : DialerView). record old { waits = d.waits }) (sym is)
 
 waits_same : (old new : DialerView) → new ≡ old → new ≡ record old { waits = new.waits }

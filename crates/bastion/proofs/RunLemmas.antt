@@ -18,11 +18,11 @@ use Rattle.fw_types.specs.declared.ending.Ending.TheVariants as endings
 use Rattle.gate_rules.specs.Verdict.{verdict_of}
 use Rattle.gate_rules.specs.declared.verdict.Verdict.{Verdict}
 use Rattle.gate_rules.specs.declared.verdict.Verdict.TheVariants.{Permit, Deny}
-use Rattle.bastion.specs.Headline.{table_kept}
+use Rattle.bastion.specs.Talk.{table_kept}
 use Rattle.bastion.specs.Inputs.{Inputs, is_of_line, needs_records}
-use Rattle.bastion.specs.Outcome.{CountRose, DeviceRose, EndingRose, KeeperRose, LinkRose, RoseFor, RoseIn, fault_line_of, status_of, verdict_status}
+use Rattle.bastion.specs.Outcome.{CountRose, DeviceRose, EndingRose, GateRose, KeeperRose, LinkRose, RoseFor, RoseIn, fault_line_of, status_of, verdict_status}
 use Rattle.bastion.specs.Run.{CallsIf, DoesLine, FilesFailed, ReadsOnly, Run, Stops, TellsIf, Worked}
-use Rattle.bastion.specs.Status.{IsFull, IsHeld, IsLinked, IsServed, IsStatus, IsStatusFor, RoseBy, SomeRose, TakesBy, TakesFor, TakesIn}
+use Rattle.bastion.specs.Status.{IsAtLimit, IsFull, IsHeld, IsLinked, IsPassed, IsServed, IsStatus, IsStatusFor, LinkSpent, LinksFailed, LinksRose, RoseBy, SomeRose, TakesBy, TakesFor, TakesIn}
 use Rattle.bastion.specs.Words.{LineView}
 use Rattle.bastion.specs.Works.{Works}
 use Rattle.bastion.specs.WorldView.{SessionInputs, WorldView}
@@ -32,12 +32,12 @@ use Rattle.bastion.specs.declared.outcome.Outcome.{Outcome}
 use Rattle.bastion.specs.declared.outcome.Outcome.TheVariants.{Usage, Unread, Failed, NoMemory, Decided, Ended}
 use Rattle.bastion.specs.declared.outcome.Step.{Step}
 use Rattle.bastion.specs.declared.outcome.Step.TheVariants as steps
-use Rattle.bastion.specs.declared.words.Caller.{Caller}
 use Rattle.bastion.specs.declared.words.Command.{Command}
-use Rattle.bastion.specs.declared.words.Command.TheVariants.{Netacl, NetaclRun, Table, Authsrv, PlugGw}
+use Rattle.bastion.specs.declared.words.Command.TheVariants.{Netacl, NetaclRun, Table, Authsrv, PlugGw, TnGw}
 use Rattle.bastion.proofs.AttendedLemmas.{attended_rose, attended_status, attended_takes, takes_same}
 use Rattle.bastion.proofs.DecidedLemmas.{ByVerdict, after_rose, after_status, shown_rose, shown_status}
 use Rattle.bastion.proofs.LaunchLemmas.{run_left, run_rose, run_status_by}
+use Rattle.bastion.proofs.GatedLemmas.{gated_rose, gated_status, gated_takes}
 use Rattle.bastion.proofs.LinkingLemmas.{linked_rose, linked_status, linked_takes}
 use Rattle.client_service.proofs.SinkLemmas.{cut_rose, gives_most, rose_later, same_low}
 
@@ -168,13 +168,23 @@ ending_link endings.NoRoute old new h = absurd h
 ending_link endings.Spent old new h = h
 ending_link endings.NoMemory old new h = h
 
+ending_gate : (ending : Ending) (old new : WorldView) → EndingRose ending old new → GateRose ending old new
+ending_gate endings.NoRoute old new h = h
+ending_gate ending old new h = ending_link ending old new h
+
 pub rose_for : (command : Command) (outcome : Outcome) (old new : WorldView) → CountRose outcome old new → RoseFor command outcome old new
 rose_for (PlugGw caller) (Ended ending refused) old new h = ending_link ending old new h
+rose_for (TnGw peer) (Ended ending refused) old new h = ending_gate ending old new h
 rose_for (PlugGw caller) Usage old new h = h
 rose_for (PlugGw caller) (Unread refusal) old new h = h
 rose_for (PlugGw caller) (Failed which) old new h = h
 rose_for (PlugGw caller) (NoMemory step) old new h = h
 rose_for (PlugGw caller) (Decided verdict) old new h = h
+rose_for (TnGw peer) Usage old new h = h
+rose_for (TnGw peer) (Unread refusal) old new h = h
+rose_for (TnGw peer) (Failed which) old new h = h
+rose_for (TnGw peer) (NoMemory step) old new h = h
+rose_for (TnGw peer) (Decided verdict) old new h = h
 rose_for (Netacl query) outcome old new h = h
 rose_for (NetaclRun query) outcome old new h = h
 rose_for (Table query) outcome old new h = h
@@ -187,6 +197,7 @@ works_rose (Table query) inputs outcome old new h =
     subst (λ (o : Outcome). CountRose o old new) (sym h.printed.is) (shown_rose (verdict_of inputs.rules query.peer) h.printed.printing _ old new h.printed.gives)
 works_rose (Authsrv client) inputs outcome old new h = attended_rose client inputs outcome old new h
 works_rose (PlugGw caller) inputs outcome old new h = linked_rose caller inputs outcome old new h
+works_rose (TnGw peer) inputs outcome old new h = gated_rose peer inputs outcome old new h
 
 -- ---- from where the work began to where the run did
 
@@ -230,24 +241,28 @@ ending_from endings.NoRoute old mid new input output logs h = h
 ending_from endings.Spent old mid new input output logs h = tt
 ending_from endings.NoMemory old mid new input output logs h = tt
 
--- the files have no part in it
-link_files : (ending : Ending) (files : FilesView) (old new : WorldView) → LinkRose ending old new → LinkRose ending (record old { files = files }) new
-link_files endings.Done files old new h = h
-link_files (endings.Denied line) files old new h = h
-link_files endings.ClientFault files old new h = h
-link_files endings.ServerFault files old new h = h
-link_files endings.LogFault files old new h = h
-link_files endings.AuthFault files old new h = h
-link_files endings.Idle files old new h = h
-link_files endings.NoRoute files old new h = h
-link_files endings.Spent files old new h = h
-link_files endings.NoMemory files old new h = h
+-- what a link's ending has counted is of four devices
+link_from : (ending : Ending) (old mid new : WorldView) → mid.inputs.input ≡ old.inputs.input → mid.inputs.dialer ≡ old.inputs.dialer → mid.output ≡ old.output → mid.logs ≡ old.logs → LinkRose ending mid new → LinkRose ending old new
+link_from endings.Done old mid new input dialer output logs h = tt
+link_from (endings.Denied line) old mid new input dialer output logs h = tt
+link_from endings.ClientFault old mid new input dialer output logs h = client_from old mid new input output h
+link_from endings.ServerFault old mid new input dialer output logs h = subst (λ (d : DialerView). Rose d.link_faults new.inputs.dialer.link_faults) dialer h
+link_from endings.LogFault old mid new input dialer output logs h = subst (λ (s : SinkView). Rose s.faults new.logs.faults) logs h
+link_from endings.AuthFault old mid new input dialer output logs h = h
+link_from endings.Idle old mid new input dialer output logs (inl h) = inl (subst (λ (s : SourceView). Rose s.idles new.inputs.input.idles) input h)
+link_from endings.Idle old mid new input dialer output logs (inr h) = inr (subst (λ (d : DialerView). Rose d.link_idles new.inputs.dialer.link_idles) dialer h)
+link_from endings.NoRoute old mid new input dialer output logs h = subst (λ (d : DialerView). Rose d.refusals new.inputs.dialer.refusals) dialer h
+link_from endings.Spent old mid new input dialer output logs h = tt
+link_from endings.NoMemory old mid new input dialer output logs h = tt
 
-link_from : (ending : Ending) (old mid new : WorldView) → mid.inputs ≡ old.inputs → mid.output ≡ old.output → mid.logs ≡ old.logs → LinkRose ending mid new → LinkRose ending old new
-link_from ending old mid new inputs output logs h =
-    let Rises : SessionInputs → SinkView → SinkView → Type 0 = λ i o l. LinkRose ending (record { files = old.files; output = o; logs = l; inputs = i }) new in
-    let here : LinkRose ending (record { files = old.files; output = mid.output; logs = mid.logs; inputs = mid.inputs }) new = link_files ending old.files mid new h in
-    subst (λ (l : SinkView). Rises old.inputs old.output l) logs (subst (λ (o : SinkView). Rises old.inputs o mid.logs) output (subst (λ (i : SessionInputs). Rises i mid.output mid.logs) inputs here))
+link_only : (name : List ℕ) (records : Bool) (ending : Ending) (old mid new : WorldView) → ReadsOnly name records old mid → LinkRose ending mid new → LinkRose ending old new
+link_only name records ending old mid new only h =
+    let left = only_left name records old mid only in
+    link_from ending old mid new left.input left.dialer only.output only.logs h
+
+gate_only : (name : List ℕ) (records : Bool) (ending : Ending) (old mid new : WorldView) → ReadsOnly name records old mid → GateRose ending mid new → GateRose ending old new
+gate_only name records endings.NoRoute old mid new only h = h
+gate_only name records ending old mid new only h = link_only name records ending old mid new only h
 
 count_from : (name : List ℕ) (records : Bool) (outcome : Outcome) (old mid new : WorldView) → ReadsOnly name records old mid → CountRose outcome mid new → CountRose outcome old new
 count_from name records (Failed which) old mid new only h = device_from name records which old mid new only h
@@ -255,12 +270,18 @@ count_from name records (Ended ending refused) old mid new only h = ending_from 
 count_from name records outcome old mid new only h = tt
 
 rose_from : (name : List ℕ) (command : Command) (outcome : Outcome) (old mid new : WorldView) → ReadsOnly name (needs_records command) old mid → RoseFor command outcome mid new → RoseFor command outcome old new
-rose_from name (PlugGw caller) (Ended ending refused) old mid new only h = link_from ending old mid new only.inputs only.output only.logs h
+rose_from name (PlugGw caller) (Ended ending refused) old mid new only h = link_only name false ending old mid new only h
+rose_from name (TnGw peer) (Ended ending refused) old mid new only h = gate_only name true ending old mid new only h
 rose_from name (PlugGw caller) Usage old mid new only h = tt
 rose_from name (PlugGw caller) (Unread refusal) old mid new only h = tt
 rose_from name (PlugGw caller) (Failed which) old mid new only h = device_from name false which old mid new only h
 rose_from name (PlugGw caller) (NoMemory step) old mid new only h = tt
 rose_from name (PlugGw caller) (Decided verdict) old mid new only h = tt
+rose_from name (TnGw peer) Usage old mid new only h = tt
+rose_from name (TnGw peer) (Unread refusal) old mid new only h = tt
+rose_from name (TnGw peer) (Failed which) old mid new only h = device_from name true which old mid new only h
+rose_from name (TnGw peer) (NoMemory step) old mid new only h = tt
+rose_from name (TnGw peer) (Decided verdict) old mid new only h = tt
 rose_from name (Netacl query) outcome old mid new only h = count_from name false outcome old mid new only h
 rose_from name (NetaclRun query) outcome old mid new only h = count_from name false outcome old mid new only h
 rose_from name (Table query) outcome old mid new only h = count_from name false outcome old mid new only h
@@ -299,11 +320,25 @@ some_later old mid new h (inr (inl (inr logs))) = inr (inl (inr (rose_later old.
 some_later old mid new h (inr (inr inputs)) =
     inr (inr (subst (λ (i : SessionInputs). (Rose old.inputs.input.faults i.input.faults ⊎ Rose old.inputs.input.idles i.input.idles) ⊎ (KeeperRose old.inputs.keeper i.keeper ⊎ Rose old.inputs.launcher.faults i.launcher.faults)) (sym h.inputs) inputs))
 
+-- a device's own count rose, or one of the dialer's
+abbrev SomeOrLinks : WorldView → WorldView → Type 0
+SomeOrLinks old new = SomeRose old new ⊎ LinksRose old.inputs.dialer new.inputs.dialer
+
+links_later : (old mid new : WorldView) → Later mid new → SomeOrLinks old mid → SomeOrLinks old new
+links_later old mid new later (inl some) = inl (some_later old mid new later some)
+links_later old mid new later (inr links) = inr (subst (λ (i : SessionInputs). LinksRose old.inputs.dialer i.dialer) (sym later.inputs) links)
+
+-- or that of a link that had failed or been idle
+abbrev SomeOrFailed : WorldView → WorldView → Type 0
+SomeOrFailed old new = SomeRose old new ⊎ LinksFailed old.inputs.dialer new.inputs.dialer
+
+failed_later : (old mid new : WorldView) → Later mid new → SomeOrFailed old mid → SomeOrFailed old new
+failed_later old mid new later (inl some) = inl (some_later old mid new later some)
+failed_later old mid new later (inr links) = inr (subst (λ (i : SessionInputs). LinksFailed old.inputs.dialer i.dialer) (sym later.inputs) links)
+
 pub by_later : (command : Command) (old mid new : WorldView) → Later mid new → RoseBy command old mid → RoseBy command old new
-by_later (PlugGw caller) old mid new later (inl some) = inl (some_later old mid new later some)
-by_later (PlugGw caller) old mid new later (inr links) =
-    let Rises : DialerView → Type 0 = λ d. Rose old.inputs.dialer.refusals d.refusals ⊎ (Rose old.inputs.dialer.link_faults d.link_faults ⊎ Rose old.inputs.dialer.link_idles d.link_idles) in
-    inr (subst (λ (i : SessionInputs). Rises i.dialer) (sym later.inputs) links)
+by_later (PlugGw caller) old mid new later h = links_later old mid new later h
+by_later (TnGw peer) old mid new later h = failed_later old mid new later h
 by_later (Netacl query) old mid new later h = some_later old mid new later h
 by_later (NetaclRun query) old mid new later h = some_later old mid new later h
 by_later (Table query) old mid new later h = some_later old mid new later h
@@ -313,6 +348,7 @@ by_later (Authsrv client) old mid new later h = some_later old mid new later h
 
 pub some_by : (command : Command) (old new : WorldView) → SomeRose old new → RoseBy command old new
 some_by (PlugGw caller) old new h = inl h
+some_by (TnGw peer) old new h = inl h
 some_by (Netacl query) old new h = h
 some_by (NetaclRun query) old new h = h
 some_by (Table query) old new h = h
@@ -357,26 +393,39 @@ count_some (NoMemory step) old new h is = absurd (omega (arith, is))
 count_some (Decided verdict) old new h is = verdict_four verdict is
 count_some (Ended ending refused) old new h is = ending_some ending refused old new h is
 
-link_some : (caller : Caller) (ending : Ending) (refused : Bool) (old new : WorldView) → LinkRose ending old new → status_of (Ended ending refused) ≡ 4 → RoseBy (PlugGw caller) old new
-link_some caller endings.Done refused old new h is = inl (ending_some endings.Done refused old new h is)
-link_some caller (endings.Denied line) refused old new h is = inl (ending_some (endings.Denied line) refused old new h is)
-link_some caller endings.ClientFault refused old new h is = inl (client_rose old new h)
-link_some caller endings.ServerFault refused old new h is = inr (inr (inl h))
-link_some caller endings.LogFault refused old new h is = inl (ending_some endings.LogFault refused old new h is)
-link_some caller endings.AuthFault refused old new h is = absurd h
-link_some caller endings.Idle refused old new (inl source) is = inl (ending_some endings.Idle refused old new source is)
-link_some caller endings.Idle refused old new (inr link) is = inr (inr (inr link))
-link_some caller endings.NoRoute refused old new h is = inr (inl h)
-link_some caller endings.Spent refused old new h is = inl (ending_some endings.Spent refused old new h is)
-link_some caller endings.NoMemory refused old new h is = inl (ending_some endings.NoMemory refused old new h is)
+link_some : (ending : Ending) (refused : Bool) (old new : WorldView) → LinkRose ending old new → status_of (Ended ending refused) ≡ 4 → SomeOrLinks old new
+link_some endings.Done refused old new h is = inl (ending_some endings.Done refused old new h is)
+link_some (endings.Denied line) refused old new h is = inl (ending_some (endings.Denied line) refused old new h is)
+link_some endings.ClientFault refused old new h is = inl (client_rose old new h)
+link_some endings.ServerFault refused old new h is = inr (inr (inl h))
+link_some endings.LogFault refused old new h is = inl (ending_some endings.LogFault refused old new h is)
+link_some endings.AuthFault refused old new h is = absurd h
+link_some endings.Idle refused old new (inl source) is = inl (ending_some endings.Idle refused old new source is)
+link_some endings.Idle refused old new (inr link) is = inr (inr (inr link))
+link_some endings.NoRoute refused old new h is = inr (inl h)
+link_some endings.Spent refused old new h is = inl (ending_some endings.Spent refused old new h is)
+link_some endings.NoMemory refused old new h is = inl (ending_some endings.NoMemory refused old new h is)
+
+gate_some : (ending : Ending) (refused : Bool) (old new : WorldView) → GateRose ending old new → status_of (Ended ending refused) ≡ 4 → SomeOrFailed old new
+gate_some endings.ServerFault refused old new h is = inr (inl h)
+gate_some endings.Idle refused old new (inl source) is = inl (ending_some endings.Idle refused old new source is)
+gate_some endings.Idle refused old new (inr link) is = inr (inr link)
+gate_some endings.NoRoute refused old new h is = absurd h
+gate_some ending refused old new h is = inl (ending_some ending refused old new h is)
 
 pub rose_some : (command : Command) (outcome : Outcome) (old new : WorldView) → RoseFor command outcome old new → status_of outcome ≡ 4 → RoseBy command old new
-rose_some (PlugGw caller) (Ended ending refused) old new h is = link_some caller ending refused old new h is
+rose_some (PlugGw caller) (Ended ending refused) old new h is = link_some ending refused old new h is
 rose_some (PlugGw caller) Usage old new h is = inl (count_some Usage old new h is)
 rose_some (PlugGw caller) (Unread refusal) old new h is = inl (count_some (Unread refusal) old new h is)
 rose_some (PlugGw caller) (Failed which) old new h is = inl (count_some (Failed which) old new h is)
 rose_some (PlugGw caller) (NoMemory step) old new h is = inl (count_some (NoMemory step) old new h is)
 rose_some (PlugGw caller) (Decided verdict) old new h is = inl (count_some (Decided verdict) old new h is)
+rose_some (TnGw peer) (Ended ending refused) old new h is = gate_some ending refused old new h is
+rose_some (TnGw peer) Usage old new h is = inl (count_some Usage old new h is)
+rose_some (TnGw peer) (Unread refusal) old new h is = inl (count_some (Unread refusal) old new h is)
+rose_some (TnGw peer) (Failed which) old new h is = inl (count_some (Failed which) old new h is)
+rose_some (TnGw peer) (NoMemory step) old new h is = inl (count_some (NoMemory step) old new h is)
+rose_some (TnGw peer) (Decided verdict) old new h is = inl (count_some (Decided verdict) old new h is)
 rose_some (Netacl query) outcome old new h is = count_some outcome old new h is
 rose_some (NetaclRun query) outcome old new h is = count_some outcome old new h is
 rose_some (Table query) outcome old new h is = count_some outcome old new h is
@@ -416,16 +465,24 @@ full_then a b c d clock after full =
       many = full.many;
     }
 
+limit_then : (a b c d : SessionInputs) → a.input ≡ c.input → a.clock ≡ c.clock → d ≡ b → IsAtLimit a b → IsAtLimit c d
+limit_then a b c d before clock after (inl took) = inl (subst (λ (s : SourceView). TookMost s d.input) before (subst (λ (i : SessionInputs). TookMost a.input i.input) (sym after) took))
+limit_then a b c d before clock after (inr full) = inr (full_then a b c d clock after full)
+
 held_then : (status : ℕ) (a b c d : SessionInputs) → a.input ≡ c.input → a.clock ≡ c.clock → d ≡ b → IsHeld status a b → IsHeld status c d
 held_then status a b c d before clock after (inl zero) = inl zero
-held_then status a b c d before clock after (inr (six, inl took)) =
-    inr (six, inl (subst (λ (s : SourceView). TookMost s d.input) before (subst (λ (i : SessionInputs). TookMost a.input i.input) (sym after) took)))
-held_then status a b c d before clock after (inr (six, inr full)) = inr (six, inr (full_then a b c d clock after full))
+held_then status a b c d before clock after (inr (six, limit)) = inr (six, limit_then a b c d before clock after limit)
 
 pub served_then : (console : Bool) (verdict : Verdict) (status : ℕ) (a b c d : SessionInputs) → a.input ≡ c.input → a.clock ≡ c.clock → d ≡ b → IsServed console verdict status a b → IsServed console verdict status c d
 served_then true verdict status a b c d before clock after h = held_then status a b c d before clock after h
 served_then false (Permit line) status a b c d before clock after h = held_then status a b c d before clock after h
 served_then false (Deny line) status a b c d before clock after h = h
+
+pub passed_then : (verdict : Verdict) (status : ℕ) (a b c d : SessionInputs) → a.input ≡ c.input → a.clock ≡ c.clock → d ≡ b → IsPassed verdict status a b → IsPassed verdict status c d
+passed_then (Permit line) status a b c d before clock after (inl zero) = inl zero
+passed_then (Permit line) status a b c d before clock after (inr (six, inl limit)) = inr (six, inl (limit_then a b c d before clock after limit))
+passed_then (Permit line) status a b c d before clock after (inr (six, inr link)) = inr (six, inr (subst (λ (i : SessionInputs). LinkSpent i.dialer) (sym after) link))
+passed_then (Deny line) status a b c d before clock after h = h
 
 worked_status : (name : List ℕ) (command : Command) (outcome : Outcome) (old mid new : WorldView) → Worked name command outcome old mid → Later mid new → IsStatusFor name command (status_of outcome) old new
 worked_status name (Netacl query) outcome old mid new h later =
@@ -452,6 +509,12 @@ worked_status name (PlugGw caller) outcome old mid new h later =
     served_so name (PlugGw caller) outcome old mid new (Linked h.middle.inputs mid.inputs) (worked_rose name (PlugGw caller) outcome old mid h) later
     (λ linked. inr (record { read = Ok h.inputs; inputs = h.read; is = subst (λ (i : SessionInputs). Linked i new.inputs) h.only.inputs (subst (λ (i : SessionInputs). Linked h.middle.inputs i) (sym later.inputs) linked) }))
     (linked_status caller h.inputs outcome h.middle mid h.works)
+worked_status name (TnGw peer) outcome old mid new h later =
+    let verdict : Verdict = verdict_of h.inputs.rules peer in
+    let left = only_left name true old h.middle h.only in
+    served_so name (TnGw peer) outcome old mid new (IsPassed verdict (status_of outcome) h.middle.inputs mid.inputs) (worked_rose name (TnGw peer) outcome old mid h) later
+    (λ passed. inr (record { read = Ok h.inputs; inputs = h.read; is = passed_then verdict (status_of outcome) h.middle.inputs mid.inputs old.inputs new.inputs left.input left.clock later.inputs passed }))
+    (gated_status peer h.inputs outcome h.middle mid h.works)
 
 does_status : (line : Option LineView) (outcome : Outcome) (old mid new : WorldView) → DoesLine line outcome old mid → Later mid new → IsStatus line (status_of outcome) old new
 does_status None outcome old mid new h later = ap status_of h.usage
@@ -468,12 +531,14 @@ works_left : (command : Command) (inputs : Inputs) (outcome : Outcome) (old new 
 works_left (Netacl query) inputs outcome old new h = (h.files, λ there. subst (λ (i : SessionInputs). IsSome i.keeper) (sym h.inputs) there)
 works_left (NetaclRun query) inputs outcome old new h = let left = run_left query (verdict_of inputs.rules query.peer) _ _ outcome old new h in (left.files, λ there. subst (λ (k : Option KeeperView). IsSome k) (sym left.keeper) there)
 works_left (Table query) inputs outcome old new h = (h.files, λ there. subst (λ (i : SessionInputs). IsSome i.keeper) (sym h.inputs) there)
-works_left (Authsrv client) inputs outcome old new h = (h.files, λ there. some_there new.inputs.keeper h.book.keeper h.kept)
+works_left (Authsrv client) inputs outcome old new h = (h.over.files, λ there. some_there new.inputs.keeper h.book.keeper h.over.kept)
+works_left (TnGw peer) inputs outcome old new h = (h.over.files, λ there. some_there new.inputs.keeper h.book.keeper h.over.kept)
 works_left (PlugGw caller) inputs outcome old new h = (h.files, λ there. subst (λ (k : Option KeeperView). IsSome k) (sym h.keeper) there)
 
 -- a command without a link leaves the dialer as it was
 abbrev pub StaysUnasked : Command → WorldView → WorldView → Type 0
 StaysUnasked (PlugGw caller) old new = Unit {0}
+StaysUnasked (TnGw peer) old new = Unit {0}
 StaysUnasked command old new = new.inputs.dialer ≡ old.inputs.dialer
 
 works_unasked : (command : Command) (inputs : Inputs) (outcome : Outcome) (old new : WorldView) → Works command inputs outcome old new → StaysUnasked command old new
@@ -482,6 +547,7 @@ works_unasked (NetaclRun query) inputs outcome old new h = (run_left query (verd
 works_unasked (Table query) inputs outcome old new h = ap (λ (i : SessionInputs). i.dialer) h.inputs
 works_unasked (Authsrv client) inputs outcome old new h = h.links
 works_unasked (PlugGw caller) inputs outcome old new h = tt
+works_unasked (TnGw peer) inputs outcome old new h = tt
 
 unasked_through : (command : Command) (old middle mid new : WorldView) → middle.inputs.dialer ≡ old.inputs.dialer → new.inputs.dialer ≡ mid.inputs.dialer → StaysUnasked command middle mid → StaysUnasked command old new
 unasked_through (Netacl query) old middle mid new before after h = after ∙ h ∙ before
@@ -489,6 +555,7 @@ unasked_through (NetaclRun query) old middle mid new before after h = after ∙ 
 unasked_through (Table query) old middle mid new before after h = after ∙ h ∙ before
 unasked_through (Authsrv client) old middle mid new before after h = after ∙ h ∙ before
 unasked_through (PlugGw caller) old middle mid new before after h = tt
+unasked_through (TnGw peer) old middle mid new before after h = tt
 
 pub worked_unasked : (name : List ℕ) (command : Command) (outcome : Outcome) (old mid new : WorldView) → Worked name command outcome old mid → Later mid new → StaysUnasked command old new
 worked_unasked name command outcome old mid new h later =
@@ -521,9 +588,11 @@ works_takes (NetaclRun query) inputs outcome old new h = takes_same (status_of o
 works_takes (Table query) inputs outcome old new h = takes_same (status_of outcome) old.inputs.input new.inputs.input (ap (λ (i : SessionInputs). i.input) h.inputs)
 works_takes (Authsrv client) inputs outcome old new h = attended_takes client inputs outcome old new h
 works_takes (PlugGw caller) inputs outcome old new h = linked_takes caller inputs outcome old new h
+works_takes (TnGw peer) inputs outcome old new h = gated_takes peer inputs outcome old new h
 
 takes_for : (command : Command) (status : ℕ) (old new : SourceView) → TakesIn status old new → TakesFor command status old new
 takes_for (PlugGw caller) status old new h = record { took = h.took; all = λ long. inl (h.all long) }
+takes_for (TnGw peer) status old new h = record { took = h.took; all = λ long. inl (h.all long) }
 takes_for (Netacl query) status old new h = h
 takes_for (NetaclRun query) status old new h = h
 takes_for (Table query) status old new h = h

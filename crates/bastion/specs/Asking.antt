@@ -1,5 +1,5 @@
--- For which destination a run asks the dialer, and what goes over the link.
-use Rattle.std.specs.Prelude.{◌≡◌, ◌≢◌, ℕ, ◌⊎◌, List, [], ◌∷◌, ◌++◌, Some, Ok}
+-- A client of `plug-gw`: for which destination the dialer is asked, and what goes over the link.
+use Rattle.std.specs.Prelude.{◌≡◌, ◌≢◌, ℕ, ◌⊎◌, true, List, [], ◌∷◌, ◌++◌, Some, Ok}
 use Rattle.client_service.specs.Conn.{NotedIf}
 use Rattle.client_service.specs.Decision.{decision_text}
 use Rattle.client_service.specs.Endings.{ending_line}
@@ -16,12 +16,12 @@ use Rattle.session_acts.specs.Laws.{Adds}
 use Rattle.client_service.specs.PlugService.{target_of}
 use Rattle.bastion.specs.Inputs.{HasInputs, Inputs, needs_records}
 use Rattle.bastion.specs.Linking.{linked_devices}
-use Rattle.bastion.specs.Outcome.{ending_status}
+use Rattle.bastion.specs.Outcome.{ending_status, fault_line_of, is_stopped, status_of}
 use Rattle.bastion.specs.Run.{ReadsOnly, verdict_for}
 use Rattle.bastion.specs.Works.{with_given}
 use Rattle.bastion.specs.WorldView.{WorldView}
+use Rattle.bastion.specs.declared.outcome.Outcome.{Outcome}
 use Rattle.bastion.specs.declared.words.Caller.{Caller}
-use Rattle.bastion.specs.declared.words.Command.{Command}
 use Rattle.bastion.specs.declared.words.Command.TheVariants.{PlugGw}
 
 -- the two lines before a destination is asked for: that of the permission, and then the connect line
@@ -65,11 +65,15 @@ pub record IsAsked (caller : Caller) (inputs : Inputs) (status : ℕ) (old new :
   pub relayed : GivesFronts (linked_devices old) (linked_devices new) ending
   pub status_is : status ≡ ending_status ending
 
--- what the command needs couldn't be had: no destination was asked for, and the client was told nothing
+-- What the command needs couldn't be had, and the log was told so, and nothing else. No destination was asked for, and the
+-- client was told nothing.
 pub record IsUndecided (status : ℕ) (old new : WorldView) : Type 0 where
+  pub outcome : Outcome
+  pub stopped : is_stopped outcome ≡ true
+  pub noted : NotedIf (fault_line_of outcome) old.logs new.logs
   pub dialer : new.inputs.dialer ≡ old.inputs.dialer
   pub output : new.output ≡ old.output
-  pub undone : status ≢ 0
+  pub status_is : status ≡ status_of outcome
 
 -- by the inputs of the command
 pub record IsAskedBy (name : List ℕ) (caller : Caller) (status : ℕ) (old new : WorldView) : Type 0 where
@@ -78,8 +82,3 @@ pub record IsAskedBy (name : List ℕ) (caller : Caller) (status : ℕ) (old new
   pub middle : WorldView
   pub only : ReadsOnly name (needs_records (PlugGw caller)) old middle
   pub so : IsUnasked caller inputs middle new ⊎ IsAsked caller inputs status middle new
-
--- a command without a link asks for nothing
-abbrev pub AsksPermitted : List ℕ → Command → ℕ → WorldView → WorldView → Type 0
-AsksPermitted name (PlugGw caller) status old new = IsUndecided status old new ⊎ IsAskedBy name caller status old new
-AsksPermitted name command status old new = new.inputs.dialer ≡ old.inputs.dialer

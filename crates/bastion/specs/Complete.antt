@@ -1,25 +1,29 @@
 -- What is done in a run in which no count rose: all that is called for, whole.
 use Rattle.std.specs.Prelude.{◌≡◌, ℕ, ◌⊎◌, Bool, true, false, List, [], ◌∷◌, ◌++◌, codes, Option, Some, None, Result, Ok, Err, unwrap_or}
-use Rattle.std.specs.List.{list_any}
 use Rattle.fw_outside.specs.LauncherView.{LauncherView, Starts}
 use Rattle.fw_outside.specs.ToldList.{grown}
 use Rattle.fw_outside.specs.declared.started.Started.TheVariants as program
 use Rattle.fw_types.specs.declared.ending.Ending.{Ending}
 use Rattle.fw_types.specs.declared.ending.Ending.TheVariants.{Done, Spent}
 use Rattle.fw_types.specs.declared.peer.Peer.{Peer}
+use Rattle.tn_gate.specs.Texts.{refusal}
 use Rattle.gate_rules.specs.Verdict.{verdict_of}
+use Rattle.gate_rules.specs.declared.service.Service.{Service}
 use Rattle.gate_rules.specs.declared.service.Service.TheVariants as services
 use Rattle.gate_rules.specs.declared.verdict.Verdict.{Verdict}
 use Rattle.gate_rules.specs.declared.verdict.Verdict.TheVariants.{Permit, Deny}
 use Rattle.session_acts.specs.Session.{deeds_of}
-use Rattle.session_acts.specs.Talk.{is_refused_as_full}
+use Rattle.session_acts.specs.Deeds.{gives}
+use Rattle.session_acts.specs.Laws.{logged}
 use Rattle.client_service.specs.Endings.{denied_text, ending_line}
 use Rattle.bastion.specs.Asking.{IsAsked, linking_text}
-use Rattle.bastion.specs.Headline.{OfHistory, talk_of}
+use Rattle.bastion.specs.Gateway.{OfTelnet}
+use Rattle.bastion.specs.Headline.{OfHistory}
 use Rattle.bastion.specs.Inputs.{HasInputs, Inputs}
 use Rattle.bastion.specs.Outcome.{fault_line_of, refusal_text, verdict_status}
 use Rattle.bastion.specs.Run.{ReadsOnly, verdict_for}
-use Rattle.bastion.specs.Status.{IsHeld}
+use Rattle.bastion.specs.Status.{IsHeld, IsPassed}
+use Rattle.bastion.specs.Talk.{was_refused}
 use Rattle.bastion.specs.TableReport.{report_text}
 use Rattle.client_service.specs.Decision.{decision_text}
 use Rattle.bastion.specs.Texts.{ended_text, print_text, program_of}
@@ -31,7 +35,7 @@ use Rattle.bastion.specs.declared.words.Caller.{Caller}
 use Rattle.bastion.specs.declared.words.Client.{Client}
 use Rattle.bastion.specs.declared.words.Command.{Command}
 use Rattle.bastion.specs.declared.words.Query.{Query}
-use Rattle.bastion.specs.declared.words.Command.TheVariants.{Netacl, NetaclRun, Table, Authsrv, PlugGw}
+use Rattle.bastion.specs.declared.words.Command.TheVariants.{Netacl, NetaclRun, Table, Authsrv, PlugGw, TnGw}
 
 -- the log and the output have taken these texts whole, and nothing else; and the status is this
 pub record IsWhole (logged printed : List ℕ) (comes status : ℕ) (old new : WorldView) : Type 0 where
@@ -41,15 +45,14 @@ pub record IsWhole (logged printed : List ℕ) (comes status : ℕ) (old new : W
 
 -- ---- a session
 
+-- behind a session stand the ending's line, and that of the limit where a request had been refused
+abbrev pub closing_text : Service → Peer → Ending → Bool → List ℕ
+closing_text service peer ending refused = unwrap_or (ending_line service peer ending) [] ++ unwrap_or (fault_line_of (Ended ending refused)) []
+
 -- the line before a session: that of the permission, and none at the console
 abbrev pub opening_text : Bool → Verdict → Peer → List ℕ
 opening_text true verdict peer = []
 opening_text false verdict peer = decision_text verdict services.Authsrv peer
-
--- behind it stand the ending's line, and that of the limit where a request had been refused
-abbrev pub session_text : Bool → Verdict → Peer → Ending → Bool → List ℕ
-session_text console verdict peer ending refused =
-    opening_text console verdict peer ++ unwrap_or (ending_line services.Authsrv peer ending) [] ++ unwrap_or (fault_line_of (Ended ending refused)) []
 
 -- The session of this run, as the headline has it, came to its end, or to the most bytes that it may take. The log has taken
 -- its lines whole, and nothing else: the last of them exactly where a request of it had been refused.
@@ -58,7 +61,7 @@ pub record IsHeldWhole (name : List ℕ) (client : Client) (inputs : Inputs) (st
   pub only : ReadsOnly name true old middle
   pub session : OfHistory client inputs status middle new
   pub ends : (session.ending ≡ Done) ⊎ (session.ending ≡ Spent)
-  pub logs : new.logs.given ≡ grown old.logs.given (session_text client.console (verdict_for (Authsrv client) inputs) client.peer session.ending (list_any is_refused_as_full (talk_of (deeds_of session.session.held))))
+  pub logs : new.logs.given ≡ grown old.logs.given (opening_text client.console (verdict_for (Authsrv client) inputs) client.peer ++ closing_text services.Authsrv client.peer session.ending (was_refused (deeds_of session.session.held)))
   pub held : IsHeld status old.inputs new.inputs
 
 -- a client whom the rules deny is told so, unless it is at the console; for any other a session is held
@@ -100,6 +103,23 @@ abbrev pub IsLinkedWhole : Verdict → Caller → Inputs → ℕ → WorldView �
 IsLinkedWhole (Permit line) caller inputs status old new = IsPutThrough caller inputs status old new
 IsLinkedWhole (Deny line) caller inputs status old new = IsWhole (decision_text (Deny line) (services.PlugGw caller.port) caller.peer) [] 1 status old new
 
+-- ---- a gateway
+
+-- The session of this run, as the headline has it, came to its end, or to the most bytes that it may take. The log has taken
+-- its lines whole, and nothing else.
+pub record IsPassedWhole (name : List ℕ) (peer : Peer) (inputs : Inputs) (status : ℕ) (old new : WorldView) : Type 0 where
+  pub middle : WorldView
+  pub only : ReadsOnly name true old middle
+  pub session : OfTelnet peer inputs status middle new
+  pub ends : (session.ending ≡ Done) ⊎ (session.ending ≡ Spent)
+  pub logs : new.logs.given ≡ grown old.logs.given (decision_text (Permit session.line) services.TnGw peer ++ gives logged (deeds_of session.session.held) ++ closing_text services.TnGw peer session.ending (was_refused (deeds_of session.session.held)))
+  pub passed : IsPassed (Permit session.line) status old.inputs new.inputs
+
+-- a client whom the rules deny is told so
+abbrev pub IsServedAtGate : Verdict → List ℕ → Peer → Inputs → ℕ → WorldView → WorldView → Type 0
+IsServedAtGate (Permit line) name peer inputs status old new = IsPassedWhole name peer inputs status old new
+IsServedAtGate (Deny line) name peer inputs status old new = IsWhole (decision_text (Deny line) services.TnGw peer) (refusal line) 1 status old new
+
 -- ---- all commands
 
 -- what can't be read is told to the log; the verdict's line is logged, and its text printed; a client is denied, or its session
@@ -113,6 +133,7 @@ IsAllDone name (Table query) (Ok inputs) status old new =
     IsWhole [] (report_text inputs.rules (verdict_for (Table query) inputs)) (verdict_status (verdict_for (Table query) inputs)) status old new
 IsAllDone name (Authsrv client) (Ok inputs) status old new = IsServedWhole client.console (verdict_for (Authsrv client) inputs) name client inputs status old new
 IsAllDone name (PlugGw caller) (Ok inputs) status old new = IsLinkedWhole (verdict_for (PlugGw caller) inputs) caller inputs status old new
+IsAllDone name (TnGw peer) (Ok inputs) status old new = IsServedAtGate (verdict_for (TnGw peer) inputs) name peer inputs status old new
 
 -- by the inputs of the command, or by what can't be read
 pub record AllDone (name : List ℕ) (command : Command) (status : ℕ) (old new : WorldView) : Type 0 where

@@ -28,13 +28,18 @@ pub data Need : Type 0 where
   ThePolicy : Need
   TheRecords : Need
 
+-- what a session over a book of the records needs
+abbrev pub book_needs : Service → List Need
+book_needs service = RulesOf service ∷ ThePolicy ∷ TheRecords ∷ []
+
 -- in the order in which it is read
 abbrev pub needs : Command → List Need
 needs (commands.Netacl query) = RulesOf query.service ∷ []
 needs (commands.NetaclRun query) = RulesOf query.service ∷ []
 needs (commands.Table query) = RulesOf query.service ∷ []
-needs (commands.Authsrv client) = RulesOf services.Authsrv ∷ ThePolicy ∷ TheRecords ∷ []
+needs (commands.Authsrv client) = book_needs services.Authsrv
 needs (commands.PlugGw caller) = RulesOf (services.PlugGw caller.port) ∷ []
+needs (commands.TnGw peer) = book_needs services.TnGw
 
 abbrev pub is_of_records : Need → Bool
 is_of_records TheRecords = true

@@ -1,6 +1,8 @@
 pub mod Asking
 pub mod Complete
 pub mod Deciding
+pub mod Gateway
+pub mod Gating
 pub mod Headline
 pub mod Inputs
 pub mod Linking
@@ -12,6 +14,7 @@ pub mod Serving
 pub mod SessionSteps
 pub mod Status
 pub mod TableReport
+pub mod Talk
 pub mod Texts
 pub mod Words
 pub mod Works

@@ -1,5 +1,5 @@
 -- What a run comes to: its status, its line in the log, and whose count has risen. Three tables, by cases.
-use Rattle.std.specs.Prelude.{ℕ, ◌⊎◌, Bool, false, List, ◌++◌, Option, Some, None, unwrap_or, codes, if◌then◌else◌}
+use Rattle.std.specs.Prelude.{ℕ, ◌⊎◌, Bool, true, false, List, ◌++◌, Option, Some, None, unwrap_or, codes, if◌then◌else◌}
 use Rattle.std.specs.Fmt.{decimal}
 use Rattle.fw_outside.specs.Counts.{Rose}
 use Rattle.fw_outside.specs.KeeperView.{KeeperView}
@@ -18,7 +18,7 @@ use Rattle.bastion.specs.declared.outcome.Outcome.TheVariants.{Usage, Unread, Fa
 use Rattle.bastion.specs.declared.outcome.Refusal.{Refusal}
 use Rattle.bastion.specs.declared.outcome.Refusal.TheVariants.{Table, Rule, Record}
 use Rattle.bastion.specs.declared.words.Command.{Command}
-use Rattle.bastion.specs.declared.words.Command.TheVariants.{PlugGw}
+use Rattle.bastion.specs.declared.words.Command.TheVariants.{PlugGw, TnGw}
 
 -- ---- the status
 
@@ -51,6 +51,13 @@ status_of (Failed which) = 4
 status_of (NoMemory step) = 5
 status_of (Decided verdict) = verdict_status verdict
 status_of (Ended ending refused) = if is_at_limit ending refused then 6 else ending_status ending
+
+-- what the command needs couldn't be had
+abbrev pub is_stopped : Outcome → Bool
+is_stopped (Unread refusal) = true
+is_stopped (Failed which) = true
+is_stopped (NoMemory step) = true
+is_stopped _ = false
 
 -- ---- the line in the log
 
@@ -122,9 +129,15 @@ LinkRose endings.Idle old new = Rose old.inputs.input.idles new.inputs.input.idl
 LinkRose endings.NoRoute old new = Rose old.inputs.dialer.refusals new.inputs.dialer.refusals
 LinkRose ending old new = EndingRose ending old new
 
--- only a session of the plug has a link
+-- and of one of the gateway, which no link that is refused ends
+abbrev pub GateRose : Ending → WorldView → WorldView → Type 0
+GateRose endings.NoRoute old new = ⊥
+GateRose ending old new = LinkRose ending old new
+
+-- only a session of the plug or of the gateway has a link
 abbrev pub RoseFor : Command → Outcome → WorldView → WorldView → Type 0
 RoseFor (PlugGw caller) (Ended ending refused) old new = LinkRose ending old new
+RoseFor (TnGw peer) (Ended ending refused) old new = GateRose ending old new
 RoseFor command outcome old new = CountRose outcome old new
 
 abbrev pub RoseIn : Option LineView → Outcome → WorldView → WorldView → Type 0

@@ -8,7 +8,7 @@ use Rattle.netperm_table.specs.declared.table_fault.TableFault.TheVariants as ta
 use Rattle.netperm_table.specs.Table.{table_of}
 use Rattle.gate_rules.specs.Reading.{RuleBook, rules_of}
 use Rattle.gate_rules.specs.declared.fault.RuleFault.{RuleFault}
-use Rattle.gate_rules.specs.declared.service.Service.TheVariants.{Authsrv}
+use Rattle.gate_rules.specs.declared.service.Service.{Service}
 use Rattle.auth_machine.specs.Policy.{PolicyView, policy_of}
 use Rattle.bastion.specs.Inputs.{OfText, is_of_line}
 use Rattle.bastion.specs.Run.{AsksTable, FilesFailed}
@@ -88,13 +88,13 @@ reading_fault table.ReadFault = Failed device.Table
 reading_fault table.NoMemory = NoMemory steps.Table
 reading_fault fault = Unread (Table fault)
 
--- ---- what the table says to the authentication server
+-- ---- what the table says of a service whose sessions stand on the users' records
 
 abbrev pub both_of : Result RuleBook RuleFault → Result PolicyView RuleFault → Result ServerRules RuleFault
 both_of (Ok rules) (Ok policy) = Ok (record { rules = rules; policy = policy })
 both_of (Ok rules) (Err fault) = Err fault
 both_of (Err fault) policy = Err fault
 
--- both, or the first line of the server that can't be read
-abbrev pub server_rules_of : List Line → Result ServerRules RuleFault
-server_rules_of lines = both_of (rules_of Authsrv lines) (policy_of lines)
+-- both, or the first line that can't be read: of the service, and then of the authentication server
+abbrev pub server_rules_of : Service → List Line → Result ServerRules RuleFault
+server_rules_of service lines = both_of (rules_of service lines) (policy_of lines)

@@ -21,7 +21,7 @@ use Rattle.bastion.specs.declared.outcome.Refusal.{Refusal}
 use Rattle.bastion.specs.declared.outcome.Step.{Step}
 use Rattle.bastion.specs.declared.outcome.Step.TheVariants as steps
 use Rattle.bastion.specs.declared.words.Command.{Command}
-use Rattle.bastion.specs.declared.words.Command.TheVariants.{Netacl, NetaclRun, Table, Authsrv, PlugGw}
+use Rattle.bastion.specs.declared.words.Command.TheVariants.{Netacl, NetaclRun, Table, Authsrv, PlugGw, TnGw}
 
 -- ---- nothing was done: what the command needs couldn't be had
 
@@ -94,6 +94,7 @@ peer_of (NetaclRun query) = query.peer
 peer_of (Table query) = query.peer
 peer_of (Authsrv client) = client.peer
 peer_of (PlugGw caller) = caller.peer
+peer_of (TnGw peer) = peer
 
 abbrev pub verdict_for : Command → Inputs → Verdict
 verdict_for command inputs = verdict_of inputs.rules (peer_of command)

@@ -46,18 +46,13 @@ most_entries = 4194304
 abbrev pub origin_of : Inputs → Origin
 origin_of inputs = record { policy = inputs.policy; records = inputs.records }
 
--- The session was held over the records that the keeper had. These are sound; the history of its requests is legal, and full
--- where one was refused for that; the keeper has the records after it, and has counted a failure for each entry that was not
--- kept, and its calls as the history has it. After a client whom the rules deny, the keeper is as the load left it, its count of calls too.
-pub record Attended (client : Client) (inputs : Inputs) (out : outcomes.Outcome) (old new : WorldView) : Type 0 where
-  pub before : KeeperView
+-- ---- what a session over a book comes to
+
+-- The book was of the records that the keeper had. These are sound; the history of the requests is legal, and full where one
+-- was refused for that; the keeper has the records after it, and has counted a failure for each entry that was not kept, and
+-- its calls as the history has it. Neither the files were asked for anything, nor the launcher.
+pub record OverBook (inputs : Inputs) (before : KeeperView) (book : BookView) (ending : Ending) (out : outcomes.Outcome) (old new : WorldView) : Type 0 where
   pub keeper : old.inputs.keeper ≡ Some before
-  pub book : BookView
-  pub ending : Ending
-  pub dialer : DialerView
-  pub serves : Serves client.console inputs.rules client.peer (devices_at old (book_at_first (origin_of inputs) most_entries before) nowhere) (devices_at new book dialer) ending
-  pub undialed : dialer ≡ refusing 0 dialer.waits
-  pub untouched : UntouchedAt client.console (verdict_of inputs.rules client.peer) before book.keeper
   pub sound : IsSound (origin_of inputs)
   pub legal : IsLegal (origin_of inputs) book.history
   pub has : HasRecords (origin_of inputs) book.history book.keeper
@@ -67,5 +62,17 @@ pub record Attended (client : Client) (inputs : Inputs) (out : outcomes.Outcome)
   pub comes : out ≡ outcome.Ended ending book.refused
   pub kept : new.inputs.keeper ≡ Some book.keeper
   pub files : new.files ≡ old.files
-  pub links : new.inputs.dialer ≡ old.inputs.dialer
   pub launcher : new.inputs.launcher ≡ old.inputs.launcher
+
+-- A client of `authsrv` was served over the book, and no server met. After a client whom the rules deny, the keeper is as the
+-- load left it, its count of calls too.
+pub record Attended (client : Client) (inputs : Inputs) (out : outcomes.Outcome) (old new : WorldView) : Type 0 where
+  pub before : KeeperView
+  pub book : BookView
+  pub ending : Ending
+  pub over : OverBook inputs before book ending out old new
+  pub dialer : DialerView
+  pub serves : Serves client.console inputs.rules client.peer (devices_at old (book_at_first (origin_of inputs) most_entries before) nowhere) (devices_at new book dialer) ending
+  pub undialed : dialer ≡ refusing 0 dialer.waits
+  pub untouched : UntouchedAt client.console (verdict_of inputs.rules client.peer) before book.keeper
+  pub links : new.inputs.dialer ≡ old.inputs.dialer

@@ -1,7 +1,6 @@
--- A session of the server step by step: the book of the records that the keeper has is opened, the client served, and the keeper given back.
+-- A session over the book of the records step by step: the book is opened, the client served, and the keeper given back.
 -- No public clause cites these: they say what private functions answer.
-use Rattle.std.specs.Prelude.{◌≡◌, ℕ, List, true, length, Some, None, Ok, Err}
-use Rattle.auth_records.specs.Spelling.{Fields}
+use Rattle.std.specs.Prelude.{◌≡◌, ℕ, List, true, length, Some, None, Result, Ok, Err}
 use Rattle.fw_outside.specs.DialerView.{DialerView}
 use Rattle.fw_outside.specs.KeeperView.{IsCalled, KeeperFailed, KeeperView}
 use Rattle.session_acts.specs.Dummies.{nowhere}
@@ -11,18 +10,27 @@ use Rattle.auth_machine.specs.Opening.{ReadsAs}
 use Rattle.auth_machine.specs.Policy.{PolicyView}
 use Rattle.auth_machine.specs.declared.open_fault.OpenFault.{OpenFault}
 use Rattle.auth_machine.specs.declared.open_fault.OpenFault.TheVariants as faults
+use Rattle.client_service.specs.Conn.{Conn, Untouched}
 use Rattle.fw_types.specs.declared.ending.Ending.{Ending}
+use Rattle.fw_types.specs.declared.peer.Peer.{Peer}
 use Rattle.gate_rules.specs.Reading.{RuleBook}
 use Rattle.gate_rules.specs.Verdict.{verdict_of}
-use Rattle.bastion.specs.Serving.{Attended, Serves, UntouchedAt, book_at_first, devices_at, most_entries}
+use Rattle.gate_rules.specs.declared.service.Service.{Service}
+use Rattle.gate_rules.specs.declared.service.Service.TheVariants.{TnGw}
+use Rattle.bastion.specs.Gating.{devices_over}
+use Rattle.bastion.specs.Inputs.{HasInputs, Inputs, book_needs, needs}
+use Rattle.bastion.specs.Run.{ReadsOnly, Stops}
+use Rattle.bastion.specs.Serving.{Serves, UntouchedAt, book_at_first, devices_at, most_entries, origin_of}
 use Rattle.bastion.specs.WorldView.{WorldView}
 use Rattle.bastion.specs.declared.outcome.Device.TheVariants as device
 use Rattle.bastion.specs.declared.outcome.Outcome.{Outcome}
 use Rattle.bastion.specs.declared.outcome.Outcome.TheVariants as outcome
+use Rattle.bastion.specs.declared.outcome.Refusal.{Refusal}
 use Rattle.bastion.specs.declared.outcome.Refusal.TheVariants.{Record}
 use Rattle.bastion.specs.declared.outcome.Step.TheVariants as steps
 use Rattle.bastion.specs.declared.server_rules.ServerRules.{ServerRules}
 use Rattle.bastion.specs.declared.words.Client.{Client}
+use Rattle.bastion.specs.declared.words.Command.{Command}
 
 -- the keeper was taken, and the book is of its records
 pub record Opened (policy : PolicyView) (book : BookView) (old new : WorldView) : Type 0 where
@@ -81,41 +89,66 @@ pub record GivesBack (book : BookView) (old new : WorldView) : Type 0 where
   pub faults : CountsUnkept book.failed_before book.history book.keeper
   pub called : CountsCalls book.called_before book.origin book.history book.asks book.keeper
 
+-- ---- the book is opened
+
+-- it was opened, with these rules beside it
+pub record OpenedBy (server_rules : ServerRules) (rules : RuleBook) (book : BookView) (old new : WorldView) : Type 0 where
+  pub rules_are : rules ≡ server_rules.rules
+  pub opened : Opened server_rules.policy book old new
+
+-- the inputs of each command that needs a book for this service
+abbrev pub HasBookInputs : List ℕ → Service → Result Inputs Refusal → WorldView → Type 0
+HasBookInputs name service read world = (command : Command) → needs command ≡ book_needs service → HasInputs name command read world
+
+-- The inputs of the service were read, and the book is of their records. The keeper is in it.
+pub record Opens (name : List ℕ) (service : Service) (rules : RuleBook) (book : BookView) (old new : WorldView) : Type 0 where
+  pub inputs : Inputs
+  pub rules_are : rules ≡ inputs.rules
+  pub read : HasBookInputs name service (Ok inputs) old
+  pub middle : WorldView
+  pub only : ReadsOnly name true old middle
+  pub before : KeeperView
+  pub keeper : middle.inputs.keeper ≡ Some before
+  pub at_first : book ≡ book_at_first (origin_of inputs) most_entries before
+  pub is : new ≡ record middle { inputs = record (middle.inputs) { keeper = None } }
+
+-- what the service needs can't be had, whichever command it is for
+abbrev pub StopsEach : List ℕ → Service → Outcome → WorldView → WorldView → Type 0
+StopsEach name service outcome old new = (command : Command) → needs command ≡ book_needs service → Stops name command outcome old new
+
+-- ---- a session over it
+
+-- a session over the book came to this ending, and then the keeper was given back
+pub record EndsOver (book : BookView) (ending : Ending) (out : Outcome) (old new : WorldView) : Type 0 where
+  pub back : GivesBack book old new
+  pub full : book.refused ≡ true → length book.history ≡ book.limit
+  pub comes : out ≡ outcome.Ended ending book.refused
+
 -- the dialer is as before, but for how long its links wait
 abbrev pub IsUndialed : DialerView → DialerView → Type 0
 IsUndialed old new = new ≡ record old { waits = new.waits }
 
--- a session was held over this book, and then the keeper given back
+-- a client of `authsrv` was served over this book, and then the keeper given back
 pub record HoldsOver (client : Client) (rules : RuleBook) (first : BookView) (out : Outcome) (old new : WorldView) : Type 0 where
   pub book : BookView
   pub ending : Ending
+  pub middle : WorldView
   pub dialer : DialerView
-  pub serves : Serves client.console rules client.peer (devices_at old first nowhere) (devices_at new book dialer) ending
+  pub serves : Serves client.console rules client.peer (devices_at old first nowhere) (devices_at middle book dialer) ending
   pub undialed : IsUndialed nowhere dialer
   pub untouched : UntouchedAt client.console (verdict_of rules client.peer) first book
-  pub sound : IsSound book.origin
-  pub legal : IsLegal book.origin book.history
-  pub has : HasRecords book.origin book.history book.keeper
-  pub faults : CountsUnkept book.failed_before book.history book.keeper
-  pub called : CountsCalls book.called_before book.origin book.history book.asks book.keeper
-  pub full : book.refused ≡ true → length book.history ≡ book.limit
-  pub comes : out ≡ outcome.Ended ending book.refused
-  pub kept : new.inputs.keeper ≡ Some book.keeper
-  pub files : new.files ≡ old.files
-  pub links : new.inputs.dialer ≡ old.inputs.dialer
-  pub launcher : new.inputs.launcher ≡ old.inputs.launcher
+  pub files : middle.files ≡ old.files
+  pub links : middle.inputs.dialer ≡ old.inputs.dialer
+  pub launcher : middle.inputs.launcher ≡ old.inputs.launcher
+  pub ends : EndsOver book ending out middle new
 
--- the book was opened of these records, and the session held over it
-pub record OfRecords (client : Client) (server_rules : ServerRules) (out : Outcome) (old new : WorldView) : Type 0 where
-  pub before : KeeperView
-  pub keeper : old.inputs.keeper ≡ Some before
-  pub after : KeeperView
-  pub called : IsCalled before after
-  pub records : List Fields
-  pub read : ReadsAs (Ok records) before after
-  pub attended : Attended client (record { rules = server_rules.rules; policy = server_rules.policy; records = records }) out (record old { inputs = record (old.inputs) { keeper = Some after } }) new
-
--- what a session answers and leaves, by these rules
-abbrev pub Proceeds : Client → ServerRules → Outcome → WorldView → WorldView → Type 0
-Proceeds client server_rules (outcome.Ended ending refused) old new = OfRecords client server_rules (outcome.Ended ending refused) old new
-Proceeds client server_rules out old new = Unopened out old new
+-- and a client of `tn-gw`
+pub record PassesOver (peer : Peer) (rules : RuleBook) (first : BookView) (out : Outcome) (old new : WorldView) : Type 0 where
+  pub book : BookView
+  pub ending : Ending
+  pub middle : WorldView
+  pub serves : Conn TnGw rules peer (devices_over old first) (devices_over middle book) ending
+  pub untouched : Untouched TnGw (verdict_of rules peer) first book
+  pub files : middle.files ≡ old.files
+  pub launcher : middle.inputs.launcher ≡ old.inputs.launcher
+  pub ends : EndsOver book ending out middle new

@@ -16,7 +16,7 @@ use Rattle.bastion.specs.Words.{LineView}
 use Rattle.bastion.specs.WorldView.{SessionInputs, WorldView}
 use Rattle.bastion.specs.declared.outcome.Refusal.{Refusal}
 use Rattle.bastion.specs.declared.words.Command.{Command}
-use Rattle.bastion.specs.declared.words.Command.TheVariants.{Netacl, NetaclRun, Table, Authsrv, PlugGw}
+use Rattle.bastion.specs.declared.words.Command.TheVariants.{Netacl, NetaclRun, Table, Authsrv, PlugGw, TnGw}
 
 -- a device's own count rose, but for the dialer's
 abbrev pub SomeRose : WorldView → WorldView → Type 0
@@ -26,13 +26,19 @@ SomeRose old new =
     ⊎ (Rose old.inputs.input.faults new.inputs.input.faults ⊎ Rose old.inputs.input.idles new.inputs.input.idles)
     ⊎ (KeeperRose old.inputs.keeper new.inputs.keeper ⊎ Rose old.inputs.launcher.faults new.inputs.launcher.faults)
 
--- a link was refused, or one that was hung up had failed or been idle
-abbrev pub LinksRose : DialerView → DialerView → Type 0
-LinksRose old new = Rose old.refusals new.refusals ⊎ (Rose old.link_faults new.link_faults ⊎ Rose old.link_idles new.link_idles)
+-- a link that was hung up had failed or been idle
+abbrev pub LinksFailed : DialerView → DialerView → Type 0
+LinksFailed old new = Rose old.link_faults new.link_faults ⊎ Rose old.link_idles new.link_idles
 
--- a device's own count rose: the dialer's, too, where the command has a link
+-- so it was, or a link was refused
+abbrev pub LinksRose : DialerView → DialerView → Type 0
+LinksRose old new = Rose old.refusals new.refusals ⊎ LinksFailed old new
+
+-- a device's own count rose: the dialer's, too, where the command has a link; but a link that is refused is no failure of a
+-- session of `tn-gw`, which goes on
 abbrev pub RoseBy : Command → WorldView → WorldView → Type 0
 RoseBy (PlugGw caller) old new = SomeRose old new ⊎ LinksRose old.inputs.dialer new.inputs.dialer
+RoseBy (TnGw peer) old new = SomeRose old new ⊎ LinksFailed old.inputs.dialer new.inputs.dialer
 RoseBy command old new = SomeRose old new
 
 abbrev pub RoseOf : Option LineView → WorldView → WorldView → Type 0
@@ -70,6 +76,12 @@ abbrev pub IsLinked : Verdict → ℕ → SessionInputs → SessionInputs → Ty
 IsLinked (Permit line) status old new = (status ≡ 0) ⊎ ((status ≡ 6) × (TookMost old.input new.input ⊎ LinkSpent new.dialer))
 IsLinked (Deny line) status old new = status ≡ 1
 
+-- a session of the gateway: 0, or 6 where it came to a limit, or all that may be was taken of a link; 1 where the rules deny
+-- the peer
+abbrev pub IsPassed : Verdict → ℕ → SessionInputs → SessionInputs → Type 0
+IsPassed (Permit line) status old new = (status ≡ 0) ⊎ ((status ≡ 6) × (IsAtLimit old new ⊎ LinkSpent new.dialer))
+IsPassed (Deny line) status old new = status ≡ 1
+
 -- 3 where something can't be read; 0 or 1 as the rules permit or deny the peer
 abbrev pub IsBy : Command → Result Inputs Refusal → ℕ → SessionInputs → SessionInputs → Type 0
 IsBy command (Err refusal) status old new = status ≡ 3
@@ -78,6 +90,7 @@ IsBy (NetaclRun query) (Ok inputs) status old new = status ≡ verdict_status (v
 IsBy (Table query) (Ok inputs) status old new = status ≡ verdict_status (verdict_for (Table query) inputs)
 IsBy (Authsrv client) (Ok inputs) status old new = IsServed client.console (verdict_for (Authsrv client) inputs) status old new
 IsBy (PlugGw caller) (Ok inputs) status old new = IsLinked (verdict_for (PlugGw caller) inputs) status old new
+IsBy (TnGw peer) (Ok inputs) status old new = IsPassed (verdict_for (TnGw peer) inputs) status old new
 
 -- the status is by the inputs of the command, or by what can't be read
 pub record ByInputs (name : List ℕ) (command : Command) (status : ℕ) (old new : WorldView) : Type 0 where
@@ -111,6 +124,7 @@ pub record TakesOver (status : ℕ) (old new : SourceView) : Type 0 where
 
 abbrev pub TakesFor : Command → ℕ → SourceView → SourceView → Type 0
 TakesFor (PlugGw caller) status old new = TakesOver status old new
+TakesFor (TnGw peer) status old new = TakesOver status old new
 TakesFor command status old new = TakesIn status old new
 
 abbrev pub TakesBy : Option LineView → ℕ → SourceView → SourceView → Type 0

@@ -9,6 +9,7 @@ use Rattle.fw_outside.specs.declared.started.Started.TheVariants as program
 use Rattle.gate_rules.specs.Verdict.{verdict_of}
 use Rattle.gate_rules.specs.declared.verdict.Verdict.{Verdict}
 use Rattle.gate_rules.specs.declared.verdict.Verdict.TheVariants.{Permit, Deny}
+use Rattle.bastion.specs.Gating.{Gated}
 use Rattle.bastion.specs.Inputs.{Inputs}
 use Rattle.bastion.specs.Linking.{Linked}
 use Rattle.bastion.specs.Serving.{Attended}
@@ -20,7 +21,7 @@ use Rattle.bastion.specs.declared.outcome.Device.TheVariants as device
 use Rattle.bastion.specs.declared.outcome.Outcome.{Outcome}
 use Rattle.bastion.specs.declared.outcome.Outcome.TheVariants.{Failed, Decided}
 use Rattle.bastion.specs.declared.words.Command.{Command}
-use Rattle.bastion.specs.declared.words.Command.TheVariants.{Netacl, NetaclRun, Table, Authsrv, PlugGw}
+use Rattle.bastion.specs.declared.words.Command.TheVariants.{Netacl, NetaclRun, Table, Authsrv, PlugGw, TnGw}
 use Rattle.bastion.specs.declared.words.Query.{Query}
 
 -- the sink has taken these bytes whole
@@ -109,3 +110,4 @@ Works (NetaclRun query) inputs outcome old new =
 Works (Table query) inputs outcome old new = Shown (verdict_of inputs.rules query.peer) (report_text inputs.rules (verdict_of inputs.rules query.peer)) outcome old new
 Works (Authsrv client) inputs outcome old new = Attended client inputs outcome old new
 Works (PlugGw caller) inputs outcome old new = Linked caller inputs outcome old new
+Works (TnGw peer) inputs outcome old new = Gated peer inputs outcome old new

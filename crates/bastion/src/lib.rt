@@ -11,6 +11,7 @@
 #![tactic(auto)]
 
 mod authsrv;
+mod book;
 mod deciding;
 mod kit;
 mod obeying;
@@ -22,6 +23,7 @@ mod running;
 mod server_rules;
 mod starting;
 mod table_report;
+mod telnet;
 mod texts;
 mod words;
 

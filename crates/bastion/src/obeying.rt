@@ -10,6 +10,7 @@ use crate::deciding::{decide, show};
 use crate::plug::plug;
 use crate::reading::rules_for;
 use crate::starting::decide_run;
+use crate::telnet::gate;
 use crate::{Command, CommandLine, Kit, Outcome, Query, World};
 use fw_types::Octets;
 use std::alloc::Global;
@@ -65,6 +66,7 @@ where
         Command::Table(query) => table(alloc, name, query, world),
         Command::Authsrv(client) => attend(rt, alloc, name, client, world),
         Command::PlugGw(caller) => plug(rt, alloc, name, caller, world),
+        Command::TnGw(peer) => gate(rt, alloc, name, peer, world),
     }
 }
 

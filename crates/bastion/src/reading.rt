@@ -4,13 +4,11 @@ ghost use Rattle.client_service.specs.PlugService.{AreRulesOf};
 ghost use Rattle.auth_machine.specs.Policy.{policy_of};
 ghost use Rattle.bastion.specs.Reading.{Finds, ReadsLines, ReadsTable, reading_fault, ruling_in, server_rules_of};
 ghost use Rattle.gate_rules.specs.Reading.{rules_of};
-ghost use Rattle.gate_rules.specs.declared.service.Service.TheVariants.{Authsrv};
 
 use crate::server_rules::ServerRules;
 use crate::{Device, Kit, Outcome, Refusal, Step, World};
 use auth_machine::Policy;
 use fw_outside::Files;
-use fw_types::NoMemory;
 use gate_rules::{Rules, RulesFault, Service};
 use netperm_table::{Table, TableFault};
 use std::alloc::Global;
@@ -50,33 +48,38 @@ fn read_rules(alloc: Global, table: &Table, service: &Service) -> Result<Rules, 
     }
 }
 
-// What the server goes by, where its rules were read.
-fn read_policy(alloc: Global, table: &Table, rules: &Rules) -> Result<Policy, Outcome>
-    requires { rules_of Authsrv table.now ≡ Ok rules.now }
+// What the authentication server goes by.
+fn read_policy(alloc: Global, table: &Table) -> Result<Policy, Outcome>
     ensures { ReadsLines (policy_of table.now) result }
 {
-    match Policy::beside(alloc, table, rules) {
+    match Policy::of(alloc, table) {
         Ok(policy) => Ok(policy),
-        Err(NoMemory) => Err(Outcome::NoMemory(Step::Policy)),
+        Err(RulesFault::Rule(fault)) => Err(Outcome::Unread(Refusal::Rule(fault))),
+        Err(RulesFault::NoMemory) => Err(Outcome::NoMemory(Step::Policy)),
     }
 }
 
-// With these rules, what the table says to the authentication server.
-fn with_policy(alloc: Global, table: &Table, rules: Rules) -> Result<ServerRules, Outcome>
-    requires { rules_of Authsrv table.now ≡ Ok rules }
-    ensures { ReadsLines (server_rules_of table.now) result }
+// These rules of a service, and what the authentication server goes by.
+fn with_policy(
+    alloc: Global,
+    table: &Table,
+    service: &Service,
+    rules: Rules,
+) -> Result<ServerRules, Outcome>
+    requires { rules_of service.now table.now ≡ Ok rules }
+    ensures { ReadsLines (server_rules_of service.now table.now) result }
 {
-    match read_policy(alloc, table, &rules) {
+    match read_policy(alloc, table) {
         Ok(policy) => Ok(ServerRules { rules, policy }),
         Err(outcome) => Err(outcome),
     }
 }
 
-fn read_both(alloc: Global, table: &Table) -> Result<ServerRules, Outcome>
-    ensures { ReadsLines (server_rules_of table.now) result }
+fn read_both(alloc: Global, table: &Table, service: &Service) -> Result<ServerRules, Outcome>
+    ensures { ReadsLines (server_rules_of service.now table.now) result }
 {
-    match read_rules(alloc, table, &Service::Authsrv) {
-        Ok(rules) => with_policy(alloc, table, rules),
+    match read_rules(alloc, table, service) {
+        Ok(rules) => with_policy(alloc, table, service, rules),
         Err(outcome) => Err(outcome),
     }
 }
@@ -114,16 +117,33 @@ pub(crate) fn rules_for<T: Kit>(
     find_rules(alloc, &mut world.files, name, service)
 }
 
-/// What the table with this name says to the authentication server.
-pub(crate) fn find_server_rules<F: Files>(
+// What the table with this name says of a service whose sessions stand on the users' records.
+fn find_server_rules<F: Files>(
     alloc: Global,
     files: &mut F,
     name: &[u8],
+    service: &Service,
 ) -> Result<ServerRules, Outcome>
-    ensures { Finds (ruling_in server_rules_of) name.now result (F.files_view files.old) (F.files_view files.new) }
+    ensures { Finds (ruling_in (server_rules_of service.now)) name.now result (F.files_view files.old) (F.files_view
+        files.new) }
 {
     match read_table(alloc, files, name) {
-        Ok(table) => read_both(alloc, &table),
+        Ok(table) => read_both(alloc, &table, service),
         Err(outcome) => Err(outcome),
     }
+}
+
+/// The rules of a service, and what the authentication server goes by. Only the files are asked.
+pub(crate) fn server_rules_for<T: Kit>(
+    alloc: Global,
+    name: &[u8],
+    service: &Service,
+    world: &mut World<T>,
+) -> Result<ServerRules, Outcome>
+    ensures found { Finds (ruling_in (server_rules_of service.now)) name.now result world.old.files world.new.files }
+    ensures output { world.new.output ≡ world.old.output }
+    ensures logs { world.new.logs ≡ world.old.logs }
+    ensures inputs { world.new.inputs ≡ world.old.inputs }
+{
+    find_server_rules(alloc, &mut world.files, name, service)
 }

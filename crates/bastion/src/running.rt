@@ -14,18 +14,19 @@ use std::thread::Threads;
 
 /// Runs a command line over the devices of a world, and answers the exit status:
 ///
-/// - 0 where the table permits the peer, and a session of `authsrv` is done; 1 where it denies the peer, who isn't at
-///   the console of `authsrv`;
+/// - 0 where the table permits the peer, and a session of `authsrv`, `plug-gw` or `tn-gw` is done; 1 where it denies the
+///   peer, who isn't at the console of `authsrv`;
 /// - 2 where the words are no command;
-/// - 3 where a line of the table, or of the service, or a user's record can't be read;
+/// - 3 where a line of the table, or of the service, or a user's record can't be read; for `tn-gw` also where a line of
+///   `authsrv` can't;
 /// - 4 where a device failed, which its count shows;
 /// - 5 for want of memory, which never takes the place of a denial once the records and rules are read;
 /// - 6 where a session took as many bytes as it may, or was done but was refused a request since the history is full.
 ///
 /// What ends a run before a session is told to the log in one line that names its cause, and so is a history that was
 /// full. A session's ending has its own line, but for a denial, which the verdict's line tells, and a log that failed.
-/// If the log fails within the verdict's line, `netacl` prints nothing and `authsrv` tells the client nothing. A denial
-/// that was logged stands even if it couldn't be printed. `table` prints alone.
+/// If the log fails within the verdict's line, `netacl` prints nothing, a client is told nothing, and no destination is
+/// asked for. A denial that was logged stands even if it couldn't be printed. `table` prints alone.
 pub fn run<H, T>(rt: &H, alloc: Global, words: &[Octets], world: &mut World<T>) -> u8
 where
     H: Threads + Sync,
@@ -33,7 +34,8 @@ where
     requires keeper { IsSome world.old.inputs.keeper }
     // What the run came to and did; a failure that it names was counted; its line in the log, and its status.
     ensures ran { Run (line_of words.now) result world.old world.new }
-    // The replies that a client is told are those of a legal history, and a denial's line stands in the log.
+    // The replies that a client is told are those of a legal history, destinations are asked for as the table permits, and
+    // a denial's line stands in the log.
     ensures headline { Headline (line_of words.now) result world.old world.new }
     // 2 is for words that are no command; for a command the status is what its inputs say, unless a device failed or
     // there was no memory; 4 is only for a device whose own count rose.

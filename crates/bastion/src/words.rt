@@ -46,6 +46,8 @@ pub enum Command {
     Authsrv(Client),
     /// `plug-gw PORT ADDR [NAME]`: link a peer to the server that the table names for this port.
     PlugGw(Caller),
+    /// `tn-gw ADDR [NAME]`: link a peer to the destination that it asks for, where the table permits it.
+    TnGw(Peer),
 }
 
 const DEFAULT_TABLE: &[u8] = b"/usr/local/etc/netperm-table";
@@ -264,6 +266,9 @@ fn command_in(words: &[Octets]) -> Option<Command>
             }
             if is_word(name, b"plug-gw") {
                 return caller_in(words).map(Command::PlugGw);
+            }
+            if is_word(name, b"tn-gw") {
+                return peer_in(words).map(Command::TnGw);
             }
             None
         }
