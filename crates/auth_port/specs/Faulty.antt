@@ -1,5 +1,5 @@
 -- A port over a book, whose link fails at the calls that it is told.
-use Rattle.std.specs.Prelude.{◌≡◌, ℕ, ⊥, Bool, true, false, Result, Ok, Err}
+use Rattle.std.specs.Prelude.{◌≡◌, ℕ, true, false, Result, Ok, Err}
 use Rattle.fw_memory.specs.CallsView.{CallsView, comes_at}
 use Rattle.fw_outside.specs.Counts.{Grew, counted}
 use Rattle.fw_types.specs.declared.no_memory.NoMemory.{NoMemory}
