@@ -1,4 +1,5 @@
 //! A client of a server in whose history there is room for few requests.
+ghost use Rattle.client_service.specs.Conn.{IsServed};
 
 use auth_machine::{Book, Policy};
 use bastion::{Command, Outcome, conn, read_command, table_named};
@@ -61,15 +62,18 @@ fn close(book: Book<MemKeeper>, limit: u64, ending: Ending) -> (u8, MemKeeper) {
 }
 
 // The one call of `conn`.
-fn conn_over<H: Threads + Sync>(
+fn conn_as<H: Threads + Sync>(
     rt: &H,
+    service: &Service,
     server: &Server,
     book: &mut Book<MemKeeper>,
     ended: &mut Ended,
-) -> Ending {
+) -> Ending
+    requires { IsServed service.now server.now.rules }
+{
     conn(
         rt,
-        &server.service,
+        service,
         &server.rules,
         &server.peer,
         book,
@@ -80,6 +84,19 @@ fn conn_over<H: Threads + Sync>(
         &mut ended.devices.place.clock,
         &mut ended.devices.place.dice,
     )
+}
+
+// A client of the gateway, or else of the server.
+fn conn_over<H: Threads + Sync>(
+    rt: &H,
+    server: &Server,
+    book: &mut Book<MemKeeper>,
+    ended: &mut Ended,
+) -> Ending {
+    match server.service {
+        Service::TnGw => conn_as(rt, &Service::TnGw, server, book, ended),
+        _ => conn_as(rt, &Service::Authsrv, server, book, ended),
+    }
 }
 
 // Serves the client, and says what it came to.
