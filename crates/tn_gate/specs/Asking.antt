@@ -7,7 +7,7 @@ use Rattle.auth_events.specs.declared.request.OpService.TheVariants as services
 use Rattle.auth_events.specs.declared.request.Request.{Request}
 use Rattle.auth_events.specs.declared.request.Request.TheVariants as requests
 use Rattle.fw_outside.specs.declared.heard.Heard.{Heard}
-use Rattle.fw_outside.specs.declared.heard.Heard.TheVariants.{Line, TooLong, Stopped}
+use Rattle.fw_outside.specs.declared.heard.Heard.TheVariants.{Line, Stopped}
 use Rattle.fw_types.specs.Name.{name_of}
 use Rattle.fw_types.specs.declared.dest.Dest.{Dest}
 use Rattle.gate_rules.specs.Verdict.{allows}

@@ -50,13 +50,13 @@ abbrev pub granted_if : Bool → Host → List Deed
 granted_if true host = granted host ∷ []
 granted_if false host = []
 
--- What stands right before a destination is asked for: with `-extnd` the permission, and then the connect line, which was
--- logged whole.
+-- What stands between the line that asks for a destination and that it is asked for: with `-extnd` the permission, and then
+-- the connect line, which was logged whole.
 abbrev pub clearing : Gate → Dest → List Deed
 clearing gate dest = granted_if gate.options.extnd dest.host ++ line_logged (connect_line gate dest) ∷ []
 
--- A destination may be asked for after these deeds: they end so; right before that the line was heard that asks for it; the
--- permission line lets it pass; and where that line asks for a login, one stands in what the session has asked and was
+-- A destination may be asked for after these deeds: they end so, and right before that the line was heard that asks for it;
+-- the permission line lets it pass; and where that line asks for a login, one stands in what the session has asked and was
 -- answered.
 pub record IsCleared (gate : Gate) (dest : Dest) (before : List Deed) : Type 0 where
   pub earlier : List Deed

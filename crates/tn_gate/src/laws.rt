@@ -25,10 +25,10 @@ ghost use Rattle.tn_gate.specs.Gate.{Gate, asks_login};
 ghost use Rattle.tn_gate.specs.Laws.{AsksExactly, DenialsLogged, DialsCleared, LinesDialed};
 ghost use Rattle.tn_gate.specs.Login.{LoginStandsIn, number_opened};
 
-/// A destination is asked for right behind its connect line, which the log has whole, and behind the permission for its host
-/// where the permission line has `-extnd`; right before that, the line was heard that asks for it; the permission line's
-/// `-dest` allows it; and where that line asks for a login, one stands in what this session has asked and was answered up to
-/// there (`dials`). Right behind each connect line that the log has whole its destination is asked for (`lines`).
+/// Right before a destination is asked for stand, in order, the client's line that asks for it, with `-extnd` the permission
+/// for its host, and its connect line, which the log has whole; the permission line's `-dest` allows it; and where that line
+/// asks for a login, one stands in what this session has asked and was answered up to there (`dials`). Right behind each
+/// connect line that the log has whole its destination is asked for (`lines`).
 pub fn each_dial_is_cleared<Origin>()
     ensures dials { (gate : Gate) (old new : World Origin) (ending : Ending)
         (held : Held (relayed (tn_rows gate)) (then_relay (tn_row gate)) old new ending) →
