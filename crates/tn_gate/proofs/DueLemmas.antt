@@ -44,7 +44,7 @@ use Rattle.tn_gate.specs.declared.place.Place.{Place}
 use Rattle.tn_gate.specs.declared.place.Place.TheVariants.{Naming, Answering, Commanding}
 use Rattle.tn_gate.proofs.AccountLemmas.{Talk, deed_of}
 
-clash : {A : Type 0} → false ≡ true → A
+pub clash : {A : Type 0} → false ≡ true → A
 clash is = absurd (true≢false (sym is))
 
 -- ---- the watch
@@ -154,11 +154,11 @@ none_yet true stood lasts gives none is = absurd (true≢false is)
 none_yet false true lasts gives none is = absurd (true≢false is)
 none_yet false false lasts gives none is = ap (λ (b : Bool). b || false) none
 
-at_last : (free : Bool) → (free || true) ≡ true
+pub at_last : (free : Bool) → (free || true) ≡ true
 at_last true = refl
 at_last false = refl
 
-still_so : (free stood : Bool) → (free || stood) ≡ true → (free || (stood && true)) ≡ true
+pub still_so : (free stood : Bool) → (free || stood) ≡ true → (free || (stood && true)) ≡ true
 still_so true stood is = refl
 still_so false true is = refl
 still_so false false is = absurd (true≢false (sym is))
@@ -429,7 +429,7 @@ module _ (Origin : Type 0) (gate : Gate) where
   no_name_leaves deeds open_ heard none login asks =
       let still = asks_quiet gate deeds (hear heard) refl asks in
       ask_name_leaves (behind gate deeds (Hear heard_form) (Ok heard)) login_denied open_ (silent deeds heard login) (commands_quiet gate deeds (hear heard) false refl login) still
-      (record { refused = λ is. clash is; failed = λ is. inr (record { heard = heard; is = none; last = (deeds, refl); unasked = still }) })
+      (record { refused = λ is. clash is; failed = λ is. inr (record { heard = heard; is = none; last = (deeds, refl); naming = commands_quiet gate deeds (hear heard) false refl login; unasked = still }) })
 
   naming_leaves : (deeds : List Deed) (open_ : Bool) (heard : Heard) → takes_commands gate deeds ≡ false → asks_last (talk deeds) ≡ false → Leaves watch (naming_row gate open_ heard) (behind gate deeds (Hear heard_form) (Ok heard))
   naming_leaves deeds open_ (Line line) login asks = choose (name_of line.items) refl

@@ -281,6 +281,7 @@ cleared_by : (gate : Gate) (before : List Deed) (dest : Dest) → MayDial gate d
 cleared_by gate before dest may = record {
   earlier = may.earlier;
   stands = sym (all_deeds gate before) ∙ may.stands;
+  wanted = may.wanted;
   allowed = may.allowed;
   login = λ asks. ap login_in (sym (all_talk gate before)) ∙ may.login asks;
 }

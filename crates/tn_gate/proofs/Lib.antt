@@ -1,4 +1,6 @@
 mod AccountLemmas
+pub mod AskingLawLemmas
+mod AskingLemmas
 pub mod CourseLemmas
 pub mod DueLawLemmas
 mod DueLemmas

@@ -36,7 +36,7 @@ use Rattle.tn_gate.specs.Asked.Role.{IsName, IsResponse, IsCommand}
 use Rattle.tn_gate.specs.Command.{command_of}
 use Rattle.tn_gate.specs.Dialogue.{answered_row, answering_row, ask_command, ask_name, authenticate_row, command_row, commanding_row, connect_row, dest_row, dialed_row, failed_row, first_by, heard_form, name_row, named_row, naming_row, opened_row, operated_row, permitted_row, reason_of, refuse_row, refusing_line, respond_row, response_row, tn_row, tn_rows}
 use Rattle.tn_gate.specs.Gate.{Gate, asks_login}
-use Rattle.tn_gate.specs.Laws.{clearing, granted, granted_if}
+use Rattle.tn_gate.specs.Laws.{EndsWith, IsWanted, clearing, granted, granted_if}
 use Rattle.tn_gate.specs.LogLines.{connect_line, fail_line, login_line, refuse_line}
 use Rattle.tn_gate.specs.Texts.{challenge_asked, command_prompt, connected, goodbye, help, login_denied, name_prompt, no_route, password_asked, password_ended, refusal, unknown_command}
 use Rattle.tn_gate.specs.declared.command.Command.{Command}
@@ -58,6 +58,7 @@ pub record Behind (gate : Gate) (n : Noted) : Type 0 where
 pub record MayDial (gate : Gate) (dest : Dest) (n : Noted) : Type 0 where
   pub earlier : List Deed
   pub stands : n.deeds ≡ earlier ++ clearing gate dest
+  pub wanted : IsWanted dest earlier
   pub allowed : allows gate.options dest ≡ true
   pub login : asks_login gate.options ≡ true → login_in (n.talk ++ n.said) ≡ true
 
@@ -250,11 +251,11 @@ module _ (Origin : Type 0) (gate : Gate) (asks calls : List Dest) (even : asks �
     dialed_leaves deeds false =
         (nothing_left deeds, λ done. record { even = all_dialed deeds; role = refl; login = login })
 
-    connect_leaves : (deeds earlier : List Deed) → deeds ++ line_logged (connect_line gate dest) ∷ [] ≡ earlier ++ clearing gate dest → allows gate.options dest ≡ true → Leaves watch (connect_row gate dest) (at IsCommand deeds said)
-    connect_leaves deeds earlier stands allowed = (
+    connect_leaves : (deeds earlier : List Deed) → deeds ++ line_logged (connect_line gate dest) ∷ [] ≡ earlier ++ clearing gate dest → IsWanted dest earlier → allows gate.options dest ≡ true → Leaves watch (connect_row gate dest) (at IsCommand deeds said)
+    connect_leaves deeds earlier stands wanted allowed = (
       behind IsCommand deeds said,
       λ logged. (
-        (record { earlier = earlier; stands = stands; allowed = allowed; login = login }, behind IsCommand (deeds ++ line_logged (connect_line gate dest) ∷ []) said),
+        (record { earlier = earlier; stands = stands; wanted = wanted; allowed = allowed; login = login }, behind IsCommand (deeds ++ line_logged (connect_line gate dest) ∷ []) said),
         λ up. dialed_leaves ((deeds ++ line_logged (connect_line gate dest) ∷ []) ++ deed_of (Dial dest) (Ok up) ∷ []) up,
       ),
     )
@@ -289,31 +290,31 @@ module _ (Origin : Type 0) (gate : Gate) (asks calls : List Dest) (even : asks �
       refused_leaves deeds reply extnd bad =
           refuse_leaves deeds ((operation, reply) ∷ []) dest (refusing_line gate.line reply) (one_of_line ((operation, reply) ∷ []) false (not_granted reply extnd bad)) (still reply)
 
-      operated_leaves : (deeds : List Deed) (reply : Reply) → allows gate.options dest ≡ true → gate.options.extnd ≡ true
+      operated_leaves : (deeds : List Deed) (reply : Reply) → IsWanted dest deeds → allows gate.options dest ≡ true → gate.options.extnd ≡ true
           → Leaves watch (operated_row gate dest reply) (at IsCommand (deeds ++ deed_of (Ask operation) (Ok reply) ∷ []) ((operation, reply) ∷ []))
-      operated_leaves deeds replies.Ok allowed extnd =
+      operated_leaves deeds replies.Ok wanted allowed extnd =
           let said : Talk = (operation, replies.Ok) ∷ [] in
           let clear : (not gate.options.extnd || ((is_same_host dest.host dest.host && true) || false)) ≡ true = rw (same_host dest.host) (or_true (not gate.options.extnd)) in
           let test = passes (allows gate.options dest) (asks_login gate.options) (login_in talk) gate.options.extnd ((is_same_host dest.host dest.host && true) || false) allowed login clear in
           connect_leaves dest said (one_of_line said true test) (still replies.Ok) (deeds ++ granted dest.host ∷ []) deeds
-          (append_assoc deeds (granted dest.host ∷ []) (line_logged (connect_line gate dest) ∷ []) ∙ ap (λ (b : Bool). deeds ++ (granted_if b dest.host ++ line_logged (connect_line gate dest) ∷ [])) (sym extnd)) allowed
-      operated_leaves deeds (replies.Denied denial) allowed extnd = refused_leaves (deeds ++ deed_of (Ask operation) (Ok (replies.Denied denial)) ∷ []) (replies.Denied denial) extnd refl
-      operated_leaves deeds (replies.Opened sid) allowed extnd = refused_leaves (deeds ++ deed_of (Ask operation) (Ok (replies.Opened sid)) ∷ []) (replies.Opened sid) extnd refl
-      operated_leaves deeds replies.Password allowed extnd = refused_leaves (deeds ++ deed_of (Ask operation) (Ok replies.Password) ∷ []) replies.Password extnd refl
-      operated_leaves deeds (replies.Challenge number word_seed) allowed extnd = refused_leaves (deeds ++ deed_of (Ask operation) (Ok (replies.Challenge number word_seed)) ∷ []) (replies.Challenge number word_seed) extnd refl
-      operated_leaves deeds (replies.Shown summary) allowed extnd = refused_leaves (deeds ++ deed_of (Ask operation) (Ok (replies.Shown summary)) ∷ []) (replies.Shown summary) extnd refl
+          (append_assoc deeds (granted dest.host ∷ []) (line_logged (connect_line gate dest) ∷ []) ∙ ap (λ (b : Bool). deeds ++ (granted_if b dest.host ++ line_logged (connect_line gate dest) ∷ [])) (sym extnd)) wanted allowed
+      operated_leaves deeds (replies.Denied denial) wanted allowed extnd = refused_leaves (deeds ++ deed_of (Ask operation) (Ok (replies.Denied denial)) ∷ []) (replies.Denied denial) extnd refl
+      operated_leaves deeds (replies.Opened sid) wanted allowed extnd = refused_leaves (deeds ++ deed_of (Ask operation) (Ok (replies.Opened sid)) ∷ []) (replies.Opened sid) extnd refl
+      operated_leaves deeds replies.Password wanted allowed extnd = refused_leaves (deeds ++ deed_of (Ask operation) (Ok replies.Password) ∷ []) replies.Password extnd refl
+      operated_leaves deeds (replies.Challenge number word_seed) wanted allowed extnd = refused_leaves (deeds ++ deed_of (Ask operation) (Ok (replies.Challenge number word_seed)) ∷ []) (replies.Challenge number word_seed) extnd refl
+      operated_leaves deeds (replies.Shown summary) wanted allowed extnd = refused_leaves (deeds ++ deed_of (Ask operation) (Ok (replies.Shown summary)) ∷ []) (replies.Shown summary) extnd refl
 
-      permitted_leaves : (deeds : List Deed) (extnd : Bool) → gate.options.extnd ≡ extnd → allows gate.options dest ≡ true → Leaves watch (permitted_row extnd gate dest) (at IsCommand deeds [])
-      permitted_leaves deeds true extnd allowed =
-          ((or_last (is_some gate.options.auth) gate.options.authall gate.options.extnd extnd, behind IsCommand deeds []), λ reply. operated_leaves deeds reply allowed extnd)
-      permitted_leaves deeds false extnd allowed =
+      permitted_leaves : (deeds : List Deed) (extnd : Bool) → gate.options.extnd ≡ extnd → IsWanted dest deeds → allows gate.options dest ≡ true → Leaves watch (permitted_row extnd gate dest) (at IsCommand deeds [])
+      permitted_leaves deeds true extnd wanted allowed =
+          ((or_last (is_some gate.options.auth) gate.options.authall gate.options.extnd extnd, behind IsCommand deeds []), λ reply. operated_leaves deeds reply wanted allowed extnd)
+      permitted_leaves deeds false extnd wanted allowed =
           let clear : (not gate.options.extnd || false) ≡ true = rw extnd refl in
           let test = passes (allows gate.options dest) (asks_login gate.options) (login_in talk) gate.options.extnd false allowed login clear in
-          connect_leaves dest [] (one_of_line [] true test) login_nil deeds deeds (ap (λ (b : Bool). deeds ++ (granted_if b dest.host ++ line_logged (connect_line gate dest) ∷ [])) (sym extnd)) allowed
+          connect_leaves dest [] (one_of_line [] true test) login_nil deeds deeds (ap (λ (b : Bool). deeds ++ (granted_if b dest.host ++ line_logged (connect_line gate dest) ∷ [])) (sym extnd)) wanted allowed
 
-      dest_leaves : (deeds : List Deed) (allowed : Bool) → allows gate.options dest ≡ allowed → Leaves watch (dest_row allowed gate dest) (at IsCommand deeds [])
-      dest_leaves deeds true allowed = permitted_leaves deeds gate.options.extnd refl allowed
-      dest_leaves deeds false allowed =
+      dest_leaves : (deeds : List Deed) (allowed : Bool) → IsWanted dest deeds → allows gate.options dest ≡ allowed → Leaves watch (dest_row allowed gate dest) (at IsCommand deeds [])
+      dest_leaves deeds true wanted allowed = permitted_leaves deeds gate.options.extnd refl wanted allowed
+      dest_leaves deeds false wanted allowed =
           refuse_leaves deeds [] dest gate.line (one_of_line [] false (ap (λ (b : Bool). test_with b false) allowed)) login_nil
 
     -- ---- commands
@@ -324,12 +325,13 @@ module _ (Origin : Type 0) (gate : Gate) (asks calls : List Dest) (even : asks �
     words_leaves : (deeds : List Deed) (words : List ℕ) → line_dest heard ≡ [] → Leaves watch (ask_command words) (at IsCommand deeds [])
     words_leaves deeds words is = ask_command_leaves IsCommand deeds [] words (no_dest is) refl login_nil
 
-    command_leaves : (deeds : List Deed) (command : Command) → line_dest heard ≡ dest_of command → Leaves watch (command_row gate command) (at IsCommand deeds [])
-    command_leaves deeds Nothing is = words_leaves deeds [] is
-    command_leaves deeds (Connect dest) is = dest_leaves dest is deeds (allows gate.options dest) refl
-    command_leaves deeds Quit is = (behind IsCommand deeds [], λ done. settled IsCommand deeds [] (no_dest is))
-    command_leaves deeds Help is = words_leaves deeds help is
-    command_leaves deeds Unknown is = words_leaves deeds unknown_command is
+    command_leaves : (deeds : List Deed) (command : Command) → EndsWith (deed_of (Hear heard_form) (Ok heard)) deeds → line_dest heard ≡ dest_of command → Leaves watch (command_row gate command) (at IsCommand deeds [])
+    command_leaves deeds Nothing last is = words_leaves deeds [] is
+    command_leaves deeds (Connect dest) last is =
+        dest_leaves dest is deeds (allows gate.options dest) (record { heard = heard; wants = is; last = last }) refl
+    command_leaves deeds Quit last is = (behind IsCommand deeds [], λ done. settled IsCommand deeds [] (no_dest is))
+    command_leaves deeds Help last is = words_leaves deeds help is
+    command_leaves deeds Unknown last is = words_leaves deeds unknown_command is
 
 -- ---- the table
 
@@ -354,10 +356,10 @@ module _ (Origin : Type 0) (gate : Gate) where
   answering_leaves name hidden deeds asks calls even (Stopped stop) talk wants = settled Origin gate asks calls even (Stopped stop) talk IsResponse deeds [] refl
 
   commanding_leaves : (deeds : List Deed) (asks calls : List Dest) (even : asks ≡ calls) (heard : Heard) (talk : Talk) → (asks_login gate.options ≡ true → login_in talk ≡ true)
-      → Leaves (tn_watch Origin gate) (commanding_row gate heard) (at Origin gate asks calls even heard talk IsCommand deeds [])
-  commanding_leaves deeds asks calls even (Line line) talk login = command_leaves Origin gate asks calls even (Line line) talk login deeds (command_of line.items) refl
-  commanding_leaves deeds asks calls even TooLong talk login = command_leaves Origin gate asks calls even TooLong talk login deeds Unknown refl
-  commanding_leaves deeds asks calls even (Stopped stop) talk login = settled Origin gate asks calls even (Stopped stop) talk IsCommand deeds [] refl
+      → Leaves (tn_watch Origin gate) (commanding_row gate heard) (at Origin gate asks calls even heard talk IsCommand (deeds ++ deed_of (Hear heard_form) (Ok heard) ∷ []) [])
+  commanding_leaves deeds asks calls even (Line line) talk login = command_leaves Origin gate asks calls even (Line line) talk login (deeds ++ deed_of (Hear heard_form) (Ok (Line line)) ∷ []) (command_of line.items) (deeds, refl) refl
+  commanding_leaves deeds asks calls even TooLong talk login = command_leaves Origin gate asks calls even TooLong talk login (deeds ++ deed_of (Hear heard_form) (Ok TooLong) ∷ []) Unknown (deeds, refl) refl
+  commanding_leaves deeds asks calls even (Stopped stop) talk login = settled Origin gate asks calls even (Stopped stop) talk IsCommand (deeds ++ deed_of (Hear heard_form) (Ok (Stopped stop)) ∷ []) [] refl
 
   place_leaves : (place : Place) (n : Noted) (heard : Heard) → StandsAt gate n place → Leaves (tn_watch Origin gate) (own.go place heard) (note gate n (Hear heard_form) (Ok heard))
   place_leaves (Naming open_) n heard stands =
@@ -368,7 +370,7 @@ module _ (Origin : Type 0) (gate : Gate) where
       subst Leaves_so (sym stands.role) (answering_leaves name hidden (n.deeds ++ deed_of (Hear heard_form) (Ok heard) ∷ []) (total gate n) n.calls stands.even heard (n.talk ++ n.said) stands.login)
   place_leaves Commanding n heard stands =
       let Leaves_so : Role → Type 0 = λ role. Leaves (tn_watch Origin gate) (commanding_row gate heard) (at Origin gate (total gate n) n.calls stands.even heard (n.talk ++ n.said) role (n.deeds ++ deed_of (Hear heard_form) (Ok heard) ∷ []) []) in
-      subst Leaves_so (sym stands.role) (commanding_leaves (n.deeds ++ deed_of (Hear heard_form) (Ok heard) ∷ []) (total gate n) n.calls stands.even heard (n.talk ++ n.said) stands.login)
+      subst Leaves_so (sym stands.role) (commanding_leaves n.deeds (total gate n) n.calls stands.even heard (n.talk ++ n.said) stands.login)
 
   even_behind : (n : Noted) → total gate n ≡ n.calls → Behind gate n
   even_behind n even = record { rest = []; is = even ∙ sym (append-nil n.calls) }

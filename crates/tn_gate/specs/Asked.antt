@@ -137,6 +137,7 @@ asked_from gate role talk [] = []
 asked_from gate role talk (turn ∷ turns) =
     asked_in gate role talk turn ++ asked_from gate (role_after role turn) (talk ++ turn.talk) turns
 
--- The destinations that the deeds of a session ask for. Where one came up no line follows, so nothing has to be cut there.
+-- The destinations that the deeds of a session ask for. Where one came up no line follows
+-- (`the_dialogue_ends`), so nothing has to be cut there.
 abbrev pub asked_for : Gate → List Deed → List Dest
 asked_for gate deeds = asked_from gate (first_role gate) (talk_before deeds) (turns_of deeds)

@@ -26,12 +26,21 @@ use Rattle.session_acts.specs.Talk.{answered, asked}
 use Rattle.session_acts.specs.World.{World}
 use Rattle.tn_gate.specs.Asked.{asked_for, line_dest}
 use Rattle.tn_gate.specs.Dialogue.{heard_form, reason_of, refusing_line, tn_row, tn_rows}
-use Rattle.tn_gate.specs.Due.{asks_last, fails, user_asking}
+use Rattle.tn_gate.specs.Due.{asks_last, fails, takes_commands, user_asking}
 use Rattle.tn_gate.specs.Gate.{Gate, asks_login}
 use Rattle.tn_gate.specs.LogLines.{connect_line, fail_line, refuse_line}
 use Rattle.tn_gate.specs.Texts.{command_prompt, refusal}
 
 -- ---- each destination that is asked for
+
+abbrev pub EndsWith : Deed → List Deed → Type 0
+EndsWith deed before = (earlier : List Deed) × (before ≡ earlier ++ deed ∷ [])
+
+-- a line that asks for a link to the destination was heard last
+pub record IsWanted (dest : Dest) (before : List Deed) : Type 0 where
+  pub heard : Heard
+  pub wants : line_dest heard ≡ dest ∷ []
+  pub last : EndsWith (record { act = Hear heard_form; outcome = Ok heard }) before
 
 -- permission to reach the host was asked and given
 abbrev pub granted : Host → Deed
@@ -41,16 +50,18 @@ abbrev pub granted_if : Bool → Host → List Deed
 granted_if true host = granted host ∷ []
 granted_if false host = []
 
--- What stands right before a destination is asked for: with `-extnd` the permission, and then the connect line, which was
--- logged whole.
+-- What stands between the line that asks for a destination and that it is asked for: with `-extnd` the permission, and then
+-- the connect line, which was logged whole.
 abbrev pub clearing : Gate → Dest → List Deed
 clearing gate dest = granted_if gate.options.extnd dest.host ++ line_logged (connect_line gate dest) ∷ []
 
--- A destination may be asked for after these deeds: they end so; the permission line lets it pass; and where that line asks
--- for a login, one stands in what the session has asked and was answered.
+-- A destination may be asked for after these deeds: they end so, and right before that the line was heard that asks for it;
+-- the permission line lets it pass; and where that line asks for a login, one stands in what the session has asked and was
+-- answered.
 pub record IsCleared (gate : Gate) (dest : Dest) (before : List Deed) : Type 0 where
   pub earlier : List Deed
   pub stands : before ≡ earlier ++ clearing gate dest
+  pub wanted : IsWanted dest earlier
   pub allowed : allows gate.options dest ≡ true
   pub login : asks_login gate.options ≡ true → login_in (answered (gives asked before)) ≡ true
 
@@ -61,18 +72,9 @@ DialsCleared gate deeds =
 
 -- ---- each denial
 
-abbrev pub EndsWith : Deed → List Deed → Type 0
-EndsWith deed before = (earlier : List Deed) × (before ≡ earlier ++ deed ∷ [])
-
 -- the port was asked this last, and answered so
 abbrev pub asked_so : Request → Reply → Deed
 asked_so request reply = record { act = Ask request; outcome = Ok reply }
-
--- a line that asks for a link to the destination was heard last
-pub record IsWanted (dest : Dest) (before : List Deed) : Type 0 where
-  pub heard : Heard
-  pub wants : line_dest heard ≡ dest ∷ []
-  pub last : EndsWith (record { act = Hear heard_form; outcome = Ok heard }) before
 
 -- The permission line's destinations don't let it pass, so that line refuses it.
 pub record IsDisallowed (gate : Gate) (dest : Dest) (line : ℕ) (before : List Deed) : Type 0 where
@@ -113,11 +115,12 @@ IsNoName (Line line) = name_of line.items ≡ None
 IsNoName TooLong = Unit {0}
 IsNoName (Stopped stop) = ⊥
 
--- such a line was heard where no response was asked for, and nothing asked for it
-pub record HeardNoName (before : List Deed) : Type 0 where
+-- such a line was heard where no command is taken and no response was asked for, and nothing asked for it
+pub record HeardNoName (gate : Gate) (before : List Deed) : Type 0 where
   pub heard : Heard
   pub is : IsNoName heard
   pub last : EndsWith (record { act = Hear heard_form; outcome = Ok heard }) before
+  pub naming : takes_commands gate before ≡ false
   pub unasked : asks_last (answered (gives asked before)) ≡ false
 
 abbrev pub begins : List ℕ → List ℕ → Bool
@@ -127,7 +130,7 @@ begins text word = starts_with nat_eq text word
 -- logged it, whole. A text that is no name is refused without a line in the log.
 pub record IsLoggedFirst (gate : Gate) (text : List ℕ) (before : List Deed) : Type 0 where
   pub refused : begins text (codes "Denied") ≡ true → IsRefusal gate text before
-  pub failed : begins text (codes "Login denied") ≡ true → IsFailure gate before ⊎ HeardNoName before
+  pub failed : begins text (codes "Login denied") ≡ true → IsFailure gate before ⊎ HeardNoName gate before
 
 abbrev pub DenialsLogged : Gate → List Deed → Type 0
 DenialsLogged gate deeds =

@@ -1,10 +1,12 @@
 pub mod Asked
+pub mod Asking
 pub mod Command
 pub mod Course
 pub mod Dialogue
 pub mod Distance
 pub mod Due
 pub mod Dummies
+pub mod Ends
 pub mod Gate
 pub mod Laws
 pub mod LogLines
