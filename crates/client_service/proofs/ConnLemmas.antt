@@ -31,7 +31,7 @@ use Rattle.session_acts.proofs.DeviceLemmas.{by_nothing}
 use Rattle.session_acts.proofs.ServerlessLemmas.{logged_serverless, session_serverless}
 use Rattle.session_acts.proofs.SpentLemmas.{session_spent}
 use Rattle.session_acts.proofs.WaitedLemmas.{session_waited}
-use Rattle.client_service.specs.Conn.{AtConsole, CausedBy, Causes, Conn, Dials, FrontsBy, IsRefused, NotedIf, Permits, TakesBy, Treats, TurnsAway, WaitsAs}
+use Rattle.client_service.specs.Conn.{AtConsole, CausedBy, Causes, Conn, Dials, FrontsBy, IsRefused, NotedIf, Permits, TakesBy, Treats, TurnsAway, Unasked, WaitsAs}
 use Rattle.client_service.specs.Decision.{decision_text}
 use Rattle.client_service.specs.Endings.{denied_words, ending_line}
 use Rattle.client_service.specs.GateService.{LetsIn, gate_devices}
@@ -40,8 +40,8 @@ use Rattle.client_service.specs.Kind.Kind.{Alone, Gated, Plugged}
 use Rattle.client_service.specs.Meeting.{away_row, denied_by, dialer_then, lent_by, logged_row, patient, timeout_of}
 use Rattle.client_service.specs.PlugService.{LinksTo, plug_devices}
 use Rattle.client_service.proofs.FrontsLemmas.{fronts_later, plug_gives}
-use Rattle.client_service.proofs.GateLemmas.{fronts_behind, gate_caused, gate_keeps, gate_takes, gate_waits}
-use Rattle.client_service.proofs.LaterLemmas.{caused_later, causes_later, keeps_later, noted_most, noted_shut, takes_later, waits_with, with_logs}
+use Rattle.client_service.proofs.GateLemmas.{fronts_behind, gate_caused, gate_keeps, gate_takes, gate_unasked, gate_waits}
+use Rattle.client_service.proofs.LaterLemmas.{caused_later, causes_later, keeps_later, noted_most, noted_shut, takes_later, unasked_later, waits_with, with_logs}
 use Rattle.client_service.proofs.PlugLemmas.{LogsOnly, plug_caused, plug_dials, silent_denial}
 use Rattle.client_service.proofs.SinkLemmas.{same_low}
 use Rattle.client_service.proofs.WaitLemmas.{session_waits}
@@ -150,6 +150,7 @@ module _ {Origin : Type 0} where
     spent : TakesBy kind ending old new
     waited : WaitsAs kind verdict rules ending old new
     refused : IsRefused verdict ending
+    unasked : Unasked kind verdict rules ending old new
     keeps : KeepsAs (may_relay kind) (lent_by verdict rules old) new
     origin : new.port.origin ≡ old.port.origin
     home : new.port.home ≡ old.port.home
@@ -163,6 +164,7 @@ module _ {Origin : Type 0} where
         spent = takes_none ending old new (ap is_spent_ending is) (ap (λ (d : Devices Origin). d.inlet) fails.same);
         waited = tt;
         refused = inr is;
+        unasked = tt;
         keeps = keeps;
         origin = keeps.origin;
         home = keeps.home;
@@ -176,6 +178,7 @@ module _ {Origin : Type 0} where
         spent = takes_none ending old new (ap is_spent_ending is) inlet;
         waited = tt;
         refused = inl is;
+        unasked = tt;
         keeps = keeps;
         origin = keeps.origin;
         home = keeps.home;
@@ -211,6 +214,7 @@ module _ {Origin : Type 0} where
         spent = takes_patient (timeout_of rules) ending old new (session_exact rows first lent new ending h alone);
         waited = session_waits rows first lent new ending h alone;
         refused = tt;
+        unasked = tt;
         keeps = keeps;
         origin = keeps.origin;
         home = keeps.home;
@@ -225,6 +229,7 @@ module _ {Origin : Type 0} where
         spent = relay_takes seconds ending old new (session_spent h.over.session);
         waited = relay_waits seconds ending old new (session_waited h.over.session);
         refused = tt;
+        unasked = tt;
         keeps = relay_keeps_all seconds old new h.port (relay_keeps h.over.session);
         origin = ap (λ (p : Port Origin). p.origin) h.port;
         home = ap (λ (p : Port Origin). p.home) h.port;
@@ -242,6 +247,7 @@ module _ {Origin : Type 0} where
         spent = gate_takes text gate seconds ending old new h.held;
         waited = gate_waits text gate seconds ending old new h.held;
         refused = tt;
+        unasked = λ none. gate_unasked text gate seconds ending old new h.held none;
         keeps = keeps;
         origin = keeps.origin;
         home = keeps.home;
@@ -267,6 +273,7 @@ module _ {Origin : Type 0} where
         spent = takes_later kind ending old new conn.logs so.spent;
         waited = waits_with kind verdict rules ending old new conn.logs so.waited;
         refused = so.refused;
+        unasked = unasked_later kind verdict rules ending old new conn.logs so.unasked;
         keeps = keeps_later (may_relay kind) (lent_by verdict rules old) new conn.logs most (noted_shut (ending_line service peer ending) conn.logs new.logs conn.noted) so.keeps;
         origin = so.origin;
         home = so.home;
@@ -284,6 +291,9 @@ module _ {Origin : Type 0} where
 
   pub conn_refused : (service : Service) (rules : RuleBook) (peer : Peer) (old new : Devices Origin) (ending : Ending) → Conn service rules peer old new ending → IsRefused (verdict_of rules peer) ending
   conn_refused service rules peer old new ending conn = (conn_facts service rules peer old new ending conn).refused
+
+  pub conn_unasked : (service : Service) (rules : RuleBook) (peer : Peer) (old new : Devices Origin) (ending : Ending) → Conn service rules peer old new ending → Unasked (kind_of service (verdict_of rules peer)) (verdict_of rules peer) rules ending old new
+  conn_unasked service rules peer old new ending conn = (conn_facts service rules peer old new ending conn).unasked
 
   pub conn_keeps : (service : Service) (rules : RuleBook) (peer : Peer) (old new : Devices Origin) (ending : Ending) → Conn service rules peer old new ending → KeepsAs (may_relay (kind_of service (verdict_of rules peer))) (lent_by (verdict_of rules peer) rules old) new
   conn_keeps service rules peer old new ending conn = (conn_facts service rules peer old new ending conn).keeps

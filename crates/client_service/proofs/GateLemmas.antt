@@ -1,5 +1,5 @@
 -- What a client of the Telnet gateway comes to that is let in.
-use Rattle.std.proofs.Common.{arith, ◌≡◌, ◌∙◌, sym, ap, subst, ℕ, true, List, [], inl, inr, ◌⊎◌}
+use Rattle.std.proofs.Common.{arith, ◌≡◌, ◌≢◌, ◌∙◌, refl, sym, ap, subst, ℕ, true, false, List, [], inl, inr, ◌⊎◌}
 use Rattle.fw_outside.proofs.CountLemmas.{grew_none}
 use Rattle.fw_outside.specs.Counts.{Grew, Rose}
 use Rattle.fw_outside.specs.SinkView.{SinkView}
@@ -7,21 +7,29 @@ use Rattle.fw_types.specs.declared.ending.Ending.{Ending}
 use Rattle.fw_types.specs.declared.ending.Ending.TheVariants.{Done, Denied, ClientFault, ServerFault, LogFault, AuthFault, Idle, NoRoute, Spent, NoMemory}
 use Rattle.session_acts.specs.Causes.{Caused, KeepsAs, LinkTookMost, RelayTakesFor, TookMost, WaitsFor}
 use Rattle.session_acts.specs.Client.{LogFails, LogsFirst, with_line}
+use Rattle.session_acts.specs.Deeds.{gives}
+use Rattle.session_acts.specs.Laws.{Adds, called}
 use Rattle.session_acts.specs.Relayed.{relayed, then_relay}
-use Rattle.session_acts.specs.Session.{RelaySession}
-use Rattle.session_acts.specs.World.{Devices, most_taken}
+use Rattle.session_acts.specs.Session.{RelaySession, deeds_of}
+use Rattle.session_acts.specs.World.{Devices, Office, World, at_first, most_taken}
 use Rattle.session_acts.proofs.CauseLemmas.{relay_keeps, session_caused}
 use Rattle.session_acts.proofs.ClientLemmas.{logs_first}
+use Rattle.session_acts.proofs.DeedLemmas.{all_gain, held_deeds}
 use Rattle.session_acts.proofs.DeviceLemmas.{by_nothing}
+use Rattle.session_acts.proofs.LinkedLemmas.{called_gains}
 use Rattle.session_acts.proofs.RelayFrontsLemmas.{session_fronts}
 use Rattle.session_acts.proofs.SpentLemmas.{session_spent}
 use Rattle.session_acts.proofs.WaitedLemmas.{session_waited}
 use Rattle.tn_gate.specs.Dialogue.{tn_row, tn_rows}
-use Rattle.tn_gate.specs.Gate.{Gate}
+use Rattle.tn_gate.specs.Gate.{Gate, asks_login}
+use Rattle.tn_gate.proofs.DueLawLemmas.{held_dialed, held_due, held_logged}
+use Rattle.tn_gate.proofs.LawLemmas.{held_asks, held_cleared}
+use Rattle.tn_gate.proofs.OwnLemmas.{held_ample, held_routed, held_unasked, held_unfailed}
 use Rattle.tn_gate.proofs.QuietLemmas.{tn_keeps_quiet}
-use Rattle.client_service.specs.GateService.{FrontsBehind, HeldBehind, gate_devices}
+use Rattle.client_service.specs.GateService.{CausedGated, FrontsBehind, HeldBehind, RelaysBehind, StaysUnasked, gate_devices}
 use Rattle.client_service.specs.Meeting.{logged_row, patient}
 use Rattle.client_service.proofs.SinkLemmas.{rose_at, same_low}
+use Rattle.client_service.proofs.UnaskedLemmas.{unasked_office}
 
 -- no bytes aren't as many as may be
 none_most : 0 ≡ most_taken → ⊥
@@ -38,11 +46,32 @@ module _ {Origin : Type 0} where
   pub held_behind : (line : List ℕ) (gate : Gate) (old new : Devices Origin) (ending : Ending) → RelaySession (relayed (tn_rows gate)) (logged_row line (then_relay (tn_row gate))) old new ending → HeldBehind line gate ending old new
   held_behind line gate old new ending session = behind_by line gate old new ending session (logs_first line (relayed (tn_rows gate)) (then_relay (tn_row gate)) old new ending session)
 
-  -- and what reached each side
+  -- what the dialer was asked for
+  asked_behind : (line : List ℕ) (gate : Gate) (ending : Ending) (old new : Devices Origin) (session : RelaySession (relayed (tn_rows gate)) (then_relay (tn_row gate)) (with_line line old) new ending)
+      → Adds (gives called (deeds_of session.held)) old.dialer.asked new.dialer.asked
+  asked_behind line gate ending old new session =
+      subst (λ (d : Devices Origin). Adds (gives called (deeds_of session.held)) old.dialer.asked d.dialer.asked) session.leaves
+      (all_gain called_gains (deeds_of session.held) (at_first (with_line line old) session.names) session.last (held_deeds session.held))
+
+  -- by the laws of the gateway
+  relays_behind : (line : List ℕ) (gate : Gate) (ending : Ending) (old new : Devices Origin) → RelaySession (relayed (tn_rows gate)) (then_relay (tn_row gate)) (with_line line old) new ending → RelaysBehind line gate ending old new
+  relays_behind line gate ending old new session =
+      let begun : World Origin = at_first (with_line line old) session.names in
+      record {
+        session = session;
+        unasked = λ none. held_unasked gate begun session.last ending session.held refl none;
+        asked = asked_behind line gate ending old new session;
+        exactly = held_asks gate begun session.last ending session.held;
+        cleared = held_cleared gate begun session.last ending session.held;
+        dialed = held_dialed gate begun session.last ending session.held;
+        due = held_due gate begun session.last ending session.held;
+        denials = held_logged gate begun session.last ending session.held;
+        fronts = session_fronts (tn_rows gate) (tn_row gate) (with_line line old) new ending session (tn_keeps_quiet gate);
+      }
+
   pub fronts_behind : (line : List ℕ) (gate : Gate) (ending : Ending) (old new : Devices Origin) → HeldBehind line gate ending old new → FrontsBehind line gate ending old new
   fronts_behind line gate ending old new (inl fails) = inl fails
-  fronts_behind line gate ending old new (inr session) =
-      inr (record { session = session; fronts = session_fronts (tn_rows gate) (tn_row gate) (with_line line old) new ending session (tn_keeps_quiet gate) })
+  fronts_behind line gate ending old new (inr session) = inr (relays_behind line gate ending old new session)
 
   -- ---- causes
 
@@ -67,9 +96,38 @@ module _ {Origin : Type 0} where
   caused_with line seconds Spent old new h = spent_with line seconds old new h
   caused_with line seconds NoMemory old new h = tt
 
-  pub gate_caused : (line : List ℕ) (gate : Gate) (seconds : ℕ) (ending : Ending) (old new : Devices Origin) → HeldBehind line gate ending (patient seconds (gate_devices old)) (gate_devices new) → Caused ending old new
-  gate_caused line gate seconds ending old new (inl fails) = subst (λ (e : Ending). Caused e old new) (sym fails.ends) (fails_rose line (patient seconds (gate_devices old)) (gate_devices new) ending fails)
-  gate_caused line gate seconds ending old new (inr session) = caused_with line seconds ending old new (session_caused session)
+  -- a destination that couldn't be reached is none of them
+  gated_only : (ending : Ending) (old new : Devices Origin) → ending ≢ NoRoute → Caused ending old new → CausedGated ending old new
+  gated_only NoRoute old new routed h = absurd (routed refl)
+  gated_only ending old new routed h = h
+
+  pub gate_caused : (line : List ℕ) (gate : Gate) (seconds : ℕ) (ending : Ending) (old new : Devices Origin) → HeldBehind line gate ending (patient seconds (gate_devices old)) (gate_devices new) → CausedGated ending old new
+  gate_caused line gate seconds ending old new (inl fails) = subst (λ (e : Ending). CausedGated e old new) (sym fails.ends) (fails_rose line (patient seconds (gate_devices old)) (gate_devices new) ending fails)
+  gate_caused line gate seconds ending old new (inr session) =
+      let begun : World Origin = at_first (with_line line (patient seconds (gate_devices old))) session.names in
+      gated_only ending old new (held_routed gate begun session.last ending session.held) (caused_with line seconds ending old new (session_caused session))
+
+  -- ---- a line that asks for no login
+
+  fails_unasked : (line : List ℕ) (seconds : ℕ) (ending : Ending) (old new : Devices Origin) → LogFails line (patient seconds (gate_devices old)) (gate_devices new) ending → StaysUnasked ending old new
+  fails_unasked line seconds ending old new fails = record {
+    port = ap (λ (d : Devices Origin). d.port) fails.same;
+    clock = ap (λ (d : Devices Origin). d.clock) fails.same;
+    unfailed = λ is. let clash : LogFault ≡ AuthFault = sym fails.ends ∙ is in absurd (cc);
+    ample = λ is. let clash : LogFault ≡ NoMemory = sym fails.ends ∙ is in absurd (cc);
+  }
+
+  pub gate_unasked : (line : List ℕ) (gate : Gate) (seconds : ℕ) (ending : Ending) (old new : Devices Origin) → HeldBehind line gate ending (patient seconds (gate_devices old)) (gate_devices new) → asks_login gate.options ≡ false → StaysUnasked ending old new
+  gate_unasked line gate seconds ending old new (inl fails) none = fails_unasked line seconds ending old new fails
+  gate_unasked line gate seconds ending old new (inr session) none =
+      let begun : World Origin = at_first (with_line line (patient seconds (gate_devices old))) session.names in
+      let office : session.last.office ≡ begun.office = unasked_office session.held (held_unasked gate begun session.last ending session.held refl none) in
+      record {
+        port = sym (ap (λ (d : Devices Origin). d.port) session.leaves) ∙ ap (λ (o : Office Origin). o.port) office;
+        clock = sym (ap (λ (d : Devices Origin). d.clock) session.leaves) ∙ ap (λ (o : Office Origin). o.clock) office;
+        unfailed = held_unfailed gate begun session.last ending session.held refl none;
+        ample = held_ample gate begun session.last ending session.held refl none;
+      }
 
   -- ---- bytes
 

@@ -7,10 +7,11 @@ use Rattle.fw_types.specs.declared.ending.Ending.TheVariants.{Done, Denied, Clie
 use Rattle.gate_rules.specs.Reading.{RuleBook}
 use Rattle.gate_rules.specs.declared.verdict.Verdict.{Verdict}
 use Rattle.gate_rules.specs.declared.verdict.Verdict.TheVariants.{Permit, Deny}
-use Rattle.session_acts.specs.Causes.{Caused, KeepsAs, WaitsFor}
+use Rattle.session_acts.specs.Causes.{KeepsAs, WaitsFor}
 use Rattle.session_acts.specs.Serverless.{CausedAlone}
 use Rattle.session_acts.specs.World.{Devices}
-use Rattle.client_service.specs.Conn.{CausedBy, Causes, NotedIf, TakesBy, WaitsAs}
+use Rattle.client_service.specs.Conn.{CausedBy, Causes, NotedIf, TakesBy, Unasked, WaitsAs}
+use Rattle.client_service.specs.GateService.{CausedGated}
 use Rattle.client_service.specs.Kind.{Kind}
 use Rattle.client_service.specs.Kind.Kind.{Alone, Gated, Plugged}
 use Rattle.client_service.specs.Meeting.{patient, timeout_of}
@@ -56,7 +57,7 @@ module _ {Origin : Type 0} where
   linked_later Spent old new logs later (inr h) = inr (record { link = h.link; last = h.last; all = h.all })
   linked_later NoMemory old new logs later h = h
 
-  gated_later : (ending : Ending) (old new : Devices Origin) (logs : SinkView) → logs.faults ≤ new.logs.faults → Caused ending old (with_logs new logs) → Caused ending old new
+  gated_later : (ending : Ending) (old new : Devices Origin) (logs : SinkView) → logs.faults ≤ new.logs.faults → CausedGated ending old (with_logs new logs) → CausedGated ending old new
   gated_later Done old new logs later h = tt
   gated_later (Denied line) old new logs later h = h
   gated_later ClientFault old new logs later h = h
@@ -113,6 +114,14 @@ module _ {Origin : Type 0} where
   waits_with Alone (Permit line) rules ending old new logs h = h
   waits_with Plugged (Permit line) rules ending old new logs h = waits_for_with ending (patient (timeout_of rules) old) new logs h
   waits_with Gated (Permit line) rules ending old new logs h = waits_for_with ending (patient (timeout_of rules) old) new logs h
+
+  -- ---- a line that asks for no login
+
+  pub unasked_later : (kind : Kind) (verdict : Verdict) (rules : RuleBook) (ending : Ending) (old new : Devices Origin) (logs : SinkView) → Unasked kind verdict rules ending old (with_logs new logs) → Unasked kind verdict rules ending old new
+  unasked_later Alone verdict rules ending old new logs h = tt
+  unasked_later Plugged verdict rules ending old new logs h = tt
+  unasked_later Gated (Deny line) rules ending old new logs h = tt
+  unasked_later Gated (Permit line) rules ending old new logs h = λ none. record { port = (h none).port; clock = (h none).clock; unfailed = (h none).unfailed; ample = (h none).ample }
 
   -- ---- no count falls
 

@@ -8,4 +8,5 @@ pub mod OptionsLemmas
 pub mod PlugLemmas
 pub mod ServiceLemmas
 pub mod SinkLemmas
+pub mod UnaskedLemmas
 pub mod WaitLemmas

@@ -8,20 +8,21 @@ use Rattle.fw_types.specs.declared.ending.Ending.{Ending}
 use Rattle.fw_types.specs.declared.ending.Ending.TheVariants as endings
 use Rattle.fw_types.specs.declared.peer.Peer.{Peer}
 use Rattle.gate_rules.specs.Reading.{RuleBook}
-use Rattle.gate_rules.specs.Verdict.{verdict_of}
+use Rattle.gate_rules.specs.Verdict.{options_at, verdict_of}
 use Rattle.gate_rules.specs.declared.service.Service.{Service}
 use Rattle.gate_rules.specs.declared.service.Service.TheVariants.{Authsrv, PlugGw, TnGw}
 use Rattle.gate_rules.specs.declared.verdict.Verdict.{Verdict}
 use Rattle.gate_rules.specs.declared.verdict.Verdict.TheVariants.{Permit, Deny}
 use Rattle.plug_gate.specs.Laws.{GivesFronts}
-use Rattle.session_acts.specs.Causes.{Caused, RelayTakesFor, WaitedInVain, WaitsFor}
+use Rattle.session_acts.specs.Causes.{RelayTakesFor, WaitedInVain, WaitsFor}
 use Rattle.session_acts.specs.Denying.{no_rows}
 use Rattle.session_acts.specs.Serverless.{CausedAlone, TakesExactly}
 use Rattle.session_acts.specs.Session.{Session}
 use Rattle.session_acts.specs.World.{Devices}
+use Rattle.tn_gate.specs.Gate.{asks_login, options_or_none}
 use Rattle.client_service.specs.Decision.{decision_text}
 use Rattle.client_service.specs.Endings.{denied_words, ending_line}
-use Rattle.client_service.specs.GateService.{LetsIn, RelaysIn}
+use Rattle.client_service.specs.GateService.{CausedGated, LetsIn, RelaysIn, StaysUnasked}
 use Rattle.client_service.specs.Kind.{Kind}
 use Rattle.client_service.specs.Kind.Kind.{Alone, Gated, Plugged}
 use Rattle.client_service.specs.Meeting.{away_row, denied_by, dialer_then, logged_row, patient, timeout_of}
@@ -86,11 +87,11 @@ pub record AtConsole {Origin : Type 0} (service : Service) (peer : Peer) (old ne
 -- ---- what an ending says
 
 -- Any ending but done and want of memory is counted. A client that is alone ends by no server; one of the plug by no port, and
--- never for want of memory.
+-- never for want of memory; and one of `tn-gw` never since a destination couldn't be reached.
 abbrev pub CausedBy : {Origin : Type 0} → Kind → Ending → Devices Origin → Devices Origin → Type 0
 CausedBy Alone ending old new = CausedAlone ending old new
 CausedBy Plugged ending old new = CausedLinked ending old new
-CausedBy Gated ending old new = Caused ending old new
+CausedBy Gated ending old new = CausedGated ending old new
 
 -- a denial is the verdict's
 abbrev pub Causes : {Origin : Type 0} → Kind → Verdict → Ending → Devices Origin → Devices Origin → Type 0
@@ -126,9 +127,9 @@ abbrev pub WaitsAs : {Origin : Type 0} → Kind → Verdict → RuleBook → End
 WaitsAs kind (Permit line) rules ending old new = WaitsBy kind ending (patient (timeout_of rules) old) new
 WaitsAs kind (Deny line) rules ending old new = Unit {0}
 
--- What the dialer is asked: for a client of the plug whom the verdict permits, the destination of the line; for one of
--- `tn-gw`, what its session asks for (`LetsIn`); for any other nothing, and it is told how long to wait where the verdict
--- permits.
+-- What the dialer is asked: for a client of the plug whom the verdict permits, the destination of the line; for any other,
+-- but for one of `tn-gw` whom it permits, nothing, and it is told how long to wait where the verdict permits. Of that one
+-- `FrontsBy` says it.
 abbrev pub Dials : {Origin : Type 0} → Service → Verdict → RuleBook → Peer → Ending → Devices Origin → Devices Origin → Type 0
 Dials (PlugGw port) (Permit line) rules peer ending old new = AsksLogged port line rules peer ending old new
 Dials TnGw (Permit line) rules peer ending old new = Unit {0}
@@ -136,11 +137,19 @@ Dials service verdict rules peer ending old new = new.dialer ≡ dialer_then ver
 
 -- Whom the verdict permits: what the server of a client of the plug was given is a front of what was taken of the client, and
 -- what the client was given a front of what was taken of the server. So it is for a client of `tn-gw`, behind what its session
--- heard and told.
+-- heard and told; and what that session asked the dialer for, logged and denied is said of the same deeds.
 abbrev pub FrontsBy : {Origin : Type 0} → Service → Verdict → RuleBook → Peer → Ending → Devices Origin → Devices Origin → Type 0
 FrontsBy (PlugGw port) (Permit line) rules peer ending old new = GivesFronts old new ending
 FrontsBy TnGw (Permit line) rules peer ending old new = RelaysIn line rules peer ending old new
-FrontsBy service verdict rules peer ending old new = Unit {0}
+FrontsBy Authsrv (Permit line) rules peer ending old new = Unit {0}
+FrontsBy service (Permit line) rules peer ending old new = ⊥
+FrontsBy service (Deny line) rules peer ending old new = Unit {0}
+
+-- where a line that permits a client of `tn-gw` asks for no login, what port and clock tell stays as it was, and neither the
+-- port nor want of memory ends the session
+abbrev pub Unasked : {Origin : Type 0} → Kind → Verdict → RuleBook → Ending → Devices Origin → Devices Origin → Type 0
+Unasked Gated (Permit line) rules ending old new = asks_login (options_or_none (options_at rules line)) ≡ false → StaysUnasked ending old new
+Unasked kind verdict rules ending old new = Unit {0}
 
 -- the port, and the clock: where the verdict denies, and for each client of the plug, they are left as they were
 abbrev pub Untouched : {A : Type 0} → Service → Verdict → A → A → Type 0

@@ -86,13 +86,15 @@ fn refusal(line: u32) -> LogLine
     out
 }
 
-/// The words to a client of a service that the line of this number denies. None for the plug.
+/// The words to a client of a service that the line of this number denies. None for the plug, and for a service whose clients
+/// aren't served.
 pub fn denied_words(service: &Service, line: u32) -> Option<LogLine>
     ensures { option_map (λ words. words.items) result ≡ denied_words service.now line }
 {
     match service {
-        Service::PlugGw(_) => None,
+        Service::Authsrv => Some(denied_line(line)),
         Service::TnGw => Some(refusal(line)),
-        _ => Some(denied_line(line)),
+        Service::PlugGw(_) => None,
+        _ => None,
     }
 }

@@ -1,6 +1,6 @@
 //! One client of a service: the verdict, the session, and how it ended.
 ghost use Rattle.std.specs.Prelude.{◌≡◌};
-ghost use Rattle.client_service.specs.Conn.{Causes, Conn, Dials, FrontsBy, IsRefused, IsServed, PermitsBy, TakesBy, Treats, Unthrown, Untouched, WaitsAs};
+ghost use Rattle.client_service.specs.Conn.{Causes, Conn, Dials, FrontsBy, IsRefused, IsServed, PermitsBy, TakesBy, Treats, Unasked, Unthrown, Untouched, WaitsAs};
 ghost use Rattle.client_service.specs.Kind.{kind_of, may_relay};
 ghost use Rattle.client_service.specs.Meeting.{lent_by};
 ghost use Rattle.client_service.specs.Options.{HasOptions, OptionsFor};
@@ -154,7 +154,8 @@ where
         (D.dialer_view dialer.new) (C.clock_view clock.new) (R.dice_view dice.new))
         result }
     // Each ending but done and want of memory has its cause: the verdict, or a count of a device. A client of `authsrv` meets
-    // no server; one of the plug wants no memory, and meets no port.
+    // no server; one of the plug wants no memory, and meets no port; and one of `tn-gw` doesn't end since a destination
+    // couldn't be reached.
     ensures caused { Causes (kind_of service.now (verdict_of rules.now peer.now)) (verdict_of rules.now peer.now) result
         (devices_with (P.port port.old) (S.source_view from.old) (K.sink_view to.old) (G.sink_view logs.old)
         (D.dialer_view dialer.old) (C.clock_view clock.old) (R.dice_view dice.old))
@@ -175,9 +176,9 @@ where
         (D.dialer_view dialer.new) (C.clock_view clock.new) (R.dice_view dice.new)) }
     // A peer whom the rules deny is denied, unless the log failed.
     ensures refused { IsRefused (verdict_of rules.now peer.now) result }
-    // The dialer is asked for nothing, but for whom the rules permit: of the plug, for the destination of the line, exactly
-    // where the log has the connect line whole; of `tn-gw`, for what the session of `conn` asks for. It is told how long to
-    // wait, for whom the rules permit.
+    // For a client of the plug whom the rules permit the dialer is asked for the destination of the line, exactly where the log
+    // has the connect line whole. For one of `tn-gw` whom they permit `fronts` says it. For any other it is asked for nothing,
+    // and told how long to wait where the rules permit.
     ensures dialed { Dials service.now (verdict_of rules.now peer.now) rules.now peer.now result
         (devices_with (P.port port.old) (S.source_view from.old) (K.sink_view to.old) (G.sink_view logs.old)
         (D.dialer_view dialer.old) (C.clock_view clock.old) (R.dice_view dice.old))
@@ -185,8 +186,16 @@ where
         (D.dialer_view dialer.new) (C.clock_view clock.new) (R.dice_view dice.new)) }
     // For whom the rules permit of `tn-gw` or the plug: what was given to the server is a front of what was taken of the client,
     // and what was given to the client one of what was taken of the server: all of it, unless a source or a sink failed. For
-    // `tn-gw` this is behind what the session heard and told before.
+    // `tn-gw` this is behind what the session heard and told before, and of the same session it is said what the dialer was
+    // asked for, and when, and which lines the log was given.
     ensures fronts { FrontsBy service.now (verdict_of rules.now peer.now) rules.now peer.now result
+        (devices_with (P.port port.old) (S.source_view from.old) (K.sink_view to.old) (G.sink_view logs.old)
+        (D.dialer_view dialer.old) (C.clock_view clock.old) (R.dice_view dice.old))
+        (devices_with (P.port port.new) (S.source_view from.new) (K.sink_view to.new) (G.sink_view logs.new)
+        (D.dialer_view dialer.new) (C.clock_view clock.new) (R.dice_view dice.new)) }
+    // Where the line that permits a client of `tn-gw` asks for no login, what port and clock tell is as it was, and the ending
+    // is neither the port's nor want of memory.
+    ensures unasked { Unasked (kind_of service.now (verdict_of rules.now peer.now)) (verdict_of rules.now peer.now) rules.now result
         (devices_with (P.port port.old) (S.source_view from.old) (K.sink_view to.old) (G.sink_view logs.old)
         (D.dialer_view dialer.old) (C.clock_view clock.old) (R.dice_view dice.old))
         (devices_with (P.port port.new) (S.source_view from.new) (K.sink_view to.new) (G.sink_view logs.new)

@@ -3,7 +3,7 @@ use Rattle.gate_rules.specs.declared.verdict.Verdict.{Verdict}
 use Rattle.session_acts.specs.World.{Devices, devices_with}
 use Rattle.client_service.specs.Conn.{Conn, Treats, Unthrown, Untouched}
 use Rattle.client_service.specs.Options.{OptionsFor}
-use Rattle.client_service.proofs.ConnLemmas.{conn_caused, conn_dialed, conn_fronts, conn_home, conn_keeps, conn_origin, conn_refused, conn_spent, conn_waited}
+use Rattle.client_service.proofs.ConnLemmas.{conn_caused, conn_dialed, conn_fronts, conn_home, conn_keeps, conn_origin, conn_refused, conn_spent, conn_unasked, conn_waited}
 use Rattle.client_service.proofs.OptionsLemmas.{served_options}
 use Rattle.client_service.proofs.serving.conn.Goals as goal
 
@@ -28,6 +28,7 @@ returns g c =
       refused = conn_refused c.args.service.now c.args.rules.now c.args.peer.now old new c.treat-ending.result conn;
       dialed = conn_dialed c.args.service.now c.args.rules.now c.args.peer.now old new c.treat-ending.result conn;
       fronts = conn_fronts c.args.service.now c.args.rules.now c.args.peer.now old new c.treat-ending.result conn;
+      unasked = conn_unasked c.args.service.now c.args.rules.now c.args.peer.now old new c.treat-ending.result conn;
       origin = conn_origin c.args.service.now c.args.rules.now c.args.peer.now old new c.treat-ending.result conn;
       home = conn_home c.args.service.now c.args.rules.now c.args.peer.now old new c.treat-ending.result conn;
       untouched = subst (λ (v : Verdict). Untouched c.args.service.now v c.args.port.now c.treat-ending.new.port) c.verdict_of-verdict.ensures c.treat-ending.ensures.untouched;
