@@ -67,7 +67,7 @@ use Rattle.bastion.proofs.DenialLemmas.{DeniesWhole, OfDenial, decision_some, de
 use Rattle.bastion.proofs.GatedLemmas.{IsLetIn, OfCaller, begun_for, gated_so, gated_status}
 use Rattle.bastion.proofs.LinkedLemmas.{waits_only}
 use Rattle.bastion.proofs.QuietLemmas.{Quiet, same_from}
-use Rattle.bastion.proofs.RunLemmas.{tells_later}
+use Rattle.bastion.proofs.LeftLemmas.{tells_later}
 use Rattle.bastion.proofs.TalkLemmas.{concluded, concluded_later, concluded_whole, ends_by, legal_talk, no_talk, was}
 
 -- ---- what holds of a session
@@ -191,7 +191,7 @@ module _ (peer : Peer) (inputs : Inputs) (out : Outcome) (old mid new : WorldVie
         asked = asked_for line permitted logs here;
         logged = logged_so line permitted logs here;
         told = session_gave here;
-        relayed_fronts = session_fronts (tn_rows (gate line)) (tn_row (gate line)) start left h.ending here (tn_keeps_quiet (gate line));
+        fronts = session_fronts (tn_rows (gate line)) (tn_row (gate line)) start left h.ending here (tn_keeps_quiet (gate line));
         concluded =
             concluded services.TnGw peer h.ending h.book.refused (was_refused (deeds_of here.held)) out logs mid new h.over.comes (was rows row start left h.ending here inputs h.before h.book out old mid h.over refl refl) noted tells;
       }
@@ -234,7 +234,7 @@ module _ (peer : Peer) (inputs : Inputs) (out : Outcome) (old mid new : WorldVie
       let kept : h.book.keeper ≡ h.before = untouched_deny (verdict_for (TnGw peer) inputs) line h.before h.book.keeper denied h.untouched in
       let same : new ≡ mid = denial_same (TnGw peer) services.TnGw refusal peer inputs old.inputs.dialer mid.inputs.dialer h.before h.book h.ending out old mid new h.over tells line denied whole in (
         inr (inl (record {
-          off = told_off (TnGw peer) services.TnGw refusal peer inputs old.inputs.dialer mid.inputs.dialer h.before h.book h.ending out old mid new h.over tells line denied whole kept;
+          off = told_off (TnGw peer) services.TnGw refusal peer inputs old.inputs.dialer mid.inputs.dialer h.before h.book h.ending out old mid new h.over tells line denied whole refl kept;
           dialer = ap (λ (w : WorldView). w.inputs.dialer) same ∙ whole.dialer;
         })),
         inr (inr (told_denied (TnGw peer) services.TnGw refusal peer inputs old.inputs.dialer mid.inputs.dialer h.before h.book h.ending out old mid new h.over tells line denied whole)),
