@@ -22,10 +22,11 @@ usage: fwtk [-t FILE] netacl [-run] DAEMON ADDRESS [NAME]
        fwtk [-t FILE] table SERVICE ADDRESS [NAME]
        fwtk [-t FILE] [-r FILE] authsrv [-console] ADDRESS [NAME]
        fwtk [-t FILE] plug-gw PORT ADDRESS [NAME]
+       fwtk [-t FILE] [-r FILE] tn-gw ADDRESS [NAME]
        fwtk --help | --version
   -t FILE  the permission table, /usr/local/etc/netperm-table by default
   -r FILE  the records of users, authdb in the current directory by default
-fwtk(8) lists the exit statuses; netacl(8), authsrv(8), plug-gw(8) and netperm-table(5) have the rest.
+fwtk(8) lists the exit statuses; netacl(8), authsrv(8), plug-gw(8), tn-gw(8) and netperm-table(5) have the rest.
 ";
 
 const VERSION: &[u8] = b"fwtk 2.1\n";

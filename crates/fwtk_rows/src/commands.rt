@@ -55,6 +55,7 @@ fn told_of(alloc: Global, words: &[Octets]) -> Result<Vec<u8>, NoMemory> {
             add_client(&mut out, b"console ", &client.peer)?;
         }
         Some(Command::PlugGw(caller)) => add_caller(alloc, &mut out, &caller)?,
+        Some(Command::TnGw(peer)) => add_client(&mut out, b"tn-gw ", &peer)?,
         Some(Command::Authsrv(client)) => add_client(&mut out, b"authsrv ", &client.peer)?,
     }
     Ok(out)

@@ -15,16 +15,20 @@ use std::thread::Threads;
 /// history had more entries than fit.
 const UNSERVED: u8 = 255;
 
-/// Who is served, and by which rules.
+/// Who is served, by which service, and by which rules.
 #[derive(Drop)]
 struct Server {
+    service: Service,
     peer: Peer,
     rules: Rules,
 }
 
-fn peer_of(words: &[Octets]) -> Option<Peer> {
+fn client_of(words: &[Octets]) -> Option<(Service, Peer)> {
     match read_command(words) {
-        Some(Command::Authsrv(client)) if !client.console => Some(client.peer),
+        Some(Command::Authsrv(client)) if !client.console => {
+            Some((Service::Authsrv, client.peer))
+        }
+        Some(Command::TnGw(peer)) => Some((Service::TnGw, peer)),
         _ => None,
     }
 }
@@ -34,11 +38,16 @@ fn table_in(alloc: Global, mut source: MemSource) -> Option<Table> {
 }
 
 fn server_in(alloc: Global, words: &[Octets], files: &mut MemFiles) -> Option<(Server, Policy)> {
-    let peer = peer_of(words)?;
+    let (service, peer) = client_of(words)?;
     let table = table_in(alloc, files.source(table_named(words))?)?;
-    let rules = Rules::of(alloc, &table, &Service::Authsrv).ok()?;
+    let rules = Rules::of(alloc, &table, &service).ok()?;
     let policy = Policy::of(alloc, &table).ok()?;
-    Some((Server { peer, rules }, policy))
+    let server = Server {
+        service,
+        peer,
+        rules,
+    };
+    Some((server, policy))
 }
 
 // Ends the book, and says what it came to.
@@ -60,7 +69,7 @@ fn conn_over<H: Threads + Sync>(
 ) -> Ending {
     conn(
         rt,
-        &Service::Authsrv,
+        &server.service,
         &server.rules,
         &server.peer,
         book,

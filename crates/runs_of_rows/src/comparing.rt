@@ -120,6 +120,11 @@ impl Difference {
         add_difference(&mut self.text, what, whole(wanted), was);
     }
 
+    /// Compares a text with one that is expected in parts, unless something differs already.
+    pub(crate) fn parts_of(&mut self, what: &[u8], wanted: Parts, was: &[u8]) {
+        add_difference(&mut self.text, what, wanted, was);
+    }
+
     // Compares a text with what is shown.
     fn shown_of(&mut self, what: &[u8], wanted: &[u8]) {
         add_difference(&mut self.text, what, whole(wanted), self.shown.as_slice());
@@ -207,6 +212,15 @@ impl Difference {
     // Compares what was logged.
     fn log_of(&mut self, expected: &Expected, place: &Place) {
         add_difference(&mut self.text, b"the log", expected.log, place.logs.bytes());
+    }
+
+    /// Looks for the first thing but the log in which a run came out otherwise than expected.
+    pub(crate) fn compare_unlogged(&mut self, expected: &Expected, was: &mut Ended) {
+        let (wanted, status) = (u64::from(expected.status), u64::from(was.status));
+        self.number_of(b"the status", wanted, status);
+        self.output_of(expected, &was.devices.talk);
+        self.called_of(&expected.called, &was.devices.helpers);
+        self.rest_of(&expected.rest, was);
     }
 
     /// Looks for the first thing in which a run came out otherwise than expected.

@@ -9,6 +9,8 @@ mod broken;
 mod calls;
 mod comparing;
 mod devices;
+mod gates;
+mod gateways;
 mod parts;
 mod plan;
 mod relays;

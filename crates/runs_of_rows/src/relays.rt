@@ -12,14 +12,14 @@ use format_of_rows::Part;
 /// The most bytes that a way of a relay takes at once.
 const PIECE: usize = 4096;
 
-// The bytes that the first calls carry.
-fn carried<'a>(plan: &Plan, text: &'a [u8]) -> &'a [u8] {
+/// The bytes that the first calls carry.
+pub(crate) fn carried<'a>(plan: &Plan, text: &'a [u8]) -> &'a [u8] {
     let piece = plan.piece.min(PIECE) as u64;
     front(text, plan.broken.at.saturating_mul(piece))
 }
 
-// As the row says, but for what the client was told, and for this cause of the end.
-fn down_ends(
+/// As the row says, but for what the client was told, and for this cause of the end.
+pub(crate) fn down_ends(
     plan: &Plan,
     cause: &[u8],
     output: &[u8],
@@ -36,8 +36,14 @@ fn down_ends(
     difference.compare(&expected, was);
 }
 
-// As the row says, but for what the server was given, and for this cause of the end.
-fn up_ends(plan: &Plan, cause: &[u8], given: &[u8], was: &mut Ended, difference: &mut Difference) {
+/// As the row says, but for what the server was given, and for this cause of the end.
+pub(crate) fn up_ends(
+    plan: &Plan,
+    cause: &[u8],
+    given: &[u8],
+    was: &mut Ended,
+    difference: &mut Difference,
+) {
     let row = plan.row;
     let called = Called {
         given,

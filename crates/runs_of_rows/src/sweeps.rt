@@ -2,10 +2,12 @@
 
 use crate::comparing::Difference;
 use crate::devices::Records;
+use crate::gates::gifts;
+use crate::gateways::relayed;
 use crate::plan::{Broken, Plan, UNBROKEN, WHOLE};
 use crate::runner::Runner;
 use crate::running::run_plan;
-use crate::verdicts::is_plug;
+use crate::verdicts::{is_gate, is_plug};
 use format_of_rows::{Part, Row, Tried};
 use fw_types::{Name, NoMemory, Octets};
 use std::alloc::Global;
@@ -77,11 +79,22 @@ fn bytes_of(row: &Row, part: Part) -> Option<usize> {
     match part {
         Part::Client => Some(row.setting.client.len()),
         Part::Table => Some(table_bytes(row)),
-        Part::Server => Some(row.wanted.output.len()),
         Part::Given => Some(row.wanted.called.given.len()),
+        Part::Server | Part::Output if is_gate(row) => Some(relayed(row).len()),
+        Part::Server => Some(row.wanted.output.len()),
         Part::Output if is_plug(row) => Some(row.wanted.output.len()),
         _ => None,
     }
+}
+
+// How many calls there are of a device in the plan's pieces. The first piece that a server is given by the gateway begins
+// where the connect line ends.
+fn calls_of(plan: &Plan, tried: Tried, bytes: usize) -> u64 {
+    if tried.part == Part::Given && is_gate(plan.row) {
+        let ends = tried.calls.saturating_sub(bytes as u64);
+        return gifts(plan).saturating_add(ends);
+    }
+    calls_in(tried.calls, bytes, plan.piece)
 }
 
 // Nothing comes of a device of this kind.
@@ -122,7 +135,7 @@ fn sweep_cut<H: Threads + Sync, R: Runner>(
     let part = tried.part;
     match bytes_of(plan.row, part) {
         Some(bytes) => {
-            let calls = calls_in(tried.calls, bytes, plan.piece);
+            let calls = calls_of(plan, tried, bytes);
             sweep_calls(rt, runner, plan, part, calls, swept)
         }
         None if plan.piece == WHOLE || (plan.piece == 1 && part == Part::Output) => {

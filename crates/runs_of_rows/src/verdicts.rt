@@ -177,6 +177,11 @@ pub(crate) fn is_plug(row: &Row) -> bool {
     has_word(row, b"plug-gw")
 }
 
+/// Whether the words ask for a session of the Telnet gateway, and the client is permitted.
+pub(crate) fn is_gate(row: &Row) -> bool {
+    has_word(row, b"tn-gw") && verdict(row).starts_with(b"permit ")
+}
+
 // The last line of the log.
 fn last_line(row: &Row) -> &[u8] {
     let verdict = verdict(row);
