@@ -1,4 +1,6 @@
 //! A client of a server in whose history there is room for few requests.
+ghost use Rattle.client_service.specs.Conn.{IsServed};
+ghost use Rattle.gate_rules.specs.Reading.{RuleBook};
 
 use auth_machine::{Book, Policy};
 use bastion::{Command, Outcome, conn, read_command, table_named};
@@ -15,22 +17,29 @@ use std::thread::Threads;
 /// history had more entries than fit.
 const UNSERVED: u8 = 255;
 
-/// Who is served, by which service, and by which rules.
+/// Who is served, at the gateway or else by the authentication server, and by which rules.
 #[derive(Drop)]
 struct Server {
-    service: Service,
+    gated: bool,
     peer: Peer,
     rules: Rules,
 }
 
-fn client_of(words: &[Octets]) -> Option<(Service, Peer)> {
+fn client_of(words: &[Octets]) -> Option<(bool, Peer)> {
     match read_command(words) {
-        Some(Command::Authsrv(client)) if !client.console => {
-            Some((Service::Authsrv, client.peer))
-        }
-        Some(Command::TnGw(peer)) => Some((Service::TnGw, peer)),
+        Some(Command::Authsrv(client)) if !client.console => Some((false, client.peer)),
+        Some(Command::TnGw(peer)) => Some((true, peer)),
         _ => None,
     }
+}
+
+fn service_of(gated: bool) -> Service
+    ensures { (rules : RuleBook) → IsServed result rules }
+{
+    if gated {
+        return Service::TnGw;
+    }
+    Service::Authsrv
 }
 
 fn table_in(alloc: Global, mut source: MemSource) -> Option<Table> {
@@ -38,16 +47,11 @@ fn table_in(alloc: Global, mut source: MemSource) -> Option<Table> {
 }
 
 fn server_in(alloc: Global, words: &[Octets], files: &mut MemFiles) -> Option<(Server, Policy)> {
-    let (service, peer) = client_of(words)?;
+    let (gated, peer) = client_of(words)?;
     let table = table_in(alloc, files.source(table_named(words))?)?;
-    let rules = Rules::of(alloc, &table, &service).ok()?;
+    let rules = Rules::of(alloc, &table, &service_of(gated)).ok()?;
     let policy = Policy::of(alloc, &table).ok()?;
-    let server = Server {
-        service,
-        peer,
-        rules,
-    };
-    Some((server, policy))
+    Some((Server { gated, peer, rules }, policy))
 }
 
 // Ends the book, and says what it came to.
@@ -67,9 +71,10 @@ fn conn_over<H: Threads + Sync>(
     book: &mut Book<MemKeeper>,
     ended: &mut Ended,
 ) -> Ending {
+    let service = service_of(server.gated);
     conn(
         rt,
-        &server.service,
+        &service,
         &server.rules,
         &server.peer,
         book,
