@@ -76,6 +76,14 @@ fn are_at(history: &[Entry], sid: u64, moments: &[u64]) -> bool {
     true
 }
 
+/// Whether the last request is the Close of this session.
+pub(crate) fn is_closed(history: &[Entry], sid: u64) -> bool {
+    match history.last() {
+        Some(last) => last.sid == sid && matches!(&last.request, Request::Close),
+        None => false,
+    }
+}
+
 // Whether the lines say why the book isn't opened.
 fn says_unopened(lines: &[Line<'_>]) -> bool {
     for line in lines {
@@ -126,6 +134,12 @@ impl After {
         check(line, is_so, told_moments(&self.history).as_slice())
     }
 
+    fn compare_close(&self, alloc: Global, line: &Line<'_>) -> Result<(), Fault> {
+        let text = line.rest(alloc)?;
+        let is_so = is_closed(&self.history, number_of(&text));
+        check(line, is_so, b"the session isn't closed")
+    }
+
     // Compares the entry at a place.
     fn compare_entry(&self, alloc: Global, line: &Line<'_>) -> Result<(), Fault> {
         let text = line.rest(alloc)?;
@@ -156,7 +170,7 @@ impl After {
     ) -> Result<(), Fault> {
         let mut place = 0u64;
         for row in lines {
-            if row.is_row() {
+            if row.is_row() && !row.is_unanswered() {
                 self.compare_row(alloc, row, place)?;
                 place = place.saturating_add(1);
             }
@@ -192,6 +206,7 @@ impl After {
         match line.word() {
             "asked" => self.compare_rows(alloc, line, lines),
             "moments" => self.compare_moments(alloc, line),
+            "closed" => self.compare_close(alloc, line),
             "response" => self.compare_entry(alloc, line),
             "password" => self.compare_entry(alloc, line),
             "unopened" => self.compare_reason(alloc, line),

@@ -3,13 +3,15 @@
 use crate::fault::{Fault, Line, check};
 use crate::stage::Stage;
 use arrayvec::ArrayVec;
-use auth_events::{Reply, Request};
+use auth_events::{PortFault, Reply, Request};
 use authsrv_lines::{Wire, read_request, reply_text};
 use fw_types::{Name, NoMemory};
 use lines_of_rows::{Told, add, add_number, cut_word, number_of, unescape};
 use std::alloc::Global;
 
 const SALT: [u8; 8] = [1, 2, 3, 4, 5, 6, 7, 8];
+
+const NO_ANSWER: [u8; 15] = *b"the link failed";
 
 /// What a line asks, and what is answered.
 #[derive(Drop)]
@@ -112,16 +114,24 @@ impl Row {
         self.told.as_slice() == b"denied not kept".as_slice()
     }
 
+    // Whether it says that there is no answer.
+    fn is_told_nothing(&self) -> bool {
+        self.told.as_slice() == NO_ANSWER.as_slice()
+    }
+
     /// Whether this is the reply.
     pub(crate) fn is_told(&self, reply: &Reply) -> bool {
         self.told.as_slice() == told_of(reply).as_slice()
     }
 }
 
-// Asks this of the book, and compares the reply with what the row says.
+// Asks this, and compares the reply, or that there is none, with what the row says.
 fn ask_row(line: &Line<'_>, stage: &mut Stage, row: &Row, request: Request) -> Result<(), Fault> {
-    let reply = stage.ask(row.sid, row.at, request)?;
-    check(line, row.is_told(&reply), told_of(&reply).as_slice())
+    match stage.ask(row.sid, row.at, request) {
+        Ok(reply) => check(line, row.is_told(&reply), told_of(&reply).as_slice()),
+        Err(PortFault::NoMemory) => Err(Fault::NoMemory),
+        Err(_) => check(line, row.is_told_nothing(), &NO_ANSWER),
+    }
 }
 
 /// Asks what the line asks.

@@ -56,6 +56,11 @@ impl<'a> Line<'a> {
         self.is_row() && self.text.contains(" =>* ")
     }
 
+    /// Whether it asks for a request that gets no answer.
+    pub(crate) fn is_unanswered(&self) -> bool {
+        self.is_row() && self.text.ends_with(" => the link failed")
+    }
+
     /// Its first word.
     pub(crate) fn word(&self) -> &'a str {
         match self.text.split_once(" ") {

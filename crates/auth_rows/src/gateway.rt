@@ -185,6 +185,7 @@ impl Gateway {
             Device::Source => self.source = calls,
             Device::Idle => self.idle = calls,
             Device::Sink => self.sink = calls,
+            Device::Port => {}
         }
         Ok(())
     }

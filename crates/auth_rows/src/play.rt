@@ -4,12 +4,12 @@ use crate::after::{After, told_fault};
 use crate::asking::ask;
 use crate::fault::{Fault, Line, check};
 use crate::gateway::Gateway;
-use crate::setup::{Setup, policy_of, rules_of, setup_of};
+use crate::setup::{Fails, Setup, policy_of, rules_of, setup_of};
 use crate::stage::{Stage, keeper_of, load, open};
 use crate::sweeps::sweep;
 use crate::talk::{Break, Talk};
 use auth_machine::{OpenFault, Policy};
-use fw_memory::MemKeeper;
+use fw_memory::{Calls, MemKeeper};
 use fw_types::{Name, NoMemory, Octets};
 use lines_of_rows::{Told, add};
 use std::alloc::Global;
@@ -42,18 +42,19 @@ fn opened_by(
     alloc: Global,
     setup: &Setup,
     policy: Policy,
-    fails: &[u64],
+    fails: Fails<'_>,
 ) -> Result<Opening, NoMemory> {
-    let keeper = keeper_of(alloc, setup, fails)?;
+    let keeper = keeper_of(alloc, setup, fails.keeper)?;
     let rules = rules_of(alloc, &setup.table);
-    match open(alloc, keeper, policy, rules, setup.limit) {
+    let port_fails = Calls::of(alloc, fails.port)?;
+    match open(alloc, keeper, policy, rules, setup.limit, port_fails) {
         Ok(stage) => Ok(Opening::Open(stage)),
         Err((keeper, fault)) => Ok(refused(alloc, keeper, &fault)),
     }
 }
 
-/// A book of the setup, whose keeper fails at these calls.
-pub(crate) fn book_of(alloc: Global, setup: &Setup, fails: &[u64]) -> Result<Opening, NoMemory> {
+/// A book of the setup, whose keeper and port fail at these calls.
+pub(crate) fn book_of(alloc: Global, setup: &Setup, fails: Fails<'_>) -> Result<Opening, NoMemory> {
     match policy_of(alloc, &setup.table) {
         Some(policy) => opened_by(alloc, setup, policy, fails),
         None => Ok(shut(alloc, no_policy(), Vec::new(alloc))),
@@ -145,13 +146,14 @@ fn step<H: Threads + Sync>(
     Ok(())
 }
 
-const WORDS: [&str; 29] = [
+const WORDS: [&str; 31] = [
     "scene",
     "table",
     "user",
     "record",
     "limit",
     "fails",
+    "port-fails",
     "session",
     "clock",
     "client",
@@ -162,6 +164,7 @@ const WORDS: [&str; 29] = [
     "ends",
     "asked",
     "moments",
+    "closed",
     "response",
     "password",
     "keeps",
@@ -230,7 +233,7 @@ fn play_over<H: Threads + Sync>(
     lines: &[Line<'_>],
     setup: &Setup,
 ) -> Result<(), Fault> {
-    let opening = book_of(alloc, setup, &setup.fails)?;
+    let opening = book_of(alloc, setup, setup.fails())?;
     let after = after(rt, alloc, lines, opening)?;
     after.compare(alloc, lines)
 }

@@ -20,7 +20,17 @@ pub(crate) struct Setup {
     pub(crate) table: Vec<u8>,
     pub(crate) entries: Vec<(Name, Octets)>,
     pub(crate) limit: u64,
+    /// The keeper's calls that fail.
     pub(crate) fails: Vec<u64>,
+    /// The port's calls that fail.
+    pub(crate) port_fails: Vec<u64>,
+}
+
+/// The calls at which the keeper fails, and the port.
+#[derive(Clone, Copy)]
+pub(crate) struct Fails<'a> {
+    pub(crate) keeper: &'a [u64],
+    pub(crate) port: &'a [u64],
 }
 
 fn digest(text: &[u8]) -> [u8; 16] {
@@ -110,6 +120,14 @@ fn entry_of(alloc: Global, text: &[u8]) -> Result<Option<(Name, Octets)>, NoMemo
 }
 
 impl Setup {
+    /// The calls that fail.
+    pub(crate) fn fails(&self) -> Fails<'_> {
+        Fails {
+            keeper: &self.fails,
+            port: &self.port_fails,
+        }
+    }
+
     fn user(&mut self, alloc: Global, line: &Line<'_>, text: &[u8]) -> Result<(), Fault> {
         match record_of(text) {
             Some(record) => Ok(self.add_record(alloc, &record)?),
@@ -151,6 +169,10 @@ impl Setup {
                 self.fails = numbers_of(alloc, &text)?;
                 Ok(())
             }
+            "port-fails" => {
+                self.port_fails = numbers_of(alloc, &text)?;
+                Ok(())
+            }
             _ => Ok(()),
         }
     }
@@ -170,6 +192,7 @@ pub(crate) fn setup_of(alloc: Global, lines: &[Line<'_>]) -> Result<Setup, Fault
         entries: Vec::new(alloc),
         limit: 1000,
         fails: Vec::new(alloc),
+        port_fails: Vec::new(alloc),
     };
     take_all(alloc, lines, &mut setup)?;
     Ok(setup)

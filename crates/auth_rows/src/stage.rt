@@ -2,8 +2,9 @@
 
 use crate::gateway;
 use crate::setup::Setup;
-use auth_events::{Entry, Reply, Request};
+use auth_events::{AuthPort, Entry, PortFault, Reply, Request};
 use auth_machine::{Book, OpenFault, Policy};
+use auth_port::FaultyPort;
 use authsrv_gate::authsrv_session;
 use fw_memory::{Calls, MemClock, MemDice, MemKeeper, MemSink, MemSource};
 use fw_outside::Keeper;
@@ -13,10 +14,10 @@ use std::alloc::Global;
 use std::thread::Threads;
 use tn_gate::tn_session;
 
-/// A book over a keeper in memory, and the rules of the Telnet gateway, if they can be read.
+/// A port over a book over a keeper in memory, and the rules of the Telnet gateway, if they can be read.
 #[derive(Drop)]
 pub(crate) struct Stage {
-    book: Book<MemKeeper>,
+    port: FaultyPort<MemKeeper>,
     rules: Option<Rules>,
 }
 
@@ -28,16 +29,20 @@ pub(crate) struct Devices {
     pub(crate) clock: MemClock,
 }
 
-/// Opens the book, or says why it isn't opened.
+/// Opens the book, whose port fails at these calls, or says why it isn't opened.
 pub(crate) fn open(
     alloc: Global,
     keeper: MemKeeper,
     policy: Policy,
     rules: Option<Rules>,
     limit: u64,
+    fails: Calls,
 ) -> Result<Stage, (MemKeeper, OpenFault)> {
     match Book::open(alloc, keeper, policy, limit) {
-        Ok(book) => Ok(Stage { book, rules }),
+        Ok(book) => Ok(Stage {
+            port: FaultyPort::new(book, fails),
+            rules,
+        }),
         Err(refused) => Err(refused),
     }
 }
@@ -69,8 +74,8 @@ pub(crate) fn keeper_of(
 
 impl Stage {
     /// Asks a request, whose moment this is.
-    pub(crate) fn ask(&mut self, sid: u64, at: u64, request: Request) -> Result<Reply, NoMemory> {
-        self.book.ask(sid, at, request)
+    pub(crate) fn ask(&mut self, sid: u64, at: u64, request: Request) -> Result<Reply, PortFault> {
+        self.port.ask(sid, at, request)
     }
 
     /// Holds a session.
@@ -78,7 +83,7 @@ impl Stage {
         let mut dice = MemDice::new(0x0102_0304_0506_0708);
         authsrv_session(
             console,
-            &mut self.book,
+            &mut self.port,
             &mut devices.from,
             &mut devices.to,
             &mut devices.clock,
@@ -102,7 +107,7 @@ impl Stage {
                 rules,
                 line,
                 peer,
-                &mut self.book,
+                &mut self.port,
                 &mut devices.from,
                 &mut devices.to,
                 &mut devices.logs,
@@ -113,15 +118,10 @@ impl Stage {
         }
     }
 
-    /// All entries so far.
-    pub(crate) fn history(&self) -> &[Entry] {
-        self.book.history()
-    }
-
     /// Ends it: the keeper and all entries.
     pub(crate) fn close(self) -> (MemKeeper, Vec<Entry>) {
-        let Stage { book, .. } = self;
-        book.close()
+        let Stage { port, .. } = self;
+        port.into_book().close()
     }
 }
 

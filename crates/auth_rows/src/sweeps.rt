@@ -1,29 +1,27 @@
 //! A scene played again with a device that breaks.
 
+use crate::after::is_closed;
 use crate::fault::{Fault, Line, check};
 use crate::play::{Opening, act, book_of};
-use crate::setup::Setup;
+use crate::setup::{Fails, Setup};
 use crate::stage::Stage;
 use crate::talk::{Break, Device};
-use auth_events::{Entry, Request};
+use auth_events::Entry;
 use fw_types::NoMemory;
 use lines_of_rows::{cut_word, number_of};
 use std::alloc::Global;
 use std::thread::Threads;
 
-// A book of the setup, whose keeper fails at these calls, or the line differs.
-fn stage_of(alloc: Global, line: &Line<'_>, setup: &Setup, fails: &[u64]) -> Result<Stage, Fault> {
+// A book of the setup, whose keeper and port fail at these calls, or the line differs.
+fn stage_of(
+    alloc: Global,
+    line: &Line<'_>,
+    setup: &Setup,
+    fails: Fails<'_>,
+) -> Result<Stage, Fault> {
     match book_of(alloc, setup, fails)? {
         Opening::Open(stage) => Ok(stage),
         Opening::Shut(_) => Err(line.differs(b"the book isn't opened")),
-    }
-}
-
-// Whether the last request is the first session's Close.
-fn is_closed(history: &[Entry]) -> bool {
-    match history.last() {
-        Some(last) => last.sid == 0 && matches!(&last.request, Request::Close),
-        None => false,
     }
 }
 
@@ -43,13 +41,14 @@ fn break_over<H: Threads + Sync>(
     alloc: Global,
     lines: &[Line<'_>],
     line: &Line<'_>,
-    stage: &mut Stage,
+    mut stage: Stage,
     at: Break,
 ) -> Result<(), Fault> {
-    act(rt, alloc, lines, stage, Some(at))?;
+    act(rt, alloc, lines, &mut stage, Some(at))?;
+    let (_, history) = stage.close();
     check(
         line,
-        is_closed(stage.history()) || is_unasked(lines, stage.history()),
+        is_closed(&history, 0) || is_unasked(lines, &history),
         b"the session isn't closed",
     )
 }
@@ -63,8 +62,8 @@ fn break_session<H: Threads + Sync>(
     setup: &Setup,
     at: Break,
 ) -> Result<(), Fault> {
-    let mut stage = stage_of(alloc, line, setup, &setup.fails)?;
-    break_over(rt, alloc, lines, line, &mut stage, at)
+    let stage = stage_of(alloc, line, setup, setup.fails())?;
+    break_over(rt, alloc, lines, line, stage, at)
 }
 
 // Breaks the device at each of its first calls.
@@ -113,11 +112,12 @@ fn one_more(alloc: Global, setup: &Setup, call: u64) -> Result<Vec<u64>, NoMemor
 // Compares where the scene differed: at the line of this number, for a change that isn't kept.
 fn compare_break(
     line: &Line<'_>,
-    stage: &Stage,
+    stage: Stage,
     wanted: Option<u64>,
     number: u64,
     is_unkept: bool,
 ) -> Result<(), Fault> {
+    let (_, history) = stage.close();
     check(
         line,
         wanted == Some(number),
@@ -125,7 +125,7 @@ fn compare_break(
     )?;
     check(
         line,
-        is_unkept && !is_last_kept(stage.history()),
+        is_unkept && !is_last_kept(&history),
         b"a change that isn't kept is answered otherwise",
     )
 }
@@ -136,10 +136,10 @@ fn differ_over<H: Threads + Sync>(
     alloc: Global,
     lines: &[Line<'_>],
     line: &Line<'_>,
-    stage: &mut Stage,
+    mut stage: Stage,
     wanted: Option<u64>,
 ) -> Result<(), Fault> {
-    match difference(act(rt, alloc, lines, stage, None))? {
+    match difference(act(rt, alloc, lines, &mut stage, None))? {
         None => check(line, wanted.is_none(), b"a call of the keeper isn't made"),
         Some((number, is_unkept)) => compare_break(line, stage, wanted, number, is_unkept),
     }
@@ -157,8 +157,12 @@ fn break_call<H: Threads + Sync>(
     wanted: Option<u64>,
 ) -> Result<(), Fault> {
     let fails = one_more(alloc, setup, call)?;
-    let mut stage = stage_of(alloc, line, setup, &fails)?;
-    differ_over(rt, alloc, lines, line, &mut stage, wanted)
+    let fails = Fails {
+        keeper: &fails,
+        port: &setup.port_fails,
+    };
+    let stage = stage_of(alloc, line, setup, fails)?;
+    differ_over(rt, alloc, lines, line, stage, wanted)
 }
 
 // Fails each of the keeper's calls in turn, and one more.
@@ -181,6 +185,56 @@ fn break_keeper<H: Threads + Sync>(
     break_call(rt, alloc, lines, line, setup, call, None)
 }
 
+// Whether these are the requests that were answered where the link fails at this one of so many, of which the last
+// closes the session: those before it, and where a session is open then and wasn't asked to close, its Close.
+fn is_cut(history: &[Entry], call: u64, calls: u64) -> bool {
+    let entries = history.len() as u64;
+    if call == 0 || call.saturating_add(1) == calls {
+        return entries == call && !is_closed(history, 0);
+    }
+    entries == call.saturating_add(1) && is_closed(history, 0)
+}
+
+// Plays the scene over this stage, whose port fails at this one of so many calls.
+fn cut_over<H: Threads + Sync>(
+    rt: &H,
+    alloc: Global,
+    lines: &[Line<'_>],
+    line: &Line<'_>,
+    mut stage: Stage,
+    call: u64,
+    calls: u64,
+) -> Result<(), Fault> {
+    let device = Device::Port;
+    act(rt, alloc, lines, &mut stage, Some(Break { device, call }))?;
+    let (_, history) = stage.close();
+    check(
+        line,
+        is_cut(&history, call, calls),
+        b"other requests are answered",
+    )
+}
+
+// Fails each of the port's calls in turn.
+fn break_port<H: Threads + Sync>(
+    rt: &H,
+    alloc: Global,
+    lines: &[Line<'_>],
+    line: &Line<'_>,
+    setup: &Setup,
+    calls: u64,
+) -> Result<(), Fault> {
+    for call in 0..calls {
+        let fails = Fails {
+            keeper: &setup.fails,
+            port: &[call],
+        };
+        let stage = stage_of(alloc, line, setup, fails)?;
+        cut_over(rt, alloc, lines, line, stage, call, calls)?;
+    }
+    Ok(())
+}
+
 // Does what a line `sweep` says.
 fn sweep_by<H: Threads + Sync>(
     rt: &H,
@@ -197,6 +251,7 @@ fn sweep_by<H: Threads + Sync>(
         b"source" => break_device(rt, alloc, lines, line, setup, Device::Source, calls),
         b"idle" => break_device(rt, alloc, lines, line, setup, Device::Idle, calls),
         b"sink" => break_device(rt, alloc, lines, line, setup, Device::Sink, calls),
+        b"port" => break_port(rt, alloc, lines, line, setup, calls),
         _ => Err(line.differs(b"no such device")),
     }
 }

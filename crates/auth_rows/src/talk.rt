@@ -13,6 +13,8 @@ pub(crate) enum Device {
     Source,
     Idle,
     Sink,
+    /// The port, which the stage is told.
+    Port,
 }
 
 /// The call at which a device fails or is idle in place of those that the scene says.
@@ -105,6 +107,7 @@ impl Talk {
             Device::Source => self.source = calls,
             Device::Idle => self.idle = calls,
             Device::Sink => self.sink = calls,
+            Device::Port => {}
         }
         Ok(())
     }
@@ -194,6 +197,12 @@ pub(crate) fn wanted(says: &[u8], broken: Option<Break>) -> &[u8] {
                 ..
             },
         ) => b"Idle",
+        Some(
+            Break {
+                device: Device::Port,
+                ..
+            },
+        ) => b"AuthFault",
         Some(_) => b"ClientFault",
     }
 }

@@ -24,7 +24,7 @@ mod running;
 mod server_rules;
 mod starting;
 mod table_report;
-mod telnet;
+mod telnet_gateway;
 mod texts;
 mod words;
 

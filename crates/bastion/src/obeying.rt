@@ -10,7 +10,7 @@ use crate::deciding::{decide, show};
 use crate::plug::plug;
 use crate::reading::rules_for;
 use crate::starting::decide_run;
-use crate::telnet::gate;
+use crate::telnet_gateway::gate;
 use crate::{Command, CommandLine, Kit, Outcome, Query, World};
 use fw_types::Octets;
 use std::alloc::Global;

@@ -5,7 +5,7 @@
 
 use crate::comparing::{Called, Difference, Expected, Rest};
 use crate::gateways::{dialogue, heard, is_linked, is_whole, relayed, up_to_prompt};
-use crate::parts::{whole, with_last_word};
+use crate::parts::{Parts, whole, with_last_word};
 use crate::plan::Plan;
 use crate::relays::{carried, down_ends, up_ends};
 use crate::runner::Ended;
@@ -16,12 +16,31 @@ use crate::verdicts::{is_connect, status_of, untouched, usual};
 use crate::writing::{Text, add};
 use format_of_rows::{Part, Row};
 
-/// What a run leaves may be anything.
-const ANY: Rest<'static> = Rest {
-    next: None,
-    left: None,
-    records: None,
-};
+// What is expected where these destinations are asked for, and what the run leaves may be anything.
+fn asking<'a>(
+    status: u8,
+    output: Option<&'a [u8]>,
+    log: Parts<'a>,
+    asked: &'a [u8],
+    hung_up: u64,
+) -> Expected<'a> {
+    Expected {
+        status,
+        output,
+        log,
+        called: Called {
+            started: &[],
+            asked,
+            given: &[],
+            hung_up,
+        },
+        rest: Rest {
+            next: None,
+            left: None,
+            records: None,
+        },
+    }
+}
 
 // Adds the destination of a connect line.
 fn add_dest(out: &mut Text, line: &[u8]) {
@@ -92,18 +111,7 @@ fn stop_differs(
     difference: &mut Difference,
 ) {
     let linked = linked_of(was);
-    let expected = Expected {
-        status: 4,
-        output: Some(output),
-        log: whole(&[]),
-        called: Called {
-            started: &[],
-            asked: linked.as_slice(),
-            given: &[],
-            hung_up,
-        },
-        rest: ANY,
-    };
+    let expected = asking(4, Some(output), whole(&[]), linked.as_slice(), hung_up);
     difference.compare_unlogged(&expected, was);
     log_differs(plan.row, cause, was, difference);
     unlogged_differs(was, difference);
@@ -160,18 +168,7 @@ fn line_differs(plan: &Plan, log: &[u8], was: &mut Ended, difference: &mut Diffe
     let linked = linked_of(was);
     let told = was.devices.talk.output.bytes().len() as u64;
     let output = front(dialogue(row), told);
-    let expected = Expected {
-        status: 4,
-        output: Some(output),
-        log: whole(log),
-        called: Called {
-            started: &[],
-            asked: linked.as_slice(),
-            given: &[],
-            hung_up: 0,
-        },
-        rest: ANY,
-    };
+    let expected = asking(4, Some(output), whole(log), linked.as_slice(), 0);
     difference.compare(&expected, was);
     unlogged_differs(was, difference);
     if difference.is_none() && !is_whole(output) {
@@ -202,18 +199,7 @@ fn short_log_differs(plan: &Plan, log: &[u8], was: &mut Ended, difference: &mut 
 fn put_differs(plan: &Plan, was: &mut Ended, difference: &mut Difference) {
     let row = plan.row;
     let linked = linked_of(was);
-    let expected = Expected {
-        status: status_of(row),
-        output: None,
-        log: whole(&[]),
-        called: Called {
-            started: &[],
-            asked: linked.as_slice(),
-            given: &[],
-            hung_up: 0,
-        },
-        rest: ANY,
-    };
+    let expected = asking(status_of(row), None, whole(&[]), linked.as_slice(), 0);
     difference.compare_unlogged(&expected, was);
     unlogged_differs(was, difference);
     let log = was.devices.place.logs.bytes();
