@@ -76,7 +76,7 @@ two_deeds line words (a ∷ b ∷ []) left mid new run comes = record {
 two_deeds line words (a ∷ b ∷ d ∷ steps) left mid new run comes = absurd run.2.2
 
 -- a dialogue that stopped doesn't end as done
-done_only : (dialogue : Result (Unit {0}) Cause) (opened : Option ℕ) (answer : Result Reply PortFault) → endings.Done ≡ ending_of dialogue opened answer → dialogue ≡ Ok tt
+pub done_only : (dialogue : Result (Unit {0}) Cause) (opened : Option ℕ) (answer : Result Reply PortFault) → endings.Done ≡ ending_of dialogue opened answer → dialogue ≡ Ok tt
 done_only (Ok done) opened answer is = refl
 done_only (Err causes.ClientFault) opened answer is = absurd (cc)
 done_only (Err causes.ServerFault) opened answer is = absurd (cc)
