@@ -1,6 +1,5 @@
 //! A client of a server in whose history there is room for few requests.
 ghost use Rattle.client_service.specs.Conn.{IsServed};
-ghost use Rattle.gate_rules.specs.Reading.{RuleBook};
 
 use auth_machine::{Book, Policy};
 use bastion::{Command, Outcome, conn, read_command, table_named};
@@ -17,29 +16,22 @@ use std::thread::Threads;
 /// history had more entries than fit.
 const UNSERVED: u8 = 255;
 
-/// Who is served, at the gateway or else by the authentication server, and by which rules.
+/// Who is served, by which service, and by which rules.
 #[derive(Drop)]
 struct Server {
-    gated: bool,
+    service: Service,
     peer: Peer,
     rules: Rules,
 }
 
-fn client_of(words: &[Octets]) -> Option<(bool, Peer)> {
+fn client_of(words: &[Octets]) -> Option<(Service, Peer)> {
     match read_command(words) {
-        Some(Command::Authsrv(client)) if !client.console => Some((false, client.peer)),
-        Some(Command::TnGw(peer)) => Some((true, peer)),
+        Some(Command::Authsrv(client)) if !client.console => {
+            Some((Service::Authsrv, client.peer))
+        }
+        Some(Command::TnGw(peer)) => Some((Service::TnGw, peer)),
         _ => None,
     }
-}
-
-fn service_of(gated: bool) -> Service
-    ensures { (rules : RuleBook) → IsServed result rules }
-{
-    if gated {
-        return Service::TnGw;
-    }
-    Service::Authsrv
 }
 
 fn table_in(alloc: Global, mut source: MemSource) -> Option<Table> {
@@ -47,11 +39,16 @@ fn table_in(alloc: Global, mut source: MemSource) -> Option<Table> {
 }
 
 fn server_in(alloc: Global, words: &[Octets], files: &mut MemFiles) -> Option<(Server, Policy)> {
-    let (gated, peer) = client_of(words)?;
+    let (service, peer) = client_of(words)?;
     let table = table_in(alloc, files.source(table_named(words))?)?;
-    let rules = Rules::of(alloc, &table, &service_of(gated)).ok()?;
+    let rules = Rules::of(alloc, &table, &service).ok()?;
     let policy = Policy::of(alloc, &table).ok()?;
-    Some((Server { gated, peer, rules }, policy))
+    let server = Server {
+        service,
+        peer,
+        rules,
+    };
+    Some((server, policy))
 }
 
 // Ends the book, and says what it came to.
@@ -65,16 +62,18 @@ fn close(book: Book<MemKeeper>, limit: u64, ending: Ending) -> (u8, MemKeeper) {
 }
 
 // The one call of `conn`.
-fn conn_over<H: Threads + Sync>(
+fn conn_as<H: Threads + Sync>(
     rt: &H,
+    service: &Service,
     server: &Server,
     book: &mut Book<MemKeeper>,
     ended: &mut Ended,
-) -> Ending {
-    let service = service_of(server.gated);
+) -> Ending
+    requires { IsServed service.now server.now.rules }
+{
     conn(
         rt,
-        &service,
+        service,
         &server.rules,
         &server.peer,
         book,
@@ -85,6 +84,19 @@ fn conn_over<H: Threads + Sync>(
         &mut ended.devices.place.clock,
         &mut ended.devices.place.dice,
     )
+}
+
+// A client of the gateway, or else of the server.
+fn conn_over<H: Threads + Sync>(
+    rt: &H,
+    server: &Server,
+    book: &mut Book<MemKeeper>,
+    ended: &mut Ended,
+) -> Ending {
+    match server.service {
+        Service::TnGw => conn_as(rt, &Service::TnGw, server, book, ended),
+        _ => conn_as(rt, &Service::Authsrv, server, book, ended),
+    }
 }
 
 // Serves the client, and says what it came to.
