@@ -33,7 +33,9 @@ use Rattle.bastion.proofs.AttendedLemmas.{attended_status}
 use Rattle.bastion.proofs.GatedLemmas.{gated_status}
 use Rattle.bastion.proofs.GatewayLemmas.{gated_whole}
 use Rattle.bastion.proofs.LaunchLemmas.{Launching, launched}
-use Rattle.bastion.proofs.RunLemmas.{by_later, calls_launcher, count_some, only_left, passed_then, rose_some, served_then, some_by, some_later, stops_left, stops_rose, tells_later, worked_rose}
+use Rattle.bastion.proofs.LeftLemmas.{calls_launcher, only_left, stops_left, tells_later}
+use Rattle.bastion.proofs.RoseLemmas.{by_later, count_some, rose_some, some_by, some_later, stops_rose, worked_rose}
+use Rattle.bastion.proofs.RunLemmas.{passed_then, served_then}
 use Rattle.bastion.proofs.LinkedLemmas.{linked_whole}
 use Rattle.bastion.proofs.QuietLemmas.{Quiet, gave_whole, quiet, same_from, same_to}
 use Rattle.bastion.proofs.ServedLemmas.{attended_whole}

@@ -46,7 +46,7 @@ use Rattle.bastion.specs.Complete.{IsWhole}
 use Rattle.bastion.specs.Headline.{IsDenied}
 use Rattle.bastion.specs.Inputs.{Inputs}
 use Rattle.bastion.specs.Outcome.{fault_line_of, status_of}
-use Rattle.bastion.specs.Run.{TellsIf, verdict_for}
+use Rattle.bastion.specs.Run.{TellsIf, is_at_console, verdict_for}
 use Rattle.bastion.specs.Serving.{OverBook, book_at_first, devices_at, most_entries, origin_of}
 use Rattle.bastion.specs.Talk.{IsToldOff}
 use Rattle.bastion.specs.Works.{with_given}
@@ -76,7 +76,7 @@ two_deeds line words (a ∷ b ∷ []) left mid new run comes = record {
 two_deeds line words (a ∷ b ∷ d ∷ steps) left mid new run comes = absurd run.2.2
 
 -- a dialogue that stopped doesn't end as done
-done_only : (dialogue : Result (Unit {0}) Cause) (opened : Option ℕ) (answer : Result Reply PortFault) → endings.Done ≡ ending_of dialogue opened answer → dialogue ≡ Ok tt
+pub done_only : (dialogue : Result (Unit {0}) Cause) (opened : Option ℕ) (answer : Result Reply PortFault) → endings.Done ≡ ending_of dialogue opened answer → dialogue ≡ Ok tt
 done_only (Ok done) opened answer is = refl
 done_only (Err causes.ClientFault) opened answer is = absurd (cc)
 done_only (Err causes.ServerFault) opened answer is = absurd (cc)
@@ -209,12 +209,13 @@ module _ (command : Command) (service : Service) (words : ℕ → List ℕ) (pee
     denial_same = untold out line book.refused mid new comes tells
 
     -- told off, where the keeper is as the load left it
-    pub told_off : book.keeper ≡ before → IsToldOff command service peer words dialer inputs old new
-    told_off kept =
+    pub told_off : is_at_console command ≡ false → book.keeper ≡ before → IsToldOff command service peer words dialer inputs old new
+    told_off outside kept =
         let Left : WorldView → Type 0 = λ w. Session no_rows (denying_row text (words line)) first (devices_at w book left) endings.Done in
         let session : Session no_rows (denying_row text (words line)) first (devices_at new book left) endings.Done = subst Left (sym denial_same) whole.session in
         let two = denying_deeds text (words line) first (devices_at new book left) session in
         record {
+          outside = outside;
           line = line;
           denied = denied;
           before = before;

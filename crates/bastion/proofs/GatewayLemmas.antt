@@ -1,6 +1,6 @@
 -- From what a client of the gateway did to the headline, and to a run in which no count rose.
 use Rattle.std.proofs.Common.{◌≡◌, ◌≢◌, ◌≤◌, ◌∙◌, ℕ, List, [], ◌∷◌, ◌++◌, length, refl, sym, ap, subst, inl, inr, arith, ◌⊎◌, Bool, true, false}
-use Rattle.std.specs.Prelude.{Option, Some}
+use Rattle.std.specs.Prelude.{Option, Some, Ok, Err}
 use Rattle.auth_events.specs.Port.{Port, places}
 use Rattle.auth_events.specs.declared.entry.Entry.{Entry}
 use Rattle.auth_machine.specs.Port.{BookOrigin, book_port}
@@ -32,8 +32,9 @@ use Rattle.session_acts.proofs.ToldLemmas.{by_both, logged_gains}
 use Rattle.session_acts.specs.Client.{LogFails}
 use Rattle.session_acts.specs.Deeds.{Deed, gives}
 use Rattle.session_acts.specs.Laws.{Adds, called, logged}
+use Rattle.session_acts.specs.RelayLast.{StopsBefore}
 use Rattle.session_acts.specs.Relayed.{relayed, then_relay}
-use Rattle.session_acts.specs.Session.{RelaySession, deeds_of}
+use Rattle.session_acts.specs.Session.{Held, RelaySession, deeds_of}
 use Rattle.session_acts.specs.Talk.{asked}
 use Rattle.session_acts.specs.World.{Devices, World, at_first}
 use Rattle.tn_gate.proofs.CourseLemmas.{held_once}
@@ -45,6 +46,7 @@ use Rattle.tn_gate.proofs.QuietLemmas.{tn_keeps_quiet}
 use Rattle.tn_gate.specs.Dialogue.{tn_row, tn_rows}
 use Rattle.tn_gate.specs.Dummies.{lent}
 use Rattle.tn_gate.specs.Gate.{Gate, gate_at}
+use Rattle.tn_gate.specs.Laws.{AsksExactly}
 use Rattle.tn_gate.specs.Login.{LoginStandsIn, number_opened}
 use Rattle.tn_gate.specs.Texts.{refusal}
 use Rattle.bastion.specs.Asking.{FailsWithin}
@@ -63,11 +65,11 @@ use Rattle.bastion.specs.declared.outcome.Outcome.{Outcome}
 use Rattle.bastion.specs.declared.outcome.Outcome.TheVariants.{Ended}
 use Rattle.bastion.specs.declared.words.Command.TheVariants.{TnGw}
 use Rattle.bastion.proofs.ClientLemmas.{same_undialed}
-use Rattle.bastion.proofs.DenialLemmas.{DeniesWhole, OfDenial, decision_some, denial_same, denial_so, denial_whole, fails_last, fails_within, session_gave, told_denied, told_off}
+use Rattle.bastion.proofs.DenialLemmas.{DeniesWhole, OfDenial, decision_some, denial_same, denial_so, denial_whole, done_only, fails_last, fails_within, session_gave, told_denied, told_off}
 use Rattle.bastion.proofs.GatedLemmas.{IsLetIn, OfCaller, begun_for, gated_so, gated_status}
 use Rattle.bastion.proofs.LinkedLemmas.{waits_only}
 use Rattle.bastion.proofs.QuietLemmas.{Quiet, same_from}
-use Rattle.bastion.proofs.RunLemmas.{tells_later}
+use Rattle.bastion.proofs.LeftLemmas.{tells_later}
 use Rattle.bastion.proofs.TalkLemmas.{concluded, concluded_later, concluded_whole, ends_by, legal_talk, no_talk, was}
 
 -- ---- what holds of a session
@@ -75,6 +77,16 @@ use Rattle.bastion.proofs.TalkLemmas.{concluded, concluded_later, concluded_whol
 -- the log's line of a session that failed is no line
 unsaid : (out : Outcome) (refused : Bool) (mid new : WorldView) → out ≡ Ended endings.LogFault refused → TellsIf (fault_line_of out) mid new → new ≡ mid
 unsaid out refused mid new is h = let P : Outcome → Type 0 = λ o. TellsIf (fault_line_of o) mid new in subst P is h
+
+-- a session that is done has asked for all destinations
+all_asked : (gate : Gate) (old new : World BookOrigin) (ending : Ending) (held : Held (relayed (tn_rows gate)) (then_relay (tn_row gate)) old new ending) (asks : AsksExactly gate held) → ending ≡ endings.Done → asks.rest ≡ []
+all_asked gate old new ending held asks is = by asks.whole
+  where
+    by : (asks.rest ≡ []) ⊎ StopsBefore (tn_rows gate) (tn_row gate) held → asks.rest ≡ []
+    by (inl none) = none
+    by (inr stops) =
+        let went : held.dialogue ≡ Ok tt = done_only held.dialogue held.mid.office.opened held.answer (sym is ∙ held.ends) in
+        let clash : Ok tt ≡ Err stops.cause = sym went ∙ stops.is in absurd (cc)
 
 module _ (peer : Peer) (inputs : Inputs) (out : Outcome) (old mid new : WorldView) (h : Gated peer inputs out old mid) (tells : TellsIf (fault_line_of out) mid new) where
   abbrev first : Devices BookOrigin
@@ -147,6 +159,7 @@ module _ (peer : Peer) (inputs : Inputs) (out : Outcome) (old mid new : WorldVie
       lines = held_says (relayed (tn_rows (gate line))) (then_relay (tn_row (gate line))) begun session.last h.ending session.held refl;
       heard = held_lines (gate line) begun session.last h.ending session.held;
       exactly = held_asks (gate line) begun session.last h.ending session.held;
+      all = λ is. all_asked (gate line) begun session.last h.ending session.held (held_asks (gate line) begun session.last h.ending session.held) is;
       cleared = held_cleared (gate line) begun session.last h.ending session.held;
       logins =
           λ asks before after deed dest is calls.
@@ -191,7 +204,7 @@ module _ (peer : Peer) (inputs : Inputs) (out : Outcome) (old mid new : WorldVie
         asked = asked_for line permitted logs here;
         logged = logged_so line permitted logs here;
         told = session_gave here;
-        relayed_fronts = session_fronts (tn_rows (gate line)) (tn_row (gate line)) start left h.ending here (tn_keeps_quiet (gate line));
+        fronts = session_fronts (tn_rows (gate line)) (tn_row (gate line)) start left h.ending here (tn_keeps_quiet (gate line));
         concluded =
             concluded services.TnGw peer h.ending h.book.refused (was_refused (deeds_of here.held)) out logs mid new h.over.comes (was rows row start left h.ending here inputs h.before h.book out old mid h.over refl refl) noted tells;
       }
@@ -234,7 +247,7 @@ module _ (peer : Peer) (inputs : Inputs) (out : Outcome) (old mid new : WorldVie
       let kept : h.book.keeper ≡ h.before = untouched_deny (verdict_for (TnGw peer) inputs) line h.before h.book.keeper denied h.untouched in
       let same : new ≡ mid = denial_same (TnGw peer) services.TnGw refusal peer inputs old.inputs.dialer mid.inputs.dialer h.before h.book h.ending out old mid new h.over tells line denied whole in (
         inr (inl (record {
-          off = told_off (TnGw peer) services.TnGw refusal peer inputs old.inputs.dialer mid.inputs.dialer h.before h.book h.ending out old mid new h.over tells line denied whole kept;
+          off = told_off (TnGw peer) services.TnGw refusal peer inputs old.inputs.dialer mid.inputs.dialer h.before h.book h.ending out old mid new h.over tells line denied whole refl kept;
           dialer = ap (λ (w : WorldView). w.inputs.dialer) same ∙ whole.dialer;
         })),
         inr (inr (told_denied (TnGw peer) services.TnGw refusal peer inputs old.inputs.dialer mid.inputs.dialer h.before h.book h.ending out old mid new h.over tells line denied whole)),

@@ -28,13 +28,13 @@ use Rattle.session_acts.specs.Session.{Session, deeds_of}
 use Rattle.session_acts.specs.World.{Devices, devices_with}
 use Rattle.bastion.specs.Asking.{IsUndecided}
 use Rattle.bastion.specs.Gateway.{IsGated, IsUnmet}
-use Rattle.bastion.specs.Headline.{Headline, HeadlineFor, IsDenied, IsPermitted, IsToldOffAway, LogsDenial, OfHistory, begins, lent_to}
+use Rattle.bastion.specs.Headline.{Headline, HeadlineFor, IsDenied, IsPermitted, LogsDenial, OfHistory, begins, lent_to}
 use Rattle.bastion.specs.Inputs.{Inputs}
 use Rattle.bastion.specs.Outcome.{fault_line_of, is_stopped, status_of, verdict_status}
 use Rattle.bastion.specs.Run.{DoesLine, ReadsOnly, Run, Stops, TellsIf, Worked, verdict_for}
 use Rattle.bastion.specs.Serving.{Attended, UntouchedAt, book_at_first, devices_at, most_entries, origin_of}
 use Rattle.bastion.specs.Status.{IsHeld, IsServed}
-use Rattle.bastion.specs.Talk.{IsSilent, IsUnserved, table_kept, was_refused}
+use Rattle.bastion.specs.Talk.{IsSilent, IsToldOff, IsUnserved, table_kept, was_refused}
 use Rattle.bastion.specs.Texts.{print_text, program_of}
 use Rattle.bastion.specs.Words.{LineView}
 use Rattle.bastion.specs.Works.{Announced, AnnouncedRun, PrintsAfter, StaysSo, announced}
@@ -55,7 +55,8 @@ use Rattle.bastion.proofs.LaunchLemmas.{Launching, launched, run_status_by}
 use Rattle.bastion.proofs.LinkedLemmas.{linked_headline}
 use Rattle.bastion.proofs.SessionLemmas.{OfClient, OfSession, lent_outlet, lent_port, serves_so}
 use Rattle.bastion.proofs.TalkLemmas.{concluded, legal_talk, tells_noted, was}
-use Rattle.bastion.proofs.RunLemmas.{Later, only_left, stops_left, tells_later, worked_unasked}
+use Rattle.bastion.proofs.LeftLemmas.{Later, only_left, stops_left, tells_later}
+use Rattle.bastion.proofs.RunLemmas.{worked_unasked}
 
 -- ---- nothing was done
 
@@ -237,7 +238,7 @@ ended_log out ending refused comes ends = ap status_of (comes ∙ ap (λ (e : En
 abbrev ClientHeadline : Client → Inputs → ℕ → WorldView → WorldView → Type 0
 ClientHeadline client inputs status old new =
     IsUnserved status old new
-    ⊎ ((IsToldOffAway client inputs old new ⊎ OfHistory client inputs status old new) × (IsPermitted (Authsrv client) inputs status ⊎ IsDenied (Authsrv client) services.Authsrv client.peer inputs status old new))
+    ⊎ ((IsToldOff (Authsrv client) services.Authsrv client.peer denied_text nowhere inputs old new ⊎ OfHistory client inputs status old new) × (IsPermitted (Authsrv client) inputs status ⊎ IsDenied (Authsrv client) services.Authsrv client.peer inputs status old new))
 
 session_headline : (client : Client) (inputs : Inputs) (out : Outcome) (old mid new : WorldView) → (h : Attended client inputs out old mid) → TellsIf (fault_line_of out) mid new
     → OfSession client.console (verdict_for (Authsrv client) inputs) inputs.rules client.peer (devices_at old (book_at_first (origin_of inputs) most_entries h.before) nowhere) (devices_at mid h.book h.dialer) h.ending
@@ -274,10 +275,7 @@ denial_headline client inputs out old mid new h tells line outside denied (inl f
 denial_headline client inputs out old mid new h tells line outside denied (inr whole) =
     let kept : h.book.keeper ≡ h.before = untouched_deny client.console (verdict_for (Authsrv client) inputs) line h.before h.book.keeper outside denied h.untouched in
     inr (
-      inl (record {
-        outside = outside;
-        off = told_off (Authsrv client) services.Authsrv denied_text client.peer inputs nowhere h.dialer h.before h.book h.ending out old mid new h.over tells line denied whole kept;
-      }),
+      inl (told_off (Authsrv client) services.Authsrv denied_text client.peer inputs nowhere h.dialer h.before h.book h.ending out old mid new h.over tells line denied whole outside kept),
       inr (told_denied (Authsrv client) services.Authsrv denied_text client.peer inputs nowhere h.dialer h.before h.book h.ending out old mid new h.over tells line denied whole),
     )
 

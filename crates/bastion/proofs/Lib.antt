@@ -9,11 +9,13 @@ pub mod GatewayLemmas
 pub mod HeadlineLemmas
 pub mod InputLemmas
 pub mod LaunchLemmas
+pub mod LeftLemmas
 pub mod LinkedLemmas
 pub mod LinkingLemmas
 pub mod LoglessLemmas
 pub mod QuietLemmas
 pub mod ReadingLemmas
+pub mod RoseLemmas
 pub mod RunLemmas
 pub mod ServedLemmas
 pub mod SessionLemmas

@@ -38,7 +38,7 @@ use Rattle.bastion.proofs.DenialLemmas.{denial_so, denial_whole}
 use Rattle.bastion.proofs.HeadlineLemmas.{of_history}
 use Rattle.bastion.proofs.LoglessLemmas.{server_logless}
 use Rattle.bastion.proofs.QuietLemmas.{Quiet}
-use Rattle.bastion.proofs.RunLemmas.{tells_later}
+use Rattle.bastion.proofs.LeftLemmas.{tells_later}
 use Rattle.bastion.proofs.SessionLemmas.{OfClient, serves_so}
 use Rattle.bastion.proofs.TalkLemmas.{concluded_later, concluded_whole, ends_by}
 

@@ -11,6 +11,7 @@ use Rattle.fw_outside.specs.ToldList.{grown}
 use Rattle.fw_outside.specs.declared.ask.Ask.TheVariants.{Main}
 use Rattle.fw_types.specs.declared.dest.Dest.{Dest}
 use Rattle.fw_types.specs.declared.ending.Ending.{Ending}
+use Rattle.fw_types.specs.declared.ending.Ending.TheVariants.{Done}
 use Rattle.fw_types.specs.declared.peer.Peer.{Peer}
 use Rattle.gate_rules.specs.declared.service.Service.TheVariants as services
 use Rattle.gate_rules.specs.declared.verdict.Verdict.TheVariants.{Permit}
@@ -56,17 +57,19 @@ LoginsStand gate deeds history =
     asks_login gate.options ≡ true → (before after : List Deed) (deed : Deed) (dest : Dest) → deeds ≡ before ++ deed ∷ after → called deed.act deed.outcome ≡ Main dest ∷ [] → LoginStandsIn (number_opened (gives asked deeds)) (gives asked before) history
 
 -- What holds of a session of the gateway over a book with this history. The lines that it heard are the first lines of the
--- text that it took of the client, in order (`lines`), and it goes by these (`heard`). The destinations that it asked for are
--- those that these lines ask for, up to where the dialogue stopped. Each was asked for right behind its connect line, which the log has whole, and behind the
--- permission for its host with `-extnd`; the permission line allows it; and where that asks for a login, one of this session
--- stands in the history. Right behind each connect line that the log has whole its destination was asked for. The log was
--- given each line that was due, for a destination, a login or a login that failed, right behind what it was due for, and no
--- other. What the client was told as a denial, of a destination or of a login, the log was given right before, whole. After
--- openings in vain a session was opened at most once, and closed once, as the last.
+-- text that it took of the client, in order, and it goes by these. The destinations that it asked for are those that these
+-- lines ask for: all of them in a session that is done, else up to where the dialogue stopped. Each was asked for right behind
+-- its connect line, which the log has whole, and behind the permission for its host with `-extnd`; the permission line allows
+-- it; and where that asks for a login, one of this session stands in the history. Right behind each connect line that the log
+-- has whole its destination was asked for. The log was given each line that was due, for a destination, a login or a login that
+-- failed, right behind what it was due for, and no other. What the client was told as a denial, of a destination or of a login,
+-- the log was given right before, whole. After openings in vain a session was opened at most once, and closed once, as the
+-- last.
 pub record IsGuarded (gate : Gate) (history : List Entry) {old new : World BookOrigin} {ending : Ending} (held : Held (relayed (tn_rows gate)) (then_relay (tn_row gate)) old new ending) : Type 0 where
   pub lines : SaysLines (gives heard_in (deeds_of held)) old.client new.client
   pub heard : lines_in (turns_of (deeds_of held)) ≡ lines_said (gives heard_in (deeds_of held))
   pub exactly : AsksExactly gate held
+  pub all : ending ≡ Done → exactly.rest ≡ []
   pub cleared : DialsCleared gate (deeds_of held)
   pub logins : LoginsStand gate (deeds_of held) history
   pub dialed : LinesDialed gate (deeds_of held)
@@ -95,7 +98,7 @@ pub record OfTelnet (peer : Peer) (inputs : Inputs) (status : ℕ) (old new : Wo
   pub asked : Adds (gives called (deeds_of session.held)) old.inputs.dialer.asked new.inputs.dialer.asked
   pub logged : logs.given ≡ grown old.logs.given (decision_text (Permit line) services.TnGw peer ++ gives logged (deeds_of session.held))
   pub told : new.output.given ≡ grown old.output.given (gives told (deeds_of session.held))
-  pub relayed_fronts : RelaysFronts (deeds_of session.held) (let_in inputs peer line (gated_devices old (book_at_first (origin_of inputs) most_entries before))) (record (gated_devices new book) { logs = logs }) ending
+  pub fronts : RelaysFronts (deeds_of session.held) (let_in inputs peer line (gated_devices old (book_at_first (origin_of inputs) most_entries before))) (record (gated_devices new book) { logs = logs }) ending
   pub concluded : IsConcluded services.TnGw peer ending (was_refused (deeds_of session.held)) status logs new.logs
 
 -- the rules deny the client, and no destination was asked for

@@ -30,7 +30,7 @@ use Rattle.bastion.specs.Asking.{IsAskedBy, IsUndecided}
 use Rattle.bastion.specs.Gateway.{IsGated}
 use Rattle.bastion.specs.Inputs.{HasInputs, Inputs, needs_records}
 use Rattle.bastion.specs.Outcome.{verdict_status}
-use Rattle.bastion.specs.Run.{ReadsOnly, verdict_for}
+use Rattle.bastion.specs.Run.{ReadsOnly, is_at_console, verdict_for}
 use Rattle.bastion.specs.Serving.{book_at_first, devices_at, most_entries, origin_of}
 use Rattle.bastion.specs.Talk.{IsConcluded, IsLegalTalk, IsSilent, IsToldOff, IsUnserved, was_refused}
 use Rattle.bastion.specs.Words.{LineView}
@@ -43,10 +43,6 @@ use Rattle.bastion.specs.declared.words.Command.TheVariants.{Netacl, NetaclRun, 
 -- ---- every denial logs its line
 
 -- whom the rules permit, or who is at the console, isn't denied
-abbrev pub is_at_console : Command → Bool
-is_at_console (Authsrv client) = client.console
-is_at_console _ = false
-
 pub record IsPermitted (command : Command) (inputs : Inputs) (status : ℕ) : Type 0 where
   pub permitted : is_at_console command ≡ false → verdict_status (verdict_for command inputs) ≡ 0
   pub undenied : status ≢ 1
@@ -108,17 +104,12 @@ pub record OfHistory (client : Client) (inputs : Inputs) (status : ℕ) (old new
   pub told : new.output.given ≡ grown old.output.given (gives told (deeds_of session.held))
   pub concluded : IsConcluded services.Authsrv client.peer ending (was_refused (deeds_of session.held)) status logs new.logs
 
--- the rules deny the client, who isn't at the console
-pub record IsToldOffAway (client : Client) (inputs : Inputs) (old new : WorldView) : Type 0 where
-  pub outside : client.console ≡ false
-  pub off : IsToldOff (Authsrv client) services.Authsrv client.peer denied_text nowhere inputs old new
-
 pub record IsReplied (name : List ℕ) (client : Client) (status : ℕ) (old new : WorldView) : Type 0 where
   pub inputs : Inputs
   pub read : HasInputs name (Authsrv client) (Ok inputs) old
   pub middle : WorldView
   pub only : ReadsOnly name true old middle
-  pub so : IsToldOffAway client inputs middle new ⊎ OfHistory client inputs status middle new
+  pub so : IsToldOff (Authsrv client) services.Authsrv client.peer denied_text nowhere inputs middle new ⊎ OfHistory client inputs status middle new
 
 -- a client of `tn-gw` is one of whom destinations are asked, too: both sentences are of one session
 abbrev pub IsReplying : List ℕ → Command → ℕ → WorldView → WorldView → Type 0

@@ -96,6 +96,11 @@ peer_of (Authsrv client) = client.peer
 peer_of (PlugGw caller) = caller.peer
 peer_of (TnGw peer) = peer
 
+-- whom the rules don't decide of
+abbrev pub is_at_console : Command → Bool
+is_at_console (Authsrv client) = client.console
+is_at_console _ = false
+
 abbrev pub verdict_for : Command → Inputs → Verdict
 verdict_for command inputs = verdict_of inputs.rules (peer_of command)
 

@@ -28,7 +28,7 @@ use Rattle.session_acts.specs.Session.{Session, deeds_of}
 use Rattle.session_acts.specs.Talk.{answered, asked, is_entered, is_refused_as_full, said_of}
 use Rattle.bastion.specs.Inputs.{Inputs}
 use Rattle.bastion.specs.Outcome.{fault_line_of, status_of}
-use Rattle.bastion.specs.Run.{verdict_for}
+use Rattle.bastion.specs.Run.{is_at_console, verdict_for}
 use Rattle.bastion.specs.Serving.{book_at_first, devices_at, most_entries, origin_of}
 use Rattle.bastion.specs.WorldView.{SessionInputs, WorldView}
 use Rattle.bastion.specs.declared.outcome.Outcome.TheVariants.{Ended}
@@ -78,9 +78,10 @@ pub record IsConcluded (service : Service) (peer : Peer) (ending : Ending) (refu
   pub limited : NotedIf (fault_line_of (Ended ending refused)) ended new
   pub status_is : status ≡ status_of (Ended ending refused)
 
--- The rules deny the client. Over these devices two deeds were done, in this order: the line of the denial was given to the
+-- The rules deny the client, who isn't at the console. Over these devices two deeds were done, in this order: the line of the denial was given to the
 -- log, whole; and then the client was given the words of it, or a front of them. The keeper is as the load left it.
 pub record IsToldOff (command : Command) (service : Service) (peer : Peer) (words : ℕ → List ℕ) (dialer : DialerView) (inputs : Inputs) (old new : WorldView) : Type 0 where
+  pub outside : is_at_console command ≡ false
   pub line : ℕ
   pub denied : verdict_for command inputs ≡ Deny line
   pub before : KeeperView

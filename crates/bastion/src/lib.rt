@@ -5,9 +5,10 @@
 //! clock, the dice and the keeper of the users' records. Its contract says, for every command line, every table and
 //! every way in which a device may fail, which status it answers and what it leaves: wherever `netacl` has printed
 //! anything, the line of its verdict stands whole in the log; what is printed and logged is told byte for byte, where
-//! the devices tell it; the replies that a client of `authsrv` is told are those of a legal history; and each status
-//! but 5, want of memory, has its cause: in the words, in a limit, in the count of a device that rose, or, where the
-//! devices tell what they hold, in the table's text and the records. [`conn`] serves one client.
+//! the devices tell it; the replies that a client of `authsrv` or `tn-gw` is told are those of a legal history; the
+//! destinations that `plug-gw` and `tn-gw` ask for are those that the table permits, and no other command asks for one;
+//! and each status but 5, want of memory, has its cause: in the words, in a limit, in the count of a device that rose,
+//! or, where the devices tell what they hold, in the table's text and the records. [`conn`] serves one client.
 #![tactic(auto)]
 
 mod authsrv;

@@ -1,6 +1,7 @@
 use Rattle.bastion.specs.Run.{Run}
 use Rattle.bastion.specs.Words.{line_of}
-use Rattle.bastion.proofs.RunLemmas.{does_rose, run_back, run_status, run_takes}
+use Rattle.bastion.proofs.RoseLemmas.{does_rose}
+use Rattle.bastion.proofs.RunLemmas.{run_back, run_status, run_takes}
 use Rattle.bastion.proofs.CompleteLemmas.{run_complete}
 use Rattle.bastion.proofs.HeadlineLemmas.{run_headline}
 use Rattle.bastion.proofs.running.run.Goals as goal
