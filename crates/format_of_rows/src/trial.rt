@@ -27,6 +27,8 @@ pub enum Part {
     LogRoom,
     /// The keeper of the records fails.
     Keeper,
+    /// The link of the port to the authentication machine fails.
+    Port,
     /// A program can't be started.
     Program,
     /// The dialer refuses a destination.
@@ -47,6 +49,7 @@ const PARTS: &[(Keyword, &str, Part)] = &[
     (Keyword::Fails, "output", Part::Output),
     (Keyword::Fails, "log", Part::Log),
     (Keyword::Fails, "keeper", Part::Keeper),
+    (Keyword::Fails, "port", Part::Port),
     (Keyword::Fails, "program", Part::Program),
     (Keyword::Fails, "dialer", Part::Dialer),
     (Keyword::Fails, "server", Part::Server),

@@ -1,9 +1,10 @@
-//! A client of a server in whose history there is room for few requests.
+//! A client of a server in whose history there is room for few requests, or whose port fails.
 ghost use Rattle.client_service.specs.Conn.{IsServed};
 
 use auth_machine::{Book, Policy};
+use auth_port::FaultyPort;
 use bastion::{Command, Outcome, conn, read_command, table_named};
-use fw_memory::{MemFiles, MemKeeper, MemSource};
+use fw_memory::{Calls, MemFiles, MemKeeper, MemSource};
 use fw_outside::Files;
 use fw_types::{Ending, Octets, Peer};
 use gate_rules::{Rules, Service};
@@ -66,7 +67,7 @@ fn conn_as<H: Threads + Sync>(
     rt: &H,
     service: &Service,
     server: &Server,
-    book: &mut Book<MemKeeper>,
+    port: &mut FaultyPort<MemKeeper>,
     ended: &mut Ended,
 ) -> Ending
     requires { IsServed service.now server.now.rules }
@@ -76,7 +77,7 @@ fn conn_as<H: Threads + Sync>(
         service,
         &server.rules,
         &server.peer,
-        book,
+        port,
         &mut ended.devices.talk.input,
         &mut ended.devices.talk.output,
         &mut ended.devices.place.logs,
@@ -90,12 +91,12 @@ fn conn_as<H: Threads + Sync>(
 fn conn_over<H: Threads + Sync>(
     rt: &H,
     server: &Server,
-    book: &mut Book<MemKeeper>,
+    port: &mut FaultyPort<MemKeeper>,
     ended: &mut Ended,
 ) -> Ending {
     match server.service {
-        Service::TnGw => conn_as(rt, &Service::TnGw, server, book, ended),
-        _ => conn_as(rt, &Service::Authsrv, server, book, ended),
+        Service::TnGw => conn_as(rt, &Service::TnGw, server, port, ended),
+        _ => conn_as(rt, &Service::Authsrv, server, port, ended),
     }
 }
 
@@ -103,25 +104,28 @@ fn conn_over<H: Threads + Sync>(
 fn hold<H: Threads + Sync>(
     rt: &H,
     server: &Server,
-    mut book: Book<MemKeeper>,
+    mut port: FaultyPort<MemKeeper>,
     limit: u64,
     ended: &mut Ended,
 ) {
-    let ending = conn_over(rt, server, &mut book, ended);
-    let (status, keeper) = close(book, limit, ending);
+    let ending = conn_over(rt, server, &mut port, ended);
+    let (status, keeper) = close(port.into_book(), limit, ending);
     ended.status = status;
     ended.keeper = Some(keeper);
 }
 
-/// Serves the client of the command line over a history with room for so many requests.
+/// Serves the client of the command line over a history with room for so many requests, or for as many as ever fit, by a port
+/// whose link fails at these requests, or at none.
 pub(crate) fn serve_over<H: Threads + Sync>(
     rt: &H,
     alloc: Global,
     words: &[Octets],
-    limit: u64,
+    limit: Option<u64>,
+    fails: Option<Calls>,
     devices: Devices,
     keeper: MemKeeper,
 ) -> Ended {
+    let limit = limit.unwrap_or(u64::MAX);
     let mut ended = Ended {
         status: UNSERVED,
         devices,
@@ -131,7 +135,8 @@ pub(crate) fn serve_over<H: Threads + Sync>(
         return ended;
     };
     if let Ok(book) = Book::open(alloc, keeper, policy, limit) {
-        hold(rt, &server, book, limit, &mut ended);
+        let port = FaultyPort::new(book, fails.unwrap_or(Calls::none()));
+        hold(rt, &server, port, limit, &mut ended);
     }
     ended
 }

@@ -122,6 +122,14 @@ pub(crate) fn keeper_of(plan: &Plan) -> Result<MemKeeper, NoMemory> {
     Ok(MemKeeper::new(plan.alloc, records, fails))
 }
 
+/// The requests at which the link of a port fails, where the row says any.
+pub(crate) fn port_of(plan: &Plan) -> Result<Option<Calls>, NoMemory> {
+    match plan.row.trial.times(Part::Port) {
+        Some(_) => Ok(Some(calls_of(plan, Part::Port)?)),
+        None => Ok(None),
+    }
+}
+
 fn launcher_of(plan: &Plan) -> Result<MemLauncher, NoMemory> {
     let fails = calls_of(plan, Part::Program)?;
     let ends = Vec::from_slice(plan.alloc, &plan.row.setting.ends)?;

@@ -4,7 +4,7 @@ ghost use Rattle.std.specs.Thread.{IsSync};
 use crate::comparing::Difference;
 use crate::devices::Devices;
 use format_of_rows::{Row, Setting};
-use fw_memory::MemKeeper;
+use fw_memory::{Calls, MemKeeper};
 use fw_types::NoMemory;
 use std::alloc::Global;
 use std::thread::Threads;
@@ -20,7 +20,8 @@ pub struct Ended {
 
 /// What the program under test does with a row.
 pub trait Runner {
-    /// Runs what the setting says over the devices and the keeper.
+    /// Runs what the setting says over the devices and the keeper; where the row says at which requests the link of its port
+    /// fails, by a port that fails at these.
     fn run<H: Threads + Sync>(
         &self,
         rt: &H,
@@ -28,6 +29,7 @@ pub trait Runner {
         setting: &Setting,
         devices: Devices,
         keeper: MemKeeper,
+        port: Option<Calls>,
     ) -> Ended
         requires sync { IsSync H.row };
 

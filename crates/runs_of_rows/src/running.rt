@@ -2,7 +2,7 @@
 
 use crate::broken::broken_differs;
 use crate::comparing::Difference;
-use crate::devices::{Records, copy_of, devices_of, keeper_of};
+use crate::devices::{Records, copy_of, devices_of, keeper_of, port_of};
 use crate::plan::{Plan, WHOLE};
 use crate::runner::{Ended, Runner};
 use crate::seen::table_of;
@@ -22,6 +22,7 @@ fn name_of(part: Part) -> &'static [u8] {
         Part::Log => b"the log fails at call ",
         Part::LogRoom => b"the log has bytes of room, ",
         Part::Keeper => b"the keeper fails at call ",
+        Part::Port => b"the port fails at call ",
         Part::Program => b"a program can't be started at call ",
         Part::Dialer => b"the dialer refuses call ",
         Part::Server => b"the server fails at call ",
@@ -69,7 +70,8 @@ fn ended_by<H: Threads + Sync, R: Runner>(
 ) -> Result<Ended, NoMemory> {
     let keeper = keeper_of(plan)?;
     let devices = devices_of(plan)?;
-    Ok(runner.run(rt, plan.alloc, &plan.row.setting, devices, keeper))
+    let port = port_of(plan)?;
+    Ok(runner.run(rt, plan.alloc, &plan.row.setting, devices, keeper, port))
 }
 
 // Looks for what differs in a run. The records are then those that its keeper has.
