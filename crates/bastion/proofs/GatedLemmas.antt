@@ -84,7 +84,7 @@ permit_rose line ServerFault old new first book h = h
 permit_rose line LogFault old new first book h = h
 permit_rose line AuthFault old new first book h = port_rose h
 permit_rose line Idle old new first book h = h
-permit_rose line NoRoute old new first book h = h
+permit_rose line NoRoute old new first book h = absurd h
 permit_rose line Spent old new first book h = tt
 permit_rose line NoMemory old new first book h = tt
 

@@ -25,9 +25,12 @@ use Rattle.gate_rules.specs.declared.verdict.Verdict.{Verdict}
 use Rattle.gate_rules.specs.declared.verdict.Verdict.TheVariants.{Permit, Deny}
 use Rattle.session_acts.proofs.CauseLemmas.{relay_keeps}
 use Rattle.session_acts.proofs.DeedLemmas.{all_gain, held_deeds}
-use Rattle.session_acts.proofs.LinkedLemmas.{called_gains}
+use Rattle.session_acts.proofs.LastStopLemmas.{stops_last}
+use Rattle.session_acts.proofs.LinkedLemmas.{called_gains, linked_gains}
+use Rattle.session_acts.proofs.RefusalLemmas.{refused_gains}
 use Rattle.session_acts.proofs.RelayFrontsLemmas.{session_fronts}
 use Rattle.session_acts.proofs.SaidLemmas.{held_says}
+use Rattle.session_acts.proofs.TalkLemmas.{entered_gains}
 use Rattle.session_acts.proofs.ToldLemmas.{by_both, logged_gains}
 use Rattle.session_acts.specs.Client.{LogFails}
 use Rattle.session_acts.specs.Deeds.{Deed, gives}
@@ -37,6 +40,7 @@ use Rattle.session_acts.specs.Relayed.{relayed, then_relay}
 use Rattle.session_acts.specs.Session.{Held, RelaySession, deeds_of}
 use Rattle.session_acts.specs.Talk.{asked}
 use Rattle.session_acts.specs.World.{Devices, World, at_first}
+use Rattle.tn_gate.proofs.AskingLawLemmas.{held_due_asked, held_ended, held_ends}
 use Rattle.tn_gate.proofs.CourseLemmas.{held_once}
 use Rattle.tn_gate.proofs.DueLawLemmas.{held_dialed, held_due, held_logged}
 use Rattle.tn_gate.proofs.LawLemmas.{held_asks, held_cleared}
@@ -168,6 +172,13 @@ module _ (peer : Peer) (inputs : Inputs) (out : Outcome) (old mid new : WorldVie
       due = held_due (gate line) begun session.last h.ending session.held;
       denials = held_logged (gate line) begun session.last h.ending session.held;
       opened = held_once (gate line) begun session.last h.ending session.held refl;
+      requests = held_due_asked (gate line) begun session.last h.ending session.held;
+      ends = held_ends (gate line) begun session.last h.ending session.held;
+      ended = λ last. held_ended (gate line) begun session.last h.ending session.held last;
+      links = all_gain linked_gains deeds begun session.last (held_deeds session.held);
+      refusals = all_gain refused_gains deeds begun session.last (held_deeds session.held);
+      entered = all_gain entered_gains deeds begun session.last (held_deeds session.held);
+      stops = λ cause is. stops_last cause session.held is;
     }
 
     asked_for : Adds (gives called deeds) old.inputs.dialer.asked new.inputs.dialer.asked

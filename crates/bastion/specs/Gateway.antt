@@ -1,5 +1,5 @@
 -- A client of `tn-gw`: what it is told, for which destinations the dialer is asked, and what goes over the links.
-use Rattle.std.specs.Prelude.{◌≡◌, ℕ, ◌⊎◌, true, List, [], ◌∷◌, ◌++◌, Some, Ok}
+use Rattle.std.specs.Prelude.{◌≡◌, ℕ, ◌⊎◌, true, List, [], ◌∷◌, ◌++◌, Some, Ok, Err}
 use Rattle.auth_events.specs.declared.entry.Entry.{Entry}
 use Rattle.auth_machine.specs.Book.{BookView}
 use Rattle.auth_machine.specs.Port.{BookOrigin, book_port}
@@ -16,20 +16,25 @@ use Rattle.fw_types.specs.declared.peer.Peer.{Peer}
 use Rattle.gate_rules.specs.declared.service.Service.TheVariants as services
 use Rattle.gate_rules.specs.declared.verdict.Verdict.TheVariants.{Permit}
 use Rattle.session_acts.specs.Client.{with_line}
-use Rattle.session_acts.specs.Deeds.{Deed, gives}
+use Rattle.session_acts.specs.Deeds.{Deed, deeds_ran, gives}
 use Rattle.session_acts.specs.Hearing.{heard_in}
-use Rattle.session_acts.specs.Laws.{Adds, called, logged, told}
+use Rattle.session_acts.specs.LastStop.{StopsLast}
+use Rattle.session_acts.specs.Laws.{Adds, CountsRefusals, LinksDialer, called, linked, logged, refused, told}
+use Rattle.session_acts.specs.RelayLast.{RelaysLast}
 use Rattle.session_acts.specs.Relayed.{relayed, then_relay}
 use Rattle.session_acts.specs.RelayFronts.{RelaysFronts}
 use Rattle.session_acts.specs.Said.{SaysLines, lines_said}
 use Rattle.session_acts.specs.Session.{Held, RelaySession, deeds_of}
-use Rattle.session_acts.specs.Talk.{asked}
+use Rattle.session_acts.specs.Talk.{Entered, asked}
 use Rattle.session_acts.specs.World.{Devices, World}
 use Rattle.tn_gate.specs.Asked.{lines_in, turns_of}
+use Rattle.session_acts.specs.declared.cause.Cause.{Cause}
+use Rattle.tn_gate.specs.Asking.{AsksWhatIsDue}
 use Rattle.tn_gate.specs.Course.{OpensOnce}
 use Rattle.tn_gate.specs.Dialogue.{tn_row, tn_rows}
 use Rattle.tn_gate.specs.Due.{LogsWhatIsDue}
 use Rattle.tn_gate.specs.Dummies.{lent}
+use Rattle.tn_gate.specs.Ends.{EndsThere, HasEnd}
 use Rattle.tn_gate.specs.Gate.{Gate, asks_login, gate_at}
 use Rattle.tn_gate.specs.Laws.{AsksExactly, DenialsLogged, DialsCleared, LinesDialed}
 use Rattle.tn_gate.specs.Login.{LoginStandsIn, number_opened}
@@ -76,6 +81,19 @@ pub record IsGuarded (gate : Gate) (history : List Entry) {old new : World BookO
   pub due : LogsWhatIsDue gate (deeds_of held)
   pub denials : DenialsLogged gate (deeds_of held)
   pub opened : OpensOnce (gives asked (deeds_of held))
+  -- behind each line and each answer the request is asked that is due, and no other
+  pub requests : AsksWhatIsDue gate (deeds_of held)
+  -- behind a link that came up, `quit` or the end no line is heard and no destination is asked for
+  pub ends : EndsThere gate (deeds_of held)
+  -- and a dialogue that comes to its end ends with one of these
+  pub ended : (last : RelaysLast (tn_rows gate) (tn_row gate) held) → HasEnd gate (deeds_ran last.talk)
+  -- as many links were hung up as came up, and each destination that was refused was counted
+  pub links : LinksDialer (gives linked (deeds_of held)) old new
+  pub refusals : CountsRefusals (gives refused (deeds_of held)) old new
+  -- each request was asked for the session that was open, at a moment of the clock
+  pub entered : Entered (gives asked (deeds_of held)) old.office new.office
+  -- where the session stopped, at the log, say, nothing but what was owed was done after
+  pub stops : (cause : Cause) → held.dialogue ≡ Err cause → StopsLast cause held
 
 -- The rules permit the client, and the log has the line of that whole. Then a session of the gateway was held, over the run's
 -- devices and a book of the records that the keeper had. What it asked and was answered is one legal history, and the keeper
