@@ -29,23 +29,23 @@ pub record Stands {V E O : Type 0} (entries : V → List E) (limit : V → ℕ) 
   pub limit_is : limit value ≡ most
   pub origin_is : origin value ≡ basis
 
-module _ {V E O : Type 0} (list : List E) (most : ℕ) (basis : O) (turn : Turn V) (seat : ℕ) where
-  -- a limit and an origin are those of the lock, if they are told
-  abbrev pub AreOf : ℕ → Option O → Type 0
-  AreOf limit origin = IfSome origin (λ o. (o ≡ basis) × (limit ≡ most))
+-- a limit and an origin are those of the lock, if they are told
+abbrev pub AreOf : {O : Type 0} → ℕ → O → ℕ → Option O → Type 0
+AreOf most basis limit origin = IfSome origin (λ o. (o ≡ basis) × (limit ≡ most))
 
-  -- what a seat that has seen this much knows of the turn
-  abbrev pub Holds : List E → Hold E → Type 0
-  Holds seen Away = Unit {0}
-  Holds seen (Claimed at_claim) = (turn ≡ taken seat) × (at_claim ≡ list)
-  Holds seen Loaded = (turn ≡ taken seat) × (seen ≡ list)
-  Holds seen (Met own other) = IsPrefix own list × IsPrefix other list
+-- what a seat that has seen this much knows of the turn
+abbrev pub Holds : {V E : Type 0} → List E → Turn V → ℕ → List E → Hold E → Type 0
+Holds list turn seat seen Away = Unit {0}
+Holds list turn seat seen (Claimed at_claim) = (turn ≡ taken seat) × (at_claim ≡ list)
+Holds list turn seat seen Loaded = (turn ≡ taken seat) × (seen ≡ list)
+Holds list turn seat seen (Met own other) = IsPrefix own list × IsPrefix other list
 
-  pub record Knows (v : View E O) : Type 0 where
-    pub begins : IsPrefix v.seen list
-    pub below : (place : ℕ) → 0 < uses place v → place < length v.seen
-    pub about : AreOf v.limit v.origin
-    pub holds : Holds v.seen v.hold
+-- what a seat knows of the list
+pub record Knows {V E O : Type 0} (list : List E) (most : ℕ) (basis : O) (turn : Turn V) (seat : ℕ) (v : View E O) : Type 0 where
+  pub begins : IsPrefix v.seen list
+  pub below : (place : ℕ) → 0 < uses place v → place < length v.seen
+  pub about : AreOf most basis v.limit v.origin
+  pub holds : Holds list turn seat v.seen v.hold
 
 module _ {V E O : Type 0} (entries : V → List E) (limit : V → ℕ) (origin : V → O) (about : V) where
   -- where nobody has the turn, the value stands for the list

@@ -1,5 +1,7 @@
+ghost use Rattle.std.specs.Prelude.{◌≡◌};
+
 use crate::StandsFor;
-use crate::view::View;
+use crate::view::{Place, View};
 use atomic_table::Seat;
 use std::marker::Model;
 
@@ -19,4 +21,16 @@ impl<V: StandsFor> Model for Pass<V> {
     ghost view = { λ pass. known pass.seat };
 
     ghost invariant = { λ pass. AtRest pass.seat };
+}
+
+impl<V: StandsFor> Pass<V> {
+    ghost use Rattle.turn_lock.specs.Rest.{AtRest, known};
+
+    pub(crate) fn into_seat(self) -> Place<V>
+        ensures known { known result ≡ self }
+        ensures rest { AtRest result }
+    {
+        let Pass { seat } = self;
+        seat
+    }
 }

@@ -95,18 +95,18 @@ pub(crate) fn give_back<V: StandsFor>(desk: &Desk<V>, seat: &mut Place<V>, value
 }
 
 // Gives the turn back with the value, which has one entry more.
-pub(crate) fn give_back_more<V: StandsFor>(desk: &Desk<V>, seat: &mut Place<V>, value: V)
+pub(crate) fn give_back_more<V: StandsFor>(desk: &Desk<V>, seat: &mut Place<V>, more: V)
     requires desk { (seat.old.table_id ≡ desk.now.table_id) × IsLock desk.now.table_id }
     requires empty { seat.old.me.1 ≡ (0, None) ∷ [] }
     requires hold { seat.old.me.0.hold ≡ Loaded }
-    requires list { (entry : V.Entry) × (V.entries value ≡ seat.old.me.0.seen ++ entry ∷ []) }
-    requires limit { V.limit value ≡ seat.old.me.0.limit }
-    requires origin { seat.old.me.0.origin ≡ Some (V.origin value) }
+    requires list { (entry : V.Entry) × (V.entries more ≡ seat.old.me.0.seen ++ entry ∷ []) }
+    requires limit { V.limit more ≡ seat.old.me.0.limit }
+    requires origin { seat.old.me.0.origin ≡ Some (V.origin more) }
     ensures same { IsSame seat.old seat.new }
-    ensures freed { seat.new.me ≡ (with_hold (entering seat.old.me.0 (V.entries value)) Away, []) }
+    ensures freed { seat.new.me ≡ (with_hold (entering seat.old.me.0 (V.entries more)) Away, []) }
 {
-    let _ = value.count();
-    fill(desk, seat, value);
+    let _ = more.count();
+    fill(desk, seat, more);
     enter(desk, seat);
     free(desk, seat);
 }

@@ -102,7 +102,7 @@ impl<V: StandsFor> Turns<V> {
         requires other { IsPassOf self.now other }
         ensures met { Met self.now pass.old other pass.new }
     {
-        let Pass { seat } = other;
+        let seat = other.into_seat();
         let desk = &self.table.shared;
         desk.join_seat::<Meeting>(&mut pass.seat, seat);
         desk.load::<Look>(&mut pass.seat, LENGTH);
@@ -115,7 +115,7 @@ impl<V: StandsFor> Turns<V> {
         ensures limit { V.limit result ≡ self.limit }
         ensures origin { V.origin result ≡ self.origin }
     {
-        let Pass { mut seat } = pass;
+        let mut seat = pass.into_seat();
         take_out(rt, &self.table.shared, &mut seat)
     }
 }
