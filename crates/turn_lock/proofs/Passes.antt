@@ -6,11 +6,12 @@ use Rattle.std.proofs.Math.Seq.{get_or-append_seam}
 use Rattle.std.proofs.lemmas.Bool.{cases_lt}
 use Rattle.std.proofs.lemmas.List.{length_push}
 use Rattle.std.proofs.lemmas.List.Sums.{sum_by-append}
+use Rattle.std.specs.Option.{unwrap_or}
 use mathlib.Core.List.{IsPrefix}
 use mathlib.Core.Option.{some, some-injective, some-ne-none}
 use lib.ListN.{get_elem?}
 use Rattle.atomic_table.specs.Seated.{TableId}
-use Rattle.atomic_table.specs.Table.{opening}
+use Rattle.atomic_table.specs.Table.{opening, rest}
 use Rattle.atomic_table.specs.declared.shared.Seat.{Seat}
 use Rattle.turn_lock.specs.declared.view.Hold.TheVariants.{Away, Loaded}
 use Rattle.turn_lock.specs.declared.view.View.{View}
@@ -19,8 +20,9 @@ use Rattle.turn_lock.specs.Known.{IsPassOf, Known, Lock, Made, Met, TookTurn, kn
 use Rattle.turn_lock.specs.Law.{Kept, Knows, Turn, free}
 use Rattle.turn_lock.specs.Places.{NoneTwice, Places, times}
 use Rattle.turn_lock.specs.Rest.{AtRest, home_of, known}
-use Rattle.turn_lock.specs.Steps.{AreTold, Held, IsOut, Sees}
+use Rattle.turn_lock.specs.Steps.{AreTold, Held, IsOut, Loads, Sees, Takes}
 use Rattle.turn_lock.specs.Views.{both, entering, first, seeing, uses, with_hold}
+use Rattle.turn_lock.proofs.Keeps.{value_in}
 use Rattle.turn_lock.proofs.Fronts.{front_length, front_self}
 
 -- the numbers of a table are those of no other
@@ -71,6 +73,11 @@ module _ {E : Type 0} where
   grown_one most before now (inl same) n = absurd (n (ap length same))
   grown_one most before now (inr more) n = more
 
+-- what lies in the slot that was taken last
+slot_in : {V : Type 0} → List (ℕ × Option V) → Option V
+slot_in [] = None
+slot_in (x ∷ xs) = x.1
+
 module _ {V E O : Type 0} where
   abbrev S : Type 0
   S = Seat (Option V) (View E O)
@@ -111,10 +118,47 @@ module _ {V E O : Type 0} where
         places = subst (λ (m : Held V E O). Places m.0.seen m.0.mine) (sym e) (places_stay a.me.0.seen sees.list a.me.0.mine sees.own_begins rest.places);
       }
 
+  pub is_of : (lock : Lock O) (new : Known E O) (seen : List E) (mine met : List ℕ) → new ≡ knowing lock seen mine met → IsPassOf lock new
+  is_of lock new seen mine met is = subst (IsPassOf lock) (sym is) record { home = refl; limit = refl; origin = refl }
+
   module _ (entries : V → List E) (limit : V → ℕ) (origin : V → O) where
+    -- the value comes out
+    pub comes_out : (a t x n : Held V E O) (slot : Option V) (result : V) → Takes entries limit origin a t → t.1 ≡ (0, slot) ∷ rest t.1 → x ≡ (t.0, (0, None) ∷ rest t.1) → Loads x n
+        → slot ≡ Some result → IsOut entries limit origin result a n
+    comes_out a t x n slot result took had is loads has =
+        let e : took.value ≡ result = ap (value_in result) (sym took.slot ∙ had) ∙ ap (λ s. unwrap_or s result) has in
+        let seen : x.0.seen ≡ a.0.seen = ap (λ (m : Held V E O). m.0.seen) is ∙ ap (λ (v : View E O). v.seen) took.view in
+        let l = loads (entries took.value) (ap (λ (m : Held V E O). m.0.hold) is ∙ ap (λ (v : View E O). v.hold) took.view) in record {
+          is = l.0 ∙ ap (λ (m : Held V E O). (seeing m.0 (entries took.value) Loaded, m.1)) is ∙ (ap (λ (v : View E O). (seeing v (entries took.value) Loaded, (0, None) ∷ rest t.1)) took.view
+              ∙ (λ i. (seeing a.0 (entries (e i)) Loaded, (0, None) ∷ ap rest took.slot i)));
+          begins = subst (λ (k : List E × V). IsPrefix k.0 (entries k.1)) (λ i. (seen i, e i)) l.1;
+          about = subst (AreTold entries limit origin a.0) e took.about;
+        }
+
+    -- there is one in the slot
+    pub is_there : (a t : Held V E O) → Takes entries limit origin a t → t.1 ≡ (0, None) ∷ rest t.1 → ⊥
+    is_there a t took had = absurd (cc (ap (λ c. slot_in c) (sym took.slot ∙ had)))
+
     -- the value that is out is that of the lock
     pub out_of : (lock : Lock O) (a : S) (value : V) → IsPassOf lock (known a) → AreTold entries limit origin a.me.0 value → (origin value ≡ lock.origin) × (limit value ≡ lock.limit)
     out_of lock a value of told = let t = subst (λ o. IfSome o (λ basis. (origin value ≡ basis) × (limit value ≡ a.me.0.limit))) of.origin told in (t.0, t.1 ∙ of.limit)
+
+    -- what the turn is given back with
+    pub record Ready (m : Held V E O) (found left : V) : Type 0 where
+      pub empty : m.1 ≡ (0, None) ∷ []
+      pub hold : m.0.hold ≡ Loaded
+      pub seen : entries found ≡ m.0.seen
+      pub limit_is : limit left ≡ m.0.limit
+      pub origin_is : m.0.origin ≡ Some (origin left)
+
+    pub ready : (lock : Lock O) (a : S) (m : Held V E O) (found left : V) → IsPassOf lock (known a) → AtRest a → IsOut entries limit origin found a.me m → limit left ≡ limit found → origin left ≡ origin found → Ready m found left
+    ready lock a m found left of rest out l o = let t = out_of lock a found of out.about in record {
+      empty = ap (λ (k : Held V E O). k.1) out.is ∙ ap (λ c. (0, None) ∷ c) rest.empty;
+      hold = ap (λ (k : Held V E O). k.0.hold) out.is;
+      seen = sym (ap (λ (k : Held V E O). k.0.seen) out.is);
+      limit_is = l ∙ (t.1 ∙ (sym of.limit ∙ sym (ap (λ (k : Held V E O). k.0.limit) out.is)));
+      origin_is = ap (λ (k : Held V E O). k.0.origin) out.is ∙ (of.origin ∙ ap Some (sym (o ∙ t.0)));
+    }
 
     -- a turn that made no entry
     pub turned_same : (does : List E → ℕ → O → List E → Type 0) (lock : Lock O) (a m n : S) (found left : V) → IsPassOf lock (known a) → AtRest a

@@ -45,6 +45,7 @@ impl<V: StandsFor> Turns<V> {
         ensures limit { IfOk result (λ made. made.0.limit ≡ V.limit value) }
         ensures origin { IfOk result (λ made. made.0.origin ≡ V.origin value) }
         ensures pass { IfOk result (λ made. made.1 ≡ knowing made.0 (V.entries value) [] []) }
+        ensures given { IfOk result (λ made. IsPassOf made.0 made.1) }
         ensures back { IfErr result (λ fault. fault.0 ≡ value) }
     {
         let about = Snapshot::of(&value);
@@ -72,6 +73,7 @@ impl<V: StandsFor> Turns<V> {
         requires pass { IsPassOf self.now pass.old }
         ensures turn { TookTurn (λ found limit origin seen. C.does call found limit origin result seen) self.now pass.old
             pass.new }
+        ensures own { IsPassOf self.now pass.new }
     {
         let desk = &self.table.shared;
         let mut value = take_out(rt, desk, &mut pass.seat);
@@ -91,6 +93,8 @@ impl<V: StandsFor> Turns<V> {
         requires pass { IsPassOf self.now pass.old }
         ensures same { pass.new ≡ pass.old }
         ensures new { result ≡ Ok (knowing self.now pass.old.seen [] []) }
+        ensures own { IsPassOf self.now pass.new }
+        ensures given { IfOk result (IsPassOf self.now) }
     {
         let seat = self.table.shared.split_seat::<Halves>(&mut pass.seat);
         Ok(Pass { seat })
@@ -101,6 +105,7 @@ impl<V: StandsFor> Turns<V> {
         requires pass { IsPassOf self.now pass.old }
         requires other { IsPassOf self.now other }
         ensures met { Met self.now pass.old other pass.new }
+        ensures own { IsPassOf self.now pass.new }
     {
         let seat = other.into_seat();
         let desk = &self.table.shared;

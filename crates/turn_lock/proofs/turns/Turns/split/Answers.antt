@@ -5,7 +5,7 @@ use Rattle.turn_lock.proofs.turns.Turns.split.Goals as goal
 
 pub split_seat-seat-requires : goal.split_seat-seat-requires
 split_seat-seat-requires g c = (
-  same_table _ _ (ap (λ k. k.home) c.pass.view_is ∙ c.requires.home ∙ sym (ap (λ k. k.home) c.self.view_is)),
+  same_table _ _ (ap (λ k. k.home) c.pass.view_is ∙ c.requires.pass.home ∙ sym (ap (λ k. k.home) c.self.view_is)),
   omega (arith, c.self.invariant.0),
   splits _ _ _ _ _ _,
 )
