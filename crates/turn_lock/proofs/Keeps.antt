@@ -1,21 +1,21 @@
 -- Each step keeps the rule.
-use Rattle.std.proofs.Common.{◌≡◌, ◌≢◌, ℕ, zero, suc, ◌+◌, ◌%◌, ◌^◌, ◌<◌, ◌≤◌, cond, eqb, eq-eqb, ne_eqb, List, [], ◌∷◌, ◌++◌, length, get_or, set, refl, ap, sym, subst, ◌∙◌, arith, length-append}
+use Rattle.std.proofs.Common.{◌≡◌, ◌≢◌, ℕ, zero, suc, ◌+◌, ◌%◌, ◌^◌, ◌<◌, ◌≤◌, true, cond, eqb, eq-eqb, ne_eqb, List, [], ◌∷◌, ◌++◌, length, get_or, set, refl, ap, sym, subst, ◌∙◌, arith, length-append}
 use Rattle.std.specs.Prelude.{Option, Some, None, IfSome, sum_by}
 use Rattle.std.specs.Option.{unwrap_or}
 use mathlib.Core.List.{IsPrefix}
 use mathlib.Core.Logic.{dite}
-use mathlib.Core.Option.{none, some}
+use mathlib.Core.Option.{none, some, some-injective, some-ne-none}
 use mathlib.Core.Option as maybe
 use native.Mathlib.Decide.{ℕ_discrete}
 use lib.ListN.{get_elem?}
 use prog.Atomic.{either}
 use Rattle.std.proofs.lemmas.List.Sums.{sum_by-append, sum_by_push}
 use Rattle.atomic_table.specs.Table.{State, Act, keeps, takes, gives, step, stepped, rest, put_back, carried_after, Valid, Allows, Splits, Joins}
-use Rattle.atomic_table.proofs.Lists.{exchanged, set_else}
+use Rattle.atomic_table.proofs.Lists.{at_longer, exchanged, set_else, set_here}
 use Rattle.turn_lock.specs.declared.view.Hold.{Hold}
 use Rattle.turn_lock.specs.declared.view.Hold.TheVariants.{Away, Claimed, Loaded, Met}
 use Rattle.turn_lock.specs.declared.view.View.{View}
-use Rattle.turn_lock.specs.Law.{Turn, free, taken, turn_word, slot_of, Stands, AreOf, Holds, Knows, Rests, Kept}
+use Rattle.turn_lock.specs.Law.{Turn, free, taken, turn_word, slot_of, Stands, AreOf, Holds, Knows, Rests, Kept, IsHeld, has_turn}
 use Rattle.turn_lock.specs.Places.{times}
 use Rattle.turn_lock.specs.Steps.{Held, AreTold, Takes, Claims, Loads, Enters, IsAhead, IsBack, Frees, Sees, Looks}
 use Rattle.turn_lock.specs.Views.{both, copied, entering, longer, seeing, spent, uses, with_hold}
@@ -30,6 +30,11 @@ free_at (taken _) is = absurd (omega arith)
 pub value_in : {V : Type 0} → V → List (ℕ × Option V) → V
 value_in v [] = v
 value_in v (x ∷ xs) = unwrap_or x.1 v
+
+at_within : {A : Type 0} (l : List A) (i : ℕ) (a : A) → get_elem? l i ≡ some a → i < length l
+at_within [] i a e = absurd (some-ne-none a (sym e))
+at_within (x ∷ xs) zero a e = omega arith
+at_within (x ∷ xs) (suc i) a e = let b = at_within xs i a e in omega (arith, b)
 
 words_stay : (ws : List ℕ) (a b i : ℕ) → ws ≡ a ∷ b ∷ [] → set ws i (get_or ws i 0) ≡ a ∷ b ∷ []
 words_stay ws a b zero is = ap (λ (us : List ℕ). set us 0 (get_or us 0 0)) is
@@ -82,15 +87,32 @@ module _ {V E O : Type 0} (entries : V → List E) (limit : V → ℕ) (origin :
   once_stays : (s : St) (r : Rule s) (id : ℕ) (v w : W) → get_elem? s.views id ≡ some v → ((place : ℕ) → uses place w ≡ uses place v) → (place : ℕ) → sum_by (uses place) (set s.views id w) ≤ 1
   once_stays s r id v w at same place = let u = sum_changed (uses place) s.views id v w at in let o = r.once place in omega (arith, u, o, same place)
 
+  -- who has the turn still says so
+  held_stays : (turn : Turn V) (views : List W) (id : ℕ) (v w : W) → get_elem? views id ≡ some v → has_turn w.hold ≡ has_turn v.hold → IsHeld turn views → IsHeld turn (set views id w)
+  held_stays (free value) views id v w at same k = tt
+  held_stays (taken j) views id v w at same k = dite (ℕ_discrete j id)
+      (λ here. let there : get_elem? (set views id w) j ≡ some w = subst (λ (i : ℕ). get_elem? (set views id w) i ≡ some w) (sym here) (set_here views id w (at_within views id v at)) in
+      let u : k.0 ≡ v = some-injective k.0 v (sym k.1 ∙ (subst (λ (i : ℕ). get_elem? views i ≡ some v) (sym here) at)) in
+      (w, there, same ∙ (sym (ap (λ (x : W). has_turn x.hold) u) ∙ k.2)))
+      (λ other. (k.0, set_else views id j w other ∙ k.1, k.2))
+
+  held_here : (views : List W) (id : ℕ) (v w : W) → get_elem? views id ≡ some v → has_turn w.hold ≡ true → IsHeld {V = V} (taken id) (set views id w)
+  held_here views id v w at is = (w, set_here views id w (at_within views id v at), is)
+
+  held_more : (turn : Turn V) (views : List W) (w : W) → IsHeld turn views → IsHeld turn (views ++ w ∷ [])
+  held_more (free value) views w k = tt
+  held_more (taken j) views w k = (k.0, at_longer views (w ∷ []) j k.0 k.1, k.2)
+
   -- a step that changes no word and takes no slot
-  stays : (s : St) (r : Rule s) (i id : ℕ) (v w : W) → get_elem? s.views id ≡ some v → Sure r.list r.turn id w → ((place : ℕ) → uses place w ≡ uses place v)
+  stays : (s : St) (r : Rule s) (i id : ℕ) (v w : W) → get_elem? s.views id ≡ some v → Sure r.list r.turn id w → ((place : ℕ) → uses place w ≡ uses place v) → has_turn w.hold ≡ has_turn v.hold
       → Rule record { words = set s.words i (get_or s.words i 0); homes = s.homes; views = set s.views id w }
-  stays s r i id v w at knows same = record {
+  stays s r i id v w at knows same hold = record {
     list = r.list;
     turn = r.turn;
     words = words_stay s.words (turn_word r.turn) (length r.list) i r.words;
     slot = r.slot;
     rests = r.rests;
+    held = held_stays r.turn s.views id v w at hold r.held;
     each = each_changed (Sure r.list r.turn) s.views id w knows (λ j u _ there. r.each j u there);
     once = once_stays s r id v w at same;
   }
@@ -108,6 +130,7 @@ module _ {V E O : Type 0} (entries : V → List E) (limit : V → ℕ) (origin :
           words = ap (λ (ws : List ℕ). set ws 0 1) r.words;
           slot = ap (λ hs. set hs 0 none) r.slot;
           rests = tt;
+          held = held_here s.views id me.0 w at refl;
           each = each_changed (Sure r.list (taken id)) s.views id w
               record { begins = k.begins; below = k.below; about = k.about; holds = (refl, stands.list_is) }
               (λ j u _ there. let q = r.each j u there in record {
@@ -120,7 +143,7 @@ module _ {V E O : Type 0} (entries : V → List E) (limit : V → ℕ) (origin :
         },
         ((λ _. record { value = value; view = refl; slot = refl; about = told_of me.0.origin me.0.limit value (origin about) (limit about) k.about stands.origin_is stands.limit_is }), λ miss. absurd (miss hit)),
       ))
-      (λ miss. (me.0, keeps, tt, stays s r 0 id me.0 me.0 at k (λ _. refl), ((λ hit. absurd (miss hit)), λ _. refl)))
+      (λ miss. (me.0, keeps, tt, stays s r 0 id me.0 me.0 at k (λ _. refl) refl, ((λ hit. absurd (miss hit)), λ _. refl)))
 
   pub loads : (slots id : ℕ) (me : Held V E O) (list : List E) → me.0.hold ≡ Claimed list → Allows Rule slots id me 1 (λ n. n) (λ _ new. Loads me new)
   loads slots id me list is s r wide at small = let k = r.each id me.0 at in let h = knows_hold r.list r.turn id me.0 (Claimed list) is k in let w : W = seeing me.0 list Loaded in
@@ -128,7 +151,7 @@ module _ {V E O : Type 0} (entries : V → List E) (limit : V → ℕ) (origin :
         w,
         keeps,
         tt,
-        stays s r 1 id me.0 w at record { begins = front_same list r.list h.1; below = λ place used. let b = k.below place used in omega (arith, b, long, same); about = k.about; holds = h } (λ _. refl),
+        stays s r 1 id me.0 w at record { begins = front_same list r.list h.1; below = λ place used. let b = k.below place used in omega (arith, b, long, same); about = k.about; holds = h } (λ _. refl) (sym (ap has_turn is)),
         λ list' is'. let e : list ≡ list' = cc (is, is') in
             (ap (λ l. (seeing me.0 l Loaded, me.1)) e, subst (IsPrefix me.0.seen) (sym h.1 ∙ e) k.begins),
       )
@@ -167,6 +190,7 @@ module _ {V E O : Type 0} (entries : V → List E) (limit : V → ℕ) (origin :
           words = ap (λ (us : List ℕ). set us 1 ((get_or s.words 1 0 + 1) % 2 ^ 64)) ws ∙ ap (λ (x : ℕ). 1 ∷ x ∷ []) next;
           slot = r.slot ∙ ap (λ t. slot_of t ∷ []) h.0;
           rests = tt;
+          held = held_here s.views id me.0 w at refl;
           each = each_changed (Sure list (taken id)) s.views id w
               record {
                 begins = front_self list;
@@ -198,6 +222,7 @@ module _ {V E O : Type 0} (entries : V → List E) (limit : V → ℕ) (origin :
           words = ap (λ (ws : List ℕ). set ws 0 0) r.words;
           slot = subst (λ c. put_back s.homes c ≡ some (Some value) ∷ []) (sym back.slot) (ap (λ hs. set hs 0 (some (Some value))) r.slot);
           rests = record { list_is = back.list ∙ h.1; limit_is = back.limit_is ∙ a.1; origin_is = a.0 };
+          held = tt;
           each = each_changed (Sure r.list (free value)) s.views id w
               record { begins = k.begins; below = k.below; about = k.about; holds = tt }
               (λ j u ne there. let q = r.each j u there in record {
@@ -217,7 +242,7 @@ module _ {V E O : Type 0} (entries : V → List E) (limit : V → ℕ) (origin :
         w,
         keeps,
         tt,
-        stays s r 1 id me.0 w at record { begins = front_self r.list; below = λ place used. let b = k.below place used in omega (arith, b, long); about = k.about; holds = tt } (λ _. refl),
+        stays s r 1 id me.0 w at record { begins = front_self r.list; below = λ place used. let b = k.below place used in omega (arith, b, long); about = k.about; holds = tt } (λ _. refl) (sym (ap has_turn is)),
         λ own' other' is'. let e : own ≡ own' = cc (is, is') in let f : other ≡ other' = cc (is, is') in record {
           list = r.list;
           is = refl;
@@ -234,6 +259,7 @@ module _ {V E O : Type 0} (entries : V → List E) (limit : V → ℕ) (origin :
     words = r.words;
     slot = r.slot;
     rests = r.rests;
+    held = held_more r.turn (set s.views id v) (copied v) (held_stays r.turn s.views id v v at refl r.held);
     each = each_more (Sure r.list r.turn) (set s.views id v) (copied v) (λ j. record { begins = k.begins; below = λ place used. absurd (omega (arith, used)); about = k.about; holds = tt })
         (each_changed (Sure r.list r.turn) s.views id v k (λ j u _ there. r.each j u there));
     once = λ place. let u = sum_by_push (uses place) (set s.views id v) (copied v) in let o = once_stays s r id v v at (λ _. refl) place in omega (arith, u, o);
@@ -245,16 +271,17 @@ module _ {V E O : Type 0} (entries : V → List E) (limit : V → ℕ) (origin :
   uses_both : (v w : W) (place : ℕ) → uses place (both v w) ≡ uses place v + uses place w
   uses_both v w place = let all : uses place (both v w) ≡ times place v.mine + times place (v.met ++ (w.mine ++ w.met)) = refl in omega (arith, all, times_append place v.met (w.mine ++ w.met), times_append place w.mine w.met)
 
-  pub joins : (id : ℕ) (v : W) (other : ℕ) (w : W) → Joins Rule id v other w (both v w) spent
-  joins id v other w s r at apart there = let k = r.each id v at in let q = r.each other w (sym (set_else s.views id other (both v w) apart) ∙ there) in let l = longer_long v.seen w.seen in record {
+  pub joins : (id : ℕ) (v : W) (other : ℕ) (w : W) → v.hold ≡ Away → w.hold ≡ Away → Joins Rule id v other w (both v w) spent
+  joins id v other w here away s r at apart there = let k = r.each id v at in let q = r.each other w (sym (set_else s.views id other (both v w) apart) ∙ there) in let l = longer_long v.seen w.seen in record {
     list = r.list;
     turn = r.turn;
     words = r.words;
     slot = r.slot;
     rests = r.rests;
+    held = held_stays r.turn (set s.views id (both v w)) other w spent there (sym (ap has_turn away)) (held_stays r.turn s.views id v (both v w) at (sym (ap has_turn here)) r.held);
     each = each_changed (Sure r.list r.turn) (set s.views id (both v w)) other spent
         record { begins = (r.list, refl); below = λ place used. absurd (omega (arith, used)); about = tt; holds = tt }
-        (λ j u _ here. each_changed (Sure r.list r.turn) s.views id (both v w)
+        (λ j u _ this. each_changed (Sure r.list r.turn) s.views id (both v w)
         record {
           begins = longer_front v.seen w.seen r.list k.begins q.begins;
           below = λ place used. let m = uses_both v w place in dite (ℕ_discrete (uses place v) 0)
@@ -263,7 +290,7 @@ module _ {V E O : Type 0} (entries : V → List E) (limit : V → ℕ) (origin :
           about = k.about;
           holds = (k.begins, q.begins);
         }
-        (λ i x _ here'. r.each i x here') j u here);
+        (λ i x _ it. r.each i x it) j u this);
     once = λ place. let a = sum_changed (uses place) s.views id v (both v w) at in let b = sum_changed (uses place) (set s.views id (both v w)) other w spent there in
         omega (arith, a, b, uses_both v w place, r.once place);
   }

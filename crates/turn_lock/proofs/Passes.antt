@@ -225,6 +225,7 @@ module _ {V E O : Type 0} where
       words = refl;
       slot = refl;
       rests = record { list_is = refl; limit_is = refl; origin_is = refl };
+      held = tt;
       each = only value;
       once = λ place. none place;
     }

@@ -1,5 +1,5 @@
 -- The rule of the table under a lock. Word 0 is the turn, 0 where nobody has it; word 1 is the length of the list.
-use Rattle.std.specs.Prelude.{◌≡◌, ℕ, ◌<◌, ◌≤◌, List, [], ◌∷◌, length, Option, Some, IfSome, sum_by}
+use Rattle.std.specs.Prelude.{◌≡◌, Bool, true, false, ℕ, ◌<◌, ◌≤◌, List, [], ◌∷◌, length, Option, Some, IfSome, sum_by}
 use mathlib.Core.List.{IsPrefix}
 use mathlib.Core.Option.{none, some}
 use mathlib.Core.Option as maybe
@@ -47,6 +47,17 @@ pub record Knows {V E O : Type 0} (list : List E) (most : ℕ) (basis : O) (turn
   pub about : AreOf most basis v.limit v.origin
   pub holds : Holds list turn seat v.seen v.hold
 
+abbrev pub has_turn : {E : Type 0} → Hold E → Bool
+has_turn Away = false
+has_turn (Claimed _) = true
+has_turn Loaded = true
+has_turn (Met _ _) = false
+
+-- whose turn it is knows so
+abbrev pub IsHeld : {V E O : Type 0} → Turn V → List (View E O) → Type 0
+IsHeld (free _) views = Unit {0}
+IsHeld {E = E} {O = O} (taken seat) views = (v : View E O) × (get_elem? views seat ≡ some v) × (has_turn v.hold ≡ true)
+
 module _ {V E O : Type 0} (entries : V → List E) (limit : V → ℕ) (origin : V → O) (about : V) where
   -- where nobody has the turn, the value stands for the list
   abbrev pub Rests : List E → Turn V → Type 0
@@ -60,5 +71,6 @@ module _ {V E O : Type 0} (entries : V → List E) (limit : V → ℕ) (origin :
     pub words : s.words ≡ turn_word turn ∷ length list ∷ []
     pub slot : s.homes ≡ slot_of turn ∷ []
     pub rests : Rests list turn
+    pub held : IsHeld turn s.views
     pub each : (seat : ℕ) (v : View E O) → get_elem? s.views seat ≡ some v → Knows list (limit about) (origin about) turn seat v
     pub once : (place : ℕ) → sum_by (uses place) s.views ≤ 1

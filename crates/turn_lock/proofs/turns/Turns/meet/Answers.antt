@@ -9,7 +9,7 @@ join_seat-requires g c = (
   same_table _ _ (ap (λ k. k.home) c.into_seat-seat.ensures.known ∙ c.requires.other.home ∙ sym (ap (λ k. k.home) c.self.view_is)),
   c.into_seat-seat.ensures.rest.empty,
   omega (arith, c.self.invariant.0),
-  joins _ _ _ _ _ _ _ _,
+  joins _ _ _ _ _ _ _ _ c.pass.invariant.away c.into_seat-seat.ensures.rest.away,
 )
 
 pub load-requires : goal.load-requires
