@@ -27,7 +27,7 @@ free_at (free value) is = (value, refl)
 free_at (taken _) is = absurd (omega arith)
 
 -- the value that was taken last
-pub value_in : {V : Type 0} → V → List (ℕ × Option V) → V
+abbrev pub value_in : {V : Type 0} → V → List (ℕ × Option V) → V
 value_in v [] = v
 value_in v (x ∷ xs) = unwrap_or x.1 v
 

@@ -6,12 +6,11 @@ use Rattle.std.proofs.Math.Seq.{get_or-append_seam}
 use Rattle.std.proofs.lemmas.Bool.{cases_lt}
 use Rattle.std.proofs.lemmas.List.{length_push}
 use Rattle.std.proofs.lemmas.List.Sums.{sum_by-append}
-use Rattle.std.specs.Option.{unwrap_or}
 use mathlib.Core.List.{IsPrefix}
 use mathlib.Core.Option.{some, some-injective, some-ne-none}
 use lib.ListN.{get_elem?}
 use Rattle.atomic_table.specs.Seated.{TableId}
-use Rattle.atomic_table.specs.Table.{opening, rest}
+use Rattle.atomic_table.specs.Table.{opening}
 use Rattle.atomic_table.specs.declared.shared.Seat.{Seat}
 use Rattle.turn_lock.specs.declared.view.Hold.TheVariants.{Away, Loaded}
 use Rattle.turn_lock.specs.declared.view.View.{View}
@@ -20,9 +19,8 @@ use Rattle.turn_lock.specs.Known.{IsPassOf, Known, Lock, Made, Met, TookTurn, kn
 use Rattle.turn_lock.specs.Law.{Kept, Knows, Turn, free}
 use Rattle.turn_lock.specs.Places.{NoneTwice, Places, times}
 use Rattle.turn_lock.specs.Rest.{AtRest, home_of, known}
-use Rattle.turn_lock.specs.Steps.{AreTold, Held, IsOut, Loads, Sees, Takes}
+use Rattle.turn_lock.specs.Steps.{AreTold, Held, IsOut, Sees}
 use Rattle.turn_lock.specs.Views.{both, entering, first, seeing, uses, with_hold}
-use Rattle.turn_lock.proofs.Keeps.{value_in}
 use Rattle.turn_lock.proofs.Fronts.{front_length, front_self}
 
 -- the numbers of a table are those of no other
@@ -37,16 +35,19 @@ same_table a b h = λ i. record {
   slot_names = drop 6 (h i);
 }
 
+last_place : (mine : List ℕ) (place k : ℕ) → length mine ≡ k → get_or (mine ++ place ∷ []) k 0 ≡ place
+last_place mine place k is = subst (λ (n : ℕ). get_or (mine ++ place ∷ []) n 0 ≡ place) is (get_or-append_seam mine place [] 0)
+
+is_end : (n k : ℕ) → k < n + 1 → n ≤ k → n ≡ k
+is_end n k lt le = omega (arith, lt, le)
+
+times_append : (place : ℕ) (xs ys : List ℕ) → times place (xs ++ ys) ≡ times place xs + times place ys
+times_append place xs ys = sum_by-append (λ other. cond (eqb other place) 1 0) xs ys
+
 module _ {E : Type 0} where
   -- places stay where the list grows
   pub places_stay : (seen list : List E) (mine : List ℕ) → IsPrefix seen list → Places seen mine → Places list mine
   places_stay seen list mine p were = let l = front_length seen list p in record { rising = were.rising; within = λ k lt. let here = were.within k lt in omega (arith, here, l) }
-
-  last_place : (mine : List ℕ) (place k : ℕ) → length mine ≡ k → get_or (mine ++ place ∷ []) k 0 ≡ place
-  last_place mine place k is = subst (λ (n : ℕ). get_or (mine ++ place ∷ []) n 0 ≡ place) is (get_or-append_seam mine place [] 0)
-
-  is_end : (n k : ℕ) → k < n + 1 → n ≤ k → n ≡ k
-  is_end n k lt le = omega (arith, lt, le)
 
   -- one place more, at the end of the list that was found
   pub places_more : (found : List E) (entry : E) (mine : List ℕ) → Places found mine → Places (found ++ entry ∷ []) (mine ++ length found ∷ [])
@@ -73,74 +74,55 @@ module _ {E : Type 0} where
   grown_one most before now (inl same) n = absurd (n (ap length same))
   grown_one most before now (inr more) n = more
 
--- what lies in the slot that was taken last
-slot_in : {V : Type 0} → List (ℕ × Option V) → Option V
-slot_in [] = None
-slot_in (x ∷ xs) = x.1
+abbrev Sit : Type 0 → Type 0 → Type 0 → Type 0
+Sit V E O = Seat (Option V) (View E O)
 
-module _ {V E O : Type 0} where
-  abbrev S : Type 0
-  S = Seat (Option V) (View E O)
-
+module _ {E O : Type 0} where
   abbrev knows : List ℕ → View E O → Known E O
   knows home v = record { seen = v.seen; mine = v.mine; met = v.met; home = home; limit = v.limit; origin = v.origin }
 
+  pub is_of : (lock : Lock O) (new : Known E O) (seen : List E) (mine met : List ℕ) → new ≡ knowing lock seen mine met → IsPassOf lock new
+  is_of lock new seen mine met is = subst (IsPassOf lock) (sym is) record { home = refl; limit = refl; origin = refl }
+
+  apart : (v w : View E O) → ((place : ℕ) → uses place (both v w) ≤ 1) → NoneTwice ((v.mine ++ v.met) ++ (w.mine ++ w.met))
+  apart v w once place = let o : times place v.mine + times place (v.met ++ (w.mine ++ w.met)) ≤ 1 = once place in
+      omega (arith, o, times_append place v.met (w.mine ++ w.met), times_append place (v.mine ++ v.met) (w.mine ++ w.met), times_append place v.mine v.met)
+
+module _ {V E O : Type 0} where
   -- a pass that has seen another list, and has other places
-  known_now : (lock : Lock O) (a n : S) (v : View E O) (seen : List E) (mine met : List ℕ) → IsPassOf lock (known a) → n.table_id ≡ a.table_id → n.me.0 ≡ v
+  known_now : (lock : Lock O) (a n : Sit V E O) (v : View E O) (seen : List E) (mine met : List ℕ) → IsPassOf lock (known a) → n.table_id ≡ a.table_id → n.me.0 ≡ v
       → v.seen ≡ seen → v.mine ≡ mine → v.met ≡ met → v.limit ≡ a.me.0.limit → v.origin ≡ a.me.0.origin → known n ≡ knowing lock seen mine met
   known_now lock a n v seen mine met of z e s m t l o =
       ap₂ knows (ap home_of z ∙ of.home) e ∙ (λ i. record { seen = s i; mine = m i; met = t i; home = lock.home; limit = (l ∙ of.limit) i; origin = (o ∙ of.origin) i })
 
-  times_append : (place : ℕ) (xs ys : List ℕ) → times place (xs ++ ys) ≡ times place xs + times place ys
-  times_append place xs ys = sum_by-append (λ other. cond (eqb other place) 1 0) xs ys
-
-  apart : (v w : View E O) → ((place : ℕ) → uses place (both v w) ≤ 1) → NoneTwice ((v.mine ++ v.met) ++ w.mine ++ w.met)
-  apart v w once place = let o : times place v.mine + times place (v.met ++ (w.mine ++ w.met)) ≤ 1 = once place in
-      omega (arith, o, times_append place v.met (w.mine ++ w.met), times_append place (v.mine ++ v.met) (w.mine ++ w.met), times_append place v.mine v.met)
-
   -- two passes have met
-  pub meets : (lock : Lock O) (a b j n : S) → IsPassOf lock (known a) → j.table_id ≡ a.table_id → j.me ≡ (both a.me.0 b.me.0, a.me.1) → n.table_id ≡ j.table_id
+  pub meets : (lock : Lock O) (a b j n : Sit V E O) → IsPassOf lock (known a) → j.table_id ≡ a.table_id → j.me ≡ (both a.me.0 b.me.0, a.me.1) → n.table_id ≡ j.table_id
       → Sees a.me.0.seen b.me.0.seen j.me n.me → Met lock (known a) (known b) (known n)
   meets lock a b j n of z joined y sees = record {
     seen = sees.list;
     own_begins = sees.own_begins;
     other_begins = sees.other_begins;
     apart = apart a.me.0 b.me.0 (λ place. subst (λ (m : Held V E O). uses place m.0 ≤ 1) joined (sees.once place));
-    is = known_now lock a n (seeing (both a.me.0 b.me.0) sees.list Away) sees.list a.me.0.mine (a.me.0.met ++ b.me.0.mine ++ b.me.0.met) of (y ∙ z)
+    is = known_now lock a n (seeing (both a.me.0 b.me.0) sees.list Away) sees.list a.me.0.mine (a.me.0.met ++ (b.me.0.mine ++ b.me.0.met)) of (y ∙ z)
         (ap (λ m. m.0) sees.is ∙ ap (λ (m : Held V E O). seeing m.0 sees.list Away) joined) refl refl refl refl refl;
   }
 
-  pub rests_met : (a b j n : S) → AtRest a → j.me ≡ (both a.me.0 b.me.0, a.me.1) → Sees a.me.0.seen b.me.0.seen j.me n.me → AtRest n
-  rests_met a b j n rest joined sees =
+  pub meet_of : (lock : Lock O) (old other : Known E O) (a b j n : Sit V E O) → known a ≡ old → known b ≡ other → IsPassOf lock old → j.table_id ≡ a.table_id → j.me ≡ (both a.me.0 b.me.0, a.me.1) → n.table_id ≡ j.table_id
+      → Sees a.me.0.seen b.me.0.seen j.me n.me → Met lock old other (known n) × IsPassOf lock (known n)
+  meet_of lock old other a b j n view its of z joined y sees = let met = meets lock a b j n (subst (IsPassOf lock) (sym view) of) z joined y sees in
+      (subst (λ (k : Known E O × Known E O). Met lock k.0 k.1 (known n)) (λ i. (view i, its i)) met, is_of lock (known n) met.seen a.me.0.mine (a.me.0.met ++ (b.me.0.mine ++ b.me.0.met)) met.is)
+
+  pub rests_met : (a b j n : Sit V E O) → AtRest a → j.me ≡ (both a.me.0 b.me.0, a.me.1) → Sees a.me.0.seen b.me.0.seen j.me n.me → AtRest n
+  rests_met a b j n calm joined sees =
       let e : n.me ≡ (seeing (both a.me.0 b.me.0) sees.list Away, a.me.1) = sees.is ∙ ap (λ (m : Held V E O). (seeing m.0 sees.list Away, m.1)) joined in record {
         away = ap (λ (m : Held V E O). m.0.hold) e;
-        empty = ap (λ (m : Held V E O). m.1) e ∙ rest.empty;
-        places = subst (λ (m : Held V E O). Places m.0.seen m.0.mine) (sym e) (places_stay a.me.0.seen sees.list a.me.0.mine sees.own_begins rest.places);
+        empty = ap (λ (m : Held V E O). m.1) e ∙ calm.empty;
+        places = subst (λ (m : Held V E O). Places m.0.seen m.0.mine) (sym e) (places_stay a.me.0.seen sees.list a.me.0.mine sees.own_begins calm.places);
       }
 
-  pub is_of : (lock : Lock O) (new : Known E O) (seen : List E) (mine met : List ℕ) → new ≡ knowing lock seen mine met → IsPassOf lock new
-  is_of lock new seen mine met is = subst (IsPassOf lock) (sym is) record { home = refl; limit = refl; origin = refl }
-
   module _ (entries : V → List E) (limit : V → ℕ) (origin : V → O) where
-    -- the value comes out
-    pub comes_out : (a t x n : Held V E O) (slot : Option V) (result : V) → Takes entries limit origin a t → t.1 ≡ (0, slot) ∷ rest t.1 → x ≡ (t.0, (0, None) ∷ rest t.1) → Loads x n
-        → slot ≡ Some result → IsOut entries limit origin result a n
-    comes_out a t x n slot result took had is loads has =
-        let e : took.value ≡ result = ap (value_in result) (sym took.slot ∙ had) ∙ ap (λ s. unwrap_or s result) has in
-        let seen : x.0.seen ≡ a.0.seen = ap (λ (m : Held V E O). m.0.seen) is ∙ ap (λ (v : View E O). v.seen) took.view in
-        let l = loads (entries took.value) (ap (λ (m : Held V E O). m.0.hold) is ∙ ap (λ (v : View E O). v.hold) took.view) in record {
-          is = l.0 ∙ ap (λ (m : Held V E O). (seeing m.0 (entries took.value) Loaded, m.1)) is ∙ (ap (λ (v : View E O). (seeing v (entries took.value) Loaded, (0, None) ∷ rest t.1)) took.view
-              ∙ (λ i. (seeing a.0 (entries (e i)) Loaded, (0, None) ∷ ap rest took.slot i)));
-          begins = subst (λ (k : List E × V). IsPrefix k.0 (entries k.1)) (λ i. (seen i, e i)) l.1;
-          about = subst (AreTold entries limit origin a.0) e took.about;
-        }
-
-    -- there is one in the slot
-    pub is_there : (a t : Held V E O) → Takes entries limit origin a t → t.1 ≡ (0, None) ∷ rest t.1 → ⊥
-    is_there a t took had = absurd (cc (ap (λ c. slot_in c) (sym took.slot ∙ had)))
-
     -- the value that is out is that of the lock
-    pub out_of : (lock : Lock O) (a : S) (value : V) → IsPassOf lock (known a) → AreTold entries limit origin a.me.0 value → (origin value ≡ lock.origin) × (limit value ≡ lock.limit)
+    pub out_of : (lock : Lock O) (a : Sit V E O) (value : V) → IsPassOf lock (known a) → AreTold entries limit origin a.me.0 value → (origin value ≡ lock.origin) × (limit value ≡ lock.limit)
     out_of lock a value of told = let t = subst (λ o. IfSome o (λ basis. (origin value ≡ basis) × (limit value ≡ a.me.0.limit))) of.origin told in (t.0, t.1 ∙ of.limit)
 
     -- what the turn is given back with
@@ -151,9 +133,9 @@ module _ {V E O : Type 0} where
       pub limit_is : limit left ≡ m.0.limit
       pub origin_is : m.0.origin ≡ Some (origin left)
 
-    pub ready : (lock : Lock O) (a : S) (m : Held V E O) (found left : V) → IsPassOf lock (known a) → AtRest a → IsOut entries limit origin found a.me m → limit left ≡ limit found → origin left ≡ origin found → Ready m found left
-    ready lock a m found left of rest out l o = let t = out_of lock a found of out.about in record {
-      empty = ap (λ (k : Held V E O). k.1) out.is ∙ ap (λ c. (0, None) ∷ c) rest.empty;
+    pub ready : (lock : Lock O) (a : Sit V E O) (m : Held V E O) (found left : V) → IsPassOf lock (known a) → AtRest a → IsOut entries limit origin found a.me m → limit left ≡ limit found → origin left ≡ origin found → Ready m found left
+    ready lock a m found left of calm out l o = let t = out_of lock a found of out.about in record {
+      empty = ap (λ (k : Held V E O). k.1) out.is ∙ ap (λ c. (0, None) ∷ c) calm.empty;
       hold = ap (λ (k : Held V E O). k.0.hold) out.is;
       seen = sym (ap (λ (k : Held V E O). k.0.seen) out.is);
       limit_is = l ∙ (t.1 ∙ (sym of.limit ∙ sym (ap (λ (k : Held V E O). k.0.limit) out.is)));
@@ -161,10 +143,10 @@ module _ {V E O : Type 0} where
     }
 
     -- a turn that made no entry
-    pub turned_same : (does : List E → ℕ → O → List E → Type 0) (lock : Lock O) (a m n : S) (found left : V) → IsPassOf lock (known a) → AtRest a
+    pub turned_same : (does : List E → ℕ → O → List E → Type 0) (lock : Lock O) (a m n : Sit V E O) (found left : V) → IsPassOf lock (known a) → AtRest a
         → IsOut entries limit origin found a.me m.me → n.table_id ≡ a.table_id → n.me ≡ (with_hold m.me.0 Away, []) → entries left ≡ entries found
         → does (entries found) (limit found) (origin found) (entries left) → TookTurn does lock (known a) (known n) × AtRest n
-    turned_same does lock a m n found left of rest out z back same did =
+    turned_same does lock a m n found left of calm out z back same did =
         let t = out_of lock a found of out.about in
         let e : n.me ≡ (seeing a.me.0 (entries found) Away, []) = back ∙ ap (λ (k : Held V E O). (with_hold k.0 Away, [])) out.is in (
           record {
@@ -179,15 +161,15 @@ module _ {V E O : Type 0} where
           record {
             away = ap (λ (k : Held V E O). k.0.hold) e;
             empty = ap (λ (k : Held V E O). k.1) e;
-            places = subst (λ (k : Held V E O). Places k.0.seen k.0.mine) (sym e) (places_stay a.me.0.seen (entries found) a.me.0.mine out.begins rest.places);
+            places = subst (λ (k : Held V E O). Places k.0.seen k.0.mine) (sym e) (places_stay a.me.0.seen (entries found) a.me.0.mine out.begins calm.places);
           },
         )
 
     -- a turn that made an entry
-    pub turned_more : (does : List E → ℕ → O → List E → Type 0) (lock : Lock O) (a m n : S) (found left : V) → IsPassOf lock (known a) → AtRest a
+    pub turned_more : (does : List E → ℕ → O → List E → Type 0) (lock : Lock O) (a m n : Sit V E O) (found left : V) → IsPassOf lock (known a) → AtRest a
         → IsOut entries limit origin found a.me m.me → n.table_id ≡ a.table_id → n.me ≡ (with_hold (entering m.me.0 (entries left)) Away, []) → GrowsByOne (limit found) (entries found) (entries left)
         → does (entries found) (limit found) (origin found) (entries left) → TookTurn does lock (known a) (known n) × AtRest n
-    turned_more does lock a m n found left of rest out z back more did =
+    turned_more does lock a m n found left of calm out z back more did =
         let t = out_of lock a found of out.about in
         let w : View E O = with_hold (entering (seeing a.me.0 (entries found) Loaded) (entries left)) Away in
         let e : n.me ≡ (w, []) = back ∙ ap (λ (k : Held V E O). (with_hold (entering k.0 (entries left)) Away, [])) out.is in (
@@ -205,9 +187,21 @@ module _ {V E O : Type 0} where
             empty = ap (λ (k : Held V E O). k.1) e;
             places = subst (λ (k : Held V E O). Places k.0.seen k.0.mine) (sym e)
                 (subst (λ l. Places l (a.me.0.mine ++ length (entries found) ∷ [])) (sym more.is)
-                (places_more (entries found) more.entry a.me.0.mine (places_stay a.me.0.seen (entries found) a.me.0.mine out.begins rest.places)));
+                (places_more (entries found) more.entry a.me.0.mine (places_stay a.me.0.seen (entries found) a.me.0.mine out.begins calm.places)));
           },
         )
+
+    pub turn_same : (does : List E → ℕ → O → List E → Type 0) (lock : Lock O) (old : Known E O) (a m n : Sit V E O) (found left : V) → known a ≡ old → IsPassOf lock old → AtRest a
+        → IsOut entries limit origin found a.me m.me → n.table_id ≡ a.table_id → n.me ≡ (with_hold m.me.0 Away, []) → entries left ≡ entries found
+        → does (entries found) (limit found) (origin found) (entries left) → TookTurn does lock old (known n) × IsPassOf lock (known n) × AtRest n
+    turn_same does lock old a m n found left view of calm out z back same did = let r = turned_same does lock a m n found left (subst (IsPassOf lock) (sym view) of) calm out z back same did in
+        (subst (λ k. TookTurn does lock k (known n)) view r.0, is_of lock (known n) r.0.seen r.0.mine (known a).met r.0.is, r.1)
+
+    pub turn_more : (does : List E → ℕ → O → List E → Type 0) (lock : Lock O) (old : Known E O) (a m n : Sit V E O) (found left : V) → known a ≡ old → IsPassOf lock old → AtRest a
+        → IsOut entries limit origin found a.me m.me → n.table_id ≡ a.table_id → n.me ≡ (with_hold (entering m.me.0 (entries left)) Away, []) → GrowsByOne (limit found) (entries found) (entries left)
+        → does (entries found) (limit found) (origin found) (entries left) → TookTurn does lock old (known n) × IsPassOf lock (known n) × AtRest n
+    turn_more does lock old a m n found left view of calm out z back more did = let r = turned_more does lock a m n found left (subst (IsPassOf lock) (sym view) of) calm out z back more did in
+        (subst (λ k. TookTurn does lock k (known n)) view r.0, is_of lock (known n) r.0.seen r.0.mine (known a).met r.0.is, r.1)
 
     none : (place : ℕ) → 0 ≤ 1
     none place = omega arith
@@ -229,3 +223,7 @@ module _ {V E O : Type 0} where
       each = only value;
       once = λ place. none place;
     }
+
+    pub opens_with : (value it : V) (n : ℕ) (slots : List (Option V)) → it ≡ value → n ≡ length (entries value) → slots ≡ Some value ∷ []
+        → Kept entries limit origin it (opening (0 ∷ n ∷ []) slots (first (entries it) (limit it) (origin it)))
+    opens_with value it n slots a b c = subst (λ (k : V × ℕ × List (Option V)). Kept entries limit origin k.0 (opening (0 ∷ k.1 ∷ []) k.2 (first (entries k.0) (limit k.0) (origin k.0)))) (λ i. (sym a i, sym b i, sym c i)) (opens value)

@@ -52,5 +52,5 @@ module _ {E O : Type 0} where
     pub seen : List E
     pub own_begins : IsPrefix old.seen seen
     pub other_begins : IsPrefix other.seen seen
-    pub apart : NoneTwice ((old.mine ++ old.met) ++ other.mine ++ other.met)
-    pub is : new ≡ knowing lock seen old.mine (old.met ++ other.mine ++ other.met)
+    pub apart : NoneTwice ((old.mine ++ old.met) ++ (other.mine ++ other.met))
+    pub is : new ≡ knowing lock seen old.mine (old.met ++ (other.mine ++ other.met))

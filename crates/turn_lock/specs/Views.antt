@@ -37,7 +37,7 @@ module _ {E O : Type 0} where
   both v w = record {
     seen = longer v.seen w.seen;
     mine = v.mine;
-    met = v.met ++ w.mine ++ w.met;
+    met = v.met ++ (w.mine ++ w.met);
     limit = v.limit;
     origin = v.origin;
     hold = Met v.seen w.seen;

@@ -1,7 +1,6 @@
 use Rattle.std.proofs.Common.{arith, ap, sym, refl, ◌∙◌, ◌∷◌, Some}
 use Rattle.atomic_table.specs.Table.{rest}
 use Rattle.turn_lock.proofs.Keeps.{loads}
-use Rattle.turn_lock.proofs.Passes.{comes_out, is_there}
 use Rattle.turn_lock.proofs.steps.take_out.Goals as goal
 
 pub exchange-slot-requires : goal.exchange-slot-requires

@@ -1,6 +1,6 @@
-use Rattle.std.proofs.Common.{arith, ap, subst, sym, refl, ◌∙◌}
+use Rattle.std.proofs.Common.{arith, ap, sym, ◌∙◌}
 use Rattle.turn_lock.proofs.Keeps.{joins, looks}
-use Rattle.turn_lock.proofs.Passes.{meets, rests_met, same_table}
+use Rattle.turn_lock.proofs.Passes.{meet_of, rests_met, same_table}
 use Rattle.turn_lock.proofs.turns.Turns.meet.Goals as goal
 
 pub join_seat-requires : goal.join_seat-requires
@@ -20,7 +20,10 @@ load-requires g c = (
 )
 
 pub invariant_of-pass : goal.invariant_of-pass
-invariant_of-pass g c = ?
+invariant_of-pass g c = rests_met _ c.into_seat-seat.result c.join_seat.new.seat _ c.pass.invariant c.join_seat.ensures.2 (c.load.ensures.2 _ _ (ap (λ m. m.0.hold) c.join_seat.ensures.2))
 
 pub returns : goal.returns
-returns g c = ?
+returns g c =
+    let m = meet_of c.args.self.now _ _ c.pass.inside.seat c.into_seat-seat.result c.join_seat.new.seat c.load.new.seat c.pass.view_is c.into_seat-seat.ensures.known c.requires.pass c.join_seat.ensures.0 c.join_seat.ensures.2
+    c.load.ensures.0 (c.load.ensures.2 _ _ (ap (λ m. m.0.hold) c.join_seat.ensures.2)) in
+    record { met = m.0; own = m.1 }
