@@ -1,0 +1,4 @@
+mod Fronts
+mod Sums
+mod Keeps
+mod Passes
