@@ -2,7 +2,7 @@
 use Rattle.std.proofs.Common.{arith, ◌≡◌, ◌≤◌, ℕ, List, [], ◌∷◌, ◌++◌, refl, sym, ◌∙◌, ap, subst, inl, inr, ◌⊎◌, true, false}
 use Rattle.std.specs.Prelude.{Option, Some, None, Result, Ok, Err, codes, length, unwrap_or}
 use Rattle.drill_lines.specs.Drill.{drilled, tally_text}
-use Rattle.drill_lines.specs.declared.drill.Drill as drills
+use Rattle.drill_lines.specs.declared.plan.Drill as drills
 use Rattle.drill_lines.specs.declared.drill_fault.DrillFault.{DrillFault}
 use Rattle.drill_lines.specs.declared.drill_fault.DrillFault.TheVariants as faults
 use Rattle.drill_lines.specs.declared.tally.Tally.{Tally}

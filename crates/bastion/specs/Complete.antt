@@ -1,7 +1,7 @@
 -- What is done in a run in which no count rose: all that is called for, whole.
 use Rattle.std.specs.Prelude.{◌≡◌, ℕ, ◌⊎◌, Bool, true, false, List, [], ◌∷◌, ◌++◌, length, codes, Option, Some, None, Result, Ok, Err, unwrap_or}
 use Rattle.drill_lines.specs.Drill.{drilled, tally_text}
-use Rattle.drill_lines.specs.declared.drill.Drill.{Drill}
+use Rattle.drill_lines.specs.declared.plan.Drill.{Drill}
 use Rattle.drill_lines.specs.declared.drill_fault.DrillFault.{DrillFault}
 use Rattle.drill_lines.specs.declared.tally.Tally.{Tally}
 use Rattle.fw_outside.specs.LauncherView.{LauncherView, Starts}

@@ -2,7 +2,7 @@
 use Rattle.std.specs.Prelude.{◌≡◌, ℕ, zero, suc, ◌⊎◌, List, ◌∷◌, ◌++◌, length, codes, Result, Ok, Err}
 use Rattle.std.specs.Fmt.{decimal}
 use Rattle.drill_lines.specs.Drill.{drilled, tally_text}
-use Rattle.drill_lines.specs.declared.drill.Drill.{Drill}
+use Rattle.drill_lines.specs.declared.plan.Drill.{Drill}
 use Rattle.drill_lines.specs.declared.drill_fault.DrillFault.{DrillFault}
 use Rattle.drill_lines.specs.declared.drill_fault.DrillFault.TheVariants as faults
 use Rattle.drill_lines.specs.declared.tally.Tally.{Tally}

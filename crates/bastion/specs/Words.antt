@@ -17,10 +17,10 @@ use Rattle.bastion.specs.declared.words.Query.{Query}
 use Rattle.bastion.specs.declared.words.Caller.{Caller}
 use Rattle.bastion.specs.declared.words.Client.{Client}
 use Rattle.bastion.specs.declared.words.Job.{Job}
-use Rattle.bastion.specs.declared.words.Job.TheVariants.{Drill as DrillJob, SpoolInit}
+use Rattle.bastion.specs.declared.words.Job.TheVariants as jobs
 use Rattle.bastion.specs.declared.words.Order.{Order}
 use Rattle.bastion.specs.declared.words.Order.TheVariants.{ByTable, Alone}
-use Rattle.drill_lines.specs.declared.drill.Drill.{Drill}
+use Rattle.drill_lines.specs.declared.plan.Drill.{Drill}
 
 -- the options that there are
 abbrev pub is_option_name : List ℕ → Bool
@@ -144,13 +144,13 @@ drill_in _ = None
 
 -- no further words
 abbrev pub spool_init_in : List (List ℕ) → Option Job
-spool_init_in [] = Some SpoolInit
+spool_init_in [] = Some jobs.SpoolInit
 spool_init_in (word ∷ more) = None
 
 -- a command by the table, or `drill START N` or `spool-init`, which need none
 abbrev pub order_in : List (List ℕ) → Option Order
 order_in (name ∷ words) =
-    if bytes_eq name (codes "drill") then option_map Alone (option_map DrillJob (drill_in words))
+    if bytes_eq name (codes "drill") then option_map Alone (option_map jobs.Drill (drill_in words))
     else if bytes_eq name (codes "spool-init") then option_map Alone (spool_init_in words)
     else option_map ByTable (command_in (name ∷ words))
 order_in [] = None

@@ -8,7 +8,7 @@ ghost use Rattle.bastion.specs.Jobs.{DoesJob, Drills, Formats, Inits, IsFormatte
 use crate::{Device, Job, Kit, Outcome, Refusal, Step, World};
 use arrayvec::ArrayVec;
 use client_service::LogLine;
-use drill_lines::{Drill, DrillFault, drill, tally_line};
+use drill_lines::{Drill, DrillFault, count_drill, tally_line};
 use fw_disk::Disk;
 use fw_outside::Failed;
 use fw_types::{append, append_decimal};
@@ -45,7 +45,7 @@ fn print_alone<T: Kit>(text: &[u8], world: &mut World<T>) -> Outcome
 fn run_drill<T: Kit>(alloc: Global, numbers: Drill, world: &mut World<T>) -> Outcome
     ensures { Drills numbers result world.old world.new }
 {
-    match drill(alloc, numbers) {
+    match count_drill(alloc, numbers) {
         Ok(tally) => print_alone(tally_line(numbers, tally).as_slice(), world),
         Err(fault) => drill_refused(fault),
     }

@@ -10,7 +10,7 @@ next_number x = (x * 1103515245 + 12345) % 2147483648
 -- so many draws, from a number on: each has the highest 15 bits of the number after the last one
 abbrev pub draws : ℕ → ℕ → List ℕ
 draws zero x = []
-draws (suc n) x = next_number x / 65536 ∷ draws n (next_number x)
+draws (suc n) x = (next_number x / 65536) ∷ draws n (next_number x)
 
 -- an even draw permits, an odd one denies
 abbrev pub attribute_text : ℕ → List ℕ
@@ -27,7 +27,7 @@ lines_text _ = []
 
 -- two draws make a peer without a name, at an address that such a line may name
 abbrev pub peer_at : ℕ → ℕ → Peer
-peer_at q s = record { addr = Some (10 + q % 4 ∷ s % 8 ∷ 0 ∷ 1 ∷ []); name = None }
+peer_at q s = record { addr = Some ((10 + q % 4) ∷ (s % 8) ∷ 0 ∷ 1 ∷ []); name = None }
 
 -- the peers of all draws, two for each
 abbrev pub peers_of : List ℕ → List Peer

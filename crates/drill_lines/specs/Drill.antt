@@ -13,7 +13,7 @@ use Rattle.netperm_table.specs.Table.{table_of}
 use Rattle.netperm_table.specs.declared.line.Line.{Line}
 use Rattle.netperm_table.specs.declared.table_fault.TableFault.{TableFault}
 use Rattle.drill_lines.specs.Draws.{draws, lines_text, peers_of}
-use Rattle.drill_lines.specs.declared.drill.Drill.{Drill}
+use Rattle.drill_lines.specs.declared.plan.Drill.{Drill}
 use Rattle.drill_lines.specs.declared.drill_fault.DrillFault.{DrillFault}
 use Rattle.drill_lines.specs.declared.drill_fault.DrillFault.TheVariants as faults
 use Rattle.drill_lines.specs.declared.tally.Tally.{Tally}

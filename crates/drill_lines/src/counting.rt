@@ -78,7 +78,7 @@ fn count_both(alloc: Global, first: &[u32], others: &[u32]) -> Result<Tally, Dri
 ///
 /// The first line that can't be read, or `NoMemory`.
 #[tactic(auto, unfolding(crate::specs::Drill::drilled))]
-pub fn drill(alloc: Global, drill: Drill) -> Result<Tally, DrillFault>
+pub fn count_drill(alloc: Global, drill: Drill) -> Result<Tally, DrillFault>
     ensures ok { IfOk result (λ tally. drilled drill ≡ Ok tally) }
     ensures fault { IfErr result (λ e. e ≢ faults.NoMemory → drilled drill ≡ Err e) }
 {

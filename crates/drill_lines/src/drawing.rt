@@ -13,7 +13,7 @@ fn next_number(x: u32) -> u32
 }
 
 /// So many draws, from a number on.
-#[tactic(auto, using(crate::proofs::DrawLemmas::one_draw, crate::proofs::DrawLemmas::last_draw, crate::proofs::DrawLemmas::length_draws))]
+#[tactic(auto, using(crate::proofs::DrawLemmas::one_draw, crate::proofs::DrawLemmas::last_draw, crate::proofs::DrawLemmas::all_drawn))]
 pub(crate) fn draws(alloc: Global, count: u64, start: u32) -> Result<Vec<u32>, NoMemory>
     ensures draws { IfOk result (λ all. all.items ≡ draws count start) }
     ensures len { IfOk result (λ all. length all.items ≡ count) }

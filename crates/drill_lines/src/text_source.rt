@@ -1,3 +1,4 @@
+ghost use Rattle.std.specs.Prelude.{◌≡◌};
 ghost use Rattle.drill_lines.specs.TextView.{text_view};
 
 use fw_outside::{Failed, Got, Source};
