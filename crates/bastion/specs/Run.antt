@@ -118,6 +118,7 @@ pub record LacksPrint (name : List ℕ) (command : Command) (old new : WorldView
 abbrev pub Lacks : List ℕ → Command → Step → WorldView → WorldView → Type 0
 Lacks name command steps.Print old new = LacksPrint name command old new
 Lacks name command steps.Records old new = ReadsOnly name (needs_records command) old new
+Lacks name command steps.Drill old new = ⊥
 Lacks name command step old new = ReadsOnly name false old new
 
 abbrev pub Stops : List ℕ → Command → Outcome → WorldView → WorldView → Type 0

@@ -5,13 +5,14 @@ ghost use Rattle.drill_lines.specs.declared.drill_fault.DrillFault.TheVariants a
 ghost use Rattle.fw_outside.specs.SinkView.{Gives};
 ghost use Rattle.bastion.specs.Jobs.{DoesJob, Drills, Formats, Inits, IsFormatted, IsUnformatted, PrintsAlone, drill_refused, formatted_text, printed};
 
+use crate::outcome::append_usize;
 use crate::{Device, Job, Kit, Outcome, Refusal, Step, World};
 use arrayvec::ArrayVec;
 use client_service::LogLine;
 use drill_lines::{Drill, DrillFault, count_drill, tally_line};
 use fw_disk::Disk;
 use fw_outside::Failed;
-use fw_types::{append, append_decimal};
+use fw_types::append;
 use spool_slots::format_in_place;
 use std::alloc::Global;
 
@@ -70,18 +71,42 @@ fn formatted_line(count: usize) -> LogLine
 {
     let mut out = ArrayVec::new();
     append(&mut out, b"formatted ");
-    append_decimal(&mut out, count as u64);
+    append_usize(&mut out, count);
     append(&mut out, b"\n");
     out
+}
+
+// Formats the disks of a world.
+fn format_all<T: Kit>(world: &mut World<T>) -> Result<(), usize>
+    ensures formats { Formats result world.old.inputs.disks world.new.inputs.disks }
+    ensures inputs { world.new.inputs ≡ record (world.old.inputs) { disks = world.new.inputs.disks } }
+    ensures output { world.new.output ≡ world.old.output }
+    ensures logs { world.new.logs ≡ world.old.logs }
+    ensures files { world.new.files ≡ world.old.files }
+{
+    format_disks(&mut world.disks)
+}
+
+fn disk_count<T: Kit>(world: &World<T>) -> usize
+    ensures { result ≡ length world.now.inputs.disks }
+{
+    world.disks.len()
+}
+
+// Prints how many disks were formatted.
+fn print_formatted<T: Kit>(count: usize, world: &mut World<T>) -> Outcome
+    ensures { PrintsAlone (formatted_text count) result world.old world.new }
+{
+    print_alone(formatted_line(count).as_slice(), world)
 }
 
 // Formats all disks, and then prints how many they are.
 fn init_spool<T: Kit>(world: &mut World<T>) -> Outcome
     ensures { Inits result world.old world.new }
 {
-    let count = world.disks.len();
-    match format_disks(&mut world.disks) {
-        Ok(()) => printed(world.print(formatted_line(count).as_slice())),
+    let count = disk_count(world);
+    match format_all(world) {
+        Ok(()) => print_formatted(count, world),
         Err(slot) => Outcome::Failed(Device::Disk(slot)),
     }
 }

@@ -109,7 +109,8 @@ fn append_line(out: &mut LogLine, line: u32, why: &[u8])
     append(out, why);
 }
 
-fn append_usize(out: &mut LogLine, number: usize)
+/// Appends a number in decimal.
+pub(crate) fn append_usize(out: &mut LogLine, number: usize)
     requires { array_vec_len out.old ≤ 480 }
     ensures items { out.new.items ≡ out.old.items ++ decimal number }
     ensures room { array_vec_len out.new ≤ array_vec_len out.old + 20 }

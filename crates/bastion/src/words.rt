@@ -403,7 +403,7 @@ fn word_or<'a>(option: &[u8], other: &'a [u8], words: &'a [Octets]) -> &'a [u8]
 }
 
 fn slots_or(other: u32, word: Option<&[u8]>) -> u32
-    ensures { result ≡ slots_or other (option_copied word) }
+    ensures { result ≡ slots_or other (option_copied word.entry) }
 {
     match word {
         Some(word) => slots_in(word).unwrap_or(other),
