@@ -45,6 +45,7 @@ use Rattle.client_service.proofs.FrontsLemmas.{fronts_later, plug_gives}
 use Rattle.client_service.proofs.GateLemmas.{fronts_behind, gate_caused, gate_keeps, gate_takes, gate_unasked, gate_waits}
 use Rattle.client_service.proofs.LaterLemmas.{caused_later, causes_later, keeps_later, noted_most, noted_shut, takes_later, unasked_later, waits_with, with_logs}
 use Rattle.client_service.proofs.MailLemmas.{mail_caused, mail_keeps, mail_serverless, mail_takes}
+use Rattle.client_service.proofs.MaillessLemmas.{caused_mailless, caused_patient, mailless_keeps, takes_mailless, takes_patient}
 use Rattle.client_service.proofs.PlugLemmas.{LogsOnly, plug_caused, plug_dials, silent_denial}
 use Rattle.client_service.proofs.SinkLemmas.{same_low}
 use Rattle.client_service.proofs.WaitLemmas.{session_waits}
@@ -63,19 +64,6 @@ denied_alone FtpGw line = refl
 denied_alone Smap line = refl
 
 module _ {Origin : Type 0} where
-  -- how long the devices wait counts for nothing, nor does a mail store
-  caused_patient : (seconds : ℕ) (ending : Ending) (old new : Devices Origin) → CausedAlone ending (patient seconds (mailless old)) (mailless new) → CausedAlone ending old new
-  caused_patient seconds Done old new h = tt
-  caused_patient seconds (Denied line) old new h = h
-  caused_patient seconds ClientFault old new h = h
-  caused_patient seconds ServerFault old new h = h
-  caused_patient seconds LogFault old new h = h
-  caused_patient seconds AuthFault old new h = h
-  caused_patient seconds Idle old new h = h
-  caused_patient seconds NoRoute old new h = h
-  caused_patient seconds Spent old new h = record { took = record { bytes = h.took.bytes; most = h.took.most; grew = h.took.grew; is = h.took.is }; all = h.all }
-  caused_patient seconds NoMemory old new h = tt
-
   -- ---- causes
 
   none_denies : (kind : Kind) (line : ℕ) (verdict : Verdict) (old new : Devices Origin) → CausedBy kind (Denied line) old new → Causes kind verdict (Denied line) old new
@@ -100,9 +88,6 @@ module _ {Origin : Type 0} where
   -- who is turned away is asked for none
   takes_none : (ending : Ending) (old new : Devices Origin) → is_spent_ending ending ≡ false → new.inlet ≡ old.inlet → TakesExactly ending old new
   takes_none ending old new never is = record { took = record { bytes = []; most = omega (arith); grew = subst (λ (s : SourceView). Grew 0 old.inlet.amount s.amount) (sym is) (grew_none old.inlet.amount); is = ap (λ (s : SourceView). s.taken) is ∙ by_nothing old.inlet.taken }; all = never }
-
-  takes_patient : (seconds : ℕ) (ending : Ending) (old new : Devices Origin) → TakesExactly ending (patient seconds (mailless old)) (mailless new) → TakesExactly ending old new
-  takes_patient seconds ending old new h = record { took = record { bytes = h.took.bytes; most = h.took.most; grew = h.took.grew; is = h.took.is }; all = h.all }
 
   relay_takes : (seconds : ℕ) (ending : Ending) (old new : Devices Origin) → RelayTakesFor ending (patient seconds (plug_devices old)) (plug_devices new) → RelayTakesFor ending old new
   relay_takes seconds ending old new h = record { took = record { bytes = h.took.bytes; most = h.took.most; grew = h.took.grew; is = h.took.is }; all = h.all }
@@ -144,28 +129,6 @@ module _ {Origin : Type 0} where
     log_shut = h.log_shut;
     origin = ap (λ (p : Port Origin). p.origin) port;
     home = ap (λ (p : Port Origin). p.home) port;
-  }
-
-  -- so does one without a mail store
-  mailless_keeps : (seconds : ℕ) (old new : Devices Origin) → SessionKeeps (patient seconds (mailless old)) (mailless new) → SessionKeeps (patient seconds old) new
-  mailless_keeps seconds old new h = record {
-    faults = h.faults;
-    idles = h.idles;
-    amount = h.amount;
-    drops = h.drops;
-    log_drops = h.log_drops;
-    breaks = h.breaks;
-    strays = h.strays;
-    asks = h.asks;
-    refusals = h.refusals;
-    link_faults = h.link_faults;
-    link_idles = h.link_idles;
-    waits = h.waits;
-    link_waits = h.link_waits;
-    shut = h.shut;
-    log_shut = h.log_shut;
-    origin = h.origin;
-    home = h.home;
   }
 
   -- ---- all that is said of a client, by whom it may reach
@@ -421,14 +384,16 @@ module _ {Origin : Type 0} where
   pub console_caused : (service : Service) (peer : Peer) (old new : Devices Origin) (ending : Ending) → AtConsole service peer old new ending → CausedAlone ending old new
   console_caused service peer old new ending h =
       caused_later ending old new h.logs (noted_most (ending_line service peer ending) h.logs new.logs h.noted)
-      (session_alone rows (session_row true) old (with_logs new h.logs) ending h.session (keeps_serverless Origin true))
+      (caused_mailless ending old (with_logs new h.logs) (session_alone rows (session_row true) (mailless old) (mailless (with_logs new h.logs)) ending h.session (keeps_serverless Origin true)))
 
   pub console_spent : (service : Service) (peer : Peer) (old new : Devices Origin) (ending : Ending) → AtConsole service peer old new ending → TakesExactly ending old new
   console_spent service peer old new ending h =
-      takes_later Alone ending old new h.logs (session_exact rows (session_row true) old (with_logs new h.logs) ending h.session (keeps_serverless Origin true))
+      takes_later Alone ending old new h.logs
+      (takes_mailless ending old (with_logs new h.logs) (session_exact rows (session_row true) (mailless old) (mailless (with_logs new h.logs)) ending h.session (keeps_serverless Origin true)))
 
   pub console_undialed : (service : Service) (peer : Peer) (old new : Devices Origin) (ending : Ending) → AtConsole service peer old new ending → new.dialer ≡ old.dialer
-  console_undialed service peer old new ending h = session_serverless rows (session_row true) old (with_logs new h.logs) ending h.session (keeps_serverless Origin true)
+  console_undialed service peer old new ending h =
+      session_serverless rows (session_row true) (mailless old) (mailless (with_logs new h.logs)) ending h.session (keeps_serverless Origin true)
 
   pub console_origin : (service : Service) (peer : Peer) (old new : Devices Origin) (ending : Ending) → AtConsole service peer old new ending → new.port.origin ≡ old.port.origin
   console_origin service peer old new ending h = (session_keeps h.session).origin

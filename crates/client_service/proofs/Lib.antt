@@ -5,6 +5,7 @@ pub mod GateLemmas
 pub mod KeptLemmas
 pub mod LaterLemmas
 pub mod MailLemmas
+pub mod MaillessLemmas
 pub mod NoMemoryLemmas
 pub mod OptionsLemmas
 pub mod PlugLemmas

@@ -30,7 +30,7 @@ use Rattle.session_acts.specs.declared.silence.Silence.{Silence}
 use Rattle.session_acts.specs.declared.silence.Silence.TheVariants.{Quiet, Broken, Limit}
 use Rattle.session_acts.proofs.CauseLemmas.{WasIdle, idled, session_stays}
 use Rattle.session_acts.proofs.DeedLemmas.{all_last, deeds_done}
-use Rattle.session_acts.proofs.DeviceLemmas.{halted_waited, rose_within}
+use Rattle.session_acts.proofs.DeviceLemmas.{halted_idles, halted_waited, rose_within}
 use Rattle.session_acts.proofs.SpentLemmas.{owed_client}
 use Rattle.session_acts.proofs.StaysLemmas.{stays_last}
 use Rattle.client_service.specs.Conn.{WaitsAlone}
@@ -49,6 +49,15 @@ hear_quiet form Broken old new h = tt
 hear_quiet form Limit old new h = tt
 
 -- a client that was idle within the data of a mail
+drew_idle : (words data_heard : List ℕ) (old new : Speaker) → DrawsAfter words (Some stops.Idle) data_heard old new → WasIdle old.inlet new.inlet
+drew_idle words data_heard old new h =
+    let draws = h.draws in
+    let same : h.middle.inlet ≡ old.inlet = ap (λ (s : Speaker). s.inlet) h.told.is in
+    let was : WasIdle h.middle.inlet new.inlet =
+    subst (λ (s : Speaker). WasIdle h.middle.inlet s.inlet) (sym draws.is)
+    (record { rose = halted_idles draws.reads.taken_now h.middle.inlet draws.middle draws.inlet draws.reads.takes draws.closes.1; waited = halted_waited draws.middle draws.inlet draws.closes.1 }) in
+    subst (λ (s : SourceView). WasIdle s new.inlet) same was
+
 data_quiet : (words data_heard : List ℕ) (silence : Silence) (old new : Speaker) → DrawsAfter words (Some (stop_of silence)) data_heard old new → QuietBy (ending_by (silence_cause causes.ClientFault silence)) old new
 data_quiet words data_heard Quiet old new h = drew_idle words data_heard old new h
 data_quiet words data_heard Broken old new h = tt

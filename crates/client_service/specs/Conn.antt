@@ -82,10 +82,10 @@ pub record Conn {Origin : Type 0} (service : Service) (rules : RuleBook) (peer :
   pub treats : Treats (verdict_of rules peer) service rules peer ending old (record new { logs = logs })
   pub noted : NotedIf (ending_line service peer ending) logs new.logs
 
--- a session at the console, and then its ending's line
+-- a session at the console, where there is no mail store, and then its ending's line
 pub record AtConsole {Origin : Type 0} (service : Service) (peer : Peer) (old new : Devices Origin) (ending : Ending) : Type 0 where
   pub logs : SinkView
-  pub session : Session rows (session_row true) old (record new { logs = logs }) ending
+  pub session : Session rows (session_row true) (mailless old) (mailless (record new { logs = logs })) ending
   pub noted : NotedIf (ending_line service peer ending) logs new.logs
 
 -- ---- what an ending says

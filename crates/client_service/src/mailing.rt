@@ -88,7 +88,15 @@ where
     let mut clock = NoClock;
     let mut dice = NoDice;
     mail_session_over(
-        &logged, &mut port, from, to, logs, &mut dialer, &mut clock, &mut dice, store,
+        &logged,
+        &mut port,
+        from,
+        to,
+        logs,
+        &mut dialer,
+        &mut clock,
+        &mut dice,
+        store,
     )
 }
 
