@@ -1,6 +1,6 @@
 -- What a client of `smap` comes to: it speaks with no server, and the store is given what its session kept.
-use Rattle.std.proofs.Common.{arith, ◌≡◌, ◌⊎◌, ◌∙◌, refl, ap, ℕ, Bool, true, false, List, [], ◌∷◌, ◌==◌, nat_lt, length, inl, inr}
-use Rattle.std.specs.Prelude.{Option, Some, None, Result, Ok, Err}
+use Rattle.std.proofs.Common.{arith, ◌≡◌, ◌⊎◌, ◌∙◌, refl, sym, ap, subst, ℕ, ◌+◌, ◌-◌, ◌^◌, ◌≤◌, Bool, true, false, List, [], ◌∷◌, length, inl, inr}
+use Rattle.std.specs.Prelude.{◌==◌, min, nat_lt, Option, Some, None, Result, Ok, Err}
 use Rattle.auth_events.specs.Port.{Port}
 use Rattle.fw_acts.specs.Histories.{Keeps, Leaves, Watch}
 use Rattle.fw_outside.specs.Counts.{Rose}
@@ -11,13 +11,17 @@ use Rattle.fw_types.specs.declared.ending.Ending.{Ending}
 use Rattle.fw_types.specs.declared.ending.Ending.TheVariants as endings
 use Rattle.session_acts.specs.Causes.{SessionKeeps}
 use Rattle.session_acts.specs.Client.{LogsFirst, with_line}
+use Rattle.session_acts.specs.Deeds.{Deed, gives}
 use Rattle.session_acts.specs.Met.{acts}
 use Rattle.session_acts.specs.Serverless.{CausedAlone, KeepsServerless, TakesExactly, serverless_watch}
-use Rattle.session_acts.specs.Session.{Session}
-use Rattle.session_acts.specs.World.{Devices}
+use Rattle.session_acts.specs.Session.{Session, deeds_of}
+use Rattle.session_acts.specs.Stored.{faulted, unslotted}
+use Rattle.session_acts.specs.World.{Devices, World, at_first}
 use Rattle.session_acts.specs.declared.deposited.Deposited.{Deposited}
 use Rattle.session_acts.specs.declared.deposited.Deposited.TheVariants as ends
 use Rattle.session_acts.proofs.ClientLemmas.{logs_first}
+use Rattle.session_acts.proofs.DeedLemmas.{all_gain, all_last, held_deeds}
+use Rattle.session_acts.proofs.StoredLemmas.{back_lasts, faulted_gains, kept_gains, unslotted_gains}
 use Rattle.smap_gate.specs.Dialogue.{bare_row, command_row, data_if, data_row, deposited_row, heard_row, helo_row, mail_row, rcpt_row, recipient_if, recipient_row, sender_row, smap_row, smap_rows}
 use Rattle.smap_gate.specs.Gate.{Gate}
 use Rattle.smap_gate.specs.Paths.{path_behind}
@@ -28,7 +32,8 @@ use Rattle.smap_lines.specs.Command.Command.{bare, helo, mail, rcpt}
 use Rattle.smap_lines.specs.declared.path.PathFault.{PathFault}
 use Rattle.smap_lines.specs.declared.verb.Verb.{Verb}
 use Rattle.smap_lines.specs.declared.verb.Verb.TheVariants.{Helo, Mail, Rcpt, Data, Rset, Noop, Quit, Help, NotImplemented, Unknown}
-use Rattle.client_service.specs.MailService.{MailsOrFails, mail_devices}
+use Rattle.spool_rack.specs.Store.{PutGrew, StoreView}
+use Rattle.client_service.specs.MailService.{MailsBehind, MailsOrFails, mail_devices}
 use Rattle.client_service.specs.Meeting.{logged_row, patient}
 use Rattle.client_service.proofs.SinkLemmas.{same_low}
 
@@ -152,10 +157,30 @@ module _ {Origin : Type 0} where
 
 -- ---- what the store is given
 
+-- by the laws of all sessions
+stored_by : (line : List ℕ) (gate : Gate) (ending : Ending) (old new : Devices (Unit {0})) → Session (smap_rows gate) smap_row (with_line line old) new ending → MailsBehind line gate ending old new
+stored_by line gate ending old new session =
+    let deeds : List Deed = deeds_of session.held in
+    let begun : World (Unit {0}) = at_first (with_line line old) session.names in
+    let all = held_deeds session.held in
+    let same : session.last.store ≡ new.store = ap (λ (d : Devices (Unit {0})). d.store) session.leaves in
+    let puts = all_gain kept_gains deeds begun session.last all in
+    record {
+      session = session;
+      stores = record {
+        slots = puts.slots;
+        grew = subst (λ (s : StoreView). PutGrew puts.slots old.store s) same puts.grew;
+        are = puts.are;
+        back = sym (ap (λ (s : StoreView). s.out) same) ∙ all_last back_lasts deeds begun session.last all;
+      };
+      unslotted = subst (λ (s : StoreView). min (old.store.no_free + length (gives unslotted deeds)) (2 ^ 64 - 1) ≤ s.no_free) same (all_gain unslotted_gains deeds begun session.last all);
+      faulted = subst (λ (s : StoreView). min (old.store.broken + length (gives faulted deeds)) (2 ^ 64 - 1) ≤ s.broken) same (all_gain faulted_gains deeds begun session.last all);
+    }
+
 behind_by : (line : List ℕ) (gate : Gate) (ending : Ending) (old new : Devices (Unit {0})) (session : Session (smap_rows gate) (logged_row line smap_row) old new ending)
     → LogsFirst line (smap_rows gate) smap_row old new ending session → MailsOrFails line gate ending old new
 behind_by line gate ending old new session (inl fails) = inl fails
-behind_by line gate ending old new session (inr on) = inr (record { session = on.rest; puts = session_puts on.rest })
+behind_by line gate ending old new session (inr on) = inr (stored_by line gate ending old new on.rest)
 
 pub mails_behind : (line : List ℕ) (gate : Gate) (ending : Ending) (old new : Devices (Unit {0})) → Session (smap_rows gate) (logged_row line smap_row) old new ending → MailsOrFails line gate ending old new
 mails_behind line gate ending old new session = behind_by line gate ending old new session (logs_first line (smap_rows gate) smap_row old new ending session)

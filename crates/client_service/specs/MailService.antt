@@ -1,5 +1,5 @@
 -- A client of `smap` whom the rules permit: its session is held over the mail store, behind the line of the permission.
-use Rattle.std.specs.Prelude.{◌≡◌, ℕ, ◌⊎◌, Bool, true, false, min, List, Option, Some, None}
+use Rattle.std.specs.Prelude.{◌≡◌, ℕ, ◌+◌, ◌-◌, ◌^◌, ◌≤◌, ◌⊎◌, Bool, true, false, min, List, length, Option, Some, None}
 use Rattle.fw_outside.specs.DialerView.{dialer_waiting}
 use Rattle.fw_outside.specs.SinkView.{SinkView}
 use Rattle.fw_types.specs.declared.ending.Ending.{Ending}
@@ -12,12 +12,14 @@ use Rattle.gate_rules.specs.declared.setting.Setting.TheVariants.{MaxBytes, MaxR
 use Rattle.gate_rules.specs.declared.verdict.Verdict.TheVariants.{Permit}
 use Rattle.session_acts.specs.Client.{LogFails, with_line}
 use Rattle.session_acts.specs.Deeds.{gives}
-use Rattle.session_acts.specs.Laws.{PutsMessages, kept}
 use Rattle.session_acts.specs.Session.{Session, deeds_of}
+use Rattle.session_acts.specs.Stored.{AreKept, KeptMail, faulted, kept, unslotted}
 use Rattle.session_acts.specs.World.{Devices}
 use Rattle.smap_gate.specs.Dialogue.{smap_row, smap_rows}
 use Rattle.smap_gate.specs.Dummies.{lent}
 use Rattle.smap_gate.specs.Gate.{Gate}
+use Rattle.spool_rack.specs.Store.{PutGrew, StoreView}
+use Rattle.spool_slots.specs.States.{FullView}
 use Rattle.client_service.specs.Decision.{decision_text}
 use Rattle.client_service.specs.Meeting.{logged_row, patient, timeout_of}
 
@@ -63,11 +65,21 @@ pub record MailsTo {Origin : Type 0} (line : ℕ) (rules : RuleBook) (peer : Pee
 
 -- ---- what that comes to
 
+-- slots with these messages were put full, in this order, and no other; and each slot that was taken was put back
+pub record Stores (mails : List KeptMail) (old new : StoreView) : Type 0 where
+  pub slots : List FullView
+  pub grew : PutGrew slots old new
+  pub are : AreKept mails slots
+  pub back : new.out ≡ old.out
+
 -- The session of the gateway was held behind this line, and the store was given the messages that its deeds kept, in order,
--- and no other.
+-- and no other. It counted each for which no slot was free, and each at which the disk of a slot failed, as far as the counts
+-- go.
 pub record MailsBehind (line : List ℕ) (gate : Gate) (ending : Ending) (old new : Devices (Unit {0})) : Type 0 where
   pub session : Session (smap_rows gate) smap_row (with_line line old) new ending
-  pub puts : PutsMessages (gives kept (deeds_of session.held)) old.store new.store
+  pub stores : Stores (gives kept (deeds_of session.held)) old.store new.store
+  pub unslotted : min (old.store.no_free + length (gives unslotted (deeds_of session.held))) (2 ^ 64 - 1) ≤ new.store.no_free
+  pub faulted : min (old.store.broken + length (gives faulted (deeds_of session.held))) (2 ^ 64 - 1) ≤ new.store.broken
 
 -- or the log failed within the line, and nothing else was done
 abbrev pub MailsOrFails : List ℕ → Gate → Ending → Devices (Unit {0}) → Devices (Unit {0}) → Type 0
