@@ -1,0 +1,6 @@
+pub mod Dialogue
+pub mod Draft
+pub mod Dummies
+pub mod Gate
+pub mod LogLines
+pub mod Texts
