@@ -12,12 +12,12 @@ use Rattle.session_acts.specs.declared.deposited.Deposited.TheVariants as ends
 use Rattle.session_acts.specs.declared.form.Form.TheVariants.{Lines}
 use Rattle.smap_gate.specs.Gate.{Gate}
 use Rattle.smap_gate.specs.LogLines.{mail_line}
+use Rattle.smap_gate.specs.Paths.{path_behind}
 use Rattle.smap_gate.specs.Texts as texts
 use Rattle.smap_gate.specs.declared.place.Place.{Place}
 use Rattle.smap_gate.specs.declared.place.Place.TheVariants.{Waiting, Mailing}
 use Rattle.smap_lines.specs.Command.{Command, mail_command_of}
 use Rattle.smap_lines.specs.Command.Command.{bare, helo, mail, rcpt}
-use Rattle.smap_lines.specs.Path.{path_of}
 use Rattle.smap_lines.specs.declared.path.PathFault.{PathFault}
 use Rattle.smap_lines.specs.declared.path.PathFault.TheVariants.{Syntax, NotAllowed}
 use Rattle.smap_lines.specs.declared.verb.Verb.{Verb}
@@ -27,11 +27,7 @@ use Rattle.smap_lines.specs.declared.verb.Verb.TheVariants.{Helo, Mail, Rcpt, Da
 abbrev pub act_at : Place → Act
 act_at place = Hear Lines
 
--- the path behind a verb and its keyword, which have to be there
-abbrev pub path_behind : Bool → Option (List ℕ) → Result (List ℕ) PathFault
-path_behind may_be_empty None = Err Syntax
-path_behind may_be_empty (Some text) = path_of may_be_empty text
-
+-- why a text is no path
 abbrev pub fault_text : PathFault → List ℕ
 fault_text Syntax = texts.syntax_error
 fault_text NotAllowed = texts.not_allowed

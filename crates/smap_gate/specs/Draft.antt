@@ -10,11 +10,6 @@ use Rattle.smap_gate.specs.Gate.{Gate}
 use Rattle.smap_gate.specs.declared.place.Place.{Place}
 use Rattle.smap_gate.specs.declared.place.Place.TheVariants.{Waiting, Mailing}
 
--- how short a path may be
-abbrev pub least_of : Bool → ℕ
-least_of true = 0
-least_of false = 1
-
 -- a sender, and no more recipients than are taken
 pub record IsDraft (gate : Gate) (sender : List ℕ) (rcpts : List (List ℕ)) : Type 0 where
   pub from : IsTextFrom 0 256 sender

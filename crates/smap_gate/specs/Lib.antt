@@ -3,4 +3,5 @@ pub mod Draft
 pub mod Dummies
 pub mod Gate
 pub mod LogLines
+pub mod Paths
 pub mod Texts

@@ -77,7 +77,13 @@ fn deposit_row<D: Stage>(
     ensures form { IfOk result (λ next. IfSome next (IsPlace script.now)) }
 {
     let most = script.most_bytes();
-    let deposited = stage.deposit(sender.text(), rcpts, b"354 End with a period\r\n", most)?;
+    let deposited = stage.deposit(
+        script.alloc(),
+        sender.text(),
+        rcpts,
+        b"354 End with a period\r\n",
+        most,
+    )?;
     deposited_row(stage, script, count_of(rcpts), deposited)
 }
 

@@ -93,7 +93,7 @@ fn mail_row<D: Stage>(
     path_text: Option<&[u8]>,
 ) -> Result<Option<Place>, Cause>
     requires { IsPlace script.now place }
-    ensures ran { Ran (smap_rows script.now) (mail_row place (option_map (λ text. text.now) path_text)) leads
+    ensures ran { Ran (smap_rows script.now) (mail_row place (option_map (λ text. text.now) path_text.entry)) leads
         (D.world stage.old) (D.world stage.new) result }
     ensures form { IfOk result (λ next. IfSome next (IsPlace script.now)) }
 {
@@ -163,7 +163,7 @@ fn rcpt_row<D: Stage>(
     path_text: Option<&[u8]>,
 ) -> Result<Option<Place>, Cause>
     requires { IsPlace script.now place }
-    ensures ran { Ran (smap_rows script.now) (rcpt_row script.now place (option_map (λ text. text.now) path_text)) leads
+    ensures ran { Ran (smap_rows script.now) (rcpt_row script.now place (option_map (λ text. text.now) path_text.entry)) leads
         (D.world stage.old) (D.world stage.new) result }
     ensures form { IfOk result (λ next. IfSome next (IsPlace script.now)) }
 {
@@ -185,7 +185,7 @@ fn further_row<D: Stage>(
 ) -> Result<Option<Place>, Cause>
     requires { IsDraft script.now sender rcpts }
     ensures ran { Ran (smap_rows script.now) (rcpt_row script.now (Mailing sender rcpts)
-        (option_map (λ text. text.now) path_text)) leads (D.world stage.old) (D.world stage.new) result }
+        (option_map (λ text. text.now) path_text.entry)) leads (D.world stage.old) (D.world stage.new) result }
     ensures form { IfOk result (λ next. IfSome next (IsPlace script.now)) }
 {
     if !has_room(script, &rcpts) {

@@ -58,6 +58,6 @@ where
     let mut clock = NoClock;
     let mut dice = NoDice;
     mail_session_over(
-        alloc, &script, &mut port, from, to, logs, &mut dialer, &mut clock, &mut dice, store,
+        &script, &mut port, from, to, logs, &mut dialer, &mut clock, &mut dice, store,
     )
 }

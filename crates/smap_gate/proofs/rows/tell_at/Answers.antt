@@ -1,0 +1,8 @@
+use Rattle.smap_gate.proofs.RowLemmas.{at_form}
+use Rattle.smap_gate.proofs.rows.tell_at.Goals as goal
+
+pub returns-clause-ran : goal.returns-clause-ran
+returns-clause-ran g c = c.tell.ensures.ran _
+
+pub returns-clause-form : goal.returns-clause-form
+returns-clause-form g c = at_form c.tell.result c.requires c.tell.ensures.at
