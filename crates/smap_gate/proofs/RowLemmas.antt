@@ -22,6 +22,6 @@ module _ {Origin P T : Type 0} {rows : PlaceTable (acts Origin) P} {at : T → R
   log_halted {text} {other} same stops is = subst (λ (t : List ℕ). Ran rows (Do (Log t) (λ done. next)) at old new result) same (halted stops is)
 
 -- the place that a row leads to has what holds of it
-pub at_form : {P : Type 0} {Holds : P → Type 0} {place : P} (result : Result (Option P) Cause) → Holds place → IfOk result (λ next. next ≡ Some place) → IfOk result (λ next. IfSome next Holds)
-at_form {P} {Holds} {place} (Err cause) holds at = tt
-at_form {P} {Holds} {place} (Ok next) holds at = subst (λ (n : Option P). IfSome n Holds) (sym at) holds
+pub at_form : {P : Type 0} (Holds : P → Type 0) {place : P} (result : Result (Option P) Cause) → Holds place → IfOk result (λ next. next ≡ Some place) → IfOk result (λ next. IfSome next Holds)
+at_form {P} Holds {place} (Err cause) holds at = tt
+at_form {P} Holds {place} (Ok next) holds at = subst (λ (n : Option P). IfSome n Holds) (sym at) holds
