@@ -1,3 +1,4 @@
+mod DraftLemmas
 mod PathLemmas
 mod RowLemmas
 mod TurnLemmas

@@ -1,5 +1,5 @@
 -- The dialogue of `smap`, row by row.
-use Rattle.std.specs.Prelude.{ℕ, ◌==◌, Bool, true, false, nat_lt, List, [], ◌∷◌, length, Option, Some, None, Result, Ok, Err}
+use Rattle.std.specs.Prelude.{ℕ, ◌==◌, Bool, true, false, nat_lt, List, [], ◌∷◌, ◌++◌, length, Option, Some, None, Result, Ok, Err}
 use Rattle.fw_acts.specs.Acts.{Row, PlaceTable}
 use Rattle.fw_acts.specs.Acts.Row.{Do, At, Over}
 use Rattle.fw_outside.specs.declared.heard.Heard.{Heard}
@@ -40,9 +40,12 @@ module _ {Origin : Type 0} where
   -- ---- commands
 
   -- a greeting with a word begins anew
+  abbrev pub helo_if : (is_bare : Bool) → Place → Row (acts Origin) Place
+  helo_if true place = tell texts.syntax_error place
+  helo_if false place = tell texts.hello Waiting
+
   abbrev pub helo_row : Place → List ℕ → Row (acts Origin) Place
-  helo_row place [] = tell texts.syntax_error place
-  helo_row place (b ∷ rest) = tell texts.hello Waiting
+  helo_row place rest = helo_if (length rest == 0) place
 
   -- a sender, where none stands
   abbrev pub sender_row : Result (List ℕ) PathFault → Row (acts Origin) Place

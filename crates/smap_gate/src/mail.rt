@@ -1,5 +1,5 @@
 //! The rows of a message and its data.
-ghost use Rattle.std.specs.Prelude.{◌≡◌, ◌<◌, ◌≤◌, length, IfOk, IfSome};
+ghost use Rattle.std.specs.Prelude.{◌≡◌, ◌≤◌, false, length, IfOk, IfSome};
 ghost use Rattle.fw_acts.specs.Ran.{Ran};
 ghost use Rattle.session_acts.specs.Session.{leads};
 ghost use Rattle.slot_bytes.specs.Layout.{IsEnvelope};

@@ -18,12 +18,16 @@ pub(crate) fn path_behind(path_text: Option<&[u8]>, may_be_empty: bool) -> Resul
     }
 }
 
-/// Adds a copy of the path at the end, where there is memory; whether there was.
-pub(crate) fn add_path(alloc: Global, rcpts: &mut OctetsList, path: &Path) -> bool
-    ensures { result ≡ true → rcpts.new ≡ rcpts.old ++ path.now ∷ [] }
+/// The list with a copy of the path behind it, where there was memory, and whether there was.
+pub(crate) fn longer(alloc: Global, rcpts: OctetsList, path: &Path) -> (OctetsList, bool)
+    ensures { result.1 ≡ true → result.0 ≡ rcpts ++ path.now ∷ [] }
 {
-    match Octets::copy(alloc, path.text()) {
-        Ok(one) => rcpts.push(one).is_ok(),
-        Err(_) => false,
+    let mut rcpts = rcpts;
+    let Ok(one) = Octets::copy(alloc, path.text()) else {
+        return (rcpts, false);
+    };
+    match rcpts.push(one) {
+        Ok(()) => (rcpts, true),
+        Err(_) => (rcpts, false),
     }
 }

@@ -9,7 +9,7 @@ ghost use Rattle.smap_gate.specs.declared.place.Place.TheVariants.{Mailing, Wait
 ghost use Rattle.smap_lines.specs.Command.{mail_command_of, seen};
 
 use crate::mail::data_row;
-use crate::paths::{add_path, path_behind};
+use crate::paths::{longer, path_behind};
 use crate::{Place, SmapScript};
 use fw_outside::Heard;
 use fw_types::OctetsList;
@@ -61,10 +61,10 @@ fn helo_row<D: Stage>(
         result }
     ensures form { IfOk result (λ next. IfSome next (IsPlace script.now)) }
 {
-    match rest {
-        [] => tell_at(stage, script, b"501 Syntax error\r\n", place),
-        [_, ..] => tell_at(stage, script, b"250 smap\r\n", Place::Waiting),
+    if rest.is_empty() {
+        return tell_at(stage, script, b"501 Syntax error\r\n", place);
     }
+    tell_at(stage, script, b"250 smap\r\n", Place::Waiting)
 }
 
 // A sender, where none stands.
@@ -123,8 +123,7 @@ fn one_more_row<D: Stage>(
         (D.world stage.new) result }
     ensures form { IfOk result (λ next. IfSome next (IsPlace script.now)) }
 {
-    let mut rcpts = rcpts;
-    let had = add_path(script.alloc(), &mut rcpts, path);
+    let (rcpts, had) = longer(script.alloc(), rcpts, path);
     stage.allot(!had)?;
     tell_at(stage, script, b"250 Ok\r\n", Place::Mailing { sender, rcpts })
 }
@@ -188,15 +187,15 @@ fn further_row<D: Stage>(
         (option_map (λ text. text.now) path_text.entry)) leads (D.world stage.old) (D.world stage.new) result }
     ensures form { IfOk result (λ next. IfSome next (IsPlace script.now)) }
 {
-    if !has_room(script, &rcpts) {
-        return tell_at(
-            stage,
-            script,
-            b"552 Too many recipients\r\n",
-            Place::Mailing { sender, rcpts },
-        );
+    if has_room(script, &rcpts) {
+        return recipient_row(stage, script, sender, rcpts, path_behind(path_text, false));
     }
-    recipient_row(stage, script, sender, rcpts, path_behind(path_text, false))
+    tell_at(
+        stage,
+        script,
+        b"552 Too many recipients\r\n",
+        Place::Mailing { sender, rcpts },
+    )
 }
 
 // Does what a command asks for.
@@ -207,7 +206,7 @@ fn command_row<D: Stage>(
     command: MailCommand,
 ) -> Result<Option<Place>, Cause>
     requires { IsPlace script.now place }
-    ensures ran { Ran (smap_rows script.now) (command_row script.now place (seen command)) leads (D.world stage.old)
+    ensures ran { Ran (smap_rows script.now) (command_row script.now place (seen command.entry)) leads (D.world stage.old)
         (D.world stage.new) result }
     ensures form { IfOk result (λ next. IfSome next (IsPlace script.now)) }
 {
