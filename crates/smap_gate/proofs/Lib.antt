@@ -1,4 +1,5 @@
 mod DraftLemmas
 mod PathLemmas
+pub mod ReplyLemmas
 mod RowLemmas
 mod TurnLemmas

@@ -4,4 +4,5 @@ pub mod Dummies
 pub mod Gate
 pub mod LogLines
 pub mod Paths
+pub mod Replies
 pub mod Texts

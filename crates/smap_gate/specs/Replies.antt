@@ -139,7 +139,7 @@ words gate place [] = []
 words gate place (deed ∷ deeds) = due gate place deed.act deed.outcome ++ words gate (place_then gate place deed.act deed.outcome) deeds
 
 -- it was told a front of that behind the greeting, and all of it where the dialogue came to its end
-pub record ToldInOrder {Origin : Type 0} {gate : Gate} {old new : World Origin} {ending : Ending} (held : Held (smap_rows gate) smap_row old new ending) : Type 0 where
+pub record ToldInOrder {Origin : Type 0} (gate : Gate) {old new : World Origin} {ending : Ending} (held : Held (smap_rows gate) smap_row old new ending) : Type 0 where
   pub rest : List ℕ
   pub is : texts.ready ++ words gate Waiting (deeds_ran held.ran) ≡ gives told (deeds_of held) ++ rest
   pub whole : held.dialogue ≡ Ok tt → rest ≡ []

@@ -6,6 +6,7 @@
 #![tactic(auto)]
 
 mod dummies;
+pub mod laws;
 mod log_lines;
 mod mail;
 mod paths;
