@@ -4,11 +4,13 @@ pub mod Client
 pub mod Closing
 pub mod Course
 pub mod Deeds
+pub mod Depositing
 pub mod Denying
 pub mod Distance
 pub mod Forms
 pub mod FullPort
 pub mod Hearing
+pub mod Intake
 pub mod Laws
 pub mod Link
 pub mod Met
