@@ -6,8 +6,10 @@ pub mod CauseLemmas
 pub mod ClientLemmas
 pub mod CourseLemmas
 pub mod DeedLemmas
+pub mod DepositLemmas
 pub mod DeviceLemmas
 pub mod EntryLemmas
+pub mod FillLemmas
 pub mod FullPortLemmas
 pub mod HearingLemmas
 pub mod KeptLemmas

@@ -60,6 +60,57 @@ where
     finish(desk, done)
 }
 
+// A session with a relay, over a store.
+fn relayed_with<H, P, S, K, G, D, C, R, M, T>(
+    rt: &H,
+    script: &T,
+    port: &mut P,
+    from: &mut S,
+    to: &mut K,
+    logs: &mut G,
+    dialer: &mut D,
+    clock: &mut C,
+    dice: &mut R,
+    store: &mut M,
+) -> Ending
+where
+    H: Threads + Sync,
+    P: AuthPort,
+    S: Source + Send,
+    K: Sink + Send,
+    G: Sink,
+    D: Dialer,
+    C: Clock,
+    R: Dice,
+    M: MailStore,
+    T: Script,
+    ensures session { RelaySession (relayed (T.rows script.now P.Origin)) (then_relay (T.first script.now P.Origin))
+        (mail_devices_with (P.port port.old) (S.source_view from.old) (K.sink_view to.old) (G.sink_view logs.old)
+        (D.dialer_view dialer.old) (C.clock_view clock.old) (R.dice_view dice.old)
+        (M.store_view store.old))
+        (mail_devices_with (P.port port.new) (S.source_view from.new) (K.sink_view to.new) (G.sink_view logs.new)
+        (D.dialer_view dialer.new) (C.clock_view clock.new) (R.dice_view dice.new)
+        (M.store_view store.new))
+        result }
+{
+    let mut link = None;
+    let mut desk = Desk {
+        port,
+        from,
+        to,
+        logs,
+        dialer,
+        link: &mut link,
+        clock,
+        dice,
+        store,
+        reader: LineReader::new(MOST_TAKEN),
+        opened: None,
+        relays: true,
+    };
+    relayed_at(rt, script, &mut desk)
+}
+
 /// A session as `session_over`, with a relay at the end of its dialogue, if a link is up then: what was taken ahead goes to
 /// the other side first, and then both ways at once, to the ends of both. The dialogue's end is the end where no link is up.
 /// Of the client and over the link at most 2^40 bytes are taken, those of the dialogue among them.
@@ -111,21 +162,8 @@ where
         (devices_with (P.port port.new) (S.source_view from.new) (K.sink_view to.new) (G.sink_view logs.new)
         (D.dialer_view dialer.new) (C.clock_view clock.new) (R.dice_view dice.new)) }
 {
-    let mut link = None;
     let mut store = NoStore;
-    let mut desk = Desk {
-        port,
-        from,
-        to,
-        logs,
-        dialer,
-        link: &mut link,
-        clock,
-        dice,
-        store: &mut store,
-        reader: LineReader::new(MOST_TAKEN),
-        opened: None,
-        relays: true,
-    };
-    relayed_at(rt, script, &mut desk)
+    relayed_with(
+        rt, script, port, from, to, logs, dialer, clock, dice, &mut store,
+    )
 }

@@ -10,10 +10,10 @@ ghost use Rattle.session_acts.specs.Session.{Held, Session, ending_by, freeing};
 ghost use Rattle.session_acts.specs.World.{devices_with, mail_devices_with, unheard};
 
 use crate::desk::Desk;
-use crate::link::MOST_TAKEN;
+use crate::mailing::mail_session_over;
 use crate::{Cause, NoStore, Script, Stage};
 use auth_events::{AuthPort, Request};
-use fw_outside::{Clock, Dialer, Dice, LineReader, Sink, Source};
+use fw_outside::{Clock, Dialer, Dice, Sink, Source};
 use fw_types::Ending;
 use spool_rack::MailStore;
 
@@ -197,21 +197,8 @@ where
         (devices_with (P.port port.new) (S.source_view from.new) (K.sink_view to.new) (G.sink_view logs.new)
         (D.dialer_view dialer.new) (C.clock_view clock.new) (R.dice_view dice.new)) }
 {
-    let mut link = None;
     let mut store = NoStore;
-    let mut desk = Desk {
-        port,
-        from,
-        to,
-        logs,
-        dialer,
-        link: &mut link,
-        clock,
-        dice,
-        store: &mut store,
-        reader: LineReader::new(MOST_TAKEN),
-        opened: None,
-        relays: false,
-    };
-    session_at(script, &mut desk)
+    mail_session_over(
+        script, port, from, to, logs, dialer, clock, dice, &mut store,
+    )
 }
