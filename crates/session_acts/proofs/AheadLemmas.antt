@@ -68,9 +68,9 @@ draws_nearer words old = record {
   stays = omega (arith);
   cut = λ front new h. told_nearer words (Err front) old new h;
   draws = λ stop data_heard new h. (
-    let told = told_nearer words (Ok tt) old h.middle h.told in
-    let drawn = draws_ahead stop data_heard h.middle new h.draws in
-    omega (arith, told, drawn));
+      let told = told_nearer words (Ok tt) old h.middle h.told in
+      let drawn = draws_ahead stop data_heard h.middle new h.draws in
+      omega (arith, told, drawn));
 }
 
 client_nearer : (act : Act) (outcome : Outcome act) (old new : Speaker) → AtClient act outcome old new → ahead new ≤ ahead old

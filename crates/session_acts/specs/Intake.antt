@@ -51,11 +51,21 @@ IsTray sender rcpts most slot given left (trays.Open filling) = IsOpen sender rc
 IsTray sender rcpts most slot given left (trays.Large filling) = IsLarge sender rcpts most slot given filling
 IsTray sender rcpts most slot given left (trays.Lost broken) = IsAway sender rcpts most slot given broken
 
--- a message stays within what a slot takes
+-- a slot that wasn't taken full, and whose disk failed
+pub record IsOfFault (broken : BrokenView) : Type 0 where
+  pub fault : broken.from_fault ≡ true
+  pub empty : broken.from_full ≡ false
+
+-- a message stays within what a slot takes, or is lost by a failure
 abbrev pub FitsTray : {D : Type 0} → ℕ → Tray D → Type 0
 FitsTray left (trays.Open filling) = filling.pen.len + left ≤ 67108864
 FitsTray left (trays.Large filling) = Unit {0}
-FitsTray left (trays.Lost broken) = Unit {0}
+FitsTray left (trays.Lost broken) = IsOfFault broken
+
+abbrev pub IsLostByFault : {D : Type 0} → Tray D → Type 0
+IsLostByFault (trays.Open filling) = Unit {0}
+IsLostByFault (trays.Large filling) = Unit {0}
+IsLostByFault (trays.Lost broken) = IsOfFault broken
 
 -- the number of the slot that a message is in
 abbrev pub tray_number : {D : Type 0} → Tray D → ℕ

@@ -23,6 +23,7 @@ pub mod RelayLast
 pub mod Finishing
 pub mod Said
 pub mod Session
+pub mod Stored
 pub mod Talk
 pub mod World
 pub mod LastStop

@@ -2,9 +2,9 @@
 ghost use Rattle.std.specs.Prelude.{◌≡◌, ◌+◌, ◌≤◌, ◌++◌, ℕ, List, [], length};
 ghost use Rattle.fw_outside.specs.SinkView.{SinkView};
 ghost use Rattle.session_acts.specs.Depositing.{IsFilled};
-ghost use Rattle.session_acts.specs.Intake.{AreDataOf, DepositsSo, EntrustsSo, FitsTray, IsLentFree, IsTray, KeepsSo, PutsBack, HearsInto, SettlesSo, tray_number, unended};
+ghost use Rattle.session_acts.specs.Intake.{AreDataOf, DepositsSo, EntrustsSo, FitsTray, IsLentFree, IsTray, KeepsSo, PutsBack, HearsInto, IsLostByFault, IsOfFault, SettlesSo, tray_number, unended};
 ghost use Rattle.slot_bytes.specs.Layout.{IsEnvelope};
-ghost use Rattle.spool_rack.specs.Store.{IsOut, MayPutBroken, MayPutFull, PutsBroken, put_free, put_full};
+ghost use Rattle.spool_rack.specs.Store.{IsOut, MayPutBroken, MayPutFull, PutsBroken, TakesFree, put_free, put_full};
 ghost use Rattle.spool_slots.specs.States.{SlotView};
 
 use crate::{Cause, Deposited};
@@ -72,6 +72,7 @@ fn hear_data<S: Source, D: Disk>(
 ) -> (Option<Stop>, Tray<D>)
     requires fits { FitsTray left.old tray }
     ensures number { tray_number result.1 ≡ tray_number tray }
+    ensures lost { IsLostByFault result.1 }
     ensures heard { AreDataOf reader.old reader.new (S.source_view from.old) (S.source_view from.new) left.old tray
         result.0 result.1 }
 {
@@ -85,6 +86,17 @@ fn hear_data<S: Source, D: Disk>(
             },
             Err(stop) => return (Some(stop), tray),
         }
+    }
+}
+
+// A free slot, if there is one.
+#[tactic(auto, using(spool_rack::proofs::SeenLemmas::free_seen))]
+fn take_free<M: MailStore>(store: &mut M) -> Option<Free<M::D>>
+    ensures { TakesFree result (M.store_view store.old) (M.store_view store.new) }
+{
+    match store.take_free() {
+        Some(free) => Some(free),
+        None => None,
     }
 }
 
@@ -110,6 +122,15 @@ fn put_broken<M: MailStore>(store: &mut M, broken: Broken<M::D>)
     ensures { PutsBroken broken (M.store_view store.old) (M.store_view store.new) }
 {
     store.put_broken(broken);
+}
+
+// So for one that was taken free.
+fn put_lost<M: MailStore>(store: &mut M, broken: Broken<M::D>)
+    requires fault { IsOfFault broken }
+    requires lent { IsLentFree broken.number (M.store_view store.old).out }
+    ensures { PutsBroken broken (M.store_view store.old) (M.store_view store.new) }
+{
+    put_broken(store, broken);
 }
 
 // Gives a message up.
@@ -143,7 +164,8 @@ fn keep<M: MailStore>(store: &mut M, filling: Filling<M::D>) -> Deposited
 
 // Puts back the slot of a message whose data have an end.
 fn settle<M: MailStore>(store: &mut M, tray: Tray<M::D>) -> Deposited
-    requires { IsLentFree (tray_number tray) (M.store_view store.old).out }
+    requires lost { IsLostByFault tray }
+    requires lent { IsLentFree (tray_number tray) (M.store_view store.old).out }
     ensures { (sender : List ℕ) (rcpts : List (List ℕ)) (most : ℕ) (slot : SlotView) (given : List ℕ) (left : ℕ) →
         IsTray sender rcpts most slot given left tray →
         SettlesSo sender rcpts most given result slot (M.store_view store.old) (M.store_view store.new) }
@@ -155,7 +177,7 @@ fn settle<M: MailStore>(store: &mut M, tray: Tray<M::D>) -> Deposited
             Deposited::TooLarge
         }
         Tray::Lost(broken) => {
-            put_broken(store, broken);
+            put_lost(store, broken);
             Deposited::Faulted
         }
     }
@@ -163,7 +185,8 @@ fn settle<M: MailStore>(store: &mut M, tray: Tray<M::D>) -> Deposited
 
 // Puts back the slot of a message whose data came to no end.
 fn put_back<M: MailStore>(store: &mut M, tray: Tray<M::D>)
-    requires { IsLentFree (tray_number tray) (M.store_view store.old).out }
+    requires lost { IsLostByFault tray }
+    requires lent { IsLentFree (tray_number tray) (M.store_view store.old).out }
     ensures { (sender : List ℕ) (rcpts : List (List ℕ)) (most : ℕ) (slot : SlotView) (given : List ℕ) (left : ℕ) →
         IsTray sender rcpts most slot given left tray →
         PutsBack sender rcpts slot (M.store_view store.old) (M.store_view store.new) }
@@ -171,7 +194,7 @@ fn put_back<M: MailStore>(store: &mut M, tray: Tray<M::D>)
     match tray {
         Tray::Open(filling) => give_up(store, filling),
         Tray::Large(filling) => give_up(store, filling),
-        Tray::Lost(broken) => put_broken(store, broken),
+        Tray::Lost(broken) => put_lost(store, broken),
     }
 }
 
@@ -234,11 +257,13 @@ fn entrust<S: Source, K: Sink, M: MailStore>(
         (record { inlet = S.source_view from.new; reader = reader.new; outlet = K.sink_view to.new })
         (M.store_view store.old) (M.store_view store.new) }
 {
-    if to.give(words).is_err() {
-        give_up(store, filling);
-        return Err(Cause::ClientFault);
+    match to.give(words) {
+        Ok(()) => hear_into(reader, from, store, filling, most),
+        Err(_) => {
+            give_up(store, filling);
+            Err(Cause::ClientFault)
+        }
     }
-    hear_into(reader, from, store, filling, most)
 }
 
 /// Takes a free slot, says the words, hears the client's data into it, and puts it back.
@@ -260,7 +285,7 @@ pub(crate) fn deposit<S: Source, K: Sink, M: MailStore>(
         (record { inlet = S.source_view from.new; reader = reader.new; outlet = K.sink_view to.new })
         (M.store_view store.old) (M.store_view store.new) }
 {
-    let Some(free) = store.take_free() else {
+    let Some(free) = take_free(store) else {
         return Ok(Deposited::NoSlot);
     };
     match free.start(alloc, sender, rcpts) {

@@ -22,7 +22,7 @@ returns-in-Err g c = record {
     office = record { dice = g.R.Dice.dice_view c.salt-salt.new.self; gave_salt = c.salt-salt.ensures; asking = c.in-Err.ensures (g.R.Dice.dice_view c.salt-salt.new.self) };
     server = refl;
     store = refl;
-  names = refl;
+    names = refl;
     may = tt;
   };
 }
