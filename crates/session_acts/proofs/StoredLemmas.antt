@@ -227,7 +227,7 @@ least_both first more a b c before after = let lengths = length-append first mor
 module _ {Origin : Type 0} where
   pub kept_gains : Gains Origin kept PutsMails
   kept_gains = record {
-    none = λ world. (let g = grows_here world.store in record { slots = []; grew = g.grew; are = tt });
+    none = λ world. (let g = grows_here world.store in record { slots = g.slots; grew = g.grew; are = g.are });
     both = λ first more old mid new a b. record {
       slots = a.slots ++ b.slots;
       grew = record {
