@@ -24,7 +24,7 @@ pub record HoldsThen (P : Speaker → Type 0) (words : List ℕ) (old : Speaker)
 deposited_by : (P : Speaker → Type 0) (words : List ℕ) (deposited : Deposited) (data_heard : List ℕ) (old new : Speaker) → HoldsThen P words old → ClientDeposits words deposited data_heard old new → P new
 deposited_by P words NoSlot data_heard old new so h = subst P (sym h) so.stays
 deposited_by P words NotBegun data_heard old new so h = subst P (sym h) so.stays
-deposited_by P words (Kept number) data_heard old new so h = so.draws None data_heard new h
+deposited_by P words (Kept number bytes) data_heard old new so h = so.draws None data_heard new h
 deposited_by P words TooLarge data_heard old new so h = so.draws None data_heard new h
 deposited_by P words Faulted data_heard old new so h = so.draws None data_heard new h
 deposited_by P words Ended data_heard old new so h = so.draws (Some stops.End) data_heard new h

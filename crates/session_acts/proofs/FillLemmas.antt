@@ -152,7 +152,7 @@ late_away sender rcpts most given bytes slot broken h =
 
 pub settled_open : (sender : List ℕ) (rcpts : List (List ℕ)) (most left : ℕ) (given : List ℕ) (deposited : Deposited) (slot : SlotView) (lent new : StoreView) (filling : FillingView) → IsOpen sender rcpts most slot given left filling
     → KeepsSo sender rcpts given deposited slot lent new → SettlesSo sender rcpts most given deposited slot lent new
-settled_open sender rcpts most left given (Kept number) slot lent new filling laid keeps = let room = laid.room in (omega (arith, room), keeps)
+settled_open sender rcpts most left given (Kept number bytes) slot lent new filling laid keeps = let room = laid.room in (omega (arith, room), keeps.0, keeps.1)
 settled_open sender rcpts most left given Faulted slot lent new filling laid keeps =
     let room = laid.room in
     record { added = given; rest = []; front = sym (append-nil given); small = omega (arith, room); puts = inr (refl, keeps) }
@@ -197,7 +197,7 @@ back_lends sender rcpts added slot old lent new takes (inr puts) = inr (record {
 
 settles_store : (sender : List ℕ) (rcpts : List (List ℕ)) (most : ℕ) (data_heard given : List ℕ) (deposited : Deposited) (slot : SlotView) (old lent new : StoreView) → HasTakenFree slot old lent → AreOfBody data_heard given
     → SettlesSo sender rcpts most given deposited slot lent new → StoreDeposits sender rcpts most deposited data_heard old new
-settles_store sender rcpts most data_heard given (Kept number) slot old lent new takes are h = record { body = given; are = are; small = h.0; lends = record { slot = slot; lent = lent; takes = takes; does = h.1 } }
+settles_store sender rcpts most data_heard given (Kept number bytes) slot old lent new takes are h = record { body = given; are = are; small = h.0; is_long = h.1; lends = record { slot = slot; lent = lent; takes = takes; does = h.2 } }
 settles_store sender rcpts most data_heard given TooLarge slot old lent new takes are h =
     record { body = given; are = are; large = h.large; added = h.added; rest = h.rest; front = h.front; lends = record { slot = slot; lent = lent; takes = takes; does = h.puts } }
 settles_store sender rcpts most data_heard given Faulted slot old lent new takes are h =
@@ -208,7 +208,7 @@ settles_store sender rcpts most data_heard given Ended slot old lent new takes a
 
 settles_client : (sender : List ℕ) (rcpts : List (List ℕ)) (words : List ℕ) (most : ℕ) (data_heard given : List ℕ) (deposited : Deposited) (slot : SlotView) (lent new : StoreView) (before client new_client : Speaker) → SettlesSo sender rcpts most given deposited slot lent new
     → IsTold words (Ok tt) before client → Draws None data_heard client new_client → ClientDeposits words deposited data_heard before new_client
-settles_client sender rcpts words most data_heard given (Kept number) slot lent new before client new_client h told draws = record { middle = client; told = told; draws = draws }
+settles_client sender rcpts words most data_heard given (Kept number bytes) slot lent new before client new_client h told draws = record { middle = client; told = told; draws = draws }
 settles_client sender rcpts words most data_heard given TooLarge slot lent new before client new_client h told draws = record { middle = client; told = told; draws = draws }
 settles_client sender rcpts words most data_heard given Faulted slot lent new before client new_client h told draws = record { middle = client; told = told; draws = draws }
 settles_client sender rcpts words most data_heard given NoSlot slot lent new before client new_client h told draws = absurd h

@@ -186,7 +186,7 @@ after_hearing words stop data_heard old new h =
 deposited_hearing : (words : List ℕ) (deposited : Deposited) (data_heard : List ℕ) (old new : Speaker) → ClientDeposits words deposited data_heard old new → HearsOn (data_if deposited data_heard) old new
 deposited_hearing words NoSlot data_heard old new h = same_hearing old new h
 deposited_hearing words NotBegun data_heard old new h = same_hearing old new h
-deposited_hearing words (Kept number) data_heard old new h = after_hearing words None data_heard old new h
+deposited_hearing words (Kept number bytes) data_heard old new h = after_hearing words None data_heard old new h
 deposited_hearing words TooLarge data_heard old new h = after_hearing words None data_heard old new h
 deposited_hearing words Faulted data_heard old new h = after_hearing words None data_heard old new h
 deposited_hearing words Ended data_heard old new h = after_hearing words (Some stops.End) data_heard old new h

@@ -94,7 +94,7 @@ data_dries data_heard old new = record { same = λ none. absurd (cc); dry = λ e
 deposited_dries : (words : List ℕ) (deposited : Deposited) (data_heard : List ℕ) (old new : Speaker) → ClientDeposits words deposited data_heard old new → Dries (data_if deposited data_heard) old new
 deposited_dries words NoSlot data_heard old new h = dries_same old new (ap (λ (s : Speaker). s.reader) h)
 deposited_dries words NotBegun data_heard old new h = dries_same old new (ap (λ (s : Speaker). s.reader) h)
-deposited_dries words (Kept number) data_heard old new h = data_dries data_heard old new
+deposited_dries words (Kept number bytes) data_heard old new h = data_dries data_heard old new
 deposited_dries words TooLarge data_heard old new h = data_dries data_heard old new
 deposited_dries words Faulted data_heard old new h = data_dries data_heard old new
 deposited_dries words Ended data_heard old new h = data_dries data_heard old new

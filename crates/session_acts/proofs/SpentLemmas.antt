@@ -78,7 +78,7 @@ draws_left stop data_heard old new h less = ap none_left h.is ∙ sym h.spent �
 deposited_left : (words : List ℕ) (deposited : Deposited) (data_heard : List ℕ) (old new : Speaker) → ClientDeposits words deposited data_heard old new → none_left old ≡ false → none_left new ≡ false
 deposited_left words NoSlot data_heard old new h more = same_left old new h more
 deposited_left words NotBegun data_heard old new h more = same_left old new h more
-deposited_left words (Kept number) data_heard old new h more = draws_left None data_heard h.middle new h.draws refl
+deposited_left words (Kept number bytes) data_heard old new h more = draws_left None data_heard h.middle new h.draws refl
 deposited_left words TooLarge data_heard old new h more = draws_left None data_heard h.middle new h.draws refl
 deposited_left words Faulted data_heard old new h more = draws_left None data_heard h.middle new h.draws refl
 deposited_left words Ended data_heard old new h more = draws_left (Some stops.End) data_heard h.middle new h.draws refl

@@ -178,7 +178,7 @@ deposited_grows : (sender : List ℕ) (rcpts : List (List ℕ)) (most : ℕ) (de
     → Grows (kept_as sender rcpts deposited data_heard) (unslotted_as sender deposited) (faulted_as sender deposited) old new
 deposited_grows sender rcpts most NoSlot data_heard old new h = grows_none sender old new h
 deposited_grows sender rcpts most NotBegun data_heard old new h = grows_failed (sender ∷ []) sender rcpts [] old new (omega arith) h
-deposited_grows sender rcpts most (Kept number) data_heard old new h =
+deposited_grows sender rcpts most (Kept number bytes) data_heard old new h =
     let l = h.lends in
     grows_full l.slot (record { number = number; mail = mail_of sender rcpts (body_of data_heard) }) l.does.full old l.lent new l.takes l.does.kept.onward.number_is l.does.number_is (kept_mail sender rcpts h.body data_heard number l.does.full h.are l.does.kept.keeps) l.does.is
 deposited_grows sender rcpts most TooLarge data_heard old new h = grows_filled sender rcpts h.added old new h.lends

@@ -69,7 +69,7 @@ stays_told old new h = same_sink old.outlet new.outlet (ap (λ (s : Speaker). s.
 deposited_told : (words : List ℕ) (deposited : Deposited) (data_heard : List ℕ) (old new : Speaker) → ClientDeposits words deposited data_heard old new → new.outlet.given ≡ grown old.outlet.given (words_if deposited words)
 deposited_told words NoSlot data_heard old new h = stays_told old new h
 deposited_told words NotBegun data_heard old new h = stays_told old new h
-deposited_told words (Kept number) data_heard old new h = draws_told words None data_heard old new h
+deposited_told words (Kept number bytes) data_heard old new h = draws_told words None data_heard old new h
 deposited_told words TooLarge data_heard old new h = draws_told words None data_heard old new h
 deposited_told words Faulted data_heard old new h = draws_told words None data_heard old new h
 deposited_told words Ended data_heard old new h = draws_told words (Some stops.End) data_heard old new h

@@ -143,10 +143,11 @@ pub record PutsBrokenLast (sender : List ℕ) (rcpts : List (List ℕ)) (body : 
 -- ---- how it came out
 
 -- a message with at most so many bytes of body stands full in the slot of this number
-pub record KeepsMail (sender : List ℕ) (rcpts : List (List ℕ)) (most number : ℕ) (data_heard : List ℕ) (old new : StoreView) : Type 0 where
+pub record KeepsMail (sender : List ℕ) (rcpts : List (List ℕ)) (most number bytes : ℕ) (data_heard : List ℕ) (old new : StoreView) : Type 0 where
   pub body : List ℕ
   pub are : AreOfBody data_heard body
   pub small : length body ≤ most
+  pub is_long : length body ≡ bytes
   pub lends : Lends (PutsFull sender rcpts body number new) old
 
 -- the body has more bytes, before which the disk didn't fail
@@ -178,7 +179,7 @@ pub record IsGivenUp (sender : List ℕ) (rcpts : List (List ℕ)) (data_heard :
 abbrev pub StoreDeposits : List ℕ → List (List ℕ) → ℕ → Deposited → List ℕ → StoreView → StoreView → Type 0
 StoreDeposits sender rcpts most NoSlot data_heard old new = HasNoFree old new
 StoreDeposits sender rcpts most NotBegun data_heard old new = Lends (PutsBrokenAt sender rcpts [] new) old
-StoreDeposits sender rcpts most (Kept number) data_heard old new = KeepsMail sender rcpts most number data_heard old new
+StoreDeposits sender rcpts most (Kept number bytes) data_heard old new = KeepsMail sender rcpts most number bytes data_heard old new
 StoreDeposits sender rcpts most TooLarge data_heard old new = IsTooMuch sender rcpts most data_heard old new
 StoreDeposits sender rcpts most Faulted data_heard old new = IsLost sender rcpts most data_heard old new
 StoreDeposits sender rcpts most Ended data_heard old new = IsGivenUp sender rcpts data_heard old new

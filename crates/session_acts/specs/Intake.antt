@@ -91,7 +91,7 @@ pub record AreDataOf {D : Type 0} (old new : LineReaderView) (before after : Sou
 
 -- a message was finished
 abbrev pub KeepsSo : List ℕ → List (List ℕ) → List ℕ → Deposited → SlotView → StoreView → StoreView → Type 0
-KeepsSo sender rcpts body (Kept number) slot lent new = PutsFull sender rcpts body number new slot lent
+KeepsSo sender rcpts body (Kept number bytes) slot lent new = (length body ≡ bytes) × PutsFull sender rcpts body number new slot lent
 KeepsSo sender rcpts body Faulted slot lent new = PutsBrokenLast sender rcpts body new slot lent
 KeepsSo sender rcpts body _ slot lent new = ⊥
 
@@ -111,7 +111,7 @@ pub record PutsLost (sender : List ℕ) (rcpts : List (List ℕ)) (most : ℕ) (
 
 -- a message was put back of which this was given
 abbrev pub SettlesSo : List ℕ → List (List ℕ) → ℕ → List ℕ → Deposited → SlotView → StoreView → StoreView → Type 0
-SettlesSo sender rcpts most given (Kept number) slot lent new = (length given ≤ most) × PutsFull sender rcpts given number new slot lent
+SettlesSo sender rcpts most given (Kept number bytes) slot lent new = (length given ≤ most) × (length given ≡ bytes) × PutsFull sender rcpts given number new slot lent
 SettlesSo sender rcpts most given TooLarge slot lent new = PutsLarge sender rcpts most given slot lent new
 SettlesSo sender rcpts most given Faulted slot lent new = PutsLost sender rcpts most given slot lent new
 SettlesSo sender rcpts most given _ slot lent new = ⊥

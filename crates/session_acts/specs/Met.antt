@@ -111,7 +111,7 @@ pub record DrawsAfter (words : List ℕ) (stop : Option Stop) (data_heard : List
 abbrev pub ClientDeposits : List ℕ → Deposited → List ℕ → Speaker → Speaker → Type 0
 ClientDeposits words NoSlot data_heard old new = new ≡ old
 ClientDeposits words NotBegun data_heard old new = new ≡ old
-ClientDeposits words (Kept number) data_heard old new = DrawsAfter words None data_heard old new
+ClientDeposits words (Kept number bytes) data_heard old new = DrawsAfter words None data_heard old new
 ClientDeposits words TooLarge data_heard old new = DrawsAfter words None data_heard old new
 ClientDeposits words Faulted data_heard old new = DrawsAfter words None data_heard old new
 ClientDeposits words Ended data_heard old new = DrawsAfter words (Some stops.End) data_heard old new

@@ -25,7 +25,7 @@ abbrev pub body_of : List ℕ → List ℕ
 body_of data_heard = bytes_in (mail_body_of data_heard)
 
 abbrev pub kept_as : List ℕ → List (List ℕ) → Deposited → List ℕ → List KeptMail
-kept_as sender rcpts (Kept number) data_heard = record { number = number; mail = mail_of sender rcpts (body_of data_heard) } ∷ []
+kept_as sender rcpts (Kept number bytes) data_heard = record { number = number; mail = mail_of sender rcpts (body_of data_heard) } ∷ []
 kept_as sender rcpts _ data_heard = []
 
 abbrev pub kept_by : {words : List ℕ} → List ℕ → List (List ℕ) → Result (Deposited × List ℕ) (Undeposited words) → List KeptMail

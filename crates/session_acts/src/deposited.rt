@@ -5,8 +5,8 @@ pub enum Deposited {
     NoSlot,
     /// The disk of the slot failed before the message was begun. The client was told nothing.
     NotBegun,
-    /// The message stands in the slot of this number.
-    Kept(u32),
+    /// The message stands in the slot of this number, and so many bytes has its body.
+    Kept { slot: u32, bytes: u32 },
     /// The body has more bytes than may be. The slot is free again.
     TooLarge,
     /// The disk of the slot failed behind the words. The slot is broken.

@@ -149,11 +149,12 @@ fn keep<M: MailStore>(store: &mut M, filling: Filling<M::D>) -> Deposited
         IsFilled sender rcpts body slot filling →
         KeepsSo sender rcpts body result slot (M.store_view store.old) (M.store_view store.new) }
 {
+    let bytes = filling.len();
     match filling.finish() {
         Ok(full) => {
-            let number = full.number();
+            let slot = full.number();
             put_full(store, full);
-            Deposited::Kept(number)
+            Deposited::Kept { slot, bytes }
         }
         Err(broken) => {
             put_broken(store, broken);
