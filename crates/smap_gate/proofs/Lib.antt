@@ -2,4 +2,6 @@ mod DraftLemmas
 mod PathLemmas
 pub mod ReplyLemmas
 mod RowLemmas
+pub mod ServerlessLemmas
+pub mod SessionLemmas
 mod TurnLemmas

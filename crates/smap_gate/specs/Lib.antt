@@ -1,6 +1,7 @@
 pub mod Dialogue
 pub mod Draft
 pub mod Dummies
+pub mod Ends
 pub mod Gate
 pub mod LogLines
 pub mod Paths

@@ -80,7 +80,12 @@ fn sender_row<D: Stage>(
     match path {
         Ok(sender) => {
             let rcpts = OctetsList::new(script.alloc());
-            tell_at(stage, script, b"250 Ok\r\n", Place::Mailing { sender, rcpts })
+            tell_at(
+                stage,
+                script,
+                b"250 Ok\r\n",
+                Place::Mailing { sender, rcpts },
+            )
         }
         Err(fault) => fault_row(stage, script, fault, Place::Waiting),
     }
@@ -125,7 +130,12 @@ fn one_more_row<D: Stage>(
 {
     let (rcpts, had) = longer(script.alloc(), rcpts, path);
     stage.allot(!had)?;
-    tell_at(stage, script, b"250 Ok\r\n", Place::Mailing { sender, rcpts })
+    tell_at(
+        stage,
+        script,
+        b"250 Ok\r\n",
+        Place::Mailing { sender, rcpts },
+    )
 }
 
 fn recipient_row<D: Stage>(
@@ -168,9 +178,7 @@ fn rcpt_row<D: Stage>(
 {
     match place {
         Place::Waiting => tell_at(stage, script, b"503 Bad sequence\r\n", Place::Waiting),
-        Place::Mailing { sender, rcpts } => {
-            further_row(stage, script, sender, rcpts, path_text)
-        }
+        Place::Mailing { sender, rcpts } => { further_row(stage, script, sender, rcpts, path_text) }
     }
 }
 
@@ -224,9 +232,7 @@ fn command_row<D: Stage>(
             b"214 HELO MAIL RCPT DATA RSET NOOP QUIT\r\n",
             place,
         ),
-        MailCommand::NotImplemented => {
-            tell_at(stage, script, b"502 Not implemented\r\n", place)
-        }
+        MailCommand::NotImplemented => { tell_at(stage, script, b"502 Not implemented\r\n", place) }
         MailCommand::Unknown => tell_at(stage, script, b"500 Syntax error\r\n", place),
     }
 }

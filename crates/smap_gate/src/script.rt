@@ -37,12 +37,7 @@ impl<'p> Model for SmapScript<'p> {
 impl<'p> SmapScript<'p> {
     /// One with this client, of which a message has at most so many bytes and so many recipients, at most 67,108,864 and
     /// 1,000. The recipients are kept in memory of `alloc`.
-    pub fn new(
-        alloc: Global,
-        peer: &'p Peer,
-        most_bytes: u64,
-        most_rcpts: u32,
-    ) -> SmapScript<'p>
+    pub fn new(alloc: Global, peer: &'p Peer, most_bytes: u64, most_rcpts: u32) -> SmapScript<'p>
         requires { Fits record { peer = peer.now; most_bytes = most_bytes; most_rcpts = most_rcpts } }
         ensures { result ≡ record { peer = peer.now; most_bytes = most_bytes; most_rcpts = most_rcpts } }
     {

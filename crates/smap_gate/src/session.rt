@@ -1,8 +1,11 @@
 //! A session of the mail gateway.
-ghost use Rattle.session_acts.specs.Causes.{Caused, SessionKeeps, TakesFor, WaitsFor};
+ghost use Rattle.std.specs.Prelude.{◌≡◌, true};
+ghost use Rattle.session_acts.specs.Causes.{SessionKeeps, WaitsFor};
+ghost use Rattle.session_acts.specs.Serverless.{CausedAlone, TakesExactly};
 ghost use Rattle.session_acts.specs.Session.{Session};
 ghost use Rattle.smap_gate.specs.Dialogue.{smap_row, smap_rows};
 ghost use Rattle.smap_gate.specs.Dummies.{lent};
+ghost use Rattle.smap_gate.specs.Ends.{is_own};
 ghost use Rattle.smap_gate.specs.Gate.{Fits};
 
 use crate::dummies::{NoClock, NoDice, NoPort};
@@ -42,15 +45,16 @@ where
     ensures keeps { SessionKeeps
         (lent (S.source_view from.old) (K.sink_view to.old) (G.sink_view logs.old) (M.store_view store.old))
         (lent (S.source_view from.new) (K.sink_view to.new) (G.sink_view logs.new) (M.store_view store.new)) }
-    ensures caused { Caused result
+    ensures caused { CausedAlone result
         (lent (S.source_view from.old) (K.sink_view to.old) (G.sink_view logs.old) (M.store_view store.old))
         (lent (S.source_view from.new) (K.sink_view to.new) (G.sink_view logs.new) (M.store_view store.new)) }
     ensures waited { WaitsFor result
         (lent (S.source_view from.old) (K.sink_view to.old) (G.sink_view logs.old) (M.store_view store.old))
         (lent (S.source_view from.new) (K.sink_view to.new) (G.sink_view logs.new) (M.store_view store.new)) }
-    ensures spent { TakesFor result
+    ensures spent { TakesExactly result
         (lent (S.source_view from.old) (K.sink_view to.old) (G.sink_view logs.old) (M.store_view store.old))
         (lent (S.source_view from.new) (K.sink_view to.new) (G.sink_view logs.new) (M.store_view store.new)) }
+    ensures own { is_own result ≡ true }
 {
     let script = SmapScript::new(alloc, peer, max_bytes, max_rcpts);
     let mut port = NoPort;
@@ -58,6 +62,14 @@ where
     let mut clock = NoClock;
     let mut dice = NoDice;
     mail_session_over(
-        &script, &mut port, from, to, logs, &mut dialer, &mut clock, &mut dice, store,
+        &script,
+        &mut port,
+        from,
+        to,
+        logs,
+        &mut dialer,
+        &mut clock,
+        &mut dice,
+        store,
     )
 }
