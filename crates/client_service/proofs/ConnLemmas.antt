@@ -24,6 +24,7 @@ use Rattle.session_acts.specs.Serverless.{CausedAlone, TakesExactly}
 use Rattle.session_acts.specs.Session.{Session}
 use Rattle.session_acts.specs.World.{Devices}
 use Rattle.smap_gate.specs.Dialogue.{smap_row, smap_rows}
+use Rattle.smap_gate.proofs.ServerlessLemmas as mail
 use Rattle.tn_gate.specs.Gate.{gate_at}
 use Rattle.session_acts.proofs.AloneLemmas.{session_alone, session_exact}
 use Rattle.session_acts.proofs.CauseLemmas.{relay_keeps, session_keeps}
@@ -44,7 +45,7 @@ use Rattle.client_service.specs.PlugService.{LinksTo, plug_devices}
 use Rattle.client_service.proofs.FrontsLemmas.{fronts_later, plug_gives}
 use Rattle.client_service.proofs.GateLemmas.{fronts_behind, gate_caused, gate_keeps, gate_takes, gate_unasked, gate_waits}
 use Rattle.client_service.proofs.LaterLemmas.{caused_later, causes_later, keeps_later, noted_most, noted_shut, takes_later, unasked_later, waits_with, with_logs}
-use Rattle.client_service.proofs.MailLemmas.{mail_caused, mail_keeps, mail_serverless, mail_takes}
+use Rattle.client_service.proofs.MailLemmas.{mail_caused, mail_keeps, mail_takes}
 use Rattle.client_service.proofs.MaillessLemmas.{caused_mailless, caused_patient, mailless_keeps, takes_mailless, takes_patient}
 use Rattle.client_service.proofs.PlugLemmas.{LogsOnly, plug_caused, plug_dials, silent_denial}
 use Rattle.client_service.proofs.SinkLemmas.{same_low}
@@ -217,7 +218,7 @@ module _ {Origin : Type 0} where
       let first = logged_row (decision_text (Permit line) Smap peer) smap_row in
       let lent = mail_devices (patient seconds old) in
       let left = mail_devices new in
-      let alone = logged_serverless (decision_text (Permit line) Smap peer) (mail_serverless (Unit {0}) gate) in
+      let alone = logged_serverless (decision_text (Permit line) Smap peer) (mail.keeps_serverless (Unit {0}) gate) in
       let keeps = mail_keeps seconds old new h.port h.dialer (session_keeps h.over) in
       record {
         caused = causes_of Alone (Permit line) ending old new (mail_caused seconds ending old new (session_alone (smap_rows gate) first lent left ending h.over alone));

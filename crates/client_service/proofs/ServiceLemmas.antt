@@ -71,13 +71,31 @@ pub permitted_unstored : {A : Type 0} (service : Service) (verdict : Verdict) (l
 permitted_unstored {A} service verdict line old new is h = subst (λ (v : Verdict). Unstored service v old new) (sym is) h
 
 -- whom it isn't lent
-pub unstored_by : {A : Type 0} (service : Service) (line : ℕ) (old new : A) → is_mail service ≡ false → new ≡ old → Unstored service (Permit line) old new
-unstored_by Smap line old new is same = absurd (cc)
-unstored_by (PlugGw port) line old new is same = same
-unstored_by Authsrv line old new is same = same
-unstored_by (Netacl label) line old new is same = same
-unstored_by TnGw line old new is same = same
-unstored_by FtpGw line old new is same = same
+pub same_unstored : {A : Type 0} (service : Service) (line : ℕ) (old new : A) → new ≡ old → Unstored service (Permit line) old new
+same_unstored Smap line old new same = tt
+same_unstored (PlugGw port) line old new same = same
+same_unstored Authsrv line old new same = same
+same_unstored (Netacl label) line old new same = same
+same_unstored TnGw line old new same = same
+same_unstored FtpGw line old new same = same
+
+-- and whom it is
+pub mail_unstored : {A : Type 0} (service : Service) (line : ℕ) (old new : A) → is_mail service ≡ true → Unstored service (Permit line) old new
+mail_unstored Smap line old new is = tt
+mail_unstored (PlugGw port) line old new is = absurd (cc)
+mail_unstored Authsrv line old new is = absurd (cc)
+mail_unstored (Netacl label) line old new is = absurd (cc)
+mail_unstored TnGw line old new is = absurd (cc)
+mail_unstored FtpGw line old new is = absurd (cc)
+
+-- what stays as it is is untouched
+pub same_untouched : {A : Type 0} (service : Service) (line : ℕ) (old new : A) → new ≡ old → Untouched service (Permit line) old new
+same_untouched (PlugGw port) line old new same = same
+same_untouched Smap line old new same = same
+same_untouched Authsrv line old new same = tt
+same_untouched (Netacl label) line old new same = tt
+same_untouched TnGw line old new same = tt
+same_untouched FtpGw line old new same = tt
 
 -- what is untouched isn't thrown, but for a client of the gateway that is as it was
 pub unthrown_by : {A : Type 0} (service : Service) (verdict : Verdict) (old new : A) → is_gate service ≡ false → Untouched service verdict old new → Unthrown service verdict old new

@@ -18,6 +18,7 @@ use Rattle.session_acts.specs.World.{Devices}
 use Rattle.smap_gate.specs.Dialogue.{smap_row, smap_rows}
 use Rattle.smap_gate.specs.Dummies.{lent}
 use Rattle.smap_gate.specs.Gate.{Gate}
+use Rattle.smap_gate.specs.Replies.{ToldInOrder}
 use Rattle.spool_rack.specs.Store.{PutGrew, StoreView}
 use Rattle.spool_slots.specs.States.{FullView}
 use Rattle.client_service.specs.Decision.{decision_text}
@@ -72,11 +73,12 @@ pub record Stores (mails : List KeptMail) (old new : StoreView) : Type 0 where
   pub are : AreKept mails slots
   pub back : new.out ≡ old.out
 
--- The session of the gateway was held behind this line, and the store was given the messages that its deeds kept, in order,
--- and no other. It counted each for which no slot was free, and each at which the disk of a slot failed, as far as the counts
+-- The session of the gateway was held behind this line. What the client was told is, for each line and each message in order,
+-- its reply. The store was given the messages that the session's deeds kept, in order, and no other. It counted each for which no slot was free, and each at which the disk of a slot failed, as far as the counts
 -- go.
 pub record MailsBehind (line : List ℕ) (gate : Gate) (ending : Ending) (old new : Devices (Unit {0})) : Type 0 where
   pub session : Session (smap_rows gate) smap_row (with_line line old) new ending
+  pub replies : ToldInOrder gate session.held
   pub stores : Stores (gives kept (deeds_of session.held)) old.store new.store
   pub unslotted : min (old.store.no_free + length (gives unslotted (deeds_of session.held))) (2 ^ 64 - 1) ≤ new.store.no_free
   pub faulted : min (old.store.broken + length (gives faulted (deeds_of session.held))) (2 ^ 64 - 1) ≤ new.store.broken
