@@ -1,0 +1,7 @@
+mod DraftLemmas
+mod PathLemmas
+pub mod ReplyLemmas
+mod RowLemmas
+pub mod ServerlessLemmas
+pub mod SessionLemmas
+mod TurnLemmas
