@@ -26,12 +26,11 @@ module _ {X : Type 0} (view : X → DiskView) where
   next_from [] (suc count) (disk ∷ now) x other below are one = absurd are
   next_from (old ∷ olds) (suc count) (disk ∷ now) x other below are one = (are.0, next_from olds count now x other (omega (arith, below)) are.1 one)
 
-  pub formatted_next : (olds : List DiskView) (count : ℕ) (now : List X) (item x : X) → count < length now → item ≡ get_or now count item → AreFormatted count olds (map view now) → IsFormatted (view item) (view x)
+  pub formatted_next : (olds : List DiskView) (count : ℕ) (now : List X) (x other : X) → count < length now → AreFormatted count olds (map view now) → IsFormatted (view (get_or now count other)) (view x)
       → AreFormatted (count + 1) olds (map view (set now count x))
-  formatted_next olds count now item x below is are one =
+  formatted_next olds count now x other below are one =
       let more : suc count ≡ count + 1 = omega arith in
-      let there : IsFormatted (view (get_or now count item)) (view x) = subst (λ (y : X). IsFormatted (view y) (view x)) is one in
-      subst (λ (n : ℕ). AreFormatted n olds (map view (set now count x))) more (next_from olds count now x item below are there)
+      subst (λ (n : ℕ). AreFormatted n olds (map view (set now count x))) more (next_from olds count now x other below are one)
 
   set_length : (now : List X) (count : ℕ) (x : X) → length (set now count x) ≡ length now
   set_length [] count x = refl
@@ -41,18 +40,15 @@ module _ {X : Type 0} (view : X → DiskView) where
   pub still_long : (count : ℕ) (now : List X) (x : X) → count < length now → count + 1 ≤ length (set now count x)
   still_long count now x below = let same = set_length now count x in omega (arith, below, same)
 
-  fails_from : (olds : List DiskView) (count : ℕ) (now : List X) (x other : X) → count < length now → AreFormatted count olds (map view now) → IsUnformatted (view (get_or now count other)) (view x) → FailsAt count olds (map view (set now count x))
-  fails_from olds count [] x other below are one = absurd (omega (arith, below))
-  fails_from [] zero (disk ∷ now) x other below are one = absurd (cc)
-  fails_from (old ∷ olds) zero (disk ∷ now) x other below are one =
+  pub fails_here : (olds : List DiskView) (count : ℕ) (now : List X) (x other : X) → count < length now → AreFormatted count olds (map view now) → IsUnformatted (view (get_or now count other)) (view x) → FailsAt count olds (map view (set now count x))
+  fails_here olds count [] x other below are one = absurd (omega (arith, below))
+  fails_here [] zero (disk ∷ now) x other below are one = absurd (cc)
+  fails_here (old ∷ olds) zero (disk ∷ now) x other below are one =
       let same : view disk ≡ old = cc in
       let rest : map view now ≡ olds = cc in
       (subst (λ (d : DiskView). IsUnformatted d (view x)) same one, rest)
-  fails_from [] (suc count) (disk ∷ now) x other below are one = absurd are
-  fails_from (old ∷ olds) (suc count) (disk ∷ now) x other below are one = (are.0, fails_from olds count now x other (omega (arith, below)) are.1 one)
-
-  pub fails_here : (olds : List DiskView) (count : ℕ) (now : List X) (item x : X) → count < length now → item ≡ get_or now count item → AreFormatted count olds (map view now) → IsUnformatted (view item) (view x) → FailsAt count olds (map view (set now count x))
-  fails_here olds count now item x below is are one = fails_from olds count now x item below are (subst (λ (y : X). IsUnformatted (view y) (view x)) is one)
+  fails_here [] (suc count) (disk ∷ now) x other below are one = absurd are
+  fails_here (old ∷ olds) (suc count) (disk ∷ now) x other below are one = (are.0, fails_here olds count now x other (omega (arith, below)) are.1 one)
 
   pub all_formatted : (olds : List DiskView) (count : ℕ) (now : List X) → count ≤ length now → length now ≤ count → AreFormatted count olds (map view now) → AreFormatted (length olds) olds (map view now)
   all_formatted olds count now most least are =
