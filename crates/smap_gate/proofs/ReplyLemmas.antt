@@ -40,7 +40,7 @@ use Rattle.smap_lines.specs.declared.verb.Verb.TheVariants as verbs
 -- ---- what may come
 
 -- a message that is kept is logged, before it is told
-abbrev want_behind : Gate → (rcpts : ℕ) → Deposited → Want
+abbrev pub want_behind : Gate → (rcpts : ℕ) → Deposited → Want
 want_behind gate rcpts ends.NoSlot = Nothing
 want_behind gate rcpts ends.NotBegun = Nothing
 want_behind gate rcpts (ends.Kept slot bytes) = Logging (mail_line gate.peer slot rcpts bytes)
@@ -48,7 +48,7 @@ want_behind gate rcpts ends.TooLarge = Nothing
 want_behind gate rcpts ends.Faulted = Nothing
 want_behind gate rcpts ends.Ended = Nothing
 
-abbrev MayCome : Gate → Reply → Act → Type 0
+abbrev pub MayCome : Gate → Reply → Act → Type 0
 MayCome gate owing (Say text) = (owing.want ≡ Nothing) × (text ≡ owing.text)
 MayCome gate owing (Hear form) = (owing.want ≡ Nothing) × (owing.text ≡ [])
 MayCome gate owing (Log text) = owing.want ≡ Logging text
@@ -56,7 +56,7 @@ MayCome gate owing Allot = owing.want ≡ Memory
 MayCome gate owing (Deposit sender rcpts words most) = (owing.want ≡ Message sender rcpts) × (owing.text ≡ []) × (words ≡ texts.go_ahead) × (most ≡ gate.most_bytes)
 MayCome gate owing act = ⊥
 
-abbrev noted : Gate → Reply → (act : Act) → Answer act → Reply
+abbrev pub noted : Gate → Reply → (act : Act) → Answer act → Reply
 noted gate owing (Say text) answer = says [] owing.place
 noted gate owing (Hear form) answer = to_heard gate owing.place answer
 noted gate owing (Log text) answer = says owing.text owing.place
@@ -64,16 +64,16 @@ noted gate owing Allot answer = says owing.text owing.place
 noted gate owing (Deposit sender rcpts words most) answer = record { place = owing.place; want = want_behind gate (length rcpts) answer.0; text = end_text answer.0 }
 noted gate owing act answer = owing
 
-abbrev watch : (Origin : Type 0) → Gate → Watch (acts Origin) Place
+abbrev pub watch : (Origin : Type 0) → Gate → Watch (acts Origin) Place
 watch Origin gate = record { Noted = Reply; note = noted gate; may = MayCome gate; holds = λ owing place. owing ≡ says [] place; over = λ owing. owing.text ≡ [] }
 
 -- ---- the rows
 
 module _ (Origin : Type 0) (gate : Gate) where
-  abbrev own_rows : PlaceTable (acts Origin) Place
+  abbrev pub own_rows : PlaceTable (acts Origin) Place
   own_rows = smap_rows gate
 
-  abbrev Tells : Row (acts Origin) Place → Reply → Type 0
+  abbrev pub Tells : Row (acts Origin) Place → Reply → Type 0
   Tells row reply = Leaves (watch Origin gate) row reply
 
   helo_tells : (is_bare : Bool) (place : Place) → Tells (helo_if is_bare place) (to_helo is_bare place)
@@ -139,11 +139,11 @@ module _ (Origin : Type 0) (gate : Gate) where
   heard_tells place TooLong = ((refl, refl), λ done. refl)
   heard_tells place (Stopped stop) = refl
 
-  rows_tell : Keeps own_rows (watch Origin gate)
+  pub rows_tell : Keeps own_rows (watch Origin gate)
   rows_tell place owing stands =
       subst (λ (o : Reply). Leaves (watch Origin gate) (Do (own_rows.act place) (own_rows.go place)) o) (sym stands) ((refl, refl), λ heard. heard_tells place heard)
 
-  first_tells : Tells smap_row (says texts.ready Waiting)
+  pub first_tells : Tells smap_row (says texts.ready Waiting)
   first_tells = ((refl, refl), λ done. refl)
 
 -- ---- what is told

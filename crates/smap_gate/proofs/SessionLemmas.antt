@@ -46,3 +46,7 @@ over_lent {Origin} gate old new ending session is =
 
 pub exact : {Origin : Type 0} (gate : Gate) (old new : Devices Origin) (ending : Ending) → Session (smap_rows gate) smap_row old new ending → TakesExactly ending old new
 exact {Origin} gate old new ending session = session_exact (smap_rows gate) smap_row old new ending session (keeps_serverless Origin gate)
+
+-- a session at one gate is one at an equal one
+pub as_gate : {Origin : Type 0} {old new : Devices Origin} {ending : Ending} {one other : Gate} → one ≡ other → Session (smap_rows one) smap_row old new ending → Session (smap_rows other) smap_row old new ending
+as_gate {Origin} {old} {new} {ending} same session = subst (λ (gate : Gate). Session (smap_rows gate) smap_row old new ending) same session

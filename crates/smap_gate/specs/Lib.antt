@@ -4,6 +4,7 @@ pub mod Dummies
 pub mod Ends
 pub mod Gate
 pub mod LogLines
+pub mod Messages
 pub mod Paths
 pub mod Replies
 pub mod Texts

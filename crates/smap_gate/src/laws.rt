@@ -1,10 +1,26 @@
 //! What holds of every session of mail.
 ghost use Rattle.fw_types.specs.declared.ending.Ending.{Ending};
-ghost use Rattle.session_acts.specs.Session.{Held};
+ghost use Rattle.session_acts.specs.Deeds.{gives};
+ghost use Rattle.session_acts.specs.Laws.{TellsClient, told};
+ghost use Rattle.session_acts.specs.Session.{Held, deeds_of};
+ghost use Rattle.session_acts.specs.Stored.{CountsFaulted, CountsUnslotted, PutsAllBack, faulted, unslotted};
 ghost use Rattle.session_acts.specs.World.{World};
 ghost use Rattle.smap_gate.specs.Dialogue.{smap_row, smap_rows};
 ghost use Rattle.smap_gate.specs.Gate.{Gate};
+ghost use Rattle.smap_gate.specs.Messages.{KeepsMessages};
 ghost use Rattle.smap_gate.specs.Replies.{ToldInOrder};
+
+use crate::Place;
+use session_acts::laws;
+
+/// What a client was given by a session is the texts that it said, one after another, and a front of the one at which it
+/// stopped, if it did at one.
+pub fn the_client_is_told<Origin>()
+    ensures { (gate : Gate) (old new : World Origin) (ending : Ending)
+        (held : Held (smap_rows gate) smap_row old new ending) → TellsClient (gives told (deeds_of held)) old new }
+{
+    laws::the_client_is_told::<Origin, Place>()
+}
 
 /// What a client is told is a function of its lines and of what becomes of its messages: behind the greeting, for each line
 /// and each message in order, its reply. It is told all of that, or a front of it, where the dialogue stopped. The reply to a
@@ -13,3 +29,32 @@ pub fn each_reply_is_told<Origin>()
     ensures { (gate : Gate) (old new : World Origin) (ending : Ending)
         (held : Held (smap_rows gate) smap_row old new ending) → ToldInOrder gate held }
 {}
+
+/// The messages that were kept were put full in the store, in order, each in the slot whose number is told, and no other was.
+/// Each is of the sender and to the recipients that stood when its data were asked for, which the lines alone decide, and its
+/// body is that of the data that were heard. What becomes of a message that isn't kept reaches no slot that is full.
+pub fn the_kept_messages_are_put<Origin>()
+    ensures { (gate : Gate) (old new : World Origin) (ending : Ending)
+        (held : Held (smap_rows gate) smap_row old new ending) → KeepsMessages gate held }
+{}
+
+/// Each slot that a session takes is put back.
+pub fn the_slots_are_put_back<Origin>()
+    ensures { (gate : Gate) (old new : World Origin) (ending : Ending) →
+        Held (smap_rows gate) smap_row old new ending → PutsAllBack old new }
+{
+    laws::the_slots_are_put_back::<Origin, Place>()
+}
+
+/// The store counted each message for which no slot was free (`unslotted`), and each at which the disk of a slot failed
+/// (`faulted`), as far as the counts go.
+pub fn the_lost_messages_are_counted<Origin>()
+    ensures unslotted { (gate : Gate) (old new : World Origin) (ending : Ending)
+        (held : Held (smap_rows gate) smap_row old new ending) →
+        CountsUnslotted (gives unslotted (deeds_of held)) old new }
+    ensures faulted { (gate : Gate) (old new : World Origin) (ending : Ending)
+        (held : Held (smap_rows gate) smap_row old new ending) →
+        CountsFaulted (gives faulted (deeds_of held)) old new }
+{
+    laws::the_lost_messages_are_counted::<Origin, Place>()
+}

@@ -1,15 +1,13 @@
-use Rattle.smap_gate.proofs.SessionLemmas.{at_nowhere, exact, never, over_lent, own_by}
+use Rattle.smap_gate.proofs.SessionLemmas.{as_gate, at_nowhere, exact, never, over_lent, own_by}
 use Rattle.smap_gate.specs.Dialogue.{smap_row, smap_rows}
-use Rattle.smap_gate.specs.Gate.{Gate}
 use Rattle.session_acts.specs.Causes.{SessionKeeps, WaitsFor}
 use Rattle.session_acts.specs.Serverless.{TakesExactly}
 use Rattle.session_acts.specs.Session.{Session}
-use Rattle.std.proofs.Common.{subst}
 use Rattle.smap_gate.proofs.session.smap_session.Goals as goal
 
 pub returns-clause-session : goal.returns-clause-session
 returns-clause-session g c =
-    subst (λ (gate : Gate). Session (smap_rows gate) smap_row _ _ c.mail_session_over.result) c.new-script.ensures
+    as_gate c.new-script.ensures
     (at_nowhere (λ old new. Session (smap_rows c.new-script.result) smap_row old new c.mail_session_over.result) c.new-script.result _ _ c.mail_session_over.result c.mail_session_over.ensures.session c.new-dialer.ensures c.mail_session_over.ensures.session)
 
 pub returns-clause-keeps : goal.returns-clause-keeps
