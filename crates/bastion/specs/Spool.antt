@@ -27,13 +27,15 @@ HasMail mail disk = Now (IsSettled (Whole mail)) disk
 abbrev pub StandAtPlaces : List KeptMail → List DiskView → Type 0
 StandAtPlaces mails disks = AllByRecursion (λ one. AtPlace (HasMail one.mail) one.number disks) mails
 
--- the disk of a slot that was opened with a message is as the opening left it; nothing is said of one that was free
+-- the disk of a slot that was opened with a message is, at the place of its number, as the opening left it; nothing is said of
+-- one that was free
+abbrev pub StaysAt : List DiskView → Opened (Unit {0}) → Type 0
+StaysAt disks (Free slot) = Unit {0}
+StaysAt disks (Full slot) = AtPlace (λ disk. disk ≡ slot.disk) slot.number disks
+StaysAt disks (Aside slot) = AtPlace (λ disk. disk ≡ slot.disk) slot.number disks
+
 abbrev pub StayAsOpened : List (Opened (Unit {0})) → List DiskView → Type 0
-StayAsOpened [] [] = Unit {0}
-StayAsOpened (Free slot ∷ slots) (disk ∷ disks) = StayAsOpened slots disks
-StayAsOpened (Full slot ∷ slots) (disk ∷ disks) = (disk ≡ slot.disk) × StayAsOpened slots disks
-StayAsOpened (Aside slot ∷ slots) (disk ∷ disks) = (disk ≡ slot.disk) × StayAsOpened slots disks
-StayAsOpened _ _ = ⊥
+StayAsOpened slots disks = AllByRecursion (StaysAt disks) slots
 
 -- the slots of all disks were opened
 pub record AreOpened (disks : List DiskView) : Type 0 where
