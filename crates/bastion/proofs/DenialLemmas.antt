@@ -235,7 +235,7 @@ module _ (command : Command) (service : Service) (words : ℕ → List ℕ) (pee
 
 -- ---- a run in which no count rose
 
-got_whole : (words : List ℕ) (tried : Result (Unit {0}) (Front words)) (old new : SinkView) → (Rose old.faults new.faults → ⊥) → Gets words tried old new → new.given ≡ grown old.given words
+pub got_whole : (words : List ℕ) (tried : Result (Unit {0}) (Front words)) (old new : SinkView) → (Rose old.faults new.faults → ⊥) → Gets words tried old new → new.given ≡ grown old.given words
 got_whole words (Ok done) old new never gets = ap (λ (s : SinkView). s.given) gets
 got_whole words (Err front) old new never gets = absurd (never (subst (λ (s : SinkView). Rose old.faults s.faults) (sym gets.is) gets.rose))
 

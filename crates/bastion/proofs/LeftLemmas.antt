@@ -27,7 +27,7 @@ use Rattle.bastion.specs.declared.outcome.Outcome.TheVariants.{Usage, Unread, Fa
 use Rattle.bastion.specs.declared.outcome.Step.{Step}
 use Rattle.bastion.specs.declared.outcome.Step.TheVariants as steps
 use Rattle.bastion.specs.declared.words.Command.{Command}
-use Rattle.bastion.specs.declared.words.Command.TheVariants.{Netacl, NetaclRun, Table, Authsrv, PlugGw, TnGw}
+use Rattle.bastion.specs.declared.words.Command.TheVariants.{Netacl, NetaclRun, Table, Authsrv, PlugGw, TnGw, Smap}
 use Rattle.client_service.proofs.SinkLemmas.{cut_rose, gives_most, rose_later, same_low}
 
 -- ---- what reading leaves
@@ -100,6 +100,7 @@ lacks_left name command steps.Table old new h = only_left name false old new h
 lacks_left name command steps.Rules old new h = only_left name false old new h
 lacks_left name command steps.Policy old new h = only_left name false old new h
 lacks_left name command steps.Drill old new h = absurd h
+lacks_left name command steps.Slots old new h = absurd h
 lacks_left name command steps.Records old new h = only_left name (needs_records command) old new h
 
 pub stops_left : (name : List ℕ) (command : Command) (outcome : Outcome) (old new : WorldView) → Stops name command outcome old new → Left old new

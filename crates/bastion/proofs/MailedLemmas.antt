@@ -1,6 +1,6 @@
 -- What a session of the mail gateway comes to, by its ending, and what it leaves of the slots.
 use Rattle.std.proofs.Common.{◌≡◌, ◌∙◌, ℕ, zero, suc, ◌+◌, refl, sym, ap, subst, inl, inr, ◌⊎◌, ◌==◌, List, [], ◌∷◌, ◌++◌, append-nil, map, Bool, true, false}
-use Rattle.std.specs.Prelude.{Option, Some, None, IfSome, option_map, codes}
+use Rattle.std.specs.Prelude.{Option, Some, None, IfSome, IsSome, option_map}
 use Rattle.client_service.proofs.ConnLemmas.{conn_caused, conn_refused, conn_spent}
 use Rattle.client_service.proofs.MailLemmas.{mails_behind}
 use Rattle.client_service.specs.Conn.{Causes, Conn, IsRefused, NotedIf, TakesBy, Treats, TurnsAway}
@@ -13,6 +13,7 @@ use Rattle.client_service.specs.Meeting.{denied_by, patient, timeout_of}
 use Rattle.fw_disk.specs.DiskView.{DiskView}
 use Rattle.fw_outside.specs.Counts.{Rose}
 use Rattle.fw_outside.specs.DialerView.{DialerView}
+use Rattle.fw_outside.specs.KeeperView.{KeeperView}
 use Rattle.fw_outside.specs.SinkView.{SinkView}
 use Rattle.fw_types.specs.declared.ending.Ending.{Ending}
 use Rattle.fw_types.specs.declared.ending.Ending.TheVariants.{Done, Denied, ClientFault, ServerFault, LogFault, AuthFault, Idle, NoRoute, Spent, NoMemory}
@@ -44,7 +45,7 @@ use Rattle.bastion.specs.Mailing.{MailServed, Mailed, SlotsUnread, mailed_device
 use Rattle.bastion.specs.Outcome.{DiskRose, EndingRose, SlotsRose, status_of}
 use Rattle.bastion.specs.Spool.{LeavesSlots, StandAtPlaces, StayAsOpened}
 use Rattle.bastion.specs.Status.{IsMailed, IsTaken, TakesIn}
-use Rattle.bastion.specs.WorldView.{WorldView}
+use Rattle.bastion.specs.WorldView.{SessionInputs, WorldView}
 use Rattle.bastion.specs.declared.outcome.Outcome.{Outcome}
 use Rattle.bastion.specs.declared.outcome.Outcome.TheVariants.{Ended}
 use Rattle.bastion.proofs.AttendedLemmas.{denied_status, port_rose, spent_is, takes_same}
@@ -318,3 +319,13 @@ stays_behind peer inputs out old new h (inr (inr in_)) =
 pub mailed_slots : (peer : Peer) (inputs : Inputs) (out : Outcome) (old new : WorldView) → Mailed peer inputs out old new → LeavesSlots old.inputs.disks new.inputs.disks
 mailed_slots peer inputs out old new (inl u) = inr (inl (record { slot = u.slot; why = u.why; fault = u.fault }))
 mailed_slots peer inputs out old new (inr h) = inr (inr (record { slots = h.opened.slots; opened = h.opened.are; stay = stays_behind peer inputs out old new h (served_so peer inputs out old new h) }))
+
+-- ---- what else is left
+
+pub mailed_left : (peer : Peer) (inputs : Inputs) (out : Outcome) (old new : WorldView) → Mailed peer inputs out old new → (new.files ≡ old.files) × (IsSome old.inputs.keeper → IsSome new.inputs.keeper)
+mailed_left peer inputs out old new (inl u) = (ap (λ (w : WorldView). w.files) u.is, λ there. subst (λ (k : Option KeeperView). IsSome k) (sym (ap (λ (w : WorldView). w.inputs.keeper) u.is)) there)
+mailed_left peer inputs out old new (inr h) = (h.files, λ there. subst (λ (k : Option KeeperView). IsSome k) (sym (ap (λ (i : SessionInputs). i.keeper) h.inputs_are)) there)
+
+pub mailed_unasked : (peer : Peer) (inputs : Inputs) (out : Outcome) (old new : WorldView) → Mailed peer inputs out old new → new.inputs.dialer ≡ old.inputs.dialer
+mailed_unasked peer inputs out old new (inl u) = ap (λ (w : WorldView). w.inputs.dialer) u.is
+mailed_unasked peer inputs out old new (inr h) = ap (λ (i : SessionInputs). i.dialer) h.inputs_are

@@ -148,10 +148,10 @@ numbered a zero (slot ∷ slots) rise counts =
 numbered a (suc n) (slot ∷ slots) rise counts =
     let first : slot.number ≡ a = first_by slot slots a n rise counts (cases_order slot.number a) in
     let less : (k : ℕ) → held_count k slots ≡ count_from k (a + 1) n = λ k. (
-      let all = counts k in
-      let both = sum_by-cons (λ (h : HeldView). one_at k h.number) slot slots in
-      let same : one_at k slot.number ≡ one_at k a = ap (one_at k) first in
-      omega (arith, all, both, same)
+    let all = counts k in
+    let both = sum_by-cons (λ (h : HeldView). one_at k h.number) slot slots in
+    let same : one_at k slot.number ≡ one_at k a = ap (one_at k) first in
+    omega (arith, all, both, same)
     ) in
     (first, numbered (a + 1) n slots (rest_rises slot slots rise) less)
 

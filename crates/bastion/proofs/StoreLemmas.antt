@@ -44,13 +44,13 @@ free_back slot put None number front = tt
 free_back slot put (Some q) number front = record {
   aside = refl;
   counts = λ k. (
-    let before = four_counts k q in
-    let after = four_counts k (with_free put (without_free q)) in
-    let first = held_first held_slot q.free slot k front in
-    let added = held_added held_slot (drop 1 q.free) put k in
-    let same = same_one k put.number slot.number number in
-    omega (arith, before, after, first, added, same)
-  );
+      let before = four_counts k q in
+      let after = four_counts k (with_free put (without_free q)) in
+      let first = held_first held_slot q.free slot k front in
+      let added = held_added held_slot (drop 1 q.free) put k in
+      let same = same_one k put.number slot.number number in
+      omega (arith, before, after, first, added, same)
+      );
 }
 
 full_back : (slot : SlotView) (put : FullView) (queues : Option Queues) → put.number ≡ slot.number → IfSome queues (λ q. take 1 q.free ≡ slot ∷ []) → QueuesStayIf queues (option_map (with_full put) (option_map without_free queues))
@@ -58,13 +58,13 @@ full_back slot put None number front = tt
 full_back slot put (Some q) number front = record {
   aside = refl;
   counts = λ k. (
-    let before = four_counts k q in
-    let after = four_counts k (with_full put (without_free q)) in
-    let first = held_first held_slot q.free slot k front in
-    let added = held_added held_full q.full put k in
-    let same = same_one k put.number slot.number number in
-    omega (arith, before, after, first, added, same)
-  );
+      let before = four_counts k q in
+      let after = four_counts k (with_full put (without_free q)) in
+      let first = held_first held_slot q.free slot k front in
+      let added = held_added held_full q.full put k in
+      let same = same_one k put.number slot.number number in
+      omega (arith, before, after, first, added, same)
+      );
 }
 
 broken_back : (slot : SlotView) (put : BrokenView) (queues : Option Queues) → put.number ≡ slot.number → IfSome queues (λ q. take 1 q.free ≡ slot ∷ []) → QueuesStayIf queues (option_map (with_broken put) (option_map without_free queues))
@@ -72,13 +72,13 @@ broken_back slot put None number front = tt
 broken_back slot put (Some q) number front = record {
   aside = refl;
   counts = λ k. (
-    let before = four_counts k q in
-    let after = four_counts k (with_broken put (without_free q)) in
-    let first = held_first held_slot q.free slot k front in
-    let added = held_added held_broken q.broken put k in
-    let same = same_one k put.number slot.number number in
-    omega (arith, before, after, first, added, same)
-  );
+      let before = four_counts k q in
+      let after = four_counts k (with_broken put (without_free q)) in
+      let first = held_first held_slot q.free slot k front in
+      let added = held_added held_broken q.broken put k in
+      let same = same_one k put.number slot.number number in
+      omega (arith, before, after, first, added, same)
+      );
 }
 
 -- ---- one act

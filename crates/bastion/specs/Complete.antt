@@ -27,7 +27,7 @@ use Rattle.bastion.specs.Inputs.{HasInputs, Inputs}
 use Rattle.bastion.specs.MailKept.{OfMail}
 use Rattle.bastion.specs.Spool.{HasBadSlot}
 use Rattle.bastion.specs.Jobs.{AreFormatted, drill_refused, formatted_text}
-use Rattle.bastion.specs.Outcome.{fault_line_of, refusal_text, slot_text, status_of, verdict_status}
+use Rattle.bastion.specs.Outcome.{fault_line_of, refusal_text, status_of, verdict_status}
 use Rattle.bastion.specs.Run.{ReadsOnly, verdict_for}
 use Rattle.bastion.specs.Status.{IsHeld, IsPassed}
 use Rattle.bastion.specs.Talk.{was_refused}
@@ -38,6 +38,7 @@ use Rattle.bastion.specs.Words.{LineView}
 use Rattle.bastion.specs.WorldView.{WorldView}
 use Rattle.bastion.specs.declared.outcome.Outcome.TheVariants.{Ended}
 use Rattle.bastion.specs.declared.outcome.Refusal.{Refusal}
+use Rattle.bastion.specs.declared.outcome.Refusal.TheVariants.{Slot}
 use Rattle.bastion.specs.declared.words.Caller.{Caller}
 use Rattle.bastion.specs.declared.words.Client.{Client}
 use Rattle.bastion.specs.declared.words.Command.{Command}
@@ -140,7 +141,7 @@ pub record IsMailedWhole (name : List ℕ) (peer : Peer) (inputs : Inputs) (stat
   pub only : ReadsOnly name false old middle
   pub session : OfMail peer inputs status middle new
   pub ends : (session.ending ≡ Done) ⊎ (session.ending ≡ Spent)
-  pub logs : new.logs.given ≡ grown old.logs.given (decision_text (Permit session.line) services.Smap peer ++ gives logged (deeds_of session.session.held) ++ unwrap_or (ending_line services.Smap peer session.ending) [])
+  pub logs : new.logs.given ≡ grown old.logs.given (decision_text (Permit session.line) services.Smap peer ++ gives logged (deeds_of session.session.held) ++ closing_text services.Smap peer session.ending false)
 
 -- a client whom the rules deny is told so
 abbrev pub IsTakenWhole : Verdict → List ℕ → Peer → Inputs → ℕ → WorldView → WorldView → Type 0
@@ -152,7 +153,7 @@ pub record IsBadWhole (status : ℕ) (old new : WorldView) : Type 0 where
   pub slot : ℕ
   pub at : ℕ
   pub bad : HasBadSlot slot at old.inputs.disks new.inputs.disks
-  pub whole : IsWhole (codes "fault slot " ++ slot_text slot at ++ codes "\n") [] 3 status old new
+  pub whole : IsWhole (codes "fault " ++ refusal_text (Slot slot at) ++ codes "\n") [] 3 status old new
 
 -- ---- all commands
 

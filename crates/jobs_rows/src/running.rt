@@ -78,6 +78,10 @@ pub(crate) fn run_over(
     refuses: Calls,
 ) -> Result<Ended, NoMemory> {
     let alloc = rt.alloc();
+    // A run has at most 64 disks.
+    if disks.len() > 64 {
+        return Err(NoMemory);
+    }
     let words = words_of(alloc, line)?;
     let mut world = world_of(alloc, disks, refuses)?;
     let status = run(&rt, alloc, &words, &mut world);
