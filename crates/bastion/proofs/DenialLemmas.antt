@@ -1,7 +1,7 @@
 -- What becomes of a client whom the rules deny, over a book: the line of the denial is logged, and then it is tried to tell the
 -- client.
-use Rattle.std.proofs.Common.{◌≡◌, ◌≢◌, ◌≤◌, ℕ, List, [], ◌∷◌, ◌++◌, map, refl, sym, ◌∙◌, ap, subst, inl, inr, arith, ◌⊎◌, Bool, false}
-use Rattle.std.specs.Prelude.{Option, Some, None, Result, Ok, Err}
+use Rattle.std.proofs.Common.{◌≡◌, ◌≢◌, ◌≤◌, ℕ, List, [], ◌∷◌, ◌++◌, map, refl, sym, ◌∙◌, ap, subst, inl, inr, ◌⊎◌, Bool, false}
+use Rattle.std.specs.Prelude.{Option, Some, Result, Ok, Err}
 use Rattle.auth_events.specs.declared.port.PortFault.{PortFault}
 use Rattle.auth_events.specs.declared.reply.Reply.{Reply}
 use Rattle.auth_machine.specs.Book.{BookView}

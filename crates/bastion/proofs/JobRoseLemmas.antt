@@ -1,5 +1,5 @@
 -- Whose count rose in a job that needs no table.
-use Rattle.std.proofs.Common.{◌≡◌, ◌≤◌, ℕ, zero, suc, List, [], ◌∷◌, refl, sym, ap, subst, inl, inr, ◌⊎◌}
+use Rattle.std.proofs.Common.{ℕ, zero, suc, List, [], ◌∷◌, sym, subst, inl, inr}
 use Rattle.std.specs.Prelude.{Result, Ok, Err}
 use Rattle.drill_lines.specs.Drill.{drilled}
 use Rattle.drill_lines.specs.declared.plan.Drill as drills

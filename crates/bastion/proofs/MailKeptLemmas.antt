@@ -1,5 +1,5 @@
 -- From what a session of the mail gateway did to the headline, and to a run in which no count rose.
-use Rattle.std.proofs.Common.{◌≡◌, ◌≢◌, ◌≤◌, ◌∙◌, arith, ℕ, List, [], ◌++◌, refl, sym, ap, subst, inl, inr, ◌⊎◌, false}
+use Rattle.std.proofs.Common.{◌≡◌, ◌≢◌, ◌≤◌, ◌∙◌, arith, ℕ, List, ◌++◌, refl, sym, ap, subst, inl, inr, ◌⊎◌, false}
 use Rattle.std.specs.Prelude.{Option}
 use Rattle.client_service.proofs.ConnLemmas.{conn_caused}
 use Rattle.client_service.proofs.SinkLemmas.{same_low}
@@ -7,9 +7,8 @@ use Rattle.client_service.specs.Conn.{Causes, NotedIf}
 use Rattle.client_service.specs.Decision.{decision_text}
 use Rattle.client_service.specs.Endings.{ending_line, mail_refusal}
 use Rattle.client_service.specs.Kind.Kind.{Alone}
-use Rattle.client_service.specs.MailService.{mail_devices, mail_gate_of}
+use Rattle.client_service.specs.MailService.{mail_devices}
 use Rattle.client_service.specs.Meeting.{patient, timeout_of}
-use Rattle.fw_outside.specs.Counts.{Rose}
 use Rattle.fw_outside.specs.SinkView.{SinkView}
 use Rattle.fw_outside.specs.ToldList.{grown}
 use Rattle.fw_types.specs.declared.ending.Ending.{Ending}
@@ -29,7 +28,7 @@ use Rattle.session_acts.specs.Laws.{logged}
 use Rattle.session_acts.specs.Met.{Gets}
 use Rattle.session_acts.specs.Session.{deeds_of}
 use Rattle.session_acts.specs.Stored.{kept}
-use Rattle.session_acts.specs.World.{Devices, World, at_first}
+use Rattle.session_acts.specs.World.{Devices, at_first}
 use Rattle.spool_slots.specs.declared.slot_why.SlotWhy.{SlotWhy}
 use Rattle.spool_slots.specs.declared.slot_why.SlotWhy.TheVariants as whys
 use Rattle.bastion.specs.Complete.{IsMailedWhole, IsTakenWhole, IsWhole, closing_text}
@@ -38,7 +37,7 @@ use Rattle.bastion.specs.Inputs.{Inputs}
 use Rattle.bastion.specs.MailKept.{IsShutOut, IsUnheard, OfMail}
 use Rattle.bastion.specs.Mailing.{MailServed, Mailed, SlotsUnread, mailed_devices, slot_fault}
 use Rattle.bastion.specs.Outcome.{fault_line_of, status_of, verdict_status}
-use Rattle.bastion.specs.Run.{ReadsOnly, TellsIf, verdict_for}
+use Rattle.bastion.specs.Run.{ReadsOnly, TellsIf}
 use Rattle.bastion.specs.Works.{with_given}
 use Rattle.bastion.specs.WorldView.{SessionInputs, WorldView}
 use Rattle.bastion.specs.declared.outcome.Outcome.{Outcome}
@@ -235,6 +234,7 @@ module _ (name : List ℕ) (peer : Peer) (inputs : Inputs) (out : Outcome) (old 
       }
 
   held_whole : (let_in : LetIn peer inputs.rules from_here to_there h.serves.logs h.ending) → (ending : Ending) → h.ending ≡ ending → Whole (Permit let_in.line)
+  unfolding let_mail let_held
   held_whole let_in endings.Done is = inr (mail_whole (let_mail peer inputs out middle mid new h tells let_in) (inl is))
   held_whole let_in endings.Spent is = inr (mail_whole (let_mail peer inputs out middle mid new h tells let_in) (inr is))
   held_whole let_in endings.NoMemory is = inl (status_by peer inputs out middle mid new h tells endings.NoMemory is)

@@ -1,12 +1,11 @@
 -- What a session of the mail gateway comes to, by its ending, and what it leaves of the slots.
-use Rattle.std.proofs.Common.{◌≡◌, ◌∙◌, ℕ, zero, suc, ◌+◌, refl, sym, ap, subst, inl, inr, ◌⊎◌, ◌==◌, List, [], ◌∷◌, ◌++◌, append-nil, map, Bool, true, false}
+use Rattle.std.proofs.Common.{◌≡◌, ◌∙◌, ℕ, zero, suc, ◌+◌, refl, sym, ap, subst, inl, inr, ◌⊎◌, ◌==◌, List, [], ◌∷◌, ◌++◌, append-nil, map, false}
 use Rattle.std.specs.Prelude.{Option, Some, None, IfSome, IsSome, option_map}
 use Rattle.client_service.proofs.ConnLemmas.{conn_caused, conn_refused, conn_spent}
 use Rattle.client_service.proofs.MailLemmas.{mails_behind}
-use Rattle.client_service.specs.Conn.{Causes, Conn, IsRefused, NotedIf, TakesBy, Treats, TurnsAway}
+use Rattle.client_service.specs.Conn.{Causes, Conn, IsRefused, Treats}
 use Rattle.client_service.specs.Decision.{decision_text}
-use Rattle.client_service.specs.Endings.{ending_line, mail_refusal}
-use Rattle.client_service.specs.Kind.{kind_of}
+use Rattle.client_service.specs.Endings.{mail_refusal}
 use Rattle.client_service.specs.Kind.Kind.{Alone}
 use Rattle.client_service.specs.MailService.{MailsBehind, MailsOrFails, mail_devices, mail_gate_of}
 use Rattle.client_service.specs.Meeting.{denied_by, patient, timeout_of}
@@ -25,14 +24,13 @@ use Rattle.gate_rules.specs.declared.verdict.Verdict.{Verdict}
 use Rattle.gate_rules.specs.declared.verdict.Verdict.TheVariants.{Permit, Deny}
 use Rattle.session_acts.proofs.ClientLemmas.{denies}
 use Rattle.session_acts.proofs.DeedLemmas.{all_last, held_deeds}
-use Rattle.session_acts.specs.Client.{Denies, IsTurnedAway, LogFails, with_line}
+use Rattle.session_acts.specs.Client.{Denies, IsTurnedAway, with_line}
 use Rattle.session_acts.specs.Deeds.{gives}
 use Rattle.session_acts.specs.Dummies.{nowhere}
 use Rattle.session_acts.specs.Serverless.{CausedAlone}
-use Rattle.session_acts.specs.Session.{Session, deeds_of}
+use Rattle.session_acts.specs.Session.{deeds_of}
 use Rattle.session_acts.specs.Stored.{AreKept, KeptMail, kept}
 use Rattle.session_acts.specs.World.{Devices, World, at_first, most_taken}
-use Rattle.smap_gate.specs.Dialogue.{smap_row, smap_rows}
 use Rattle.spool_rack.specs.Opening.{AreInOrder, AreSlotsOf, CameBack, IsRackFault, IsRackOf, IsSlotOf, queues_of, store_of}
 use Rattle.spool_rack.specs.Store.{Handed, PutGrew, Queues, StoreView}
 use Rattle.spool_slots.specs.States.{FullView}
@@ -41,7 +39,7 @@ use Rattle.spool_slots.specs.declared.opening.Opened.TheVariants.{Free, Full, As
 use Rattle.spool_slots.specs.declared.slot_why.SlotWhy.{SlotWhy}
 use Rattle.spool_slots.specs.declared.slot_why.SlotWhy.TheVariants as whys
 use Rattle.bastion.specs.Inputs.{Inputs}
-use Rattle.bastion.specs.Mailing.{MailServed, Mailed, SlotsUnread, mailed_devices, slot_fault}
+use Rattle.bastion.specs.Mailing.{MailServed, Mailed, OpensRack, ServesMail, TakesOut, mailed_devices, slot_fault, with_disks}
 use Rattle.bastion.specs.Outcome.{DiskRose, EndingRose, SlotsRose, status_of}
 use Rattle.bastion.specs.Spool.{LeavesSlots, StandAtPlaces, StayAsOpened}
 use Rattle.bastion.specs.Status.{IsMailed, IsTaken, TakesIn}
@@ -49,12 +47,12 @@ use Rattle.bastion.specs.WorldView.{SessionInputs, WorldView}
 use Rattle.bastion.specs.declared.outcome.Outcome.{Outcome}
 use Rattle.bastion.specs.declared.outcome.Outcome.TheVariants.{Ended}
 use Rattle.bastion.proofs.AttendedLemmas.{denied_status, port_rose, spent_is, takes_same}
-use Rattle.bastion.proofs.SpoolLemmas.{QueuesStay, closed_at, stand, stays}
+use Rattle.bastion.proofs.SpoolLemmas.{closed_at, stand, stays}
 use Rattle.bastion.proofs.StoreLemmas.{QueuesStayIf, StoreStays, same_stays, slots_last}
 
 -- ---- slots that were opened, on disks of whatever type
 
-plain : {D : Type 0} → Opened D → Opened (Unit {0})
+abbrev plain : {D : Type 0} → Opened D → Opened (Unit {0})
 plain (Free slot) = Free slot
 plain (Full slot) = Full slot
 plain (Aside slot) = Aside slot
@@ -82,6 +80,27 @@ plain_rack D disks rack h = record {
   are = plain_slots 0 disks h.slots h.are;
   is = h.is ∙ ap (λ (q : Queues). store_of q.free q.full q.aside [] []) (sym (plain_queues h.slots));
 }
+
+pub opens_rack : (D : Type 0) (disks : List DiskView) (rack : StoreView) (old new : WorldView) → TakesOut disks old new → IsRackOf D disks rack → OpensRack rack old new
+opens_rack D disks rack old new takes h = record { opened = subst (λ (d : List DiskView). IsRackOf (Unit {0}) d rack) takes.are (plain_rack D disks rack h); is = takes.is }
+
+-- ---- a client that was served over them, whose disks are given back
+
+pub serves_over : (peer : Peer) (rules : RuleBook) (first store : StoreView) (before after : DialerView) (disks : List DiskView) (ending : Ending) (old mid new : WorldView) → before ≡ nowhere
+    → Conn services.Smap rules peer (mailed_devices old before first) (mailed_devices mid after store) ending → mid.inputs ≡ record (old.inputs) { input = mid.inputs.input } → mid.files ≡ old.files → IfSome store.queues (λ q. AreInOrder q disks)
+    → new ≡ with_disks disks mid → ServesMail peer rules first (Ended ending false) old new
+serves_over peer rules first store before after disks ending old mid new at_first serves inputs files closed is =
+    let there : ServesMail peer rules first (Ended ending false) old (with_disks disks mid) = record {
+      store = store;
+      closed = closed;
+      dialer = after;
+      ending = ending;
+      serves = subst (λ (d : DialerView). Conn services.Smap rules peer (mailed_devices old d first) (mailed_devices mid after store) ending) at_first serves;
+      comes = refl;
+      inputs_are = ap (λ (i : SessionInputs). record i { disks = disks }) inputs;
+      files = files;
+    } in
+    subst (λ (w : WorldView). ServesMail peer rules first (Ended ending false) old w) (sym is) there
 
 -- ---- slots that weren't opened
 
@@ -169,7 +188,7 @@ ByMail verdict status old new = ((status ≡ 4) ⊎ (status ≡ 5)) ⊎ IsMailed
 
 unread_status : (verdict : Verdict) (slot : ℕ) (why : SlotWhy) (old new : WorldView) → IsRackFault old.inputs.disks slot why new.inputs.disks → ByMail verdict (status_of (slot_fault slot why)) old new
 unread_status verdict slot (whys.BadSlot at) old new (inl none) = let clash : whys.BadSlot at ≡ whys.NoMemory = none.1 in absurd (cc)
-unread_status verdict slot (whys.BadSlot at) old new (inr came) = inr (inl (refl, slot, at, record { came = came }))
+unread_status verdict slot (whys.BadSlot at) old new (inr came) = inr (inl (refl, (slot, at, record { came = came })))
 unread_status verdict slot whys.DiskFault old new h = inl (inl refl)
 unread_status verdict slot whys.NoMemory old new h = inl (inr refl)
 
@@ -238,9 +257,9 @@ some_same : (a b : List FullView) → Some a ≡ Some b → a ≡ b
 some_same a b is = cc
 
 -- what stands on the disks when the rack is closed
-record StandBehind (mails : List KeptMail) (slots : List (Opened (Unit {0}))) (back : List DiskView) : Type 0 where
-  stay : StayAsOpened slots back
-  stand : StandAtPlaces mails back
+pub record StandBehind (mails : List KeptMail) (slots : List (Opened (Unit {0}))) (back : List DiskView) : Type 0 where
+  pub stay : StayAsOpened slots back
+  pub stand : StandAtPlaces mails back
 
 closed_so : (mails : List KeptMail) (disks back : List DiskView) (slots : List (Opened (Unit {0}))) (more : List FullView) (last : Option Queues) → AreSlotsOf (Unit {0}) 0 disks slots → QueuesStayIf (Some (queues_of slots)) last
     → option_map (λ (q : Queues). q.full) last ≡ Some ((queues_of slots).full ++ more) → AreKept mails more → IfSome last (λ q. AreInOrder q back) → StandBehind mails slots back

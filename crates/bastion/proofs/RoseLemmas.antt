@@ -1,24 +1,21 @@
 -- Whose count has risen.
-use Rattle.std.proofs.Common.{◌≡◌, ◌≤◌, ℕ, List, refl, sym, ◌∙◌, ap, subst, inl, inr, arith, ◌⊎◌, Bool, true, false}
-use Rattle.std.specs.Option.{option_map}
-use Rattle.std.specs.Prelude.{Option, Some, None, Result, Ok, Err, IsSome, not}
+use Rattle.std.proofs.Common.{◌≡◌, ℕ, List, sym, ap, subst, inl, inr, arith, ◌⊎◌, Bool, true, false}
+use Rattle.std.specs.Prelude.{Option, Some, None}
 use Rattle.fw_outside.specs.Counts.{Rose}
 use Rattle.fw_outside.specs.DialerView.{DialerView}
 use Rattle.fw_outside.specs.FilesView.{FilesView}
-use Rattle.fw_outside.specs.KeeperView.{KeeperFailed, KeeperView, NamedBytes}
+use Rattle.fw_outside.specs.KeeperView.{KeeperFailed, KeeperView}
 use Rattle.fw_outside.specs.LauncherView.{LauncherView}
-use Rattle.fw_outside.specs.SinkView.{Gives, SinkView}
+use Rattle.fw_outside.specs.SinkView.{SinkView}
 use Rattle.fw_outside.specs.SourceView.{SourceView}
-use Rattle.fw_outside.specs.declared.failed.Failed as sink
 use Rattle.fw_types.specs.declared.ending.Ending.{Ending}
 use Rattle.fw_types.specs.declared.ending.Ending.TheVariants as endings
 use Rattle.gate_rules.specs.Verdict.{verdict_of}
 use Rattle.gate_rules.specs.declared.verdict.Verdict.{Verdict}
 use Rattle.gate_rules.specs.declared.verdict.Verdict.TheVariants.{Permit, Deny}
-use Rattle.bastion.specs.Talk.{table_kept}
-use Rattle.bastion.specs.Inputs.{Inputs, is_of_line, needs_records}
-use Rattle.bastion.specs.Outcome.{CountRose, DeviceRose, DiskRose, EndingRose, fault_line_of, GateRose, KeeperRose, LinkRose, OrderRose, RoseFor, RoseIn, SlotsRose, status_of, verdict_status}
-use Rattle.bastion.specs.Run.{CallsIf, DoesLine, DoesOrder, FilesFailed, ReadsOnly, Run, Stops, TellsIf, Worked}
+use Rattle.bastion.specs.Inputs.{Inputs, needs_records}
+use Rattle.bastion.specs.Outcome.{CountRose, DeviceRose, DiskRose, EndingRose, GateRose, KeeperRose, LinkRose, OrderRose, RoseFor, RoseIn, SlotsRose, status_of, verdict_status}
+use Rattle.bastion.specs.Run.{CallsIf, DoesLine, DoesOrder, FilesFailed, ReadsOnly, Stops, Worked}
 use Rattle.bastion.specs.Words.{LineView}
 use Rattle.bastion.specs.Works.{Works}
 use Rattle.bastion.specs.WorldView.{SessionInputs, WorldView}
@@ -26,8 +23,6 @@ use Rattle.bastion.specs.declared.outcome.Device.{Device}
 use Rattle.bastion.specs.declared.outcome.Device.TheVariants as device
 use Rattle.bastion.specs.declared.outcome.Outcome.{Outcome}
 use Rattle.bastion.specs.declared.outcome.Outcome.TheVariants.{Usage, Unread, Failed, NoMemory, Done, Decided, Ended}
-use Rattle.bastion.specs.declared.outcome.Step.{Step}
-use Rattle.bastion.specs.declared.outcome.Step.TheVariants as steps
 use Rattle.bastion.specs.declared.words.Command.{Command}
 use Rattle.bastion.specs.declared.words.Command.TheVariants.{Netacl, NetaclRun, Table, Authsrv, PlugGw, TnGw, Smap}
 use Rattle.bastion.specs.declared.words.Order.{Order}
@@ -39,7 +34,7 @@ use Rattle.bastion.proofs.LaunchLemmas.{run_rose}
 use Rattle.bastion.proofs.GatedLemmas.{gated_rose}
 use Rattle.bastion.proofs.LinkingLemmas.{linked_rose}
 use Rattle.bastion.proofs.MailedLemmas.{mailed_rose}
-use Rattle.client_service.proofs.SinkLemmas.{cut_rose, gives_most, rose_later, same_low}
+use Rattle.client_service.proofs.SinkLemmas.{rose_later}
 use Rattle.bastion.specs.Status.{DisksRose, LinksFailed, LinksRose, RoseBy, SomeRose}
 use Rattle.bastion.proofs.LeftLemmas.{Later, calls_launcher, only_left}
 

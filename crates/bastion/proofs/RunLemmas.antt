@@ -1,38 +1,25 @@
 -- From what a run did to its status, to what it leaves, and to the bytes that it takes.
-use Rattle.std.proofs.Common.{◌≡◌, ◌≤◌, ℕ, List, refl, sym, ◌∙◌, ap, subst, inl, inr, arith, ◌⊎◌, Bool, true, false}
-use Rattle.std.specs.Option.{option_map}
-use Rattle.std.specs.Prelude.{Option, Some, None, Result, Ok, Err, IsSome, not}
+use Rattle.std.proofs.Common.{◌≡◌, ℕ, List, refl, sym, ◌∙◌, ap, subst, inl, inr, ◌⊎◌, Bool, true, false}
+use Rattle.std.specs.Prelude.{Option, Some, None, Ok, Err, IsSome}
 use Rattle.fw_disk.specs.DiskView.{DiskView}
 use Rattle.fw_outside.specs.ClockView.{ClockView}
-use Rattle.fw_outside.specs.Counts.{Rose}
-use Rattle.fw_outside.specs.DialerView.{DialerView}
 use Rattle.fw_outside.specs.FilesView.{FilesView}
-use Rattle.fw_outside.specs.KeeperView.{KeeperFailed, KeeperView, NamedBytes}
-use Rattle.fw_outside.specs.LauncherView.{LauncherView}
-use Rattle.fw_outside.specs.SinkView.{Gives, SinkView}
+use Rattle.fw_outside.specs.KeeperView.{KeeperView}
 use Rattle.fw_outside.specs.SourceView.{SourceView}
 use Rattle.session_acts.specs.Causes.{TookMost}
 use Rattle.session_acts.specs.Laws.{Adds}
-use Rattle.fw_outside.specs.declared.failed.Failed as sink
-use Rattle.fw_types.specs.declared.ending.Ending.{Ending}
-use Rattle.fw_types.specs.declared.ending.Ending.TheVariants as endings
 use Rattle.gate_rules.specs.Verdict.{verdict_of}
 use Rattle.gate_rules.specs.declared.verdict.Verdict.{Verdict}
 use Rattle.gate_rules.specs.declared.verdict.Verdict.TheVariants.{Permit, Deny}
-use Rattle.bastion.specs.Talk.{table_kept}
-use Rattle.bastion.specs.Inputs.{Inputs, is_of_line, needs_records}
-use Rattle.bastion.specs.Outcome.{CountRose, DeviceRose, EndingRose, GateRose, KeeperRose, LinkRose, RoseFor, RoseIn, fault_line_of, status_of, verdict_status}
-use Rattle.bastion.specs.Run.{CallsIf, DoesLine, DoesOrder, FilesFailed, ReadsOnly, Run, Stops, TellsIf, Worked}
-use Rattle.bastion.specs.Status.{CommandLeavesDisks, IsAtLimit, IsFull, IsHeld, IsLinked, IsMailed, IsPassed, IsServed, IsStatus, IsStatusFor, IsStatusOf, LeavesDisks, LinkSpent, LinksFailed, LinksRose, OrderLeavesDisks, RoseBy, SomeRose, TakesBy, TakesFor, TakesIn, TakesOf}
+use Rattle.bastion.specs.Inputs.{Inputs, needs_records}
+use Rattle.bastion.specs.Outcome.{RoseFor, fault_line_of, status_of, verdict_status}
+use Rattle.bastion.specs.Run.{DoesLine, DoesOrder, Run, Stops, Worked}
+use Rattle.bastion.specs.Status.{CommandLeavesDisks, IsAtLimit, IsFull, IsHeld, IsLinked, IsMailed, IsPassed, IsServed, IsStatus, IsStatusFor, IsStatusOf, LeavesDisks, LinkSpent, OrderLeavesDisks, TakesBy, TakesFor, TakesIn, TakesOf}
 use Rattle.bastion.specs.Words.{LineView}
 use Rattle.bastion.specs.Works.{Works}
 use Rattle.bastion.specs.WorldView.{SessionInputs, WorldView}
-use Rattle.bastion.specs.declared.outcome.Device.{Device}
-use Rattle.bastion.specs.declared.outcome.Device.TheVariants as device
 use Rattle.bastion.specs.declared.outcome.Outcome.{Outcome}
 use Rattle.bastion.specs.declared.outcome.Outcome.TheVariants.{Usage, Unread, Failed, NoMemory, Done, Decided, Ended}
-use Rattle.bastion.specs.declared.outcome.Step.{Step}
-use Rattle.bastion.specs.declared.outcome.Step.TheVariants as steps
 use Rattle.bastion.specs.declared.words.Command.{Command}
 use Rattle.bastion.specs.declared.words.Command.TheVariants.{Netacl, NetaclRun, Table, Authsrv, PlugGw, TnGw, Smap}
 use Rattle.bastion.specs.declared.words.Order.{Order}
@@ -44,7 +31,6 @@ use Rattle.bastion.proofs.LaunchLemmas.{run_left, run_status_by}
 use Rattle.bastion.proofs.GatedLemmas.{gated_status, gated_takes}
 use Rattle.bastion.proofs.LinkingLemmas.{linked_status, linked_takes}
 use Rattle.bastion.proofs.MailedLemmas.{mailed_left, mailed_slots, mailed_status, mailed_takes, mailed_unasked}
-use Rattle.client_service.proofs.SinkLemmas.{cut_rose, gives_most, rose_later, same_low}
 use Rattle.bastion.proofs.LeftLemmas.{Later, only_left, some_there, stops_left, tells_later}
 use Rattle.bastion.proofs.RoseLemmas.{by_later, rose_for, rose_some, stops_rose, worked_rose}
 

@@ -1,7 +1,7 @@
 -- From the queues of a rack to the places of its disks.
-use Rattle.std.proofs.Common.{arith, eq-eqb, ne_eqb, ◌≡◌, refl, sym, ap, subst, ◌∙◌, ℕ, zero, suc, ◌+◌, ◌<◌, ◌≤◌, inl, inr, ◌⊎◌, nat_eq, cond, Bool, true, false, List, [], ◌∷◌, ◌++◌, length, map, take, drop}
-use Rattle.std.specs.List.{All, AllByRecursion, sum_by}
-use Rattle.std.specs.List.Sorted.{IsNonDecreasingBy, IsPermutation}
+use Rattle.std.proofs.Common.{arith, eq-eqb, ne_eqb, ◌≡◌, refl, sym, ap, subst, ◌∙◌, ℕ, zero, suc, ◌+◌, ◌<◌, ◌≤◌, inl, inr, ◌⊎◌, nat_eq, cond, Bool, List, [], ◌∷◌, ◌++◌, length, map, take, drop}
+use Rattle.std.specs.List.{AllByRecursion, sum_by}
+use Rattle.std.specs.List.Sorted.{IsNonDecreasingBy}
 use Rattle.std.proofs.lemmas.Bool.{cases_order}
 use Rattle.std.proofs.lemmas.List.{map-append}
 use Rattle.std.proofs.lemmas.List.Elements.{All-from_recursion, recursion_from_All}
@@ -12,10 +12,10 @@ use Rattle.session_acts.specs.Stored.{AreKept, KeptMail}
 use Rattle.spool_rack.specs.Opening.{AreInOrder, AreSlotsOf, HeldView, all_of, held_broken, held_full, held_slot, queues_of}
 use Rattle.spool_rack.specs.Store.{Queues}
 use Rattle.spool_slots.specs.Opened.{number_of}
-use Rattle.spool_slots.specs.States.{BrokenView, FullView, SlotView}
+use Rattle.spool_slots.specs.States.{FullView, SlotView}
 use Rattle.spool_slots.specs.declared.opening.Opened.{Opened}
 use Rattle.spool_slots.specs.declared.opening.Opened.TheVariants.{Free, Full, Aside}
-use Rattle.bastion.specs.Spool.{AtPlace, HasMail, StandAtPlaces, StayAsOpened, StaysAt}
+use Rattle.bastion.specs.Spool.{AtPlace, HasMail, StandAtPlaces, StayAsOpened}
 
 -- ---- how many slots have a number
 

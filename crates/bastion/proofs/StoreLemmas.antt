@@ -1,7 +1,6 @@
 -- What a session leaves of the slots: their numbers, and those that are set aside.
-use Rattle.std.proofs.Common.{arith, ◌≡◌, refl, sym, ap, subst, ◌∙◌, ℕ, ◌+◌, inl, inr, ◌⊎◌, List, [], ◌∷◌, ◌++◌, take, drop, map}
+use Rattle.std.proofs.Common.{arith, ◌≡◌, refl, sym, ap, subst, ◌∙◌, ℕ, inl, inr, ◌⊎◌, List, [], ◌∷◌, take, drop}
 use Rattle.std.specs.Prelude.{Option, Some, None, IfSome, option_map, Result, Ok, Err}
-use Rattle.session_acts.proofs.DeedLemmas.{all_last, held_deeds}
 use Rattle.session_acts.specs.Acts.{Act, Outcome, Undeposited}
 use Rattle.session_acts.specs.Acts.Act.{Hear, Say, Try, Log, Note, Ask, Renew, Dial, Reach, Take, Pass, HangUp, Relay, Deposit, Allot}
 use Rattle.session_acts.specs.Acts.Undeposited.{Lacks, Unsaid, Unheard}
@@ -14,7 +13,7 @@ use Rattle.session_acts.specs.declared.deposited.Deposited.TheVariants.{NoSlot, 
 use Rattle.spool_rack.specs.Opening.{held_broken, held_full, held_slot}
 use Rattle.spool_rack.specs.Store.{HasNoFree, HasTakenFree, PutsBroken, Queues, StoreView, put_free, put_full, with_broken, with_free, with_full, without_free}
 use Rattle.spool_slots.specs.States.{BrokenView, FullView, SlotView}
-use Rattle.bastion.proofs.SpoolLemmas.{QueuesStay, four_counts, held_added, held_count, held_first, one_at}
+use Rattle.bastion.proofs.SpoolLemmas.{QueuesStay, four_counts, held_added, held_first, one_at}
 
 -- where the store tells its queues
 abbrev pub QueuesStayIf : Option Queues → Option Queues → Type 0

@@ -23,7 +23,6 @@ use Rattle.smap_gate.specs.Dialogue.{smap_row, smap_rows}
 use Rattle.smap_gate.specs.Replies.{ToldInOrder}
 use Rattle.spool_rack.specs.Opening.{IsRackOf}
 use Rattle.spool_rack.specs.Store.{StoreView}
-use Rattle.bastion.specs.Asking.{FailsWithin}
 use Rattle.bastion.specs.Inputs.{HasInputs, Inputs}
 use Rattle.bastion.specs.Mailing.{mailed_devices}
 use Rattle.bastion.specs.Run.{ReadsOnly, verdict_for}

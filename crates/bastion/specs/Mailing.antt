@@ -1,6 +1,6 @@
 -- The work of `smap`: the slots are opened, a client of the mail gateway is served over them and the devices of the run, and
 -- the disks are given back.
-use Rattle.std.specs.Prelude.{◌≡◌, ℕ, ◌⊎◌, false, List, [], ◌∷◌, IfSome}
+use Rattle.std.specs.Prelude.{◌≡◌, ℕ, ◌⊎◌, false, List, [], IfSome}
 use Rattle.client_service.specs.Conn.{Conn}
 use Rattle.fw_disk.specs.DiskView.{DiskView}
 use Rattle.fw_outside.specs.DialerView.{DialerView}
@@ -12,7 +12,7 @@ use Rattle.plug_gate.specs.Dummies.{no_port}
 use Rattle.session_acts.specs.Dummies.{nowhere}
 use Rattle.session_acts.specs.World.{Devices, mail_devices_with}
 use Rattle.spool_rack.specs.Opening.{AreInOrder, IsRackFault, IsRackOf}
-use Rattle.spool_rack.specs.Store.{Queues, StoreView}
+use Rattle.spool_rack.specs.Store.{StoreView}
 use Rattle.spool_slots.specs.declared.slot_why.SlotWhy.{SlotWhy}
 use Rattle.spool_slots.specs.declared.slot_why.SlotWhy.TheVariants as whys
 use Rattle.bastion.specs.Inputs.{Inputs}

@@ -1,5 +1,5 @@
 -- The work of each command, once its inputs are read: what it gives to the log and to the output, and what it comes to.
-use Rattle.std.specs.Prelude.{◌≡◌, ℕ, List, [], ◌∷◌, Result, Ok, Err}
+use Rattle.std.specs.Prelude.{◌≡◌, ℕ, List, ◌∷◌, Result, Ok, Err}
 use Rattle.fw_outside.specs.LauncherView.{LauncherView, Starts}
 use Rattle.fw_outside.specs.SinkView.{Gives, SinkView}
 use Rattle.fw_outside.specs.ToldList.{grown}

@@ -113,13 +113,22 @@ fn append_line(out: &mut LogLine, line: u32, why: &[u8])
     append(out, why);
 }
 
+// Appends a number in decimal.
+fn append_u64(out: &mut LogLine, number: u64)
+    requires { array_vec_len out.old ≤ 480 }
+    ensures items { out.new.items ≡ out.old.items ++ decimal number }
+    ensures room { array_vec_len out.new ≤ array_vec_len out.old + 20 }
+{
+    append_decimal(out, number);
+}
+
 /// Appends a number in decimal.
 pub(crate) fn append_usize(out: &mut LogLine, number: usize)
     requires { array_vec_len out.old ≤ 480 }
     ensures items { out.new.items ≡ out.old.items ++ decimal number }
     ensures room { array_vec_len out.new ≤ array_vec_len out.old + 20 }
 {
-    append_decimal(out, number as u64);
+    append_u64(out, number as u64);
 }
 
 // Appends whose record can't be read, and the place of its first bad byte.
@@ -137,11 +146,11 @@ fn append_record(out: &mut LogLine, name: &Name, at: usize)
 fn append_slot(out: &mut LogLine, slot: u32, at: u64)
     requires { array_vec_len out.old ≤ 400 }
     ensures items { out.new.items ≡ out.old.items ++ slot_text slot at }
-    ensures room { array_vec_len out.new ≤ array_vec_len out.old + 40 }
+    ensures room { array_vec_len out.new ≤ array_vec_len out.old + 44 }
 {
-    append_u32(out, slot);
+    append_u64(out, u64::from(slot));
     append(out, b" at ");
-    append_decimal(out, at);
+    append_u64(out, at);
 }
 
 // Appends what can't be read.
