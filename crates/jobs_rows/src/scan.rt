@@ -23,6 +23,7 @@ struct Counts {
 }
 
 /// The numbers that are drawn.
+#[derive(Drop)]
 struct Drawer {
     last: u64,
 }
