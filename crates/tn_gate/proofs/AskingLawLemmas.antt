@@ -163,8 +163,8 @@ stop_none gate p Take halt may = absurd may.asks
 stop_none gate p (Pass text) halt may = absurd may.asks
 stop_none gate p HangUp halt may = absurd halt
 stop_none gate p Relay halt may = may.asks
-stop_none gate p (Deposit sender rcpts words most) halt may = may.asks
-stop_none gate p Allot halt may = may.asks
+stop_none gate p (Deposit sender rcpts words most) halt may = absurd may.asks
+stop_none gate p Allot halt may = absurd may.asks
 
 none_behind : (text : List ℕ) (answer : Result Reply PortFault) → behind_opening text (reply_of answer) requests.Close ≡ None
 none_behind text (Ok (replies.Opened sid)) = refl
@@ -300,7 +300,7 @@ hears_none Take outcome rest is none = none
 hears_none (Pass text) outcome rest is none = none
 hears_none HangUp outcome rest is none = none
 hears_none Relay outcome rest is none = refl
-hears_none (Deposit sender rcpts words most) outcome rest is none = none
+hears_none (Deposit sender rcpts words most) outcome rest is none = absurd (true≢false is)
 hears_none Allot outcome rest is none = none
 
 none_heard_after : (gate : Gate) (p : Point) (deeds : List Deed) → p.over ≡ true → AllFit gate p deeds → gives heard_in (before_relay deeds) ≡ []
