@@ -1,6 +1,6 @@
 -- A session that speaks with no server is idle only since its client was, which waited then as long as it was to.
 use Rattle.std.proofs.Common.{arith, ◌≡◌, ◌≤◌, ◌∙◌, sym, ap, subst, ℕ, true, map}
-use Rattle.std.specs.Prelude.{Option, Some, None, Result, Ok, Err}
+use Rattle.std.specs.Prelude.{List, Option, Some, None, Result, Ok, Err}
 use Rattle.auth_events.specs.declared.port.PortFault.{PortFault}
 use Rattle.auth_events.specs.declared.port.PortFault.TheVariants as faults
 use Rattle.auth_events.specs.declared.reply.Reply.{Reply}
@@ -16,7 +16,7 @@ use Rattle.fw_outside.specs.declared.heard.Stop.TheVariants as stops
 use Rattle.fw_types.specs.declared.ending.Ending.{Ending}
 use Rattle.fw_types.specs.declared.ending.Ending.TheVariants as endings
 use Rattle.session_acts.specs.Acts.{Act, Halt, cause_by, fault_cause, silence_cause}
-use Rattle.session_acts.specs.Acts.Act.{Hear, Say, Try, Log, Note, Ask, Renew, Dial, Reach, Take, Pass, HangUp, Relay}
+use Rattle.session_acts.specs.Acts.Act.{Hear, Say, Try, Log, Note, Ask, Renew, Dial, Reach, Take, Pass, HangUp, Relay, Deposit, Allot}
 use Rattle.session_acts.specs.Deeds.{done}
 use Rattle.session_acts.specs.Met.{Hears, Heeds, Met, acts}
 use Rattle.session_acts.specs.Serverless.{KeepsServerless, is_serverless, serverless_watch}
@@ -33,6 +33,10 @@ use Rattle.session_acts.proofs.DeviceLemmas.{halted_waited, rose_within}
 use Rattle.session_acts.proofs.SpentLemmas.{owed_client}
 use Rattle.session_acts.proofs.StaysLemmas.{stays_last}
 use Rattle.client_service.specs.Conn.{WaitsAlone}
+use Rattle.session_acts.proofs.CauseLemmas.{draws_rose, drawn_waited}
+use Rattle.session_acts.specs.Met.{AtClientDeposit, DrawsAfter, stop_of}
+use Rattle.session_acts.specs.Acts.Undeposited.{Lacks, Unsaid, Unheard}
+use Rattle.session_acts.specs.Acts.{Undeposited, deposit_cause}
 
 -- what a stop says of the client, by how the session ends
 abbrev QuietBy : Ending → Speaker → Speaker → Type 0
@@ -52,6 +56,16 @@ fault_quiet faults.NoMemory old new = tt
 fault_quiet faults.Link old new = tt
 fault_quiet faults.Strange old new = tt
 
+data_quiet : (silence : Silence) (words data_heard : List ℕ) (old new : Speaker) → DrawsAfter words (Some (stop_of silence)) data_heard old new → QuietBy (ending_by (silence_cause causes.ClientFault silence)) old new
+data_quiet Quiet words data_heard old new h = record { rose = draws_rose words data_heard old new h; waited = drawn_waited data_heard h.middle new h.draws }
+data_quiet Broken words data_heard old new h = tt
+data_quiet Limit words data_heard old new h = tt
+
+deposit_quiet : (words : List ℕ) (halt : Undeposited words) (old new : Speaker) → AtClientDeposit words (Err halt) old new → QuietBy (ending_by (deposit_cause halt)) old new
+deposit_quiet words Lacks old new h = tt
+deposit_quiet words (Unsaid front) old new h = tt
+deposit_quiet words (Unheard silence data_heard) old new h = data_quiet silence words data_heard old new h
+
 stop_quiet : {Origin : Type 0} (act : Act) (halt : Halt act) (old new : World Origin) → is_serverless act ≡ true → Met act (Err halt) old new → QuietBy (ending_by (cause_by act halt)) old.client new.client
 stop_quiet (Hear form) halt old new is met = hear_quiet form halt old.client new.client met.client
 stop_quiet (Say text) halt old new is met = tt
@@ -66,6 +80,8 @@ stop_quiet Take halt old new is met = absurd (cc)
 stop_quiet (Pass text) halt old new is met = absurd (cc)
 stop_quiet HangUp halt old new is met = absurd (cc)
 stop_quiet Relay halt old new is met = absurd (cc)
+stop_quiet (Deposit sender rcpts words most) halt old new is met = deposit_quiet words halt old.client new.client met.client
+stop_quiet Allot halt old new is met = tt
 
 waits_by : (ending : Ending) (old new : SourceView) (before last : Speaker) → QuietBy ending before last → old.idles ≤ before.inlet.idles → last.inlet.waits ≡ old.waits → last.inlet ≡ new → WaitsAlone ending old new
 waits_by endings.Idle old new before last h least waits same =
