@@ -1,6 +1,6 @@
 -- A session that speaks with no server is idle only since its client was, which waited then as long as it was to.
-use Rattle.std.proofs.Common.{arith, ◌≡◌, ◌≤◌, ◌∙◌, sym, ap, subst, ℕ, true, map}
-use Rattle.std.specs.Prelude.{List, Option, Some, None, Result, Ok, Err}
+use Rattle.std.proofs.Common.{arith, ◌≡◌, ◌≤◌, ◌∙◌, sym, ap, subst, ℕ, List, true, map}
+use Rattle.std.specs.Prelude.{Option, Some, None, Result, Ok, Err}
 use Rattle.auth_events.specs.declared.port.PortFault.{PortFault}
 use Rattle.auth_events.specs.declared.port.PortFault.TheVariants as faults
 use Rattle.auth_events.specs.declared.reply.Reply.{Reply}
@@ -15,10 +15,11 @@ use Rattle.fw_outside.specs.declared.heard.Heard.TheVariants.{Stopped}
 use Rattle.fw_outside.specs.declared.heard.Stop.TheVariants as stops
 use Rattle.fw_types.specs.declared.ending.Ending.{Ending}
 use Rattle.fw_types.specs.declared.ending.Ending.TheVariants as endings
-use Rattle.session_acts.specs.Acts.{Act, Halt, cause_by, fault_cause, silence_cause}
+use Rattle.session_acts.specs.Acts.{Act, Halt, Undeposited, cause_by, deposit_cause, fault_cause, silence_cause}
 use Rattle.session_acts.specs.Acts.Act.{Hear, Say, Try, Log, Note, Ask, Renew, Dial, Reach, Take, Pass, HangUp, Relay, Deposit, Allot}
+use Rattle.session_acts.specs.Acts.Undeposited.{Lacks, Unsaid, Unheard}
 use Rattle.session_acts.specs.Deeds.{done}
-use Rattle.session_acts.specs.Met.{Hears, Heeds, Met, acts}
+use Rattle.session_acts.specs.Met.{AtClientDeposit, DrawsAfter, Hears, Heeds, Met, acts, stop_of}
 use Rattle.session_acts.specs.Serverless.{KeepsServerless, is_serverless, serverless_watch}
 use Rattle.session_acts.specs.Session.{Session, ending_by, ending_of}
 use Rattle.session_acts.specs.World.{Devices, Speaker, World, at_first}
@@ -29,14 +30,10 @@ use Rattle.session_acts.specs.declared.silence.Silence.{Silence}
 use Rattle.session_acts.specs.declared.silence.Silence.TheVariants.{Quiet, Broken, Limit}
 use Rattle.session_acts.proofs.CauseLemmas.{WasIdle, idled, session_stays}
 use Rattle.session_acts.proofs.DeedLemmas.{all_last, deeds_done}
-use Rattle.session_acts.proofs.DeviceLemmas.{halted_waited, rose_within}
+use Rattle.session_acts.proofs.DeviceLemmas.{halted_idles, halted_waited, rose_within}
 use Rattle.session_acts.proofs.SpentLemmas.{owed_client}
 use Rattle.session_acts.proofs.StaysLemmas.{stays_last}
 use Rattle.client_service.specs.Conn.{WaitsAlone}
-use Rattle.session_acts.proofs.CauseLemmas.{draws_rose, drawn_waited}
-use Rattle.session_acts.specs.Met.{AtClientDeposit, DrawsAfter, stop_of}
-use Rattle.session_acts.specs.Acts.Undeposited.{Lacks, Unsaid, Unheard}
-use Rattle.session_acts.specs.Acts.{Undeposited, deposit_cause}
 
 -- what a stop says of the client, by how the session ends
 abbrev QuietBy : Ending → Speaker → Speaker → Type 0
@@ -51,20 +48,30 @@ hear_quiet form Quiet old new h = record { rose = idled form old new h; waited =
 hear_quiet form Broken old new h = tt
 hear_quiet form Limit old new h = tt
 
-fault_quiet : (fault : PortFault) (old new : Speaker) → QuietBy (ending_by (fault_cause fault)) old new
-fault_quiet faults.NoMemory old new = tt
-fault_quiet faults.Link old new = tt
-fault_quiet faults.Strange old new = tt
+-- a client that was idle within the data of a mail
+drew_idle : (words data_heard : List ℕ) (old new : Speaker) → DrawsAfter words (Some stops.Idle) data_heard old new → WasIdle old.inlet new.inlet
+drew_idle words data_heard old new h =
+    let draws = h.draws in
+    let same : h.middle.inlet ≡ old.inlet = ap (λ (s : Speaker). s.inlet) h.told.is in
+    let was : WasIdle h.middle.inlet new.inlet =
+    subst (λ (s : Speaker). WasIdle h.middle.inlet s.inlet) (sym draws.is)
+    (record { rose = halted_idles draws.reads.taken_now h.middle.inlet draws.middle draws.inlet draws.reads.takes draws.closes.1; waited = halted_waited draws.middle draws.inlet draws.closes.1 }) in
+    subst (λ (s : SourceView). WasIdle s new.inlet) same was
 
-data_quiet : (silence : Silence) (words data_heard : List ℕ) (old new : Speaker) → DrawsAfter words (Some (stop_of silence)) data_heard old new → QuietBy (ending_by (silence_cause causes.ClientFault silence)) old new
-data_quiet Quiet words data_heard old new h = record { rose = draws_rose words data_heard old new h; waited = drawn_waited data_heard h.middle new h.draws }
-data_quiet Broken words data_heard old new h = tt
-data_quiet Limit words data_heard old new h = tt
+data_quiet : (words data_heard : List ℕ) (silence : Silence) (old new : Speaker) → DrawsAfter words (Some (stop_of silence)) data_heard old new → QuietBy (ending_by (silence_cause causes.ClientFault silence)) old new
+data_quiet words data_heard Quiet old new h = drew_idle words data_heard old new h
+data_quiet words data_heard Broken old new h = tt
+data_quiet words data_heard Limit old new h = tt
 
 deposit_quiet : (words : List ℕ) (halt : Undeposited words) (old new : Speaker) → AtClientDeposit words (Err halt) old new → QuietBy (ending_by (deposit_cause halt)) old new
 deposit_quiet words Lacks old new h = tt
 deposit_quiet words (Unsaid front) old new h = tt
-deposit_quiet words (Unheard silence data_heard) old new h = data_quiet silence words data_heard old new h
+deposit_quiet words (Unheard silence data_heard) old new h = data_quiet words data_heard silence old new h
+
+fault_quiet : (fault : PortFault) (old new : Speaker) → QuietBy (ending_by (fault_cause fault)) old new
+fault_quiet faults.NoMemory old new = tt
+fault_quiet faults.Link old new = tt
+fault_quiet faults.Strange old new = tt
 
 stop_quiet : {Origin : Type 0} (act : Act) (halt : Halt act) (old new : World Origin) → is_serverless act ≡ true → Met act (Err halt) old new → QuietBy (ending_by (cause_by act halt)) old.client new.client
 stop_quiet (Hear form) halt old new is met = hear_quiet form halt old.client new.client met.client

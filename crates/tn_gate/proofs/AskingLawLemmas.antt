@@ -240,8 +240,8 @@ asks_by p Take outcome gate deeds may later = absurd may.asks
 asks_by p (Pass text) outcome gate deeds may later = absurd may.asks
 asks_by p HangUp outcome gate deeds may later = later
 asks_by p Relay outcome gate deeds may later = later
-asks_by p (Deposit sender rcpts words most) outcome gate deeds may later = later
-asks_by p Allot outcome gate deeds may later = later
+asks_by p (Deposit sender rcpts words most) outcome gate deeds may later = absurd may.asks
+asks_by p Allot outcome gate deeds may later = absurd may.asks
 
 asks_next : (gate : Gate) (p : Point) (deeds : List Deed) → AllFit gate p deeds → AsksNext p.due deeds
 asks_next gate p [] fit = fit
