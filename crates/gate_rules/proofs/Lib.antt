@@ -1,7 +1,9 @@
+pub mod IndexLemmas
 pub mod LawLemmas
 pub mod LeftmostLemmas
 pub mod LineFaultLemmas
 pub mod ListsLemmas
+pub mod MergingLemmas
 pub mod OptionCheckLemmas
 pub mod OptionsBuilderLemmas
 pub mod RulesLemmas

@@ -8,12 +8,15 @@
 #![tactic(auto)]
 
 mod attribute;
+mod book;
 mod fault;
+mod index;
 mod label;
 pub mod laws;
 mod line_effect;
 mod line_fault;
 mod lists;
+mod merging;
 mod operation;
 mod operation_hosts;
 mod option_check;
