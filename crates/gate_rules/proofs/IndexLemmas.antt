@@ -99,30 +99,30 @@ more_none (x ∷ own) h zero = h zero
 more_none (x ∷ own) h (suc octet) = more_none own (λ k. h (suc k)) octet
 
 pub empty_index : (own : List (List ℕ)) → length own ≡ 256 → ((octet : ℕ) → get_or own octet [] ≡ []) → IsIndex [] [] own
-empty_index own count none = record { every = refl; count = count; own = λ octet small. none octet }
+empty_index own count none = record { all = refl; count = count; each = λ octet small. none octet }
 
 -- one rule more
 pub everywhere_added : (rules : List Rule) (rule : Rule) (every : List ℕ) (own : List (List ℕ)) (at : ℕ) → is_everywhere rule ≡ true → length rules ≡ at
     → IsIndex rules every own → IsIndex (rules ++ rule ∷ []) (every ++ at ∷ []) own
 everywhere_added rules rule every own at all long index = record {
-  every =
+  all =
       let place : 0 + length rules ≡ at = omega arith in
-      ap (λ ps. ps ++ at ∷ []) index.every ∙ ap (λ n. places 0 is_everywhere rules ++ n ∷ []) (sym place) ∙ sym (place_added 0 is_everywhere rules rule all);
+      ap (λ ps. ps ++ at ∷ []) index.all ∙ ap (λ n. places 0 is_everywhere rules ++ n ∷ []) (sym place) ∙ sym (place_added 0 is_everywhere rules rule all);
   count = index.count;
-  own = λ octet small.
+  each = λ octet small.
       let other : is_own octet rule ≡ false = rw all refl in
-      index.own octet small ∙ sym (place_kept 0 (is_own octet) rules rule other);
+      index.each octet small ∙ sym (place_kept 0 (is_own octet) rules rule other);
 }
 
 pub own_added : (rules : List Rule) (rule : Rule) (every : List ℕ) (own new : List (List ℕ)) (at : ℕ) → is_everywhere rule ≡ false → length rules ≡ at → length new ≡ 256
     → ((octet : ℕ) → octet < 256 → get_or new octet [] ≡ noted_if (list_any (is_octet octet) (buckets rule.hosts)) at (get_or own octet []))
     → IsIndex rules every own → IsIndex (rules ++ rule ∷ []) every new
 own_added rules rule every own new at none long count noted_each index = record {
-  every = index.every ∙ sym (place_kept 0 is_everywhere rules rule none);
+  all = index.all ∙ sym (place_kept 0 is_everywhere rules rule none);
   count = count;
-  own = λ octet small.
+  each = λ octet small.
       noted_each octet small
-      ∙ ap (noted_if (list_any (is_octet octet) (buckets rule.hosts)) at) (index.own octet small)
+      ∙ ap (noted_if (list_any (is_octet octet) (buckets rule.hosts)) at) (index.each octet small)
       ∙ one octet (list_any (is_octet octet) (buckets rule.hosts)) refl;
 }
   where

@@ -1,3 +1,4 @@
+pub mod BucketLemmas
 pub mod IndexLemmas
 pub mod LawLemmas
 pub mod LeftmostLemmas

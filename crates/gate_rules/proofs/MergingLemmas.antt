@@ -118,20 +118,20 @@ not_everywhere octet rule h = by (is_everywhere rule) refl
 
 pub record IsWalked (octet : ℕ) (peer : Peer) (rules : List Rule) (every own : List ℕ) (start steps : ℕ) : Type 0 where
   pub from : ℕ
-  pub every : every ≡ places from is_everywhere (drop from rules)
-  pub own : own ≡ places from (is_own octet) (drop from rules)
+  pub all : every ≡ places from is_everywhere (drop from rules)
+  pub mine : own ≡ places from (is_own octet) (drop from rules)
   pub answer : decided_by (find (rule_matches peer) (filter (stands_in octet) (drop from rules))) ≡ decided_by (find (rule_matches peer) (filter (stands_in octet) rules))
-  pub steps : steps + rules_steps peer (filter (stands_in octet) (drop from rules)) ≡ start + rules_steps peer (filter (stands_in octet) rules)
+  pub count : steps + rules_steps peer (filter (stands_in octet) (drop from rules)) ≡ start + rules_steps peer (filter (stands_in octet) rules)
   pub bound : steps + pattern_count (filter (stands_in octet) (drop from rules)) ≤ start + pattern_count (filter (stands_in octet) rules)
 
 pub walk_starts : (octet : ℕ) (peer : Peer) (rules : List Rule) (every : List ℕ) (own : List (List ℕ)) (mine : List ℕ) (steps : ℕ) → octet < 256 → IsIndex rules every own → mine ≡ get_or own octet []
     → IsWalked octet peer rules every mine steps steps
 walk_starts octet peer rules every own mine steps small index is = record {
   from = 0;
-  every = index.every;
-  own = is ∙ index.own octet small;
+  all = index.all;
+  mine = is ∙ index.each octet small;
   answer = refl;
-  steps = refl;
+  count = refl;
   bound = omega arith;
 }
 
@@ -173,7 +173,7 @@ ahead octet rules from every own at later others he ho (inr first) =
 -- the place of the next rule is a rule's
 pub next_within : (octet : ℕ) (peer : Peer) (rules : List Rule) (every own : List ℕ) (start steps at : ℕ) (later others : List ℕ) → IsWalked octet peer rules every own start steps → IsNext every own at later others → at < length rules
 next_within octet peer rules every own start steps at later others walked next =
-    (ahead octet rules walked.from every own at later others walked.every walked.own next).within
+    (ahead octet rules walked.from every own at later others walked.all walked.mine next).within
 
 -- what the bucket has from there on, where that rule stands first
 record Here (octet : ℕ) (rules : List Rule) (from at : ℕ) (rule : Rule) (later others : List ℕ) : Type 0 where
@@ -184,7 +184,7 @@ record Here (octet : ℕ) (rules : List Rule) (from at : ℕ) (rule : Rule) (lat
 here : (octet : ℕ) (peer : Peer) (rules : List Rule) (every own : List ℕ) (start steps at : ℕ) (later others : List ℕ) (rule : Rule) → (walked : IsWalked octet peer rules every own start steps) → IsNext every own at later others
     → rule ≡ get_or rules at rule → Here octet rules walked.from at rule later others
 here octet peer rules every own start steps at later others rule walked next is =
-    let it = ahead octet rules walked.from every own at later others walked.every walked.own next in
+    let it = ahead octet rules walked.from every own at later others walked.all walked.mine next in
     record {
       rest = it.rest rule ∙ ap (λ r. r ∷ filter (stands_in octet) (drop (at + 1) rules)) (sym is);
       every = it.every;
@@ -210,7 +210,7 @@ match_steps octet peer rules every own start steps at later others rule walked n
     let it = here octet peer rules every own start steps at later others rule walked next is in
     let one : rules_steps peer (filter (stands_in octet) (drop walked.from rules)) ≡ patterns_tested rule.hosts peer =
     ap (rules_steps peer) it.rest ∙ ends_at_match peer rule (filter (stands_in octet) (drop (at + 1) rules)) e in
-    let done = walked.steps in
+    let done = walked.count in
     omega arith
 
 pub match_bound : (octet : ℕ) (peer : Peer) (rules : List Rule) (every own : List ℕ) (start steps at : ℕ) (later others : List ℕ) (rule : Rule) (new : ℕ) → IsWalked octet peer rules every own start steps → IsNext every own at later others
@@ -229,20 +229,20 @@ walked_past octet peer rules every own start steps at later others rule new walk
     let count : pattern_count (filter (stands_in octet) (drop walked.from rules)) ≡ length rule.hosts + pattern_count left = ap pattern_count it.rest in
     let one : rules_steps peer (filter (stands_in octet) (drop walked.from rules)) ≡ patterns_tested rule.hosts peer + rules_steps peer left =
     ap (rules_steps peer) it.rest ∙ goes_past peer rule left e in
-    let before = walked.steps in
+    let before = walked.count in
     let least = walked.bound in
     record {
       from = at + 1;
-      every = it.every;
-      own = it.own;
+      all = it.every;
+      mine = it.own;
       answer = sym (ap decided_by (ap (find (rule_matches peer)) it.rest ∙ found_past peer rule left e)) ∙ walked.answer;
-      steps = omega arith;
+      count = omega arith;
       bound = omega arith;
     }
 
 ended : (octet : ℕ) (peer : Peer) (rules : List Rule) (every own : List ℕ) (start steps : ℕ) → (walked : IsWalked octet peer rules every own start steps) → every ≡ [] → own ≡ [] → filter (stands_in octet) (drop walked.from rules) ≡ []
 ended octet peer rules every own start steps walked e o =
-    none_left (stands_in octet) is_everywhere (is_own octet) (stands octet) walked.from (drop walked.from rules) (sym walked.every ∙ e) (sym walked.own ∙ o)
+    none_left (stands_in octet) is_everywhere (is_own octet) (stands octet) walked.from (drop walked.from rules) (sym walked.all ∙ e) (sym walked.mine ∙ o)
 
 pub end_answers : (octet : ℕ) (peer : Peer) (rules : List Rule) (every own : List ℕ) (start steps : ℕ) → IsWalked octet peer rules every own start steps → every ≡ [] → own ≡ []
     → Deny 0 ≡ decided_by (find (rule_matches peer) (filter (stands_in octet) rules))
@@ -255,7 +255,7 @@ pub end_steps : (octet : ℕ) (peer : Peer) (rules : List Rule) (every own : Lis
 end_steps octet peer rules every own start steps walked e o =
     let none = ended octet peer rules every own start steps walked e o in
     let zero_left : rules_steps peer (filter (stands_in octet) (drop walked.from rules)) ≡ 0 = ap (rules_steps peer) none ∙ no_steps peer in
-    let done = walked.steps in
+    let done = walked.count in
     omega arith
 
 pub end_bound : (octet : ℕ) (peer : Peer) (rules : List Rule) (every own : List ℕ) (start steps : ℕ) → IsWalked octet peer rules every own start steps → steps ≤ start + pattern_count (filter (stands_in octet) rules)

@@ -19,9 +19,9 @@ is_own octet rule = not (is_everywhere rule) && list_any (is_octet octet) (bucke
 
 -- The places of the rules that stand in every bucket, and of those that stand in an octet's own.
 pub record IsIndex (rules : List Rule) (every : List ℕ) (own : List (List ℕ)) : Type 0 where
-  pub every : every ≡ places 0 is_everywhere rules
+  pub all : every ≡ places 0 is_everywhere rules
   pub count : length own ≡ 256
-  pub own : (octet : ℕ) → octet < 256 → get_or own octet [] ≡ places 0 (is_own octet) rules
+  pub each : (octet : ℕ) → octet < 256 → get_or own octet [] ≡ places 0 (is_own octet) rules
 
 -- whether a place is the last of some
 abbrev pub ends_in : ℕ → List ℕ → Bool

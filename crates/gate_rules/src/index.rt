@@ -1,5 +1,5 @@
 //! Where the rules stand that may match a peer, by the first octet of its address.
-ghost use Rattle.std.specs.Prelude.{◌≡◌, ◌<◌, ℕ, List, [], ◌∷◌, ◌++◌, get_or, length, IfOk, OnOk};
+ghost use Rattle.std.specs.Prelude.{◌≡◌, ◌<◌, ◌==◌, ℕ, List, [], ◌∷◌, ◌++◌, get_or, length, IfOk, OnOk};
 ghost use Rattle.std.specs.List.{list_any};
 ghost use Rattle.host_pattern.specs.Bucket.{buckets, is_octet};
 ghost use Rattle.gate_rules.specs.declared.rule.Rule.{Rule};
@@ -78,7 +78,7 @@ fn none_of_each(alloc: Global) -> Result<Vec<Places>, NoMemory>
     ensures none { IfOk result (λ own. (octet : ℕ) → get_or own.items octet [] ≡ []) }
 {
     let mut own = Vec::new(alloc);
-    for _octet in 0..256 {
+    for _octet in 0..256_usize {
         own.push(Places::none(alloc))?;
     }
     Ok(own)
@@ -94,6 +94,19 @@ fn note(own: &mut Vec<Places>, octet: u8, at: usize) -> Result<(), NoMemory>
     own[usize::from(octet)].note(at)
 }
 
+// Notes a place for the octet of a bucket, if it is one's.
+fn note_for(own: &mut Vec<Places>, bucket: Bucket, at: usize) -> Result<(), NoMemory>
+    requires { length own.old.items ≡ 256 }
+    ensures count { length own.new.items ≡ 256 }
+    ensures noted { OnOk result ((other : ℕ) → other < 256 →
+        get_or own.new.items other [] ≡ noted_if (is_octet other bucket) at (get_or own.old.items other [])) }
+{
+    match bucket {
+        Bucket::Octet(octet) => note(own, octet, at),
+        Bucket::Every => Ok(()),
+    }
+}
+
 // Notes a place for each octet to which a pattern of the list belongs.
 fn note_each(own: &mut Vec<Places>, hosts: &PatternList, at: usize) -> Result<(), NoMemory>
     requires { length own.old.items ≡ 256 }
@@ -103,9 +116,7 @@ fn note_each(own: &mut Vec<Places>, hosts: &PatternList, at: usize) -> Result<()
         ≡ noted_if (list_any (is_octet other) (buckets hosts.now)) at (get_or own.old.items other [])) }
 {
     for place in 0..hosts.count() {
-        if let Bucket::Octet(octet) = hosts.bucket(place) {
-            note(own, octet, at)?;
-        }
+        note_for(own, hosts.bucket(place), at)?;
     }
     Ok(())
 }

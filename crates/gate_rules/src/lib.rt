@@ -8,8 +8,8 @@
 #![tactic(auto)]
 
 mod attribute;
-mod book;
 mod fault;
+mod gathered;
 mod index;
 mod label;
 pub mod laws;

@@ -1,14 +1,14 @@
-ghost use Rattle.std.specs.Prelude.{◌≡◌, ◌+◌, ◌≤◌, ◌==◌, ◌&&◌, Some, filter, find, is_ok, IfOk, IfErr, IsTrue};
+ghost use Rattle.std.specs.Prelude.{◌≡◌, ◌+◌, ◌≤◌, ◌==◌, ◌&&◌, find, is_ok, IfOk, IfErr, IsTrue};
 ghost use Rattle.std.specs.Option.{option_copied};
-ghost use Rattle.gate_rules.specs.Bucket.{bucket, stands_in};
+ghost use Rattle.gate_rules.specs.Bucket.{bucket};
 ghost use Rattle.gate_rules.specs.Reading.{IsFaultIn, closed, rules_of};
 ghost use Rattle.gate_rules.specs.Settings.{is_same};
-ghost use Rattle.gate_rules.specs.Verdict.{decided_by, rule_matches, options_at, pattern_count, rules_steps, setting_of, verdict_of, verdict_steps};
+ghost use Rattle.gate_rules.specs.Verdict.{options_at, pattern_count, setting_of, verdict_of, verdict_steps};
 
-use crate::book::Book;
+use crate::gathered::Gathered;
 use crate::index::Index;
 use crate::line_fault::first_fault;
-use crate::merging::verdict_among;
+use crate::merging::verdict_by;
 use crate::setting::is_same;
 use crate::{Options, Rule, RulesFault, Service, Setting, Verdict};
 use arrayvec::ArrayVec;
@@ -22,7 +22,7 @@ use std::sync::ledger::Ledger;
 /// What a table says to a service: its rules in the order of their lines, and its settings.
 #[derive(Drop)]
 pub struct Rules {
-    book: Book,
+    gathered: Gathered,
     index: Index,
     none: Options,
 }
@@ -35,24 +35,10 @@ impl Model for Rules {
 
     ghost Value = { RuleBook };
 
-    ghost view = { λ rules. rules.book };
+    ghost view = { λ rules. rules.gathered };
 
     ghost invariant = { λ rules. (rules.none ≡ no_options)
-        × IsIndex rules.book.rules rules.index.every rules.index.own.items };
-}
-
-// What the first of the rules decides whose host list matches the peer.
-fn verdict_in<L: Ledger>(rules: &[Rule], peer: &Peer, steps: &mut Steps<L>) -> Verdict
-    ensures answer { result ≡ decided_by (find (rule_matches peer.now) rules.now) }
-    ensures steps { steps.new ≡ steps.old + rules_steps peer.now rules.now }
-    ensures bound { steps.new ≤ steps.old + pattern_count rules.now }
-{
-    for rule in rules {
-        if rule.hosts.matches(peer, steps) {
-            return rule.verdict();
-        }
-    }
-    Verdict::Deny { line: 0 }
+        × IsIndex rules.gathered.rules rules.index.every rules.index.own.items };
 }
 
 // The permit line with this number.
@@ -81,30 +67,21 @@ impl Rules {
         if let Some(fault) = first_fault(table.lines(), service, key.as_slice()) {
             return Err(RulesFault::Rule(fault));
         }
-        let mut book = Book::effect_at(alloc, table.lines(), service, key.as_slice())?;
-        book.close(alloc, service.is_smap())?;
-        Ok(Rules::indexed(alloc, book)?)
+        let mut gathered = Gathered::effect_at(alloc, table.lines(), service, key.as_slice())?;
+        gathered.close(alloc, service.is_smap())?;
+        Ok(Rules::indexed(alloc, gathered)?)
     }
 
     // The rules with their index.
-    fn indexed(alloc: Global, book: Book) -> Result<Rules, NoMemory>
-        ensures { IfOk result (λ rules. rules ≡ book) }
+    fn indexed(alloc: Global, gathered: Gathered) -> Result<Rules, NoMemory>
+        ensures { IfOk result (λ rules. rules ≡ gathered) }
     {
-        let index = Index::of(alloc, &book.rules)?;
+        let index = Index::of(alloc, &gathered.rules)?;
         Ok(Rules {
-            book,
+            gathered,
             index,
             none: Options::none(alloc),
         })
-    }
-
-    // What they decide of a peer whose address begins with this octet.
-    fn verdict_at<L: Ledger>(&self, octet: u8, peer: &Peer, steps: &mut Steps<L>) -> Verdict
-        ensures answer { result ≡ decided_by (find (rule_matches peer.now) (filter (stands_in octet) self.now.rules)) }
-        ensures steps { steps.new ≡ steps.old + rules_steps peer.now (filter (stands_in octet) self.now.rules) }
-        ensures bound { steps.new ≤ steps.old + pattern_count (filter (stands_in octet) self.now.rules) }
-    {
-        verdict_among(&self.book.rules, &self.index, octet, peer, steps)
     }
 
     /// What they decide of a peer: the first whose host list matches decides, and none denies by line 0. It takes no
@@ -116,17 +93,14 @@ impl Rules {
         ensures steps { steps.new ≡ steps.old + verdict_steps self.now peer.now }
         ensures bound { steps.new ≤ steps.old + pattern_count (bucket peer.now self.now.rules) }
     {
-        match &peer.addr {
-            Some([octet, _, _, _]) => self.verdict_at(*octet, peer, steps),
-            None => verdict_in(&self.book.rules, peer, steps),
-        }
+        verdict_by(&self.gathered.rules, &self.index, peer, steps)
     }
 
     /// The options of the permit line with this number, or nothing where there is no such line.
     pub fn options(&self, line: u32) -> Option<&Options>
         ensures { option_copied result ≡ options_at self.entry.now line }
     {
-        match permit_line(&self.book.rules, line) {
+        match permit_line(&self.gathered.rules, line) {
             Some(rule) => Some(rule.options.get(&self.none)),
             None => None,
         }
@@ -136,7 +110,7 @@ impl Rules {
     pub fn setting(&self, which: Setting) -> Option<(u64, u32)>
         ensures { result ≡ setting_of self.now which }
     {
-        self.book
+        self.gathered
             .settings
             .iter()
             .find(|assigned| is_same(assigned.which, which))

@@ -14,17 +14,17 @@ use std::marker::Model;
 
 /// The rules of a service in the order of their lines, and its settings.
 #[derive(Drop)]
-pub(crate) struct Book {
+pub(crate) struct Gathered {
     pub(crate) rules: Vec<Rule>,
     pub(crate) settings: Vec<Assigned>,
 }
 
-impl Model for Book {
+impl Model for Gathered {
     ghost use Rattle.gate_rules.specs.Reading.{RuleBook};
 
     ghost Value = { RuleBook };
 
-    ghost view = { λ book. record { rules = book.rules.items; settings = book.settings.items } };
+    ghost view = { λ gathered. record { rules = gathered.rules.items; settings = gathered.settings.items } };
 }
 
 // The line that permits every host.
@@ -44,25 +44,25 @@ fn everyone(alloc: Global) -> Result<Rule, RulesFault>
     })
 }
 
-impl Book {
+impl Gathered {
     // What the lines with the keyword say to a service.
     pub(crate) fn effect_at(
         alloc: Global,
         lines: &[Line],
         service: &Service,
         key: &[u8],
-    ) -> Result<Book, RulesFault>
-        ensures ok { IfOk result (λ book. book_of service.now (filter (is_of key.now) lines.now) ≡ Ok book) }
+    ) -> Result<Gathered, RulesFault>
+        ensures ok { IfOk result (λ gathered. book_of service.now (filter (is_of key.now) lines.now) ≡ Ok gathered) }
         ensures fault { IfErr result (IsFaultIn (book_of service.now (filter (is_of key.now) lines.now))) }
     {
-        let mut book = Book {
+        let mut gathered = Gathered {
             rules: Vec::new(alloc),
             settings: Vec::new(alloc),
         };
         for line in lines {
-            book.add_line(alloc, line, service, key)?;
+            gathered.add_line(alloc, line, service, key)?;
         }
-        Ok(book)
+        Ok(gathered)
     }
 
     // Adds what the line says, where it has the keyword.
