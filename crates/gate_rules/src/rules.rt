@@ -1,7 +1,8 @@
-ghost use Rattle.std.specs.Prelude.{◌≡◌, ◌+◌, ◌≤◌, ◌==◌, ◌&&◌, find, is_ok, IfOk, IfErr, IsTrue};
+ghost use Rattle.std.specs.Prelude.{◌≡◌, ◌+◌, ◌≤◌, ◌==◌, ◌&&◌, filter, find, is_ok, IfOk, IfErr, IsTrue};
 ghost use Rattle.std.specs.Option.{option_copied};
 ghost use Rattle.gate_rules.specs.Bucket.{bucket};
-ghost use Rattle.gate_rules.specs.Reading.{IsFaultIn, closed, rules_of};
+ghost use Rattle.gate_rules.specs.Reading.{IsFaultIn, book_of, closed, is_of, last_rules, rules_of};
+ghost use Rattle.gate_rules.specs.Service.{is_smap};
 ghost use Rattle.gate_rules.specs.Settings.{is_same};
 ghost use Rattle.gate_rules.specs.Verdict.{options_at, pattern_count, setting_of, verdict_of, verdict_steps};
 
@@ -14,7 +15,7 @@ use crate::{Options, Rule, RulesFault, Service, Setting, Verdict};
 use arrayvec::ArrayVec;
 use fw_types::{NoMemory, Peer};
 use host_pattern::Steps;
-use netperm_table::Table;
+use netperm_table::{Line, Table};
 use std::alloc::Global;
 use std::marker::Model;
 use std::sync::ledger::Ledger;
@@ -48,14 +49,28 @@ fn permit_line(rules: &[Rule], line: u32) -> Option<&Rule>
     rules.iter().find(|rule| rule.permits && rule.line == line)
 }
 
+// Why there are no rules where memory ran out: the fault of the lines with the keyword, if they have one.
+#[tactic(auto, using(crate::proofs::RulesLemmas::closed_fault, crate::proofs::RulesLemmas::closed_ok))]
+fn cause_of_none(lines: &[Line], service: &Service, key: &[u8]) -> RulesFault
+    ensures fault { IsFaultIn (closed (last_rules (is_smap service.now))
+        (book_of service.now (filter (is_of key.now) lines.now))) result }
+    ensures memory { result ≡ RulesFault.NoMemory →
+        IsTrue (is_ok (closed (last_rules (is_smap service.now))
+        (book_of service.now (filter (is_of key.now) lines.now)))) }
+{
+    match first_fault(lines, service, key) {
+        Some(fault) => RulesFault::Rule(fault),
+        None => RulesFault::NoMemory,
+    }
+}
+
 impl Rules {
     /// What the table says to a service.
     ///
     /// # Errors
     ///
     /// `Rule` with the first line of the service that can't be read, and the cause of its leftmost bad word. Or
-    /// `NoMemory`, only where each of the service's lines can be read: no memory is taken before that is known.
-    #[tactic(auto, using(crate::proofs::RulesLemmas::closed_fault, crate::proofs::RulesLemmas::closed_ok))]
+    /// `NoMemory`, only where each of the service's lines can be read.
     pub fn of(alloc: Global, table: &Table, service: &Service) -> Result<Rules, RulesFault>
         ensures ok { IfOk result (λ rules. rules_of service.now table.now ≡ Ok rules) }
         ensures fault { IfErr result (IsFaultIn (rules_of service.now table.now)) }
@@ -64,10 +79,27 @@ impl Rules {
     {
         let mut key = ArrayVec::new();
         service.write_keyword(&mut key);
-        if let Some(fault) = first_fault(table.lines(), service, key.as_slice()) {
-            return Err(RulesFault::Rule(fault));
+        match Rules::read(alloc, table.lines(), service, key.as_slice()) {
+            Ok(rules) => Ok(rules),
+            Err(RulesFault::Rule(fault)) => Err(RulesFault::Rule(fault)),
+            Err(RulesFault::NoMemory) => Err(cause_of_none(table.lines(), service, key.as_slice())),
         }
-        let mut gathered = Gathered::effect_at(alloc, table.lines(), service, key.as_slice())?;
+    }
+
+    // What the lines with the keyword say to a service, with their index.
+    #[tactic(auto, using(crate::proofs::RulesLemmas::closed_too))]
+    fn read(
+        alloc: Global,
+        lines: &[Line],
+        service: &Service,
+        key: &[u8],
+    ) -> Result<Rules, RulesFault>
+        ensures ok { IfOk result (λ rules. closed (last_rules (is_smap service.now))
+            (book_of service.now (filter (is_of key.now) lines.now)) ≡ Ok rules) }
+        ensures fault { IfErr result (IsFaultIn (closed (last_rules (is_smap service.now))
+            (book_of service.now (filter (is_of key.now) lines.now)))) }
+    {
+        let mut gathered = Gathered::effect_at(alloc, lines, service, key)?;
         gathered.close(alloc, service.is_smap())?;
         Ok(Rules::indexed(alloc, gathered)?)
     }
