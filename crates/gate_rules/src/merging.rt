@@ -1,5 +1,5 @@
 //! The rules of a bucket, one after the other: those of every bucket and the octet's own, in the order of their lines.
-ghost use Rattle.std.specs.Prelude.{◌≡◌, ◌+◌, ◌≤◌, [], Some, filter, find, IfSome, IfNone};
+ghost use Rattle.std.specs.Prelude.{◌≡◌, ◌+◌, ◌≤◌, [], None, Some, filter, find, IfSome, IfNone};
 ghost use Rattle.gate_rules.specs.Bucket.{bucket, stands_in};
 ghost use Rattle.gate_rules.specs.Index.{IsIndex, IsNext};
 ghost use Rattle.gate_rules.specs.Verdict.{decided_by, pattern_count, rule_matches, rules_steps};
@@ -105,6 +105,16 @@ fn verdict_at<L: Ledger>(
     verdict_among(rules, index, octet, peer, steps)
 }
 
+// What the first of the rules decides whose host list matches the peer, who has no address.
+fn verdict_of_all<L: Ledger>(rules: &[Rule], peer: &Peer, steps: &mut Steps<L>) -> Verdict
+    requires { peer.now.addr ≡ None }
+    ensures answer { result ≡ decided_by (find (rule_matches peer.now) rules.now) }
+    ensures steps { steps.new ≡ steps.old + rules_steps peer.now (bucket peer.now rules.now) }
+    ensures bound { steps.new ≤ steps.old + pattern_count (bucket peer.now rules.now) }
+{
+    verdict_in(rules, peer, steps)
+}
+
 /// What the first of the rules decides whose host list matches the peer. Of those outside the peer's bucket none does.
 pub(crate) fn verdict_by<L: Ledger>(
     rules: &[Rule],
@@ -119,6 +129,6 @@ pub(crate) fn verdict_by<L: Ledger>(
 {
     match peer.addr {
         Some(addr) => verdict_at(rules, index, addr, peer, steps),
-        None => verdict_in(rules, peer, steps),
+        None => verdict_of_all(rules, peer, steps),
     }
 }
