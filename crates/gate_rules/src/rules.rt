@@ -2,6 +2,7 @@ ghost use Rattle.std.specs.Prelude.{◌≡◌, ◌+◌, ◌≤◌, ◌==◌, ◌
 ghost use Rattle.std.specs.Option.{option_copied};
 ghost use Rattle.gate_rules.specs.declared.fault.RuleFault.{RuleFault};
 ghost use Rattle.gate_rules.specs.Reading.{IsFaultIn, RuleBook, and_effect, book_of, closed, is_of, everyone, last_rules, rules_of, effect_of, effect_then, with_book, with_effect};
+ghost use Rattle.gate_rules.specs.Service.{is_smap};
 ghost use Rattle.gate_rules.specs.Settings.{is_same};
 ghost use Rattle.gate_rules.specs.Verdict.{decided_by, rule_matches, options_at, pattern_count, rules_steps, setting_of, verdict_of, verdict_steps};
 ghost use Rattle.netperm_table.specs.declared.line.Line.{Line};
@@ -79,14 +80,28 @@ fn everyone(alloc: Global) -> Result<Rule, RulesFault>
     })
 }
 
+// Why there are no rules where memory ran out: the fault of the lines with the keyword, if they have one.
+#[tactic(auto, using(crate::proofs::RulesLemmas::closed_fault, crate::proofs::RulesLemmas::closed_ok))]
+fn cause_of_none(lines: &[Line], service: &Service, key: &[u8]) -> RulesFault
+    ensures fault { IsFaultIn (closed (last_rules (is_smap service.now))
+        (book_of service.now (filter (is_of key.now) lines.now))) result }
+    ensures memory { result ≡ RulesFault.NoMemory →
+        IsTrue (is_ok (closed (last_rules (is_smap service.now))
+        (book_of service.now (filter (is_of key.now) lines.now)))) }
+{
+    match first_fault(lines, service, key) {
+        Some(fault) => RulesFault::Rule(fault),
+        None => RulesFault::NoMemory,
+    }
+}
+
 impl Rules {
     /// What the table says to a service.
     ///
     /// # Errors
     ///
     /// `Rule` with the first line of the service that can't be read, and the cause of its leftmost bad word. Or
-    /// `NoMemory`, only where each of the service's lines can be read: no memory is taken before that is known.
-    #[tactic(auto, using(crate::proofs::RulesLemmas::closed_fault, crate::proofs::RulesLemmas::closed_ok))]
+    /// `NoMemory`, only where each of the service's lines can be read.
     pub fn of(alloc: Global, table: &Table, service: &Service) -> Result<Rules, RulesFault>
         ensures ok { IfOk result (λ rules. rules_of service.now table.now ≡ Ok rules) }
         ensures fault { IfErr result (IsFaultIn (rules_of service.now table.now)) }
@@ -95,10 +110,29 @@ impl Rules {
     {
         let mut key = ArrayVec::new();
         service.write_keyword(&mut key);
-        if let Some(fault) = first_fault(table.lines(), service, key.as_slice()) {
-            return Err(RulesFault::Rule(fault));
+        match Rules::read(alloc, table.lines(), service, key.as_slice()) {
+            Ok(rules) => Ok(rules),
+            Err(RulesFault::Rule(fault)) => Err(RulesFault::Rule(fault)),
+            Err(RulesFault::NoMemory) => {
+                Err(cause_of_none(table.lines(), service, key.as_slice()))
+            }
         }
-        let mut rules = Rules::effect_at(alloc, table.lines(), service, key.as_slice())?;
+    }
+
+    // The rules of the lines with the keyword.
+    #[tactic(auto, using(crate::proofs::RulesLemmas::closed_too))]
+    fn read(
+        alloc: Global,
+        lines: &[Line],
+        service: &Service,
+        key: &[u8],
+    ) -> Result<Rules, RulesFault>
+        ensures ok { IfOk result (λ rules. closed (last_rules (is_smap service.now))
+            (book_of service.now (filter (is_of key.now) lines.now)) ≡ Ok rules) }
+        ensures fault { IfErr result (IsFaultIn (closed (last_rules (is_smap service.now))
+            (book_of service.now (filter (is_of key.now) lines.now)))) }
+    {
+        let mut rules = Rules::effect_at(alloc, lines, service, key)?;
         rules.close(alloc, service.is_smap())?;
         Ok(rules)
     }

@@ -10,8 +10,9 @@ ghost use Rattle.std.specs.Prelude.{◌≡◌, ◌<◌};
 mod scan;
 mod tally;
 
-use fw_memory::{Calls, MemSource};
-use fw_types::{Octets, Peer, read_quad};
+use fw_outside::Files;
+use fw_real::Paths;
+use fw_types::{Peer, read_quad};
 use gate_rules::{Rules, Service, Verdict};
 use host_pattern::Steps;
 use netperm_table::Table;
@@ -40,9 +41,12 @@ fn verdict(rules: &Rules, peer: &Peer) -> Verdict {
     verdict_by::<Brand>(rules, peer, Blank::new(1))
 }
 
+// The table in a file, read as `netacl` reads it.
 fn read_table(rt: &HostRuntime, name: &str) -> io::Result<Table> {
-    let bytes = Octets::of(fs::read(rt, name)?);
-    let mut source = MemSource::new(bytes, 4096, Calls::none(), Calls::none());
+    let mut files = Paths::new(*rt);
+    let Some(mut source) = files.source(name.as_bytes()) else {
+        return Err(failure());
+    };
     match Table::read(rt.alloc(), &mut source) {
         Ok(table) => Ok(table),
         Err(_) => Err(failure()),
