@@ -1,7 +1,7 @@
 use Rattle.std.proofs.Common.{◌≡◌, suc, ◌+◌, ◌<◌, ◌∷◌, length, drop, add-one, drop-cons, sym, ◌∙◌, ap, arith}
 use Rattle.std.proofs.lemmas.Result.{err_from_is_err_and}
 use Rattle.netperm_table.specs.declared.line.Line.{Line}
-use Rattle.gate_rules.proofs.rules.Rules.effect_at.Goals as goal
+use Rattle.gate_rules.proofs.gathered.Gathered.effect_at.Goals as goal
 
 pub returns-in_err-add_line-clause-fault : goal.returns-in_err-add_line-clause-fault
 returns-in_err-add_line-clause-fault c =

@@ -1,7 +1,7 @@
 use Rattle.std.proofs.Common.{sym, ◌∙◌, ap, drop, ◌+◌}
 use Rattle.gate_rules.specs.Verdict.{rules_steps}
 use Rattle.gate_rules.proofs.RulesLemmas.{count_past, decided_past, steps_at_end, steps_at_match, steps_past}
-use Rattle.gate_rules.proofs.rules.verdict_in.Goals as goal
+use Rattle.gate_rules.proofs.merging.verdict_in.Goals as goal
 
 pub returns-then-matches-clause-steps : goal.returns-then-matches-clause-steps
 returns-then-matches-clause-steps g c =

@@ -2,7 +2,7 @@ use Rattle.std.proofs.Common.{◌≡◌, sym, true}
 use Rattle.std.specs.Prelude.{filter}
 use Rattle.std.proofs.lemmas.Result.{IfErr-weaker}
 use Rattle.gate_rules.specs.Reading.{book_of, is_of}
-use Rattle.gate_rules.proofs.rules.Rules.add_line.Goals as goal
+use Rattle.gate_rules.proofs.gathered.Gathered.add_line.Goals as goal
 
 pub returns-clause-fault : goal.returns-clause-fault
 returns-clause-fault c =

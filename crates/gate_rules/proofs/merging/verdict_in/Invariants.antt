@@ -1,7 +1,7 @@
 use Rattle.std.proofs.Common.{◌≡◌, ◌+◌, ◌≤◌, drop}
 use Rattle.std.specs.Prelude.{find}
 use Rattle.gate_rules.specs.Verdict.{decided_by, rule_matches, pattern_count, rules_steps}
-use Rattle.gate_rules.proofs.rules.verdict_in.Given as goal
+use Rattle.gate_rules.proofs.merging.verdict_in.Given as goal
 
 abbrev pub invariant-loop-rule : goal.invariant-loop-rule
 invariant-loop-rule g l = record {
