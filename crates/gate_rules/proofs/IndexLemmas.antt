@@ -1,13 +1,12 @@
 -- Where rules stand, one rule further.
-use Rattle.std.proofs.Common.{◌≡◌, ℕ, zero, suc, ◌+◌, ◌-◌, ◌<◌, ◌≤◌, Bool, true, false, ◌&&◌, ◌||◌, cond, not, List, [], ◌∷◌, ◌++◌, length, get_or, take, refl, sym, ◌∙◌, ap, arith}
+use Rattle.std.proofs.Common.{◌≡◌, ℕ, zero, suc, ◌+◌, ◌-◌, ◌<◌, ◌≤◌, Bool, true, false, ◌&&◌, ◌||◌, cond, not, List, [], ◌∷◌, ◌++◌, length, get_or, map, take, refl, sym, ◌∙◌, ap, arith}
 use Rattle.std.specs.Prelude.{nat_lt, ◌==◌}
 use Rattle.std.specs.List.{list_any}
 use Rattle.std.proofs.lemmas.Bool.{and_parts, eqb-true, eq-eqb, false_from_ne_true, lt-ltb, ltb-true}
 use Rattle.std.proofs.lemmas.List.{length-append}
 use Rattle.std.proofs.lemmas.List.Folds.{list_any_more}
-use Rattle.host_pattern.specs.declared.bucket.Bucket.{Bucket}
-use Rattle.host_pattern.specs.declared.bucket.Bucket.TheVariants.{Every}
-use Rattle.host_pattern.specs.Bucket.{buckets, is_octet}
+use Rattle.host_pattern.specs.declared.bucket.Bucket.TheVariants.{Octet}
+use Rattle.host_pattern.specs.Bucket.{buckets, is_every, is_octet}
 use Rattle.gate_rules.specs.declared.rule.Rule.{Rule}
 use Rattle.gate_rules.specs.Index.{IsIndex, ends_in, is_everywhere, is_own, noted, noted_if, places}
 
@@ -82,14 +81,15 @@ note_more true true at ps = noted_twice at ps
 note_more true false at ps = refl
 note_more false c at ps = refl
 
--- one pattern further
-pub note_further : (bs : List Bucket) (i octet at : ℕ) (ps qs rs : List ℕ) → i < length bs → qs ≡ noted_if (list_any (is_octet octet) (take i bs)) at ps
-    → rs ≡ noted_if (is_octet octet (get_or bs i Every)) at qs → rs ≡ noted_if (list_any (is_octet octet) (take (i + 1) bs)) at ps
-note_further bs i octet at ps qs rs within before here =
+-- one octet further
+pub note_further : (octets : List ℕ) (i other at : ℕ) (ps qs rs : List ℕ) → i < length octets → qs ≡ noted_if (list_any (λ octet. octet == other) (take i octets)) at ps
+    → rs ≡ noted_if (get_or octets i 0 == other) at qs → rs ≡ noted_if (list_any (λ octet. octet == other) (take (i + 1) octets)) at ps
+note_further octets i other at ps qs rs within before here =
+    let is_other : ℕ → Bool = λ octet. octet == other in
     here
-    ∙ ap (noted_if (is_octet octet (get_or bs i Every)) at) before
-    ∙ note_more (list_any (is_octet octet) (take i bs)) (is_octet octet (get_or bs i Every)) at ps
-    ∙ ap (λ b. noted_if b at ps) (sym (list_any_more (is_octet octet) bs i Every within))
+    ∙ ap (noted_if (get_or octets i 0 == other) at) before
+    ∙ note_more (list_any is_other (take i octets)) (get_or octets i 0 == other) at ps
+    ∙ ap (λ b. noted_if b at ps) (sym (list_any_more is_other octets i 0 within))
 
 -- an index of no rules
 pub more_none : (own : List (List ℕ)) → ((octet : ℕ) → get_or own octet [] ≡ []) → (octet : ℕ) → get_or (own ++ [] ∷ []) octet [] ≡ []
@@ -136,3 +136,23 @@ own_added rules rule every own new at none long count noted_each index = record 
     one octet false is =
         let other : is_own octet rule ≡ false = rw (none, is) refl in
         sym (place_kept 0 (is_own octet) rules rule other)
+
+-- the same, of a list whose patterns belong to these octets
+
+none_every : (octets : List ℕ) → list_any is_every (map Octet octets) ≡ false
+none_every [] = refl
+none_every (octet ∷ octets) = none_every octets
+
+any_octet : (other : ℕ) (octets : List ℕ) → list_any (is_octet other) (map Octet octets) ≡ list_any (λ octet. octet == other) octets
+any_octet other [] = refl
+any_octet other (octet ∷ octets) = ap (λ b. (octet == other) || b) (any_octet other octets)
+
+pub octets_added : (rules : List Rule) (rule : Rule) (every : List ℕ) (own new : List (List ℕ)) (at : ℕ) (octets : List ℕ) → map Octet octets ≡ buckets rule.hosts → length rules ≡ at → length new ≡ 256
+    → ((other : ℕ) → other < 256 → get_or new other [] ≡ noted_if (list_any (λ octet. octet == other) octets) at (get_or own other []))
+    → IsIndex rules every own → IsIndex (rules ++ rule ∷ []) every new
+octets_added rules rule every own new at octets are long count noted_each index =
+    own_added rules rule every own new at (ap (list_any is_every) (sym are) ∙ none_every octets) long count
+    (λ other small.
+    noted_each other small
+    ∙ ap (λ b. noted_if b at (get_or own other [])) (sym (any_octet other octets) ∙ ap (list_any (is_octet other)) are))
+    index

@@ -1,13 +1,11 @@
 //! Where the rules stand that may match a peer, by the first octet of its address.
 ghost use Rattle.std.specs.Prelude.{◌≡◌, ◌<◌, ◌==◌, ℕ, List, [], ◌∷◌, ◌++◌, get_or, length, IfOk, OnOk};
 ghost use Rattle.std.specs.List.{list_any};
-ghost use Rattle.host_pattern.specs.Bucket.{buckets, is_octet};
 ghost use Rattle.gate_rules.specs.declared.rule.Rule.{Rule};
 ghost use Rattle.gate_rules.specs.Index.{IsIndex, ends_in, noted, noted_if};
 
 use crate::Rule;
 use fw_types::NoMemory;
-use host_pattern::{Bucket, PatternList};
 use std::alloc::Global;
 use std::marker::Model;
 
@@ -94,29 +92,16 @@ fn note(own: &mut Vec<Places>, octet: u8, at: usize) -> Result<(), NoMemory>
     own[usize::from(octet)].note(at)
 }
 
-// Notes a place for the octet of a bucket, if it is one's.
-fn note_for(own: &mut Vec<Places>, bucket: Bucket, at: usize) -> Result<(), NoMemory>
-    requires { length own.old.items ≡ 256 }
-    ensures count { length own.new.items ≡ 256 }
-    ensures noted { OnOk result ((other : ℕ) → other < 256 →
-        get_or own.new.items other [] ≡ noted_if (is_octet other bucket) at (get_or own.old.items other [])) }
-{
-    match bucket {
-        Bucket::Octet(octet) => note(own, octet, at),
-        Bucket::Every => Ok(()),
-    }
-}
-
-// Notes a place for each octet to which a pattern of the list belongs.
-fn note_each(own: &mut Vec<Places>, hosts: &PatternList, at: usize) -> Result<(), NoMemory>
+// Notes a place for each of the octets.
+fn note_each(own: &mut Vec<Places>, octets: &[u8], at: usize) -> Result<(), NoMemory>
     requires { length own.old.items ≡ 256 }
     ensures count { length own.new.items ≡ 256 }
     ensures noted { OnOk result ((other : ℕ) → other < 256 →
         get_or own.new.items other []
-        ≡ noted_if (list_any (is_octet other) (buckets hosts.now)) at (get_or own.old.items other [])) }
+        ≡ noted_if (list_any (λ octet. octet == other) octets.now) at (get_or own.old.items other [])) }
 {
-    for place in 0..hosts.count() {
-        note_for(own, hosts.bucket(place), at)?;
+    for octet in octets {
+        note(own, *octet, at)?;
     }
     Ok(())
 }
@@ -143,10 +128,10 @@ impl Index {
             IsIndex rules self.old.every self.old.own.items
             → IsIndex (rules ++ rule.now ∷ []) self.new.every self.new.own.items) }
     {
-        if rule.hosts.is_everywhere() {
-            return self.every.add(at);
+        match rule.hosts.octets() {
+            None => self.every.add(at),
+            Some(octets) => note_each(&mut self.own, octets.as_slice(), at),
         }
-        note_each(&mut self.own, &rule.hosts, at)
     }
 
     /// The places of the rules that stand in every bucket.

@@ -82,13 +82,11 @@ impl Rules {
         match Rules::read(alloc, table.lines(), service, key.as_slice()) {
             Ok(rules) => Ok(rules),
             Err(RulesFault::Rule(fault)) => Err(RulesFault::Rule(fault)),
-            Err(RulesFault::NoMemory) => {
-                Err(cause_of_none(table.lines(), service, key.as_slice()))
-            }
+            Err(RulesFault::NoMemory) => Err(cause_of_none(table.lines(), service, key.as_slice())),
         }
     }
 
-    // The rules of the lines with the keyword.
+    // What the lines with the keyword say to a service, with their index.
     #[tactic(auto, using(crate::proofs::RulesLemmas::closed_too))]
     fn read(
         alloc: Global,

@@ -1,5 +1,5 @@
 -- Buckets: which addresses a body can match, by their first octet. A period is the byte 46.
-use Rattle.std.specs.Prelude.{ℕ, ◌==◌, List, map, take, Bool, true, false, Option, Some, None, if◌then◌else◌}
+use Rattle.std.specs.Prelude.{ℕ, ◌==◌, ◌&&◌, nat_lt, List, get_or, length, map, take, Bool, true, false, Option, Some, None, if◌then◌else◌}
 use Rattle.std.specs.List.{list_any, position}
 use Rattle.fw_types.specs.Quad.{octet_of}
 use Rattle.host_pattern.specs.declared.bucket.Bucket.{Bucket}
@@ -11,6 +11,10 @@ use Rattle.host_pattern.specs.Pattern.{Written}
 abbrev pub octet_before : Option ℕ → List ℕ → Option ℕ
 octet_before None body = None
 octet_before (Some at) body = octet_of (take at body)
+
+-- a zero stands before other bytes
+abbrev pub is_padded : List ℕ → Bool
+is_padded text = nat_lt 1 (length text) && get_or text 0 0 == 48
 
 abbrev pub bucket_with : Option ℕ → Bucket
 bucket_with None = Every

@@ -1,16 +1,12 @@
 //! Which addresses a body can match, by their first octet.
-ghost use Rattle.std.specs.Prelude.{◌≡◌, ◌≤◌, ◌++◌, ◌==◌};
-ghost use Rattle.arrayvec.specs.ArrayVec.{array_vec_len};
-ghost use Rattle.std.specs.Fmt.{decimal};
+ghost use Rattle.std.specs.Prelude.{◌≡◌, ◌==◌, Some};
 ghost use Rattle.std.specs.List.{position};
-ghost use Rattle.std.specs.Str.{bytes_eq};
-ghost use Rattle.std.specs.Str.Parse.{digits_value};
+ghost use Rattle.fw_types.specs.Number.{number_of};
 ghost use Rattle.fw_types.specs.Quad.{octet_of};
-ghost use Rattle.host_pattern.specs.Bucket.{bucket_of, octet_before};
+ghost use Rattle.host_pattern.specs.Bucket.{bucket_of, is_padded, octet_before};
 
 use crate::party::is_for_addresses;
-use arrayvec::ArrayVec;
-use fw_types::{append_decimal, read_number};
+use fw_types::read_number;
 
 /// The parties that a pattern can match, by the first octet of their address.
 #[derive(Clone, Copy, Debug, PartialEq, Eq)]
@@ -21,32 +17,23 @@ pub enum Bucket {
     Every,
 }
 
-// Appends the decimal of a byte, which has at most three digits.
-fn append_octet(out: &mut ArrayVec<u8, 3>, octet: u8)
-    requires { array_vec_len out.old ≤ 0 }
-    ensures { out.new.items ≡ out.old.items ++ decimal octet }
+// Whether a zero stands before other bytes.
+fn is_padded(text: &[u8]) -> bool
+    ensures { result ≡ is_padded text.now }
 {
-    append_decimal(out, u64::from(octet));
+    text.len() > 1 && text[0] == b'0'
 }
 
-// Whether the text is the decimal of the octet.
-fn is_decimal(text: &[u8], octet: u8) -> bool
-    ensures { result ≡ bytes_eq text.now (decimal octet) }
-{
-    let mut decimal: ArrayVec<u8, 3> = ArrayVec::new();
-    append_octet(&mut decimal, octet);
-    text == decimal.as_slice()
-}
-
-// The octet, where the text is its decimal.
+// The octet whose decimal the text is, which is the text of a number.
+#[tactic(auto, using(crate::proofs::BucketLemmas::padded, crate::proofs::BucketLemmas::unpadded, crate::proofs::BucketLemmas::too_large))]
 fn octet_written(text: &[u8], number: u64) -> Option<u8>
-    requires { digits_value 10 text.now ≡ number }
+    requires { number_of text.now ≡ Some number }
     ensures { result ≡ octet_of text.now }
 {
     if number > 255 {
         return None;
     }
-    if !is_decimal(text, number as u8) {
+    if is_padded(text) {
         return None;
     }
     Some(number as u8)

@@ -1,7 +1,7 @@
-ghost use Rattle.std.specs.Prelude.{◌≡◌, ◌≢◌, ◌+◌, ◌<◌, ◌≤◌, List, [], ◌∷◌, ◌++◌, get_or, length, map, Ok, Err, OnOk, IfOk, IfErr, IsTrue, is_ok};
+ghost use Rattle.std.specs.Prelude.{◌≡◌, ◌≢◌, ◌+◌, ◌<◌, ◌≤◌, List, [], ◌∷◌, ◌++◌, length, map, Ok, Err, OnOk, IfOk, IfErr, IfSome, IfNone, IsTrue, is_ok};
 ghost use Rattle.std.specs.List.{enumerate_from, filter_map, list_any};
 ghost use Rattle.host_pattern.specs.Bucket.{bucket_of, buckets, is_every};
-ghost use Rattle.host_pattern.specs.declared.bucket.Bucket.TheVariants.{Every};
+ghost use Rattle.host_pattern.specs.declared.bucket.Bucket.TheVariants.{Octet};
 ghost use Rattle.host_pattern.specs.Pattern.{Written, begins_negated, body_of, parsed, read_as, written};
 ghost use Rattle.host_pattern.specs.PatternList.{bad, good, list_parsed, list_matches, matches, patterns_tested, unless_any_bad};
 
@@ -58,26 +58,28 @@ fn is_negated(text: &Octets) -> bool
     unmarked(text.bytes()).0
 }
 
-// The bucket of the pattern that the text at this place is.
-fn bucket_at(texts: &[Octets], at: usize) -> Bucket
-    requires { at < length texts.now }
-    ensures { result ≡ get_or (buckets (map read_as texts.now)) at Every }
+// The bucket of the pattern that a text is.
+fn bucket(text: &Octets) -> Bucket
+    ensures { result ≡ bucket_of (body_of text.now) }
 {
-    bucket_of(unmarked(texts[at].bytes()).1)
+    bucket_of(unmarked(text.bytes()).1)
 }
 
-// Whether the pattern that a text is belongs to every bucket.
-fn is_every(text: &Octets) -> bool
-    ensures { result ≡ is_every (bucket_of (body_of text.now)) }
+// The octets to which the patterns belong that the texts are.
+#[tactic(auto, using(crate::proofs::BucketLemmas::octets_further, crate::proofs::BucketLemmas::every_at, crate::proofs::BucketLemmas::octets_all))]
+fn octets_of(texts: &[Octets]) -> Option<ArrayVec<u8, 64>>
+    requires { length texts.now ≤ 64 }
+    ensures some { IfSome result (λ octets. map Octet octets.items ≡ buckets (map read_as texts.now)) }
+    ensures none { IfNone result (IsTrue (list_any is_every (buckets (map read_as texts.now)))) }
 {
-    bucket_of(unmarked(text.bytes()).1) == Bucket::Every
-}
-
-// Whether one of the patterns that the texts are does.
-fn any_every(texts: &[Octets]) -> bool
-    ensures { result ≡ list_any (λ text. is_every (bucket_of (body_of text))) texts.now }
-{
-    texts.iter().any(|text| is_every(text))
+    let mut octets = ArrayVec::new();
+    for text in texts {
+        match bucket(text) {
+            Bucket::Octet(octet) => octets.push(octet),
+            Bucket::Every => return None,
+        }
+    }
+    Some(octets)
 }
 
 // Adds a copy of a text.
@@ -188,27 +190,13 @@ impl PatternList {
         self.texts.as_slice()
     }
 
-    /// How many patterns it has.
-    pub fn count(&self) -> usize
-        ensures { result ≡ length self.now }
+    /// The octets to whose buckets its patterns belong, one for each pattern, or nothing where one belongs to every
+    /// bucket. It takes no memory.
+    pub fn octets(&self) -> Option<ArrayVec<u8, 64>>
+        ensures some { IfSome result (λ octets. map Octet octets.items ≡ buckets self.now) }
+        ensures none { IfNone result (IsTrue (list_any is_every (buckets self.now))) }
     {
-        self.texts.as_slice().len()
-    }
-
-    /// The bucket of the pattern at this place, counted from 0. It takes no memory.
-    pub fn bucket(&self, at: usize) -> Bucket
-        requires { at < length self.now }
-        ensures { result ≡ get_or (buckets self.now) at Every }
-    {
-        bucket_at(self.texts.as_slice(), at)
-    }
-
-    /// Whether one of its patterns belongs to every bucket. It takes no memory.
-    #[tactic(auto, using(crate::proofs::BucketLemmas::any_read))]
-    pub fn is_everywhere(&self) -> bool
-        ensures { result ≡ list_any is_every (buckets self.now) }
-    {
-        any_every(self.texts.as_slice())
+        octets_of(self.texts.as_slice())
     }
 
     /// Whether the list matches the party: the first pattern whose body matches decides, by having no `!`.
