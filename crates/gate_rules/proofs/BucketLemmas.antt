@@ -1,6 +1,6 @@
 -- A rule outside a peer's bucket doesn't match the peer.
-use Rattle.std.proofs.Common.{◌≡◌, ℕ, zero, suc, ◌<◌, Bool, true, false, List, [], ◌∷◌, length, get_or, refl, sym, ◌∙◌, ap, subst, arith}
-use Rattle.std.specs.Prelude.{IsTrue, filter, find, slice_index, Option, Some, None}
+use Rattle.std.proofs.Common.{◌≡◌, ℕ, ◌<◌, Bool, true, false, List, [], ◌∷◌, length, get_or, refl, sym, ◌∙◌, ap, arith}
+use Rattle.std.specs.Prelude.{filter, find, slice_index, Some, None}
 use Rattle.fw_types.specs.declared.peer.Peer.{Peer}
 use Rattle.host_pattern.proofs.BucketLaws.{lists}
 use Rattle.gate_rules.specs.declared.rule.Rule.{Rule}

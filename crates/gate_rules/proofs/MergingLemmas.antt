@@ -1,6 +1,6 @@
 -- The rules of a bucket, one after the other.
-use Rattle.std.proofs.Common.{◌≡◌, ℕ, zero, suc, ◌+◌, ◌-◌, ◌<◌, ◌≤◌, ◌⊎◌, Bool, true, false, ◌&&◌, ◌||◌, not, List, [], ◌∷◌, ◌++◌, length, get_or, drop, refl, sym, ◌∙◌, ap, subst, arith, inl, inr}
-use Rattle.std.specs.Prelude.{filter, find, ◌==◌, Option, Some, None}
+use Rattle.std.proofs.Common.{◌≡◌, ℕ, suc, ◌+◌, ◌<◌, ◌≤◌, Bool, true, false, ◌&&◌, ◌||◌, not, List, [], ◌∷◌, length, get_or, drop, refl, sym, ◌∙◌, ap, arith, inl, inr}
+use Rattle.std.specs.Prelude.{filter, find, ◌==◌, Some}
 use Rattle.std.specs.List.{list_any}
 use Rattle.std.proofs.lemmas.List.{drop-drop, get_or-drop, length-drop}
 use Rattle.fw_types.specs.declared.peer.Peer.{Peer}
@@ -9,10 +9,9 @@ use Rattle.host_pattern.specs.declared.bucket.Bucket.TheVariants.{Octet, Every}
 use Rattle.host_pattern.specs.Bucket.{buckets, is_every, is_octet, reaches}
 use Rattle.host_pattern.specs.PatternList.{patterns_tested}
 use Rattle.gate_rules.specs.declared.rule.Rule.{Rule}
-use Rattle.gate_rules.specs.declared.verdict.Verdict.{Verdict}
 use Rattle.gate_rules.specs.declared.verdict.Verdict.TheVariants.{Deny}
 use Rattle.gate_rules.specs.Bucket.{stands_in}
-use Rattle.gate_rules.specs.Index.{IsAtMost, IsFirst, IsIndex, IsNext, is_everywhere, is_own, places}
+use Rattle.gate_rules.specs.Index.{IsAtMost, IsIndex, IsNext, is_everywhere, is_own, places}
 use Rattle.gate_rules.specs.Verdict.{decided_by, pattern_count, rule_matches, rules_steps}
 use Rattle.gate_rules.proofs.RulesLemmas.{ends_at_match, goes_past, no_steps}
 

@@ -18,7 +18,7 @@ use Rattle.gate_rules.specs.declared.line_effect.LineEffect.{LineEffect}
 use Rattle.gate_rules.specs.declared.line_effect.LineEffect.TheVariants.{Nothing, Ruled, Set}
 use Rattle.gate_rules.specs.Faults.{numbered}
 use Rattle.gate_rules.specs.Reading.{IsFaultIn, RuleBook, and_effect, closed, effect_then, with_book}
-use Rattle.gate_rules.specs.Verdict.{decided_by, pattern_count, rule_matches, rules_steps, tried}
+use Rattle.gate_rules.specs.Verdict.{decided_by, pattern_count, rule_matches, rules_steps}
 
 -- a star is a pattern
 pub star_parsed : parsed (codes "*") ≡ Ok (record { negated = false; body = codes "*" })

@@ -1,5 +1,5 @@
 -- Bodies of an octet: how they begin, and whom they can't match.
-use Rattle.std.proofs.Common.{◌≡◌, ◌≢◌, ℕ, zero, suc, cond, ◌+◌, ◌<◌, ◌≤◌, ◌^◌, Bool, true, false, ◌&&◌, ◌||◌, List, [], ◌∷◌, ◌++◌, length, get_or, take, drop, map, refl, sym, ◌∙◌, ap, subst, arith, inl, inr}
+use Rattle.std.proofs.Common.{◌≡◌, ◌≢◌, ℕ, zero, suc, cond, ◌+◌, ◌<◌, ◌^◌, Bool, true, false, ◌&&◌, List, [], ◌∷◌, ◌++◌, length, get_or, take, drop, refl, sym, ◌∙◌, ap, arith, inl, inr}
 use Rattle.std.specs.Prelude.{IsTrue, ◌==◌, nat_lt, Option, Some, None}
 use Rattle.std.specs.Char.{is_ascii_digit}
 use Rattle.std.specs.Fmt.{decimal}
@@ -20,8 +20,8 @@ use Rattle.fw_types.specs.declared.peer.Peer.{Peer}
 use Rattle.host_pattern.specs.declared.bucket.Bucket.{Bucket}
 use Rattle.host_pattern.specs.declared.bucket.Bucket.TheVariants.{Octet, Every}
 use Rattle.host_pattern.specs.Bucket.{bucket_of, bucket_with, list_reaches, octet_before}
-use Rattle.host_pattern.specs.Glob.{glob, begins_then}
-use Rattle.host_pattern.specs.Party.{body_matches, is_for_addresses, is_stars, is_unknown}
+use Rattle.host_pattern.specs.Glob.{glob}
+use Rattle.host_pattern.specs.Party.{body_matches, is_for_addresses, is_stars}
 use Rattle.host_pattern.specs.Pattern.{Written}
 use Rattle.host_pattern.specs.PatternList.{list_matches}
 use Rattle.host_pattern.proofs.BucketLemmas.{all_digits}

@@ -1,5 +1,5 @@
-use Rattle.std.proofs.Common.{◌∙◌, ◌+◌, ◌≤◌, ap, subst, sym}
-use Rattle.gate_rules.specs.Verdict.{pattern_count, rules_steps}
+use Rattle.std.proofs.Common.{◌∙◌, ◌+◌, ap, sym}
+use Rattle.gate_rules.specs.Verdict.{rules_steps}
 use Rattle.gate_rules.proofs.BucketLemmas.{whole_bucket}
 use Rattle.gate_rules.proofs.merging.verdict_by.Goals as goal
 
