@@ -28,7 +28,7 @@ mod telling;
 
 pub use cause::Cause;
 pub use denying::{Denying, NoPlace};
-pub use dummies::{NoSource, Nowhere, Silent};
+pub use dummies::{NoDoor, NoSource, Nowhere, Silent};
 pub use form::Form;
 pub use logged::Logged;
 pub use relayed::relayed_over;
