@@ -386,7 +386,10 @@ impl Dialer for MemDialer {
         let at = self.next_door();
         let _ = self.note(Ask::Door { at });
         match at {
-            Some((addr, port)) => Some((MemDoor, addr, port)),
+            Some(place) => {
+                let addr = place.0;
+                Some((MemDoor, addr, place.1))
+            }
             None => {
                 self.refuse();
                 None

@@ -192,7 +192,8 @@ impl<R: Net> TcpDialer<R> {
         ensures { IfSome result (λ opened. hosts ≡ record { here = opened.1; there = opened.0.client }) }
     {
         let Opened { door, port } = open_door(&self.net, hosts).ok()?;
-        Some((door, hosts.here, port))
+        let here = hosts.here;
+        Some((door, here, port))
     }
 
     fn open_for_client(&self) -> Option<(TcpDoor<R::Listener>, [u8; 4], u16)>

@@ -8,8 +8,8 @@ use std::net::{Ipv4Addr, Net, OpenListener, SocketAddr, SocketAddrV4, TcpListene
 use std::time::{Clock, Duration, Instant};
 use std::{io, thread};
 
-// How long a door rests where nobody is at it.
-const REST: Duration = Duration::from_millis(5);
+// How many milliseconds a door rests where nobody is at it.
+const REST: u64 = 5;
 
 /// A socket that listens for one client: a connection from any other address is closed.
 #[derive(Drop)]
@@ -42,7 +42,8 @@ pub(crate) fn open_door<R: Net>(net: &R, hosts: ClientHosts) -> io::Result<Opene
 
 // Who is at the listener, if somebody is. Its address is the system's word.
 fn caller<L: OpenListener>(listener: &L) -> Option<Connected<L::Stream>> {
-    let Ok((socket, SocketAddr::V4(at))) = listener.accept() else {
+    let (socket, from) = listener.accept().ok()?;
+    let SocketAddr::V4(at) = from else {
         return None;
     };
     let host = at.ip().octets();
@@ -94,7 +95,7 @@ pub(crate) fn wait_at<R: Net + Clock>(
                     return Some(client);
                 }
             }
-            None => thread::sleep(net, REST),
+            None => thread::sleep(net, Duration::from_millis(REST)),
         }
         if is_over(net, since, time_of(seconds)) {
             return None;

@@ -1,6 +1,6 @@
 use crate::ClientHosts;
 use std::io::{self, Stdout, Write};
-use std::net::{OpenStream, Shutdown, SocketAddr, TcpStream};
+use std::net::{Ipv4Addr, OpenStream, Shutdown, SocketAddr, TcpStream};
 use std::os::fd::AsFd;
 
 /// What a process writes as its standard output. If it is a socket, as inetd and systemd hand one over, the other side can
@@ -20,17 +20,17 @@ fn socket_of(stdout: &Stdout) -> io::Result<TcpStream> {
 }
 
 // The IPv4 address of one end, which one of IPv6 may stand for.
-fn host_of(end: SocketAddr) -> Option<[u8; 4]> {
+fn host_of(end: SocketAddr) -> Option<Ipv4Addr> {
     match end {
-        SocketAddr::V4(at) => Some(at.ip().octets()),
-        SocketAddr::V6(at) => Some(at.ip().to_ipv4_mapped()?.octets()),
+        SocketAddr::V4(at) => Some(*at.ip()),
+        SocketAddr::V6(at) => at.ip().to_ipv4_mapped(),
     }
 }
 
 // The addresses of both ends of a client's socket.
 fn hosts_of(socket: &TcpStream) -> Option<ClientHosts> {
-    let here = host_of(socket.local_addr().ok()?)?;
-    let there = host_of(socket.peer_addr().ok()?)?;
+    let here = host_of(socket.local_addr().ok()?)?.octets();
+    let there = host_of(socket.peer_addr().ok()?)?.octets();
     Some(ClientHosts { here, there })
 }
 
