@@ -129,8 +129,8 @@ pub(crate) fn tell_link(rt: HostRuntime, kind: &str, asked: &[u8], out: &mut Tol
     }
 }
 
-// A dialer that waits a second, for the client of this address; for none if it is no address.
-fn dialer_for(rt: HostRuntime, client: &[u8]) -> TcpDialer<HostRuntime> {
+/// A dialer that waits a second, for the client of this address; for none if it is no address.
+pub(crate) fn dialer_for(rt: HostRuntime, client: &[u8]) -> TcpDialer<HostRuntime> {
     let hosts = match Host::read(client) {
         Some(Host::Addr(there)) => Some(ClientHosts {
             here: [127, 0, 0, 1],
