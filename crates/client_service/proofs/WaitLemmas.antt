@@ -16,7 +16,7 @@ use Rattle.fw_outside.specs.declared.heard.Stop.TheVariants as stops
 use Rattle.fw_types.specs.declared.ending.Ending.{Ending}
 use Rattle.fw_types.specs.declared.ending.Ending.TheVariants as endings
 use Rattle.session_acts.specs.Acts.{Act, Halt, cause_by, fault_cause, silence_cause}
-use Rattle.session_acts.specs.Acts.Act.{Hear, Say, Try, Log, Note, Ask, Renew, Dial, Reach, Take, Pass, HangUp, Relay}
+use Rattle.session_acts.specs.Acts.Act.{Hear, Say, Try, Log, Note, Ask, Renew, Dial, Reach, Take, Pass, HangUp, Relay, Deposit, Allot}
 use Rattle.session_acts.specs.Deeds.{done}
 use Rattle.session_acts.specs.Met.{Hears, Heeds, Met, acts}
 use Rattle.session_acts.specs.Serverless.{KeepsServerless, is_serverless, serverless_watch}
@@ -66,6 +66,8 @@ stop_quiet Take halt old new is met = absurd (cc)
 stop_quiet (Pass text) halt old new is met = absurd (cc)
 stop_quiet HangUp halt old new is met = absurd (cc)
 stop_quiet Relay halt old new is met = absurd (cc)
+stop_quiet (Deposit sender rcpts words most) halt old new is met = absurd (cc)
+stop_quiet Allot halt old new is met = absurd (cc)
 
 waits_by : (ending : Ending) (old new : SourceView) (before last : Speaker) → QuietBy ending before last → old.idles ≤ before.inlet.idles → last.inlet.waits ≡ old.waits → last.inlet ≡ new → WaitsAlone ending old new
 waits_by endings.Idle old new before last h least waits same =

@@ -1,5 +1,6 @@
 -- What devices mean that stand in for those which a session doesn't have.
-use Rattle.std.specs.Prelude.{ℕ, None}
+use Rattle.std.specs.Prelude.{ℕ, ◌-◌, ◌^◌, None}
+use Rattle.fw_disk.specs.DiskView.{DiskView}
 use Rattle.fw_outside.specs.DialerView.{DialerView}
 use Rattle.fw_outside.specs.SinkView.{SinkView}
 
@@ -23,3 +24,7 @@ refusing refusals waits = record {
 -- and that was asked for none yet
 abbrev pub nowhere : DialerView
 nowhere = refusing 0 3600
+
+-- a disk that tells nothing, and whose failures are no longer counted
+abbrev pub failing : DiskView
+failing = record { told = None; faults = 2 ^ 64 - 1 }

@@ -2,7 +2,7 @@ use Rattle.std.proofs.Common.{false, rules}
 use Rattle.session_acts.proofs.CauseLemmas.{session_caused, session_keeps}
 use Rattle.session_acts.proofs.SpentLemmas.{session_spent}
 use Rattle.session_acts.proofs.WaitedLemmas.{session_waited}
-use Rattle.session_acts.proofs.session.session_over.Goals as goal
+use Rattle.session_acts.proofs.mailing.mail_session_over.Goals as goal
 
 pub returns-clause-keeps : goal.returns-clause-keeps
 returns-clause-keeps g c =
