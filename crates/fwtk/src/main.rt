@@ -9,7 +9,7 @@ use fw_outside::{Dice, Sink};
 use fw_real::{Paths, Reading, Records, Salts, StandardInput, SystemClock, Writing};
 use fw_types::Octets;
 use process::Process;
-use real_links::{LinkSink, Programs, StandardOutput, TcpDialer};
+use real_links::{ClientHosts, LinkSink, Programs, StandardOutput, TcpDialer};
 use std::env;
 use std::io::ErrorKind;
 use std::process::ExitCode;
@@ -117,6 +117,7 @@ fn run_with<H, D>(
     words: &[Octets],
     db: &[u8],
     output: LinkSink<StandardOutput>,
+    hosts: Option<ClientHosts>,
     dice: D,
 ) -> Result<u8, Outcome>
 where
@@ -131,7 +132,7 @@ where
         clock: SystemClock::new(rt),
         dice,
         keeper: Some(Records::new(rt, db)?),
-        dialer: TcpDialer::new(rt, rt.alloc()),
+        dialer: TcpDialer::new(rt, rt.alloc(), hosts),
         launcher: Programs::new(rt, rt.alloc()),
     };
     Ok(run(threads, rt.alloc(), words, &mut world))
@@ -139,7 +140,9 @@ where
 
 fn serve<H: Threads + Sync>(threads: &H, rt: HostRuntime) -> Result<u8, Stop> {
     let words = read_words(&rt)?;
-    let mut output = LinkSink::new(StandardOutput::of(rt.stdout()));
+    let stdout = StandardOutput::of(rt.stdout());
+    let hosts = stdout.hosts();
+    let mut output = LinkSink::new(stdout);
     if let Some(text) = answer(&words) {
         return match output.give(text) {
             Ok(()) => Ok(0),
@@ -148,10 +151,18 @@ fn serve<H: Threads + Sync>(threads: &H, rt: HostRuntime) -> Result<u8, Stop> {
     }
     let needs = Needs::of(&words);
     if !needs.salts {
-        return Ok(run_with(threads, rt, &words, needs.db, output, MemDice::new(0))?);
+        return Ok(run_with(
+            threads,
+            rt,
+            &words,
+            needs.db,
+            output,
+            hosts,
+            MemDice::new(0),
+        )?);
     }
     match Salts::new(&rt) {
-        Ok(salts) => Ok(run_with(threads, rt, &words, needs.db, output, salts)?),
+        Ok(salts) => Ok(run_with(threads, rt, &words, needs.db, output, hosts, salts)?),
         Err(_) => Err(Stop::NoRandomBytes),
     }
 }
