@@ -41,9 +41,9 @@ module _ (name : List ℕ) (service : Service) (rules : RuleBook) (first : BookV
   abbrev begun : BookView
   begun = book_at_first (origin_of o.inputs) most_entries o.before
 
-  over_book : (book : BookView) (ending : Ending) (out : Outcome) (held new : WorldView) → book_origin book ≡ book_origin first → held.files ≡ mid.files → held.inputs.launcher ≡ mid.inputs.launcher → EndsOver book ending out held new
+  over_book : (book : BookView) (ending : Ending) (out : Outcome) (held new : WorldView) → book_origin book ≡ book_origin first → held.files ≡ mid.files → held.inputs.launcher ≡ mid.inputs.launcher → held.inputs.disks ≡ mid.inputs.disks → EndsOver book ending out held new
       → OverBook o.inputs o.before book ending out o.middle new
-  over_book book ending out held new same files launcher ends =
+  over_book book ending out held new same files launcher disks ends =
       let back = ends.back in
       let origin : book.origin ≡ origin_of o.inputs = ap (λ (b : BookOrigin). b.origin) same ∙ ap (λ (b : BookView). b.origin) o.at_first in
       let limit : book.limit ≡ most_entries = ap (λ (b : BookOrigin). b.limit) same ∙ ap (λ (b : BookView). b.limit) o.at_first in
@@ -62,6 +62,7 @@ module _ (name : List ℕ) (service : Service) (rules : RuleBook) (first : BookV
         kept = ap (λ (d : WorldView). d.inputs.keeper) back.is;
         files = ap (λ (d : WorldView). d.files) back.is ∙ files ∙ ap (λ (d : WorldView). d.files) o.is;
         launcher = ap (λ (d : WorldView). d.inputs.launcher) back.is ∙ launcher ∙ ap (λ (d : WorldView). d.inputs.launcher) o.is;
+        disks = ap (λ (d : WorldView). d.inputs.disks) back.is ∙ disks ∙ ap (λ (d : WorldView). d.inputs.disks) o.is;
       }
 
   -- ---- a client of the authentication server
@@ -82,7 +83,7 @@ module _ (name : List ℕ) (service : Service) (rules : RuleBook) (first : BookV
         before = o.before;
         book = h.book;
         ending = h.ending;
-        over = over_book h.book h.ending out h.middle new same h.files h.launcher h.ends;
+        over = over_book h.book h.ending out h.middle new same h.files h.launcher h.disks h.ends;
         dialer = h.dialer;
         serves = subst (λ (r : RuleBook). Meets r begun o.middle new) o.rules_are (subst (λ (b : BookView). Meets rules b o.middle new) o.at_first here);
         undialed = h.undialed;
@@ -106,7 +107,7 @@ module _ (name : List ℕ) (service : Service) (rules : RuleBook) (first : BookV
         before = o.before;
         book = h.book;
         ending = h.ending;
-        over = over_book h.book h.ending out h.middle new same h.files h.launcher h.ends;
+        over = over_book h.book h.ending out h.middle new same h.files h.launcher h.disks h.ends;
         serves = subst (λ (r : RuleBook). Meets r begun o.middle new) o.rules_are (subst (λ (b : BookView). Meets rules b o.middle new) o.at_first here);
         untouched = subst (λ (r : RuleBook). Untouched services.TnGw (verdict_of r peer) o.before h.book.keeper) o.rules_are (untouched_by (verdict_of rules peer) h.book h.untouched);
       }

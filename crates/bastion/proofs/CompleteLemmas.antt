@@ -1,6 +1,11 @@
 -- In a run in which no count rose, all was done.
 use Rattle.std.proofs.Common.{arith, ◌≡◌, ◌≤◌, ℕ, List, [], ◌∷◌, ◌++◌, refl, sym, ◌∙◌, ap, subst, inl, inr, ◌⊎◌, true, false}
-use Rattle.std.specs.Prelude.{Option, Some, None, Result, Ok, Err, codes}
+use Rattle.std.specs.Prelude.{Option, Some, None, Result, Ok, Err, codes, length, unwrap_or}
+use Rattle.drill_lines.specs.Drill.{drilled, tally_text}
+use Rattle.drill_lines.specs.declared.plan.Drill as drills
+use Rattle.drill_lines.specs.declared.drill_fault.DrillFault.{DrillFault}
+use Rattle.drill_lines.specs.declared.drill_fault.DrillFault.TheVariants as faults
+use Rattle.drill_lines.specs.declared.tally.Tally.{Tally}
 use Rattle.fw_outside.specs.LauncherView.{LauncherView, Starts}
 use Rattle.fw_outside.specs.SinkView.{Gives, SinkView}
 use Rattle.fw_outside.specs.ToldList.{grown}
@@ -11,11 +16,12 @@ use Rattle.fw_types.specs.declared.peer.Peer.{Peer}
 use Rattle.gate_rules.specs.Verdict.{verdict_of}
 use Rattle.gate_rules.specs.declared.verdict.Verdict.{Verdict}
 use Rattle.session_acts.proofs.ToldLemmas.{by_both, by_nothing}
-use Rattle.bastion.specs.Complete.{AllDone, IsComplete, IsLaunchedWhole, IsLinkedWhole, IsStartedWhole, IsWhole}
+use Rattle.bastion.specs.Complete.{AllDone, IsComplete, IsDrilledWhole, IsFormattedWhole, IsJobComplete, IsLaunchedWhole, IsLinkedWhole, IsOrderComplete, IsStartedWhole, IsWhole}
 use Rattle.bastion.specs.Inputs.{HasInputs, Inputs}
-use Rattle.bastion.specs.Outcome.{fault_line_of, refusal_text, status_of, verdict_status}
-use Rattle.bastion.specs.Run.{DoesLine, Run, Stops, TellsIf, Worked, verdict_for}
-use Rattle.bastion.specs.Status.{IsPassed, IsServed, RoseBy, RoseOf, SomeRose}
+use Rattle.bastion.specs.Jobs.{AreFormatted, DoesJob, DrillsBy, Formats, TellsFormatted, drill_refused, formatted_text, printed}
+use Rattle.bastion.specs.Outcome.{DiskRose, fault_line_of, refusal_text, status_of, verdict_status}
+use Rattle.bastion.specs.Run.{DoesLine, DoesOrder, Run, Stops, TellsIf, Worked, verdict_for}
+use Rattle.bastion.specs.Status.{IsPassed, IsServed, RoseBy, RoseInJob, RoseInOrder, RoseOf, SomeRose}
 use Rattle.client_service.specs.Decision.{decision_text}
 use Rattle.bastion.specs.Texts.{ended_text, print_text, program_of}
 use Rattle.bastion.specs.Words.{LineView}
@@ -23,15 +29,20 @@ use Rattle.bastion.specs.Works.{LaunchesIf, PrintsAfter, PrintsEnd, StaysSo, ann
 use Rattle.bastion.specs.WorldView.{SessionInputs, WorldView}
 use Rattle.bastion.specs.declared.outcome.Device.TheVariants as device
 use Rattle.bastion.specs.declared.outcome.Outcome.{Outcome}
-use Rattle.bastion.specs.declared.outcome.Outcome.TheVariants.{Usage, Unread, Failed, NoMemory, Decided, Ended}
+use Rattle.bastion.specs.declared.outcome.Outcome.TheVariants.{Usage, Unread, Failed, NoMemory, Done, Decided, Ended}
 use Rattle.bastion.specs.declared.words.Command.{Command}
 use Rattle.bastion.specs.declared.words.Command.TheVariants.{Netacl, NetaclRun, Table, Authsrv, PlugGw, TnGw}
+use Rattle.bastion.specs.declared.words.Job.{Job}
+use Rattle.bastion.specs.declared.words.Job.TheVariants.{Drill, SpoolInit}
+use Rattle.bastion.specs.declared.words.Order.{Order}
+use Rattle.bastion.specs.declared.words.Order.TheVariants.{ByTable, Alone}
 use Rattle.bastion.specs.declared.words.Caller.{Caller}
 use Rattle.bastion.specs.declared.words.Client.{Client}
 use Rattle.bastion.specs.declared.words.Query.{Query}
 use Rattle.bastion.proofs.AttendedLemmas.{attended_status}
 use Rattle.bastion.proofs.GatedLemmas.{gated_status}
 use Rattle.bastion.proofs.GatewayLemmas.{gated_whole}
+use Rattle.bastion.proofs.JobRoseLemmas.{fails_rose}
 use Rattle.bastion.proofs.LaunchLemmas.{Launching, launched}
 use Rattle.bastion.proofs.LeftLemmas.{calls_launcher, only_left, stops_left, tells_later}
 use Rattle.bastion.proofs.RoseLemmas.{by_later, count_some, rose_some, some_by, some_later, stops_rose, worked_rose}
@@ -63,6 +74,7 @@ stops_complete name command (Failed which) old mid new none h tells =
     absurd (none (some_by command old new (some_later old mid new (tells_later (fault_line_of (Failed which)) mid new tells) (count_some (Failed which) old mid (stops_rose name command (Failed which) old mid h) refl))))
 stops_complete name command (NoMemory step) old mid new none h tells = inl refl
 stops_complete name command Usage old mid new none h tells = absurd h
+stops_complete name command Done old mid new none h tells = absurd h
 stops_complete name command (Decided verdict) old mid new none h tells = absurd h
 stops_complete name command (Ended ending refused) old mid new none h tells = absurd h
 
@@ -273,13 +285,59 @@ worked_complete name (PlugGw caller) outcome old mid new none h tells =
     linked_done name caller h.inputs outcome old new h.read (linked_whole name caller h.inputs outcome old h.middle mid new (quiet old new (λ some. none (inl some))) never h.only h.works tells)
 worked_complete name (TnGw peer) outcome old mid new none h tells = gated_done name peer outcome old mid new none h tells (gated_status peer h.inputs outcome h.middle mid h.works)
 
+-- ---- without a table
+
+printed_whole : (text : List ℕ) (outcome : Outcome) (old mid new : WorldView) → Quiet old new → mid.logs ≡ old.logs → (printing : Result (Unit {0}) sink.Failed) → outcome ≡ printed printing → Gives printing text old.output mid.output
+    → TellsIf (fault_line_of outcome) mid new → IsWhole [] text 0 (status_of outcome) old new
+printed_whole text outcome old mid new q unlogged (Ok done) is gives tells =
+    let P : Outcome → Type 0 = λ o. TellsIf (fault_line_of o) mid new in
+    let same : new ≡ mid = subst P is tells in
+    record {
+      logs = grown_none old.logs new.logs (ap (λ (w : WorldView). w.logs) same ∙ unlogged);
+      output = grown_by text old.output old.output mid.output new.output refl gives (ap (λ (w : WorldView). w.output) same);
+      status_is = ap status_of is;
+    }
+printed_whole text outcome old mid new q unlogged (Err failed) is gives tells =
+    absurd (q.output old.output.faults mid.output.faults (same_from old.output old.output refl) (same_from mid.output new.output (tells_later (fault_line_of outcome) mid new tells).output) (cut_rose text old.output mid.output gives))
+
+refused_line : (fault : DrillFault) (old mid new : WorldView) → Quiet old new → mid.logs ≡ old.logs → mid.output ≡ old.output → TellsIf (fault_line_of (drill_refused fault)) mid new
+    → (new.logs.given ≡ grown old.logs.given (unwrap_or (fault_line_of (drill_refused fault)) [])) × (new.output.given ≡ grown old.output.given [])
+refused_line (faults.Table fault) old mid new q logs output tells = told_whole _ old mid new q logs output tells
+refused_line (faults.Rule fault) old mid new q logs output tells = told_whole _ old mid new q logs output tells
+refused_line faults.NoMemory old mid new q logs output tells = told_whole _ old mid new q logs output tells
+
+drill_complete : (drill : drills.Drill) (read : Result Tally DrillFault) (outcome : Outcome) (old mid new : WorldView) → Quiet old new → DrillsBy drill read outcome old mid → TellsIf (fault_line_of outcome) mid new → IsDrilledWhole drill read (status_of outcome) old new
+drill_complete drill (Ok tally) outcome old mid new q h tells = printed_whole (tally_text drill tally) outcome old mid new q h.logs h.prints.printing h.prints.is h.prints.gives tells
+drill_complete drill (Err fault) outcome old mid new q h tells =
+    let told = refused_line fault old mid new q (ap (λ (w : WorldView). w.logs) h.same) (ap (λ (w : WorldView). w.output) h.same) (subst (λ (o : Outcome). TellsIf (fault_line_of o) mid new) h.is tells) in
+    record { logs = told.0; output = told.1; status_is = ap status_of h.is }
+
+init_complete : (answer : Result (Unit {0}) ℕ) (outcome : Outcome) (old mid new : WorldView) → (RoseInJob SpoolInit old new → ⊥) → mid.logs ≡ old.logs → Formats answer old.inputs.disks mid.inputs.disks
+    → TellsFormatted answer (length old.inputs.disks) outcome old.output mid.output → TellsIf (fault_line_of outcome) mid new → IsFormattedWhole (status_of outcome) old new
+init_complete (Ok done) outcome old mid new none logs formats h tells = record {
+  disks = subst (λ (i : SessionInputs). AreFormatted (length old.inputs.disks) old.inputs.disks i.disks) (sym (tells_later (fault_line_of outcome) mid new tells).inputs) formats;
+  whole = printed_whole (formatted_text (length old.inputs.disks)) outcome old mid new (quiet old new (λ some. none (inl some))) logs h.printing h.is h.gives tells;
+}
+init_complete (Err slot) outcome old mid new none logs formats h tells =
+    absurd (none (inr (slot, subst (λ (i : SessionInputs). DiskRose slot old.inputs.disks i.disks) (sym (tells_later (fault_line_of outcome) mid new tells).inputs) (fails_rose slot old.inputs.disks mid.inputs.disks formats))))
+
+job_complete : (job : Job) (outcome : Outcome) (old mid new : WorldView) → (RoseInJob job old new → ⊥) → DoesJob job outcome old mid → TellsIf (fault_line_of outcome) mid new → IsJobComplete job (status_of outcome) old new
+job_complete (Drill drill) outcome old mid new none (inl h) tells = inl (ap status_of h.is)
+job_complete (Drill drill) outcome old mid new none (inr h) tells = inr (drill_complete drill (drilled drill) outcome old mid new (quiet old new none) h tells)
+job_complete SpoolInit outcome old mid new none h tells = init_complete h.answer outcome old mid new none h.logs h.formats h.tells tells
+
+order_complete : (name : List ℕ) (order : Order) (outcome : Outcome) (old mid new : WorldView) → (RoseInOrder order old new → ⊥) → DoesOrder name order outcome old mid → TellsIf (fault_line_of outcome) mid new
+    → IsOrderComplete name order (status_of outcome) old new
+order_complete name (ByTable command) outcome old mid new none (inl h) tells = stops_complete name command outcome old mid new none h tells
+order_complete name (ByTable command) outcome old mid new none (inr h) tells = worked_complete name command outcome old mid new none h tells
+order_complete name (Alone job) outcome old mid new none h tells = job_complete job outcome old mid new none h tells
+
 does_complete : (line : Option LineView) (outcome : Outcome) (old mid new : WorldView) → (RoseOf line old new → ⊥) → DoesLine line outcome old mid → TellsIf (fault_line_of outcome) mid new → IsComplete line (status_of outcome) old new
 does_complete None outcome old mid new none h tells =
     let usage : TellsIf (fault_line_of Usage) mid new = subst (λ (o : Outcome). TellsIf (fault_line_of o) mid new) h.usage tells in
     let told = told_whole (codes "fault usage\n") old mid new (quiet old new none) (ap (λ (w : WorldView). w.logs) h.is) (ap (λ (w : WorldView). w.output) h.is) usage in
     record { logs = told.0; output = told.1; status_is = ap status_of h.usage }
-does_complete (Some line) outcome old mid new none (inl h) tells = stops_complete line.table line.command outcome old mid new none h tells
-does_complete (Some line) outcome old mid new none (inr h) tells = worked_complete line.table line.command outcome old mid new none h tells
+does_complete (Some line) outcome old mid new none h tells = order_complete line.table line.order outcome old mid new none h tells
 
 pub run_complete : (line : Option LineView) (status : ℕ) (old new : WorldView) → Run line status old new → (RoseOf line old new → ⊥) → IsComplete line status old new
 run_complete line status old new ran none =

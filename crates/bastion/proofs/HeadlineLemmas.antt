@@ -28,10 +28,10 @@ use Rattle.session_acts.specs.Session.{Session, deeds_of}
 use Rattle.session_acts.specs.World.{Devices, devices_with}
 use Rattle.bastion.specs.Asking.{IsUndecided}
 use Rattle.bastion.specs.Gateway.{IsGated, IsUnmet}
-use Rattle.bastion.specs.Headline.{Headline, HeadlineFor, IsDenied, IsPermitted, LogsDenial, OfHistory, begins, lent_to}
+use Rattle.bastion.specs.Headline.{Headline, HeadlineFor, HeadlineOf, IsDenied, IsPermitted, LogsDenial, OfHistory, begins, lent_to}
 use Rattle.bastion.specs.Inputs.{Inputs}
 use Rattle.bastion.specs.Outcome.{fault_line_of, is_stopped, status_of, verdict_status}
-use Rattle.bastion.specs.Run.{DoesLine, ReadsOnly, Run, Stops, TellsIf, Worked, verdict_for}
+use Rattle.bastion.specs.Run.{DoesLine, DoesOrder, ReadsOnly, Run, Stops, TellsIf, Worked, verdict_for}
 use Rattle.bastion.specs.Serving.{Attended, UntouchedAt, book_at_first, devices_at, most_entries, origin_of}
 use Rattle.bastion.specs.Status.{IsHeld, IsServed}
 use Rattle.bastion.specs.Talk.{IsSilent, IsToldOff, IsUnserved, table_kept, was_refused}
@@ -41,16 +41,19 @@ use Rattle.bastion.specs.Works.{Announced, AnnouncedRun, PrintsAfter, StaysSo, a
 use Rattle.bastion.specs.WorldView.{SessionInputs, WorldView}
 use Rattle.bastion.specs.declared.outcome.Device.TheVariants as device
 use Rattle.bastion.specs.declared.outcome.Outcome.{Outcome}
-use Rattle.bastion.specs.declared.outcome.Outcome.TheVariants.{Usage, Unread, Failed, NoMemory, Decided, Ended}
+use Rattle.bastion.specs.declared.outcome.Outcome.TheVariants.{Usage, Unread, Failed, NoMemory, Done, Decided, Ended}
 use Rattle.bastion.specs.declared.words.Caller.{Caller}
 use Rattle.bastion.specs.declared.words.Client.{Client}
 use Rattle.bastion.specs.declared.words.Command.{Command}
 use Rattle.bastion.specs.declared.words.Command.TheVariants.{Netacl, NetaclRun, Table, Authsrv, PlugGw, TnGw}
+use Rattle.bastion.specs.declared.words.Order.{Order}
+use Rattle.bastion.specs.declared.words.Order.TheVariants.{ByTable, Alone}
 use Rattle.bastion.specs.declared.words.Query.{Query}
 use Rattle.bastion.proofs.AttendedLemmas.{attended_status}
 use Rattle.bastion.proofs.DecidedLemmas.{ByVerdict}
 use Rattle.bastion.proofs.DenialLemmas.{DeniesWhole, denial_so, session_gave, told_denied, told_off}
 use Rattle.bastion.proofs.GatewayLemmas.{gated_headline}
+use Rattle.bastion.proofs.JobLemmas.{job_left}
 use Rattle.bastion.proofs.LaunchLemmas.{Launching, launched, run_status_by}
 use Rattle.bastion.proofs.LinkedLemmas.{linked_headline}
 use Rattle.bastion.proofs.SessionLemmas.{OfClient, OfSession, lent_outlet, lent_port, serves_so}
@@ -65,6 +68,7 @@ stops_undenied name command (Unread refusal) old new h is = omega (arith, is)
 stops_undenied name command (Failed which) old new h is = omega (arith, is)
 stops_undenied name command (NoMemory step) old new h is = omega (arith, is)
 stops_undenied name command Usage old new h is = omega (arith, is)
+stops_undenied name command Done old new h is = h
 stops_undenied name command (Decided verdict) old new h is = h
 stops_undenied name command (Ended ending refused) old new h is = h
 
@@ -87,6 +91,7 @@ stops_stopped name command (Unread refusal) old new h = refl
 stops_stopped name command (Failed which) old new h = refl
 stops_stopped name command (NoMemory step) old new h = refl
 stops_stopped name command Usage old new h = absurd h
+stops_stopped name command Done old new h = absurd h
 stops_stopped name command (Decided verdict) old new h = absurd h
 stops_stopped name command (Ended ending refused) old new h = absurd h
 
@@ -95,6 +100,7 @@ stopped_unheld (Unread refusal) stopped = (λ is. omega (arith, is), λ is. omeg
 stopped_unheld (Failed which) stopped = (λ is. omega (arith, is), λ is. omega (arith, is))
 stopped_unheld (NoMemory step) stopped = (λ is. omega (arith, is), λ is. omega (arith, is))
 stopped_unheld Usage stopped = absurd (cc)
+stopped_unheld Done stopped = absurd (cc)
 stopped_unheld (Decided verdict) stopped = absurd (cc)
 stopped_unheld (Ended ending refused) stopped = absurd (cc)
 
@@ -354,11 +360,15 @@ worked_headline name (TnGw peer) outcome old mid new h tells =
     let gated : IsGated name peer (status_of outcome) old new = inr (record { inputs = h.inputs; read = h.read; middle = h.middle; only = h.only; so = so.0 }) in
     record { replies_legal = gated; asks_permitted = gated; denials_logged = gate_denials name peer outcome (status_of outcome) old mid new h so.1 }
 
+order_headline : (name : List ℕ) (order : Order) (outcome : Outcome) (old mid new : WorldView) → DoesOrder name order outcome old mid → TellsIf (fault_line_of outcome) mid new → HeadlineOf name order (status_of outcome) old new
+order_headline name (ByTable command) outcome old mid new (inl h) tells =
+    silent_headline name command (status_of outcome) old new (stops_unserved name command outcome old mid new h (tells_later (fault_line_of outcome) mid new tells)) (stops_undecided name command outcome old mid new h tells)
+order_headline name (ByTable command) outcome old mid new (inr h) tells = worked_headline name command outcome old mid new h tells
+order_headline name (Alone job) outcome old mid new h tells = ap (λ (i : SessionInputs). i.dialer) (tells_later (fault_line_of outcome) mid new tells).inputs ∙ (job_left job outcome old mid h).dialer
+
 does_headline : (line : Option LineView) (outcome : Outcome) (old mid new : WorldView) → DoesLine line outcome old mid → TellsIf (fault_line_of outcome) mid new → Headline line (status_of outcome) old new
 does_headline None outcome old mid new h tells = ap (λ (i : SessionInputs). i.dialer) (tells_later (fault_line_of outcome) mid new tells).inputs ∙ ap (λ (w : WorldView). w.inputs.dialer) h.is
-does_headline (Some line) outcome old mid new (inl h) tells =
-    silent_headline line.table line.command (status_of outcome) old new (stops_unserved line.table line.command outcome old mid new h (tells_later (fault_line_of outcome) mid new tells)) (stops_undecided line.table line.command outcome old mid new h tells)
-does_headline (Some line) outcome old mid new (inr h) tells = worked_headline line.table line.command outcome old mid new h tells
+does_headline (Some line) outcome old mid new h tells = order_headline line.table line.order outcome old mid new h tells
 
 pub run_headline : (line : Option LineView) (status : ℕ) (old new : WorldView) → Run line status old new → Headline line status old new
 run_headline line status old new ran =

@@ -47,6 +47,7 @@ pub record RunLeft (old new : WorldView) : Type 0 where
   pub input : new.inputs.input ≡ old.inputs.input
   pub dialer : new.inputs.dialer ≡ old.inputs.dialer
   pub keeper : new.inputs.keeper ≡ old.inputs.keeper
+  pub disks : new.inputs.disks ≡ old.inputs.disks
 
 left_by : (words : List (List ℕ)) (decided outcome : Outcome) (old mid new : WorldView) → mid.files ≡ old.files → mid.inputs ≡ old.inputs → StaysSo decided outcome mid new ⊎ Launching words decided outcome mid new → RunLeft old new
 left_by words decided outcome old mid new files inputs (inl stays) = record {
@@ -54,12 +55,14 @@ left_by words decided outcome old mid new files inputs (inl stays) = record {
   input = ap (λ (w : WorldView). w.inputs.input) stays.same ∙ ap (λ (i : SessionInputs). i.input) inputs;
   dialer = ap (λ (w : WorldView). w.inputs.dialer) stays.same ∙ ap (λ (i : SessionInputs). i.dialer) inputs;
   keeper = ap (λ (w : WorldView). w.inputs.keeper) stays.same ∙ ap (λ (i : SessionInputs). i.keeper) inputs;
+  disks = ap (λ (w : WorldView). w.inputs.disks) stays.same ∙ ap (λ (i : SessionInputs). i.disks) inputs;
 }
 left_by words decided outcome old mid new files inputs (inr h) = record {
   files = h.launches.files ∙ files;
   input = ap (λ (i : SessionInputs). i.input) h.launches.inputs ∙ ap (λ (i : SessionInputs). i.input) inputs;
   dialer = ap (λ (i : SessionInputs). i.dialer) h.launches.inputs ∙ ap (λ (i : SessionInputs). i.dialer) inputs;
   keeper = ap (λ (i : SessionInputs). i.keeper) h.launches.inputs ∙ ap (λ (i : SessionInputs). i.keeper) inputs;
+  disks = ap (λ (i : SessionInputs). i.disks) h.launches.inputs ∙ ap (λ (i : SessionInputs). i.disks) inputs;
 }
 
 pub run_left : (query : Query) (verdict : Verdict) (text : List ℕ) (words : List (List ℕ)) (outcome : Outcome) (old new : WorldView) → AnnouncedRun query verdict text words outcome old new → RunLeft old new

@@ -38,6 +38,7 @@ pub record Left (old new : WorldView) : Type 0 where
   pub input : new.inputs.input ≡ old.inputs.input
   pub clock : new.inputs.clock ≡ old.inputs.clock
   pub dialer : new.inputs.dialer ≡ old.inputs.dialer
+  pub disks : new.inputs.disks ≡ old.inputs.disks
   pub output : new.output ≡ old.output
   pub logs : new.logs ≡ old.logs
   pub keeper : IsSome old.inputs.keeper → IsSome new.inputs.keeper
@@ -58,6 +59,10 @@ calls_dialer : (records : Bool) (old new : SessionInputs) → CallsIf records ol
 calls_dialer true old new h = ap (λ (i : SessionInputs). i.dialer) h.is
 calls_dialer false old new h = ap (λ (i : SessionInputs). i.dialer) h
 
+calls_disks : (records : Bool) (old new : SessionInputs) → CallsIf records old new → new.disks ≡ old.disks
+calls_disks true old new h = ap (λ (i : SessionInputs). i.disks) h.is
+calls_disks false old new h = ap (λ (i : SessionInputs). i.disks) h
+
 calls_there : (records : Bool) (old new : SessionInputs) → CallsIf records old new → IsSome old.keeper → IsSome new.keeper
 calls_there true old new h there = some_there new.keeper h.after (ap (λ (i : SessionInputs). i.keeper) h.is)
 calls_there false old new h there = subst (λ (i : SessionInputs). IsSome i.keeper) (sym h) there
@@ -77,6 +82,7 @@ only_left name records old new h = record {
   input = calls_input records old.inputs new.inputs h.inputs;
   clock = calls_clock records old.inputs new.inputs h.inputs;
   dialer = calls_dialer records old.inputs new.inputs h.inputs;
+  disks = calls_disks records old.inputs new.inputs h.inputs;
   output = h.output;
   logs = h.logs;
   keeper = calls_there records old.inputs new.inputs h.inputs;
@@ -93,6 +99,7 @@ lacks_left name command steps.Start old new h = only_left name false old new h
 lacks_left name command steps.Table old new h = only_left name false old new h
 lacks_left name command steps.Rules old new h = only_left name false old new h
 lacks_left name command steps.Policy old new h = only_left name false old new h
+lacks_left name command steps.Drill old new h = absurd h
 lacks_left name command steps.Records old new h = only_left name (needs_records command) old new h
 
 pub stops_left : (name : List ℕ) (command : Command) (outcome : Outcome) (old new : WorldView) → Stops name command outcome old new → Left old new
@@ -102,6 +109,7 @@ stops_left name command (Failed device.Table) old new h = record {
   input = ap (λ (i : SessionInputs). i.input) h.inputs;
   clock = ap (λ (i : SessionInputs). i.clock) h.inputs;
   dialer = ap (λ (i : SessionInputs). i.dialer) h.inputs;
+  disks = ap (λ (i : SessionInputs). i.disks) h.inputs;
   output = h.output;
   logs = h.logs;
   keeper = λ there. subst (λ (i : SessionInputs). IsSome i.keeper) (sym h.inputs) there;
@@ -112,6 +120,7 @@ stops_left name command (Failed device.Records) old new h = record {
   input = ap (λ (i : SessionInputs). i.input) h.inputs;
   clock = ap (λ (i : SessionInputs). i.clock) h.inputs;
   dialer = ap (λ (i : SessionInputs). i.dialer) h.inputs;
+  disks = ap (λ (i : SessionInputs). i.disks) h.inputs;
   output = h.output;
   logs = h.logs;
   keeper = λ there. some_there new.inputs.keeper h.after (ap (λ (i : SessionInputs). i.keeper) h.inputs);

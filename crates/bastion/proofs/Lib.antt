@@ -4,10 +4,13 @@ pub mod CompleteLemmas
 pub mod DecidedLemmas
 pub mod DenialLemmas
 pub mod DoesLemmas
+pub mod FormatLemmas
 pub mod GatedLemmas
 pub mod GatewayLemmas
 pub mod HeadlineLemmas
 pub mod InputLemmas
+pub mod JobLemmas
+pub mod JobRoseLemmas
 pub mod LaunchLemmas
 pub mod LeftLemmas
 pub mod LinkedLemmas

@@ -17,21 +17,24 @@ use Rattle.gate_rules.specs.declared.verdict.Verdict.{Verdict}
 use Rattle.gate_rules.specs.declared.verdict.Verdict.TheVariants.{Permit, Deny}
 use Rattle.bastion.specs.Talk.{table_kept}
 use Rattle.bastion.specs.Inputs.{Inputs, is_of_line, needs_records}
-use Rattle.bastion.specs.Outcome.{CountRose, DeviceRose, EndingRose, GateRose, KeeperRose, LinkRose, RoseFor, RoseIn, fault_line_of, status_of, verdict_status}
-use Rattle.bastion.specs.Run.{CallsIf, DoesLine, FilesFailed, ReadsOnly, Run, Stops, TellsIf, Worked}
+use Rattle.bastion.specs.Outcome.{CountRose, DeviceRose, EndingRose, GateRose, KeeperRose, LinkRose, OrderRose, RoseFor, RoseIn, fault_line_of, status_of, verdict_status}
+use Rattle.bastion.specs.Run.{CallsIf, DoesLine, DoesOrder, FilesFailed, ReadsOnly, Run, Stops, TellsIf, Worked}
 use Rattle.bastion.specs.Words.{LineView}
 use Rattle.bastion.specs.Works.{Works}
 use Rattle.bastion.specs.WorldView.{SessionInputs, WorldView}
 use Rattle.bastion.specs.declared.outcome.Device.{Device}
 use Rattle.bastion.specs.declared.outcome.Device.TheVariants as device
 use Rattle.bastion.specs.declared.outcome.Outcome.{Outcome}
-use Rattle.bastion.specs.declared.outcome.Outcome.TheVariants.{Usage, Unread, Failed, NoMemory, Decided, Ended}
+use Rattle.bastion.specs.declared.outcome.Outcome.TheVariants.{Usage, Unread, Failed, NoMemory, Done, Decided, Ended}
 use Rattle.bastion.specs.declared.outcome.Step.{Step}
 use Rattle.bastion.specs.declared.outcome.Step.TheVariants as steps
 use Rattle.bastion.specs.declared.words.Command.{Command}
 use Rattle.bastion.specs.declared.words.Command.TheVariants.{Netacl, NetaclRun, Table, Authsrv, PlugGw, TnGw}
+use Rattle.bastion.specs.declared.words.Order.{Order}
+use Rattle.bastion.specs.declared.words.Order.TheVariants.{ByTable, Alone}
 use Rattle.bastion.proofs.AttendedLemmas.{attended_rose}
 use Rattle.bastion.proofs.DecidedLemmas.{after_rose, shown_rose}
+use Rattle.bastion.proofs.JobRoseLemmas.{job_rose}
 use Rattle.bastion.proofs.LaunchLemmas.{run_rose}
 use Rattle.bastion.proofs.GatedLemmas.{gated_rose}
 use Rattle.bastion.proofs.LinkingLemmas.{linked_rose}
@@ -59,6 +62,7 @@ stops_rose name command (Failed device.Records) old new h =
 stops_rose name command (Failed device.Output) old new h = absurd h
 stops_rose name command (Failed device.Log) old new h = absurd h
 stops_rose name command (Failed device.Program) old new h = absurd h
+stops_rose name command (Failed (device.Disk slot)) old new h = absurd h
 stops_rose name command (Ended ending refused) old new h = absurd h
 stops_rose name command outcome old new h = tt
 
@@ -86,11 +90,13 @@ rose_for (PlugGw caller) Usage old new h = h
 rose_for (PlugGw caller) (Unread refusal) old new h = h
 rose_for (PlugGw caller) (Failed which) old new h = h
 rose_for (PlugGw caller) (NoMemory step) old new h = h
+rose_for (PlugGw caller) Done old new h = h
 rose_for (PlugGw caller) (Decided verdict) old new h = h
 rose_for (TnGw peer) Usage old new h = h
 rose_for (TnGw peer) (Unread refusal) old new h = h
 rose_for (TnGw peer) (Failed which) old new h = h
 rose_for (TnGw peer) (NoMemory step) old new h = h
+rose_for (TnGw peer) Done old new h = h
 rose_for (TnGw peer) (Decided verdict) old new h = h
 rose_for (Netacl query) outcome old new h = h
 rose_for (NetaclRun query) outcome old new h = h
@@ -126,6 +132,7 @@ device_from name records device.Log old mid new only h = subst (λ (s : SinkView
 device_from name records device.Records old mid new only h = keeper_from records old.inputs mid.inputs new.inputs.keeper only.inputs h
 device_from name records device.Program old mid new only h =
     subst (λ (l : LauncherView). Rose l.faults new.inputs.launcher.faults) (calls_launcher records old.inputs mid.inputs only.inputs) h
+device_from name records (device.Disk slot) old mid new only h = absurd h
 
 client_from : (old mid : WorldView) (new : WorldView) → mid.inputs.input ≡ old.inputs.input → mid.output ≡ old.output
     → Rose mid.inputs.input.faults new.inputs.input.faults ⊎ Rose mid.output.faults new.output.faults → Rose old.inputs.input.faults new.inputs.input.faults ⊎ Rose old.output.faults new.output.faults
@@ -179,11 +186,13 @@ rose_from name (PlugGw caller) Usage old mid new only h = tt
 rose_from name (PlugGw caller) (Unread refusal) old mid new only h = tt
 rose_from name (PlugGw caller) (Failed which) old mid new only h = device_from name false which old mid new only h
 rose_from name (PlugGw caller) (NoMemory step) old mid new only h = tt
+rose_from name (PlugGw caller) Done old mid new only h = tt
 rose_from name (PlugGw caller) (Decided verdict) old mid new only h = tt
 rose_from name (TnGw peer) Usage old mid new only h = tt
 rose_from name (TnGw peer) (Unread refusal) old mid new only h = tt
 rose_from name (TnGw peer) (Failed which) old mid new only h = device_from name true which old mid new only h
 rose_from name (TnGw peer) (NoMemory step) old mid new only h = tt
+rose_from name (TnGw peer) Done old mid new only h = tt
 rose_from name (TnGw peer) (Decided verdict) old mid new only h = tt
 rose_from name (Netacl query) outcome old mid new only h = count_from name false outcome old mid new only h
 rose_from name (NetaclRun query) outcome old mid new only h = count_from name false outcome old mid new only h
@@ -193,10 +202,14 @@ rose_from name (Authsrv client) outcome old mid new only h = count_from name tru
 pub worked_rose : (name : List ℕ) (command : Command) (outcome : Outcome) (old new : WorldView) → Worked name command outcome old new → RoseFor command outcome old new
 worked_rose name command outcome old new h = rose_from name command outcome old h.middle new h.only (works_rose command h.inputs outcome h.middle new h.works)
 
+order_rose : (name : List ℕ) (order : Order) (outcome : Outcome) (old new : WorldView) → DoesOrder name order outcome old new → OrderRose order outcome old new
+order_rose name (ByTable command) outcome old new (inl h) = rose_for command outcome old new (stops_rose name command outcome old new h)
+order_rose name (ByTable command) outcome old new (inr h) = worked_rose name command outcome old new h
+order_rose name (Alone job) outcome old new h = job_rose job outcome old new h
+
 pub does_rose : (line : Option LineView) (outcome : Outcome) (old new : WorldView) → DoesLine line outcome old new → RoseIn line outcome old new
 does_rose None outcome old new h = subst (λ (o : Outcome). CountRose o old new) (sym h.usage) tt
-does_rose (Some line) outcome old new (inl h) = rose_for line.command outcome old new (stops_rose line.table line.command outcome old new h)
-does_rose (Some line) outcome old new (inr h) = worked_rose line.table line.command outcome old new h
+does_rose (Some line) outcome old new h = order_rose line.table line.order outcome old new h
 
 pub some_later : (old mid new : WorldView) → Later mid new → SomeRose old mid → SomeRose old new
 some_later old mid new h (inl files) = inl (subst (λ (f : FilesView). Rose old.files.missing f.missing ⊎ Rose old.files.read_faults f.read_faults) (sym h.files) files)
@@ -265,6 +278,7 @@ device_some device.Output old new h = inr (inl (inl h))
 device_some device.Log old new h = inr (inl (inr h))
 device_some device.Records old new h = inr (inr (inr (inl h)))
 device_some device.Program old new h = inr (inr (inr (inr h)))
+device_some (device.Disk slot) old new h = absurd h
 
 verdict_four : {A : Type 0} (verdict : Verdict) → verdict_status verdict ≡ 4 → A
 verdict_four (Permit line) is = absurd (omega (arith, is))
@@ -275,6 +289,7 @@ count_some Usage old new h is = absurd (omega (arith, is))
 count_some (Unread refusal) old new h is = absurd (omega (arith, is))
 count_some (Failed which) old new h is = device_some which old new h
 count_some (NoMemory step) old new h is = absurd (omega (arith, is))
+count_some Done old new h is = absurd (omega (arith, is))
 count_some (Decided verdict) old new h is = verdict_four verdict is
 count_some (Ended ending refused) old new h is = ending_some ending refused old new h is
 
@@ -304,12 +319,14 @@ rose_some (PlugGw caller) Usage old new h is = inl (count_some Usage old new h i
 rose_some (PlugGw caller) (Unread refusal) old new h is = inl (count_some (Unread refusal) old new h is)
 rose_some (PlugGw caller) (Failed which) old new h is = inl (count_some (Failed which) old new h is)
 rose_some (PlugGw caller) (NoMemory step) old new h is = inl (count_some (NoMemory step) old new h is)
+rose_some (PlugGw caller) Done old new h is = inl (count_some Done old new h is)
 rose_some (PlugGw caller) (Decided verdict) old new h is = inl (count_some (Decided verdict) old new h is)
 rose_some (TnGw peer) (Ended ending refused) old new h is = gate_some ending refused old new h is
 rose_some (TnGw peer) Usage old new h is = inl (count_some Usage old new h is)
 rose_some (TnGw peer) (Unread refusal) old new h is = inl (count_some (Unread refusal) old new h is)
 rose_some (TnGw peer) (Failed which) old new h is = inl (count_some (Failed which) old new h is)
 rose_some (TnGw peer) (NoMemory step) old new h is = inl (count_some (NoMemory step) old new h is)
+rose_some (TnGw peer) Done old new h is = inl (count_some Done old new h is)
 rose_some (TnGw peer) (Decided verdict) old new h is = inl (count_some (Decided verdict) old new h is)
 rose_some (Netacl query) outcome old new h is = count_some outcome old new h is
 rose_some (NetaclRun query) outcome old new h is = count_some outcome old new h is

@@ -2,6 +2,7 @@
 use Rattle.std.proofs.Common.{◌≡◌, ◌≤◌, ℕ, List, refl, sym, ◌∙◌, ap, subst, inl, inr, arith, ◌⊎◌, Bool, true, false}
 use Rattle.std.specs.Option.{option_map}
 use Rattle.std.specs.Prelude.{Option, Some, None, Result, Ok, Err, IsSome, not}
+use Rattle.fw_disk.specs.DiskView.{DiskView}
 use Rattle.fw_outside.specs.ClockView.{ClockView}
 use Rattle.fw_outside.specs.Counts.{Rose}
 use Rattle.fw_outside.specs.DialerView.{DialerView}
@@ -21,21 +22,24 @@ use Rattle.gate_rules.specs.declared.verdict.Verdict.TheVariants.{Permit, Deny}
 use Rattle.bastion.specs.Talk.{table_kept}
 use Rattle.bastion.specs.Inputs.{Inputs, is_of_line, needs_records}
 use Rattle.bastion.specs.Outcome.{CountRose, DeviceRose, EndingRose, GateRose, KeeperRose, LinkRose, RoseFor, RoseIn, fault_line_of, status_of, verdict_status}
-use Rattle.bastion.specs.Run.{CallsIf, DoesLine, FilesFailed, ReadsOnly, Run, Stops, TellsIf, Worked}
-use Rattle.bastion.specs.Status.{IsAtLimit, IsFull, IsHeld, IsLinked, IsPassed, IsServed, IsStatus, IsStatusFor, LinkSpent, LinksFailed, LinksRose, RoseBy, SomeRose, TakesBy, TakesFor, TakesIn}
+use Rattle.bastion.specs.Run.{CallsIf, DoesLine, DoesOrder, FilesFailed, ReadsOnly, Run, Stops, TellsIf, Worked}
+use Rattle.bastion.specs.Status.{IsAtLimit, IsFull, IsHeld, IsLinked, IsPassed, IsServed, IsStatus, IsStatusFor, IsStatusOf, LeavesDisks, LinkSpent, LinksFailed, LinksRose, OrderLeavesDisks, RoseBy, SomeRose, TakesBy, TakesFor, TakesIn, TakesOf}
 use Rattle.bastion.specs.Words.{LineView}
 use Rattle.bastion.specs.Works.{Works}
 use Rattle.bastion.specs.WorldView.{SessionInputs, WorldView}
 use Rattle.bastion.specs.declared.outcome.Device.{Device}
 use Rattle.bastion.specs.declared.outcome.Device.TheVariants as device
 use Rattle.bastion.specs.declared.outcome.Outcome.{Outcome}
-use Rattle.bastion.specs.declared.outcome.Outcome.TheVariants.{Usage, Unread, Failed, NoMemory, Decided, Ended}
+use Rattle.bastion.specs.declared.outcome.Outcome.TheVariants.{Usage, Unread, Failed, NoMemory, Done, Decided, Ended}
 use Rattle.bastion.specs.declared.outcome.Step.{Step}
 use Rattle.bastion.specs.declared.outcome.Step.TheVariants as steps
 use Rattle.bastion.specs.declared.words.Command.{Command}
 use Rattle.bastion.specs.declared.words.Command.TheVariants.{Netacl, NetaclRun, Table, Authsrv, PlugGw, TnGw}
+use Rattle.bastion.specs.declared.words.Order.{Order}
+use Rattle.bastion.specs.declared.words.Order.TheVariants.{ByTable, Alone}
 use Rattle.bastion.proofs.AttendedLemmas.{attended_status, attended_takes, takes_same}
 use Rattle.bastion.proofs.DecidedLemmas.{ByVerdict, after_status, shown_status}
+use Rattle.bastion.proofs.JobLemmas.{job_disks, job_left, job_status}
 use Rattle.bastion.proofs.LaunchLemmas.{run_left, run_status_by}
 use Rattle.bastion.proofs.GatedLemmas.{gated_status, gated_takes}
 use Rattle.bastion.proofs.LinkingLemmas.{linked_status, linked_takes}
@@ -53,6 +57,7 @@ stops_status name command (Unread refusal) old mid new h later = inr (record { r
 stops_status name command (Failed which) old mid new h later = by_count name command (Failed which) old mid new (rose_for command (Failed which) old mid (stops_rose name command (Failed which) old mid h)) later refl
 stops_status name command (NoMemory step) old mid new h later = inl (inr refl)
 stops_status name command Usage old mid new h later = absurd h
+stops_status name command Done old mid new h later = absurd h
 stops_status name command (Decided verdict) old mid new h later = absurd h
 stops_status name command (Ended ending refused) old mid new h later = absurd h
 
@@ -128,10 +133,14 @@ worked_status name (TnGw peer) outcome old mid new h later =
     (λ passed. inr (record { read = Ok h.inputs; inputs = h.read; is = passed_then verdict (status_of outcome) h.middle.inputs mid.inputs old.inputs new.inputs left.input left.clock later.inputs passed }))
     (gated_status peer h.inputs outcome h.middle mid h.works)
 
+order_status : (name : List ℕ) (order : Order) (outcome : Outcome) (old mid new : WorldView) → DoesOrder name order outcome old mid → Later mid new → IsStatusOf name order (status_of outcome) old new
+order_status name (ByTable command) outcome old mid new (inl h) later = stops_status name command outcome old mid new h later
+order_status name (ByTable command) outcome old mid new (inr h) later = worked_status name command outcome old mid new h later
+order_status name (Alone job) outcome old mid new h later = job_status job outcome old mid new h later
+
 does_status : (line : Option LineView) (outcome : Outcome) (old mid new : WorldView) → DoesLine line outcome old mid → Later mid new → IsStatus line (status_of outcome) old new
 does_status None outcome old mid new h later = ap status_of h.usage
-does_status (Some line) outcome old mid new (inl h) later = stops_status line.table line.command outcome old mid new h later
-does_status (Some line) outcome old mid new (inr h) later = worked_status line.table line.command outcome old mid new h later
+does_status (Some line) outcome old mid new h later = order_status line.table line.order outcome old mid new h later
 
 pub run_status : (line : Option LineView) (status : ℕ) (old new : WorldView) → Run line status old new → IsStatus line status old new
 run_status line status old new ran =
@@ -178,13 +187,19 @@ pub record GivesBackAll (old new : WorldView) : Type 0 where
   pub out : new.files.out ≡ old.files.out
   pub keeper : IsSome old.inputs.keeper → IsSome new.inputs.keeper
 
+order_back : (name : List ℕ) (order : Order) (outcome : Outcome) (old new : WorldView) → DoesOrder name order outcome old new → GivesBackAll old new
+order_back name (ByTable command) outcome old new (inl h) = let left = stops_left name command outcome old new h in record { out = left.out; keeper = left.keeper }
+order_back name (ByTable command) outcome old new (inr h) =
+    let left = only_left name (needs_records command) old h.middle h.only in
+    let works = works_left command h.inputs outcome h.middle new h.works in
+    record { out = ap (λ (f : FilesView). f.out) works.0 ∙ left.out; keeper = λ there. works.1 (left.keeper there) }
+order_back name (Alone job) outcome old new h =
+    let left = job_left job outcome old new h in
+    record { out = ap (λ (f : FilesView). f.out) left.files; keeper = λ there. subst (λ (k : Option KeeperView). IsSome k) (sym left.keeper) there }
+
 does_back : (line : Option LineView) (outcome : Outcome) (old new : WorldView) → DoesLine line outcome old new → GivesBackAll old new
 does_back None outcome old new h = record { out = ap (λ (w : WorldView). w.files.out) h.is; keeper = λ there. subst (λ (w : WorldView). IsSome w.inputs.keeper) (sym h.is) there }
-does_back (Some line) outcome old new (inl h) = let left = stops_left line.table line.command outcome old new h in record { out = left.out; keeper = left.keeper }
-does_back (Some line) outcome old new (inr h) =
-    let left = only_left line.table (needs_records line.command) old h.middle h.only in
-    let works = works_left line.command h.inputs outcome h.middle new h.works in
-    record { out = ap (λ (f : FilesView). f.out) works.0 ∙ left.out; keeper = λ there. works.1 (left.keeper there) }
+does_back (Some line) outcome old new h = order_back line.table line.order outcome old new h
 
 pub run_back : (line : Option LineView) (status : ℕ) (old new : WorldView) → Run line status old new → GivesBackAll old new
 run_back line status old new ran =
@@ -210,16 +225,45 @@ takes_for (NetaclRun query) status old new h = h
 takes_for (Table query) status old new h = h
 takes_for (Authsrv client) status old new h = h
 
+order_takes : (name : List ℕ) (order : Order) (outcome : Outcome) (old new : WorldView) → DoesOrder name order outcome old new → TakesOf order (status_of outcome) old.inputs.input new.inputs.input
+order_takes name (ByTable command) outcome old new (inl h) =
+    takes_for command (status_of outcome) old.inputs.input new.inputs.input (takes_same (status_of outcome) old.inputs.input new.inputs.input (stops_left name command outcome old new h).input)
+order_takes name (ByTable command) outcome old new (inr h) =
+    let left = only_left name (needs_records command) old h.middle h.only in
+    subst (λ (s : SourceView). TakesFor command (status_of outcome) s new.inputs.input) left.input (works_takes command h.inputs outcome h.middle new h.works)
+order_takes name (Alone job) outcome old new h = (job_left job outcome old new h).input
+
 does_takes : (line : Option LineView) (outcome : Outcome) (old new : WorldView) → DoesLine line outcome old new → TakesBy line (status_of outcome) old.inputs.input new.inputs.input
 does_takes None outcome old new h = takes_same (status_of outcome) old.inputs.input new.inputs.input (ap (λ (w : WorldView). w.inputs.input) h.is)
-does_takes (Some line) outcome old new (inl h) =
-    takes_for line.command (status_of outcome) old.inputs.input new.inputs.input (takes_same (status_of outcome) old.inputs.input new.inputs.input (stops_left line.table line.command outcome old new h).input)
-does_takes (Some line) outcome old new (inr h) =
-    let left = only_left line.table (needs_records line.command) old h.middle h.only in
-    subst (λ (s : SourceView). TakesFor line.command (status_of outcome) s new.inputs.input) left.input (works_takes line.command h.inputs outcome h.middle new h.works)
+does_takes (Some line) outcome old new h = order_takes line.table line.order outcome old new h
 
 pub run_takes : (line : Option LineView) (status : ℕ) (old new : WorldView) → Run line status old new → TakesBy line status old.inputs.input new.inputs.input
 run_takes line status old new ran =
     let later = tells_later (fault_line_of ran.outcome) ran.middle new ran.tells in
     subst (λ (s : ℕ). TakesBy line s old.inputs.input new.inputs.input) (sym ran.status_is)
     (subst (λ (i : SessionInputs). TakesBy line (status_of ran.outcome) old.inputs.input i.input) (sym later.inputs) (does_takes line ran.outcome old ran.middle ran.does))
+
+-- ---- the disks
+
+works_disks : (command : Command) (inputs : Inputs) (outcome : Outcome) (old new : WorldView) → Works command inputs outcome old new → new.inputs.disks ≡ old.inputs.disks
+works_disks (Netacl query) inputs outcome old new h = ap (λ (i : SessionInputs). i.disks) h.inputs
+works_disks (NetaclRun query) inputs outcome old new h = (run_left query (verdict_of inputs.rules query.peer) _ _ outcome old new h).disks
+works_disks (Table query) inputs outcome old new h = ap (λ (i : SessionInputs). i.disks) h.inputs
+works_disks (Authsrv client) inputs outcome old new h = h.over.disks
+works_disks (PlugGw caller) inputs outcome old new h = h.disks
+works_disks (TnGw peer) inputs outcome old new h = h.over.disks
+
+order_disks : (name : List ℕ) (order : Order) (outcome : Outcome) (old new : WorldView) → DoesOrder name order outcome old new → OrderLeavesDisks order (status_of outcome) old.inputs.disks new.inputs.disks
+order_disks name (ByTable command) outcome old new (inl h) = (stops_left name command outcome old new h).disks
+order_disks name (ByTable command) outcome old new (inr h) = works_disks command h.inputs outcome h.middle new h.works ∙ (only_left name (needs_records command) old h.middle h.only).disks
+order_disks name (Alone job) outcome old new h = job_disks job outcome old new h
+
+does_disks : (line : Option LineView) (outcome : Outcome) (old new : WorldView) → DoesLine line outcome old new → LeavesDisks line (status_of outcome) old.inputs.disks new.inputs.disks
+does_disks None outcome old new h = ap (λ (w : WorldView). w.inputs.disks) h.is
+does_disks (Some line) outcome old new h = order_disks line.table line.order outcome old new h
+
+pub run_disks : (line : Option LineView) (status : ℕ) (old new : WorldView) → Run line status old new → LeavesDisks line status old.inputs.disks new.inputs.disks
+run_disks line status old new ran =
+    let later = tells_later (fault_line_of ran.outcome) ran.middle new ran.tells in
+    subst (λ (s : ℕ). LeavesDisks line s old.inputs.disks new.inputs.disks) (sym ran.status_is)
+    (subst (λ (i : SessionInputs). LeavesDisks line (status_of ran.outcome) old.inputs.disks i.disks) (sym later.inputs) (does_disks line ran.outcome old ran.middle ran.does))

@@ -1,5 +1,9 @@
 -- What is done in a run in which no count rose: all that is called for, whole.
-use Rattle.std.specs.Prelude.{◌≡◌, ℕ, ◌⊎◌, Bool, true, false, List, [], ◌∷◌, ◌++◌, codes, Option, Some, None, Result, Ok, Err, unwrap_or}
+use Rattle.std.specs.Prelude.{◌≡◌, ℕ, ◌⊎◌, Bool, true, false, List, [], ◌∷◌, ◌++◌, length, codes, Option, Some, None, Result, Ok, Err, unwrap_or}
+use Rattle.drill_lines.specs.Drill.{drilled, tally_text}
+use Rattle.drill_lines.specs.declared.plan.Drill.{Drill}
+use Rattle.drill_lines.specs.declared.drill_fault.DrillFault.{DrillFault}
+use Rattle.drill_lines.specs.declared.tally.Tally.{Tally}
 use Rattle.fw_outside.specs.LauncherView.{LauncherView, Starts}
 use Rattle.fw_outside.specs.ToldList.{grown}
 use Rattle.fw_outside.specs.declared.started.Started.TheVariants as program
@@ -20,7 +24,8 @@ use Rattle.bastion.specs.Asking.{IsAsked, linking_text}
 use Rattle.bastion.specs.Gateway.{OfTelnet}
 use Rattle.bastion.specs.Headline.{OfHistory}
 use Rattle.bastion.specs.Inputs.{HasInputs, Inputs}
-use Rattle.bastion.specs.Outcome.{fault_line_of, refusal_text, verdict_status}
+use Rattle.bastion.specs.Jobs.{AreFormatted, drill_refused, formatted_text}
+use Rattle.bastion.specs.Outcome.{fault_line_of, refusal_text, status_of, verdict_status}
 use Rattle.bastion.specs.Run.{ReadsOnly, verdict_for}
 use Rattle.bastion.specs.Status.{IsHeld, IsPassed}
 use Rattle.bastion.specs.Talk.{was_refused}
@@ -34,6 +39,10 @@ use Rattle.bastion.specs.declared.outcome.Refusal.{Refusal}
 use Rattle.bastion.specs.declared.words.Caller.{Caller}
 use Rattle.bastion.specs.declared.words.Client.{Client}
 use Rattle.bastion.specs.declared.words.Command.{Command}
+use Rattle.bastion.specs.declared.words.Job.{Job}
+use Rattle.bastion.specs.declared.words.Job.TheVariants as jobs
+use Rattle.bastion.specs.declared.words.Order.{Order}
+use Rattle.bastion.specs.declared.words.Order.TheVariants.{ByTable, Alone}
 use Rattle.bastion.specs.declared.words.Query.{Query}
 use Rattle.bastion.specs.declared.words.Command.TheVariants.{Netacl, NetaclRun, Table, Authsrv, PlugGw, TnGw}
 
@@ -141,7 +150,25 @@ pub record AllDone (name : List ℕ) (command : Command) (status : ℕ) (old new
   pub inputs : HasInputs name command read old
   pub does : IsAllDone name command read status old new
 
+-- the counts of a drill are printed, or what can't be read is told to the log
+abbrev pub IsDrilledWhole : Drill → Result Tally DrillFault → ℕ → WorldView → WorldView → Type 0
+IsDrilledWhole drill (Ok tally) status old new = IsWhole [] (tally_text drill tally) 0 status old new
+IsDrilledWhole drill (Err fault) status old new = IsWhole (unwrap_or (fault_line_of (drill_refused fault)) []) [] (status_of (drill_refused fault)) status old new
+
+-- a free slot was made of each disk, and their number printed
+pub record IsFormattedWhole (status : ℕ) (old new : WorldView) : Type 0 where
+  pub disks : AreFormatted (length old.inputs.disks) old.inputs.disks new.inputs.disks
+  pub whole : IsWhole [] (formatted_text (length old.inputs.disks)) 0 status old new
+
+abbrev pub IsJobComplete : Job → ℕ → WorldView → WorldView → Type 0
+IsJobComplete (jobs.Drill drill) status old new = (status ≡ 5) ⊎ IsDrilledWhole drill (drilled drill) status old new
+IsJobComplete jobs.SpoolInit status old new = IsFormattedWhole status old new
+
 -- or there was no memory
+abbrev pub IsOrderComplete : List ℕ → Order → ℕ → WorldView → WorldView → Type 0
+IsOrderComplete name (ByTable command) status old new = (status ≡ 5) ⊎ AllDone name command status old new
+IsOrderComplete name (Alone job) status old new = IsJobComplete job status old new
+
 abbrev pub IsComplete : Option LineView → ℕ → WorldView → WorldView → Type 0
 IsComplete None status old new = IsWhole (codes "fault usage\n") [] 2 status old new
-IsComplete (Some line) status old new = (status ≡ 5) ⊎ AllDone line.table line.command status old new
+IsComplete (Some line) status old new = IsOrderComplete line.table line.order status old new

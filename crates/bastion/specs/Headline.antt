@@ -39,6 +39,8 @@ use Rattle.bastion.specs.WorldView.{WorldView}
 use Rattle.bastion.specs.declared.words.Client.{Client}
 use Rattle.bastion.specs.declared.words.Command.{Command}
 use Rattle.bastion.specs.declared.words.Command.TheVariants.{Netacl, NetaclRun, Table, Authsrv, PlugGw, TnGw}
+use Rattle.bastion.specs.declared.words.Order.{Order}
+use Rattle.bastion.specs.declared.words.Order.TheVariants.{ByTable, Alone}
 
 -- ---- every denial logs its line
 
@@ -141,6 +143,11 @@ pub record HeadlineFor (name : List ℕ) (command : Command) (status : ℕ) (old
   -- nobody is told anything, or the rules permit, or the log has the whole line of the denial
   pub denials_logged : DenialLogged name command status old new
 
+-- a job without a table asks for no destination
+abbrev pub HeadlineOf : List ℕ → Order → ℕ → WorldView → WorldView → Type 0
+HeadlineOf name (ByTable command) status old new = HeadlineFor name command status old new
+HeadlineOf name (Alone job) status old new = new.inputs.dialer ≡ old.inputs.dialer
+
 abbrev pub Headline : Option LineView → ℕ → WorldView → WorldView → Type 0
 Headline None status old new = new.inputs.dialer ≡ old.inputs.dialer
-Headline (Some line) status old new = HeadlineFor line.table line.command status old new
+Headline (Some line) status old new = HeadlineOf line.table line.order status old new

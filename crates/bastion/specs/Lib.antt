@@ -5,6 +5,7 @@ pub mod Gateway
 pub mod Gating
 pub mod Headline
 pub mod Inputs
+pub mod Jobs
 pub mod Linking
 pub mod Outcome
 pub mod Places

@@ -26,4 +26,5 @@ pub record Linked (caller : Caller) (inputs : Inputs) (out : outcomes.Outcome) (
   pub comes : out ≡ outcome.Ended ending false
   pub keeper : new.inputs.keeper ≡ old.inputs.keeper
   pub launcher : new.inputs.launcher ≡ old.inputs.launcher
+  pub disks : new.inputs.disks ≡ old.inputs.disks
   pub files : new.files ≡ old.files

@@ -1,6 +1,7 @@
 -- What a run comes to: its status, its line in the log, and whose count has risen. Three tables, by cases.
-use Rattle.std.specs.Prelude.{ℕ, ◌⊎◌, Bool, true, false, List, ◌++◌, Option, Some, None, unwrap_or, codes, if◌then◌else◌}
+use Rattle.std.specs.Prelude.{ℕ, zero, suc, ◌⊎◌, Bool, true, false, List, ◌∷◌, ◌++◌, Option, Some, None, unwrap_or, codes, if◌then◌else◌}
 use Rattle.std.specs.Fmt.{decimal}
+use Rattle.fw_disk.specs.DiskView.{DiskView}
 use Rattle.fw_outside.specs.Counts.{Rose}
 use Rattle.fw_outside.specs.KeeperView.{KeeperView}
 use Rattle.fw_types.specs.declared.ending.Ending.{Ending}
@@ -14,11 +15,13 @@ use Rattle.bastion.specs.WorldView.{WorldView}
 use Rattle.bastion.specs.declared.outcome.Device.{Device}
 use Rattle.bastion.specs.declared.outcome.Device.TheVariants as device
 use Rattle.bastion.specs.declared.outcome.Outcome.{Outcome}
-use Rattle.bastion.specs.declared.outcome.Outcome.TheVariants.{Usage, Unread, Failed, NoMemory, Decided, Ended}
+use Rattle.bastion.specs.declared.outcome.Outcome.TheVariants.{Usage, Unread, Failed, NoMemory, Done, Decided, Ended}
 use Rattle.bastion.specs.declared.outcome.Refusal.{Refusal}
 use Rattle.bastion.specs.declared.outcome.Refusal.TheVariants.{Table, Rule, Record}
 use Rattle.bastion.specs.declared.words.Command.{Command}
 use Rattle.bastion.specs.declared.words.Command.TheVariants.{PlugGw, TnGw}
+use Rattle.bastion.specs.declared.words.Order.{Order}
+use Rattle.bastion.specs.declared.words.Order.TheVariants.{ByTable, Alone}
 
 -- ---- the status
 
@@ -49,6 +52,7 @@ status_of Usage = 2
 status_of (Unread refusal) = 3
 status_of (Failed which) = 4
 status_of (NoMemory step) = 5
+status_of Done = 0
 status_of (Decided verdict) = verdict_status verdict
 status_of (Ended ending refused) = if is_at_limit ending refused then 6 else ending_status ending
 
@@ -67,6 +71,7 @@ device_text device.Output = codes "output"
 device_text device.Log = codes "log"
 device_text device.Records = codes "records"
 device_text device.Program = codes "program"
+device_text (device.Disk slot) = codes "disk " ++ decimal slot
 
 -- a line, by its number, and what is wrong with it
 abbrev pub line_text : ℕ → List ℕ → List ℕ
@@ -87,6 +92,7 @@ fault_line_of Usage = Some (codes "fault usage\n")
 fault_line_of (Unread refusal) = Some (codes "fault " ++ refusal_text refusal ++ codes "\n")
 fault_line_of (Failed which) = Some (codes "fault outside " ++ device_text which ++ codes "\n")
 fault_line_of (NoMemory step) = Some (codes "fault memory\n")
+fault_line_of Done = None
 fault_line_of (Decided verdict) = None
 fault_line_of (Ended ending refused) = if is_at_limit ending refused then Some (codes "fault limit\n") else None
 
@@ -97,13 +103,15 @@ abbrev pub KeeperRose : Option KeeperView → Option KeeperView → Type 0
 KeeperRose (Some old) (Some new) = Rose old.faults new.faults
 KeeperRose _ _ = ⊥
 
--- the device's own count rose; the files count names without a source, and sources that failed
+-- the device's own count rose; the files count names without a source, and sources that failed; what is done by the table
+-- calls no disk
 abbrev pub DeviceRose : Device → WorldView → WorldView → Type 0
 DeviceRose device.Table old new = Rose old.files.missing new.files.missing ⊎ Rose old.files.read_faults new.files.read_faults
 DeviceRose device.Output old new = Rose old.output.faults new.output.faults
 DeviceRose device.Log old new = Rose old.logs.faults new.logs.faults
 DeviceRose device.Records old new = KeeperRose old.inputs.keeper new.inputs.keeper
 DeviceRose device.Program old new = Rose old.inputs.launcher.faults new.inputs.launcher.faults
+DeviceRose (device.Disk slot) old new = ⊥
 
 -- what a session that ended with status 4 has counted: of the client, its source failed, or nothing came of it in time, or
 -- its sink failed
@@ -140,6 +148,21 @@ RoseFor (PlugGw caller) (Ended ending refused) old new = LinkRose ending old new
 RoseFor (TnGw peer) (Ended ending refused) old new = GateRose ending old new
 RoseFor command outcome old new = CountRose outcome old new
 
+-- the disk at a place counted a failure
+abbrev pub DiskRose : ℕ → List DiskView → List DiskView → Type 0
+DiskRose zero (old ∷ olds) (new ∷ news) = Rose old.faults new.faults
+DiskRose (suc slot) (old ∷ olds) (new ∷ news) = DiskRose slot olds news
+DiskRose slot _ _ = ⊥
+
+-- a job without a table may call the disks
+abbrev pub JobRose : Outcome → WorldView → WorldView → Type 0
+JobRose (Failed (device.Disk slot)) old new = DiskRose slot old.inputs.disks new.inputs.disks
+JobRose outcome old new = CountRose outcome old new
+
+abbrev pub OrderRose : Order → Outcome → WorldView → WorldView → Type 0
+OrderRose (ByTable command) outcome old new = RoseFor command outcome old new
+OrderRose (Alone job) outcome old new = JobRose outcome old new
+
 abbrev pub RoseIn : Option LineView → Outcome → WorldView → WorldView → Type 0
 RoseIn None outcome old new = CountRose outcome old new
-RoseIn (Some line) outcome old new = RoseFor line.command outcome old new
+RoseIn (Some line) outcome old new = OrderRose line.order outcome old new

@@ -1,12 +1,7 @@
 -- What the options of a command name, but for the table.
 use Rattle.std.specs.Prelude.{ℕ, List}
-use Rattle.bastion.specs.Words.{db_by, line_of}
+use Rattle.bastion.specs.Words.{PlaceNames, line_of, places_by}
 
--- the files that a command names
-pub record PlaceNames : Type 0 where
-  -- the one with the records: the word after `-r`
-  pub db : List ℕ
-
--- what the words name
+-- what the words name; for words that are no command, what holds when no word says so
 abbrev pub places_of : List (List ℕ) → PlaceNames
-places_of words = record { db = db_by (line_of words) }
+places_of words = places_by (line_of words)

@@ -10,6 +10,7 @@ use Rattle.fw_types.specs.declared.peer.Peer.{Peer}
 use Rattle.gate_rules.specs.Verdict.{verdict_of}
 use Rattle.gate_rules.specs.declared.verdict.Verdict.{Verdict}
 use Rattle.bastion.specs.Inputs.{HasInputs, Inputs, is_of_line, needs_records}
+use Rattle.bastion.specs.Jobs.{DoesJob}
 use Rattle.bastion.specs.Outcome.{RoseIn, fault_line_of, status_of, verdict_status}
 use Rattle.bastion.specs.Words.{LineView}
 use Rattle.bastion.specs.Works.{Works}
@@ -22,6 +23,8 @@ use Rattle.bastion.specs.declared.outcome.Step.{Step}
 use Rattle.bastion.specs.declared.outcome.Step.TheVariants as steps
 use Rattle.bastion.specs.declared.words.Command.{Command}
 use Rattle.bastion.specs.declared.words.Command.TheVariants.{Netacl, NetaclRun, Table, Authsrv, PlugGw, TnGw}
+use Rattle.bastion.specs.declared.words.Order.{Order}
+use Rattle.bastion.specs.declared.words.Order.TheVariants.{ByTable, Alone}
 
 -- ---- nothing was done: what the command needs couldn't be had
 
@@ -115,6 +118,7 @@ pub record LacksPrint (name : List ℕ) (command : Command) (old new : WorldView
 abbrev pub Lacks : List ℕ → Command → Step → WorldView → WorldView → Type 0
 Lacks name command steps.Print old new = LacksPrint name command old new
 Lacks name command steps.Records old new = ReadsOnly name (needs_records command) old new
+Lacks name command steps.Drill old new = ⊥
 Lacks name command step old new = ReadsOnly name false old new
 
 abbrev pub Stops : List ℕ → Command → Outcome → WorldView → WorldView → Type 0
@@ -142,9 +146,14 @@ pub record Unused (outcome : Outcome) (old new : WorldView) : Type 0 where
 abbrev pub DoesFor : List ℕ → Command → Outcome → WorldView → WorldView → Type 0
 DoesFor name command outcome old new = Stops name command outcome old new ⊎ Worked name command outcome old new
 
+-- or a job that needs none
+abbrev pub DoesOrder : List ℕ → Order → Outcome → WorldView → WorldView → Type 0
+DoesOrder name (ByTable command) outcome old new = DoesFor name command outcome old new
+DoesOrder name (Alone job) outcome old new = DoesJob job outcome old new
+
 abbrev pub DoesLine : Option LineView → Outcome → WorldView → WorldView → Type 0
 DoesLine None outcome old new = Unused outcome old new
-DoesLine (Some line) outcome old new = DoesFor line.table line.command outcome old new
+DoesLine (Some line) outcome old new = DoesOrder line.table line.order outcome old new
 
 -- ---- the whole run
 

@@ -50,7 +50,7 @@ origin_of inputs = record { policy = inputs.policy; records = inputs.records }
 
 -- The book was of the records that the keeper had. These are sound; the history of the requests is legal, and full where one
 -- was refused for that; the keeper has the records after it, and has counted a failure for each entry that was not kept, and
--- its calls as the history has it. Neither the files were asked for anything, nor the launcher.
+-- its calls as the history has it. Neither the files were asked for anything, nor the launcher, nor the disks.
 pub record OverBook (inputs : Inputs) (before : KeeperView) (book : BookView) (ending : Ending) (out : outcomes.Outcome) (old new : WorldView) : Type 0 where
   pub keeper : old.inputs.keeper ≡ Some before
   pub sound : IsSound (origin_of inputs)
@@ -63,6 +63,7 @@ pub record OverBook (inputs : Inputs) (before : KeeperView) (book : BookView) (e
   pub kept : new.inputs.keeper ≡ Some book.keeper
   pub files : new.files ≡ old.files
   pub launcher : new.inputs.launcher ≡ old.inputs.launcher
+  pub disks : new.inputs.disks ≡ old.inputs.disks
 
 -- A client of `authsrv` was served over the book, and no server met. After a client whom the rules deny, the keeper is as the
 -- load left it, its count of calls too.

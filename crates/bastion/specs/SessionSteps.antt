@@ -140,6 +140,7 @@ pub record HoldsOver (client : Client) (rules : RuleBook) (first : BookView) (ou
   pub files : middle.files ≡ old.files
   pub links : middle.inputs.dialer ≡ old.inputs.dialer
   pub launcher : middle.inputs.launcher ≡ old.inputs.launcher
+  pub disks : middle.inputs.disks ≡ old.inputs.disks
   pub ends : EndsOver book ending out middle new
 
 -- and a client of `tn-gw`
@@ -151,4 +152,5 @@ pub record PassesOver (peer : Peer) (rules : RuleBook) (first : BookView) (out :
   pub untouched : Untouched TnGw (verdict_of rules peer) first book
   pub files : middle.files ≡ old.files
   pub launcher : middle.inputs.launcher ≡ old.inputs.launcher
+  pub disks : middle.inputs.disks ≡ old.inputs.disks
   pub ends : EndsOver book ending out middle new

@@ -3,13 +3,16 @@ use Rattle.std.specs.Prelude.{◌≡◌, ℕ, ◌<◌, ◌⊎◌, Bool, true, fa
 use Rattle.session_acts.specs.Causes.{IsLast, TookAtMost, TookMost}
 use Rattle.session_acts.specs.Laws.{Adds}
 use Rattle.session_acts.specs.World.{most_taken}
+use Rattle.drill_lines.specs.Drill.{drilled}
+use Rattle.fw_disk.specs.DiskView.{DiskView}
 use Rattle.fw_outside.specs.Counts.{Rose}
 use Rattle.fw_outside.specs.DialerView.{DialerView, LinkView}
 use Rattle.fw_outside.specs.SourceView.{SourceView}
 use Rattle.gate_rules.specs.declared.verdict.Verdict.{Verdict}
 use Rattle.gate_rules.specs.declared.verdict.Verdict.TheVariants.{Permit, Deny}
 use Rattle.bastion.specs.Inputs.{HasInputs, Inputs}
-use Rattle.bastion.specs.Outcome.{KeeperRose, verdict_status}
+use Rattle.bastion.specs.Jobs.{AreFormatted}
+use Rattle.bastion.specs.Outcome.{DiskRose, KeeperRose, verdict_status}
 use Rattle.bastion.specs.Run.{verdict_for}
 use Rattle.bastion.specs.Serving.{most_entries}
 use Rattle.bastion.specs.Words.{LineView}
@@ -17,6 +20,10 @@ use Rattle.bastion.specs.WorldView.{SessionInputs, WorldView}
 use Rattle.bastion.specs.declared.outcome.Refusal.{Refusal}
 use Rattle.bastion.specs.declared.words.Command.{Command}
 use Rattle.bastion.specs.declared.words.Command.TheVariants.{Netacl, NetaclRun, Table, Authsrv, PlugGw, TnGw}
+use Rattle.bastion.specs.declared.words.Job.{Job}
+use Rattle.bastion.specs.declared.words.Job.TheVariants.{Drill, SpoolInit}
+use Rattle.bastion.specs.declared.words.Order.{Order}
+use Rattle.bastion.specs.declared.words.Order.TheVariants.{ByTable, Alone}
 
 -- a device's own count rose, but for the dialer's
 abbrev pub SomeRose : WorldView → WorldView → Type 0
@@ -41,9 +48,22 @@ RoseBy (PlugGw caller) old new = SomeRose old new ⊎ LinksRose old.inputs.diale
 RoseBy (TnGw peer) old new = SomeRose old new ⊎ LinksFailed old.inputs.dialer new.inputs.dialer
 RoseBy command old new = SomeRose old new
 
+-- a disk's own count rose
+abbrev pub DisksRose : List DiskView → List DiskView → Type 0
+DisksRose old new = (slot : ℕ) × DiskRose slot old new
+
+-- the disks' counts are among them for a job that calls the disks
+abbrev pub RoseInJob : Job → WorldView → WorldView → Type 0
+RoseInJob (Drill drill) old new = SomeRose old new
+RoseInJob SpoolInit old new = SomeRose old new ⊎ DisksRose old.inputs.disks new.inputs.disks
+
+abbrev pub RoseInOrder : Order → WorldView → WorldView → Type 0
+RoseInOrder (ByTable command) old new = RoseBy command old new
+RoseInOrder (Alone job) old new = RoseInJob job old new
+
 abbrev pub RoseOf : Option LineView → WorldView → WorldView → Type 0
 RoseOf None old new = SomeRose old new
-RoseOf (Some line) old new = RoseBy line.command old new
+RoseOf (Some line) old new = RoseInOrder line.order old new
 
 -- more requests were asked than fit in a history: each took a moment of the clock
 pub record IsFull (old new : SessionInputs) : Type 0 where
@@ -107,10 +127,40 @@ pub record ByCount (command : Command) (status : ℕ) (old new : WorldView) : Ty
 abbrev pub IsStatusFor : List ℕ → Command → ℕ → WorldView → WorldView → Type 0
 IsStatusFor name command status old new = (ByCount command status old new ⊎ (status ≡ 5)) ⊎ ByInputs name command status old new
 
+-- 0 where a drill has its counts, 3 where a line of it can't be read
+abbrev pub drill_status : {A B : Type 0} → Result A B → ℕ
+drill_status (Ok counts) = 0
+drill_status (Err fault) = 3
+
+-- `drill` takes memory, `spool-init` none
+abbrev pub IsStatusOfJob : Job → ℕ → WorldView → WorldView → Type 0
+IsStatusOfJob (Drill drill) status old new = (((status ≡ 4) × SomeRose old new) ⊎ (status ≡ 5)) ⊎ (status ≡ drill_status (drilled drill))
+IsStatusOfJob SpoolInit status old new = ((status ≡ 4) × (SomeRose old new ⊎ DisksRose old.inputs.disks new.inputs.disks)) ⊎ (status ≡ 0)
+
+abbrev pub IsStatusOf : List ℕ → Order → ℕ → WorldView → WorldView → Type 0
+IsStatusOf name (ByTable command) status old new = IsStatusFor name command status old new
+IsStatusOf name (Alone job) status old new = IsStatusOfJob job status old new
+
 -- 2 is for words that are no command
 abbrev pub IsStatus : Option LineView → ℕ → WorldView → WorldView → Type 0
 IsStatus None status old new = status ≡ 2
-IsStatus (Some line) status old new = IsStatusFor line.table line.command status old new
+IsStatus (Some line) status old new = IsStatusOf line.table line.order status old new
+
+-- ---- the disks
+
+-- `spool-init` ends with 0 only after it made a free slot of each disk; what a failure leaves is in what it did
+abbrev pub JobLeavesDisks : Job → ℕ → List DiskView → List DiskView → Type 0
+JobLeavesDisks (Drill drill) status old new = new ≡ old
+JobLeavesDisks SpoolInit status old new = status ≡ 0 → AreFormatted (length old) old new
+
+abbrev pub OrderLeavesDisks : Order → ℕ → List DiskView → List DiskView → Type 0
+OrderLeavesDisks (ByTable command) status old new = new ≡ old
+OrderLeavesDisks (Alone job) status old new = JobLeavesDisks job status old new
+
+-- any other command leaves the disks as they were, their counts too
+abbrev pub LeavesDisks : Option LineView → ℕ → List DiskView → List DiskView → Type 0
+LeavesDisks None status old new = new ≡ old
+LeavesDisks (Some line) status old new = OrderLeavesDisks line.order status old new
 
 -- no more bytes were taken than a session may take; and after so many the status is 6
 pub record TakesIn (status : ℕ) (old new : SourceView) : Type 0 where
@@ -127,6 +177,11 @@ TakesFor (PlugGw caller) status old new = TakesOver status old new
 TakesFor (TnGw peer) status old new = TakesOver status old new
 TakesFor command status old new = TakesIn status old new
 
+-- a job without a table takes nothing
+abbrev pub TakesOf : Order → ℕ → SourceView → SourceView → Type 0
+TakesOf (ByTable command) status old new = TakesFor command status old new
+TakesOf (Alone job) status old new = new ≡ old
+
 abbrev pub TakesBy : Option LineView → ℕ → SourceView → SourceView → Type 0
 TakesBy None status old new = TakesIn status old new
-TakesBy (Some line) status old new = TakesFor line.command status old new
+TakesBy (Some line) status old new = TakesOf line.order status old new

@@ -1,8 +1,9 @@
--- What the words of a command line ask for: `[-t FILE] [-r FILE] COMMAND ARGUMENTS`.
+-- What the words of a command line ask for: `[-t FILE] [-r FILE] [-s FOLDER] [-n SLOTS] [-m PROGRAM] COMMAND ARGUMENTS`.
 use Rattle.std.specs.Prelude.{ℕ, Bool, true, false, ◌&&◌, ◌||◌, ◌==◌, not, List, [], ◌∷◌, length, Option, Some, None, is_some, unwrap_or, codes, if◌then◌else◌}
 use Rattle.std.specs.Option.{option_map}
 use Rattle.std.specs.Str.{bytes_eq}
 use Rattle.fw_types.specs.HostName.{host_name_of}
+use Rattle.fw_types.specs.Number.{in_range, number_of}
 use Rattle.fw_types.specs.Port.{numbered_port}
 use Rattle.fw_types.specs.Quad.{quad_of}
 use Rattle.fw_types.specs.declared.peer.Peer.{Peer}
@@ -15,14 +16,28 @@ use Rattle.bastion.specs.declared.words.Command.TheVariants.{Netacl, NetaclRun, 
 use Rattle.bastion.specs.declared.words.Query.{Query}
 use Rattle.bastion.specs.declared.words.Caller.{Caller}
 use Rattle.bastion.specs.declared.words.Client.{Client}
+use Rattle.bastion.specs.declared.words.Job.{Job}
+use Rattle.bastion.specs.declared.words.Job.TheVariants as jobs
+use Rattle.bastion.specs.declared.words.Order.{Order}
+use Rattle.bastion.specs.declared.words.Order.TheVariants.{ByTable, Alone}
+use Rattle.drill_lines.specs.declared.plan.Drill.{Drill}
 
 -- the options that there are
 abbrev pub is_option_name : List ℕ → Bool
-is_option_name name = bytes_eq name (codes "-t") || bytes_eq name (codes "-r")
+is_option_name name =
+    bytes_eq name (codes "-t") || bytes_eq name (codes "-r") || bytes_eq name (codes "-s") || bytes_eq name (codes "-n") || bytes_eq name (codes "-m")
 
--- an option with its word, which isn't empty
+-- how many slots there are: a decimal number from 1 to 64
+abbrev pub slots_in : List ℕ → Option ℕ
+slots_in word = in_range 1 64 (number_of word)
+
+-- behind `-n` stands such a number, and behind any other option a word that isn't empty
+abbrev pub is_option_word : List ℕ → List ℕ → Bool
+is_option_word name word = if bytes_eq name (codes "-n") then is_some (slots_in word) else not (length word == 0)
+
+-- an option with its word
 abbrev pub is_option_pair : List ℕ → List ℕ → Bool
-is_option_pair name word = is_option_name name && not (length word == 0)
+is_option_pair name word = is_option_name name && is_option_word name word
 
 -- the words after the options: the command and its arguments
 abbrev pub after_options : List (List ℕ) → List (List ℕ)
@@ -117,9 +132,32 @@ command_in (name ∷ words) =
     else None
 command_in [] = None
 
--- the command that the words are: options, of which none stands twice, and then a command with its words
-unfoldable pub command_of : List (List ℕ) → Option Command
-command_of words = if any_twice words then None else command_in (after_options words)
+abbrev pub drill_by : Option ℕ → Option ℕ → Option Drill
+drill_by (Some start) (Some count) = Some (record { start = start; count = count })
+drill_by None _ = None
+drill_by (Some start) None = None
+
+-- `START N`: decimal numbers, below 2^31, and from 1 to 10,000
+abbrev pub drill_in : List (List ℕ) → Option Drill
+drill_in (start ∷ count ∷ []) = drill_by (in_range 0 2147483647 (number_of start)) (in_range 1 10000 (number_of count))
+drill_in _ = None
+
+-- no further words
+abbrev pub spool_init_in : List (List ℕ) → Option Job
+spool_init_in [] = Some jobs.SpoolInit
+spool_init_in (word ∷ more) = None
+
+-- a command by the table, or `drill START N` or `spool-init`, which need none
+abbrev pub order_in : List (List ℕ) → Option Order
+order_in (name ∷ words) =
+    if bytes_eq name (codes "drill") then option_map Alone (option_map jobs.Drill (drill_in words))
+    else if bytes_eq name (codes "spool-init") then option_map Alone (spool_init_in words)
+    else option_map ByTable (command_in (name ∷ words))
+order_in [] = None
+
+-- the order that the words are: options, of which none stands twice, and then a command with its words
+unfoldable pub order_of : List (List ℕ) → Option Order
+order_of words = if any_twice words then None else order_in (after_options words)
 
 -- the word after an option, or another text where it isn't there
 abbrev pub word_or : List ℕ → List ℕ → List (List ℕ) → List ℕ
@@ -132,31 +170,64 @@ default_table = codes "/usr/local/etc/netperm-table"
 abbrev pub default_db : List ℕ
 default_db = codes "authdb"
 
--- a command line: the command, the table's name, which is the word after `-t`, and that of the records' file, after `-r`
-pub record LineView : Type 0 where
-  pub command : Command
-  pub table : List ℕ
-  pub db : List ℕ
+-- where the slots are, how many, and the mailer
+abbrev pub default_spool : List ℕ
+default_spool = codes "spool"
 
-abbrev pub line_with : List (List ℕ) → Option Command → Option LineView
-line_with words None = None
-line_with words (Some command) = Some (record {
-  command = command;
-  table = word_or (codes "-t") default_table words;
+abbrev pub default_slots : ℕ
+default_slots = 8
+
+abbrev pub default_mailer : List ℕ
+default_mailer = codes "/usr/lib/sendmail"
+
+-- how many slots the word after `-n` says, if there is one
+abbrev pub slots_or : ℕ → Option (List ℕ) → ℕ
+slots_or other None = other
+slots_or other (Some word) = unwrap_or (slots_in word) other
+
+-- what the options but `-t` name
+pub record PlaceNames : Type 0 where
+  -- the file with the records: the word after `-r`
+  pub db : List ℕ
+  -- the folder of the slots' files: the word after `-s`
+  pub spool : List ℕ
+  -- how many slots there are: the word after `-n`
+  pub slots : ℕ
+  -- the program that mail is handed to: the word after `-m`
+  pub mailer : List ℕ
+
+abbrev pub default_places : PlaceNames
+default_places = record { db = default_db; spool = default_spool; slots = default_slots; mailer = default_mailer }
+
+abbrev pub places_in : List (List ℕ) → PlaceNames
+places_in words = record {
   db = word_or (codes "-r") default_db words;
-})
+  spool = word_or (codes "-s") default_spool words;
+  slots = slots_or default_slots (word_after (codes "-n") words);
+  mailer = word_or (codes "-m") default_mailer words;
+}
+
+-- a command line: the order, the table's name, which is the word after `-t`, and what the other options name
+pub record LineView : Type 0 where
+  pub order : Order
+  pub table : List ℕ
+  pub places : PlaceNames
+
+abbrev pub line_with : List (List ℕ) → Option Order → Option LineView
+line_with words None = None
+line_with words (Some order) = Some (record { order = order; table = word_or (codes "-t") default_table words; places = places_in words })
 
 -- the command line that the words are, if they are one
 abbrev pub line_of : List (List ℕ) → Option LineView
-line_of words = line_with words (command_of words)
+line_of words = line_with words (order_of words)
 
 abbrev pub table_by : Option LineView → List ℕ
 table_by None = default_table
 table_by (Some line) = line.table
 
-abbrev pub db_by : Option LineView → List ℕ
-db_by None = default_db
-db_by (Some line) = line.db
+abbrev pub places_by : Option LineView → PlaceNames
+places_by None = default_places
+places_by (Some line) = line.places
 
 -- the table's name; for words that are no command, where it stands when no word says so
 abbrev pub table_named : List (List ℕ) → List ℕ

@@ -1,5 +1,6 @@
 -- What a run meets: its devices, as plain records.
-use Rattle.std.specs.Prelude.{Option}
+use Rattle.std.specs.Prelude.{List, Option}
+use Rattle.fw_disk.specs.DiskView.{DiskView}
 use Rattle.fw_outside.specs.FilesView.{FilesView}
 use Rattle.fw_outside.specs.SinkView.{SinkView}
 use Rattle.fw_outside.specs.ClockView.{ClockView}
@@ -10,7 +11,7 @@ use Rattle.fw_outside.specs.KeeperView.{KeeperView}
 use Rattle.fw_outside.specs.LauncherView.{LauncherView}
 
 -- what a run meets besides the files, the output and the log: what the client says, the clock, the dice, the keeper of the
--- users' records, where one is there, who makes links to servers, and who starts programs
+-- users' records, where one is there, who makes links to servers, who starts programs, and the disks of the slots
 pub record SessionInputs : Type 0 where
   pub input : SourceView
   pub clock : ClockView
@@ -18,6 +19,7 @@ pub record SessionInputs : Type 0 where
   pub keeper : Option KeeperView
   pub dialer : DialerView
   pub launcher : LauncherView
+  pub disks : List DiskView
 
 -- the files that the table is read from, standard output, the log, and what else a run meets
 pub record WorldView : Type 0 where

@@ -31,6 +31,7 @@ fn hold_at_console<T: Kit>(
     ensures keeper { world.new.inputs.keeper ≡ world.old.inputs.keeper }
     ensures links { world.new.inputs.dialer ≡ world.old.inputs.dialer }
     ensures launcher { world.new.inputs.launcher ≡ world.old.inputs.launcher }
+    ensures disks { world.new.inputs.disks ≡ world.old.inputs.disks }
 {
     console(
         &Service::Authsrv,
@@ -65,6 +66,7 @@ where
     ensures keeper { world.new.inputs.keeper ≡ world.old.inputs.keeper }
     ensures links { world.new.inputs.dialer ≡ world.old.inputs.dialer }
     ensures launcher { world.new.inputs.launcher ≡ world.old.inputs.launcher }
+    ensures disks { world.new.inputs.disks ≡ world.old.inputs.disks }
 {
     let mut store = NoStore;
     conn(
@@ -104,6 +106,7 @@ where
     ensures keeper { world.new.inputs.keeper ≡ world.old.inputs.keeper }
     ensures links { world.new.inputs.dialer ≡ world.old.inputs.dialer }
     ensures launcher { world.new.inputs.launcher ≡ world.old.inputs.launcher }
+    ensures disks { world.new.inputs.disks ≡ world.old.inputs.disks }
 {
     if client.console {
         return hold_at_console(&client.peer, book, world, dialer);

@@ -2,6 +2,7 @@ ghost use Rattle.std.specs.Prelude.{◌≡◌};
 ghost use Rattle.fw_outside.specs.LauncherView.{Starts};
 ghost use Rattle.fw_outside.specs.SinkView.{Gives};
 
+use fw_disk::Disk;
 use fw_outside::{Clock, Dialer, Dice, Failed, Files, Keeper, Launcher, Sink, Source, Started};
 use fw_types::OctetsList;
 use std::marker::Model;
@@ -25,6 +26,8 @@ pub trait Kit {
     type Dial: Dialer;
 
     type Launch: Launcher;
+
+    type Disk: Disk;
 }
 
 /// The devices that a run is given.
@@ -48,10 +51,13 @@ pub struct World<T: Kit> {
     pub dialer: T::Dial,
     /// Who starts programs.
     pub launcher: T::Launch,
+    /// The disks of the mail's slots, in order of their numbers.
+    pub disks: Vec<T::Disk>,
 }
 
 impl<T: Kit> Model for World<T> {
     ghost use Rattle.std.specs.Option.{option_map};
+    ghost use Rattle.std.specs.Prelude.{map};
     ghost use Rattle.bastion.specs.WorldView.{WorldView};
 
     ghost Value = { WorldView };
@@ -67,6 +73,7 @@ impl<T: Kit> Model for World<T> {
         keeper = option_map T.Keeper.keeper_view w.keeper;
         dialer = T.Dial.dialer_view w.dialer;
         launcher = T.Launch.launcher_view w.launcher;
+        disks = map T.Disk.disk_view w.disks.items;
       };
     } };
 }

@@ -14,6 +14,7 @@
 mod authsrv;
 mod book;
 mod deciding;
+mod jobs;
 mod kit;
 mod obeying;
 mod outcome;
@@ -29,9 +30,12 @@ mod texts;
 mod words;
 
 pub use client_service::{LogLine, conn, decision_line, denied_line, ending_line};
+pub use drill_lines::Drill;
 pub use kit::{Kit, World};
 pub use outcome::{Device, Outcome, Refusal, Step, ending_status};
 pub use place_names::Places;
 pub use running::run;
 pub use server_rules::ServerRules;
-pub use words::{Caller, Client, Command, CommandLine, Query, places, read_command, table_named};
+pub use words::{
+    Caller, Client, Command, CommandLine, Job, Order, Query, places, read_order, table_named,
+};

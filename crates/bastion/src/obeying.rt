@@ -1,17 +1,18 @@
 //! What the words ask for, by the table: a row for each command.
 ghost use Rattle.std.specs.Prelude.{◌≡◌, IsSome};
 ghost use Rattle.bastion.specs.Outcome.{fault_line_of};
-ghost use Rattle.bastion.specs.Run.{DoesFor, DoesLine, TellsIf};
+ghost use Rattle.bastion.specs.Run.{DoesFor, DoesLine, DoesOrder, TellsIf};
 ghost use Rattle.bastion.specs.Words.{line_of};
 ghost use Rattle.bastion.specs.declared.words.Command.TheVariants.{Netacl, NetaclRun, Table};
 
 use crate::authsrv::attend;
 use crate::deciding::{decide, show};
+use crate::jobs::do_job;
 use crate::plug::plug;
 use crate::reading::rules_for;
 use crate::starting::decide_run;
 use crate::telnet_gateway::gate;
-use crate::{Command, CommandLine, Kit, Outcome, Query, World};
+use crate::{Command, CommandLine, Kit, Order, Outcome, Query, World};
 use fw_types::Octets;
 use std::alloc::Global;
 use std::thread::Threads;
@@ -70,6 +71,26 @@ where
     }
 }
 
+// Does what is ordered, by the table with this name or without.
+fn do_order<H, T>(
+    rt: &H,
+    alloc: Global,
+    name: &[u8],
+    order: &Order,
+    world: &mut World<T>,
+) -> Outcome
+where
+    H: Threads + Sync,
+    T: Kit,
+    requires keeper { IsSome world.old.inputs.keeper }
+    ensures { DoesOrder name.now order.now result world.old world.new }
+{
+    match order {
+        Order::ByTable(command) => work(rt, alloc, name, command, world),
+        Order::Alone(job) => do_job(alloc, *job, world),
+    }
+}
+
 /// Does what the words ask for.
 pub(crate) fn obey<H, T>(rt: &H, alloc: Global, words: &[Octets], world: &mut World<T>) -> Outcome
 where
@@ -79,7 +100,7 @@ where
     ensures { DoesLine (line_of words.now) result world.old world.new }
 {
     match CommandLine::read(words) {
-        Some(line) => work(rt, alloc, line.table, &line.command, world),
+        Some(line) => do_order(rt, alloc, line.table, &line.order, world),
         None => Outcome::Usage,
     }
 }

@@ -26,6 +26,8 @@ pub enum Device {
     Records,
     /// Who starts programs.
     Program,
+    /// The disk of the slot with this number.
+    Disk(usize),
 }
 
 /// At what memory was wanting.
@@ -43,6 +45,8 @@ pub enum Step {
     Records,
     /// Making the text that is printed of a permission, and the words of the program to be started.
     Print,
+    /// Drawing the lines of a drill, reading them, and deciding.
+    Drill,
 }
 
 /// The first thing that a command needs and that can't be read.
@@ -67,22 +71,29 @@ pub enum Outcome {
     Failed(Device),
     /// There was no memory.
     NoMemory(Step),
+    /// A command that needs no table did its work.
+    Done,
     /// The rules decided, and that was told.
     Decided(Verdict),
     /// A session ended so, in which a request was refused or not since the history was full.
     Ended { ending: Ending, refused: bool },
 }
 
-fn device_text(device: Device) -> &'static [u8]
-    ensures text { result.now ≡ device_text device }
-    ensures short { length result.now ≤ 7 }
+fn append_device(out: &mut LogLine, device: Device)
+    requires { array_vec_len out.old ≤ 400 }
+    ensures items { out.new.items ≡ out.old.items ++ device_text device }
+    ensures room { array_vec_len out.new ≤ array_vec_len out.old + 25 }
 {
     match device {
-        Device::Table => b"table",
-        Device::Output => b"output",
-        Device::Log => b"log",
-        Device::Records => b"records",
-        Device::Program => b"program",
+        Device::Table => append(out, b"table"),
+        Device::Output => append(out, b"output"),
+        Device::Log => append(out, b"log"),
+        Device::Records => append(out, b"records"),
+        Device::Program => append(out, b"program"),
+        Device::Disk(slot) => {
+            append(out, b"disk ");
+            append_usize(out, slot);
+        }
     }
 }
 
@@ -98,7 +109,8 @@ fn append_line(out: &mut LogLine, line: u32, why: &[u8])
     append(out, why);
 }
 
-fn append_usize(out: &mut LogLine, number: usize)
+/// Appends a number in decimal.
+pub(crate) fn append_usize(out: &mut LogLine, number: usize)
     requires { array_vec_len out.old ≤ 480 }
     ensures items { out.new.items ≡ out.old.items ++ decimal number }
     ensures room { array_vec_len out.new ≤ array_vec_len out.old + 20 }
@@ -155,7 +167,7 @@ fn device_line(device: Device) -> LogLine
 {
     let mut out = ArrayVec::new();
     append(&mut out, b"fault outside ");
-    append(&mut out, device_text(device));
+    append_device(&mut out, device);
     append(&mut out, b"\n");
     out
 }
@@ -235,6 +247,7 @@ impl Outcome {
             Outcome::Unread(_) => 3,
             Outcome::Failed(_) => 4,
             Outcome::NoMemory(_) => 5,
+            Outcome::Done => 0,
             Outcome::Decided(verdict) => verdict_status(*verdict),
             Outcome::Ended { ending, refused } => ended_status(*ending, *refused),
         }
@@ -249,6 +262,7 @@ impl Outcome {
             Outcome::Unread(refusal) => Some(refusal_line(refusal)),
             Outcome::Failed(device) => Some(device_line(*device)),
             Outcome::NoMemory(_) => Some(line_of(b"fault memory\n")),
+            Outcome::Done => None,
             Outcome::Decided(_) => None,
             Outcome::Ended { ending, refused } => limit_line(*ending, *refused),
         }

@@ -1,17 +1,23 @@
 //! What the options of a command name, but for the table.
 use std::marker::Model;
 
-/// The files that a command names.
+/// What the options of a command name.
 #[derive(Drop)]
 pub struct Places<'a> {
-    /// The one with the records.
+    /// The file with the records.
     pub db: &'a [u8],
+    /// The folder with the files of the slots.
+    pub spool: &'a [u8],
+    /// How many slots there are: 1 to 64.
+    pub slots: u32,
+    /// The program that mail is handed to.
+    pub mailer: &'a [u8],
 }
 
 impl<'a> Model for Places<'a> {
-    ghost use Rattle.bastion.specs.Places.{PlaceNames};
+    ghost use Rattle.bastion.specs.Words.{PlaceNames};
 
     ghost Value = { PlaceNames };
 
-    ghost view = { λ places. record { db = places.db.now } };
+    ghost view = { λ places. record { db = places.db.now; spool = places.spool.now; slots = places.slots; mailer = places.mailer.now } };
 }

@@ -3,7 +3,7 @@ ghost use Rattle.std.specs.Prelude.{◌≡◌, ◌↔◌, IsSome, None, Some};
 ghost use Rattle.bastion.specs.Complete.{IsComplete};
 ghost use Rattle.bastion.specs.Headline.{Headline};
 ghost use Rattle.bastion.specs.Run.{Run};
-ghost use Rattle.bastion.specs.Status.{IsStatus, RoseOf, TakesBy};
+ghost use Rattle.bastion.specs.Status.{IsStatus, LeavesDisks, RoseOf, TakesBy};
 ghost use Rattle.bastion.specs.Words.{line_of};
 
 use crate::obeying::{obey, tell};
@@ -46,6 +46,9 @@ where
     // Where no count rose, all that the inputs call for was logged and printed whole, and the status is by them; or there
     // was no memory.
     ensures complete { ¬ (RoseOf (line_of words.now) world.old world.new) → IsComplete (line_of words.now) result world.old world.new }
+    // `spool-init` ends with 0 only after each disk is a free slot, whatever a crash leaves of it. Any other command leaves
+    // the disks as they were, their counts too.
+    ensures disks { LeavesDisks (line_of words.now) result world.old.inputs.disks world.new.inputs.disks }
     // Each source that the run got was given back: as many are out as before.
     ensures returned { world.new.files.out ≡ world.old.files.out }
     // The keeper is there again.

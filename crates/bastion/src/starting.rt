@@ -57,6 +57,7 @@ fn launch_if<T: Kit>(
         Outcome::Unread(refusal) => Outcome::Unread(refusal),
         Outcome::Failed(device) => Outcome::Failed(device),
         Outcome::NoMemory(step) => Outcome::NoMemory(step),
+        Outcome::Done => Outcome::Done,
         Outcome::Ended { ending, refused } => Outcome::Ended { ending, refused },
     }
 }

@@ -35,6 +35,7 @@ where
     ensures untouched { Untouched services.TnGw (verdict_of rules.now peer.now) book.old book.new }
     ensures files { world.new.files ≡ world.old.files }
     ensures launcher { world.new.inputs.launcher ≡ world.old.inputs.launcher }
+    ensures disks { world.new.inputs.disks ≡ world.old.inputs.disks }
 {
     let mut store = NoStore;
     conn(

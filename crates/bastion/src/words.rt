@@ -1,12 +1,14 @@
 ghost use Rattle.std.specs.Prelude.{◌≡◌};
 ghost use Rattle.std.specs.Option.{option_copied, option_map};
 ghost use Rattle.std.specs.Str.{bytes_eq};
+ghost use Rattle.fw_types.specs.Number.{in_range, number_of};
 ghost use Rattle.gate_rules.specs.Label.{label_of};
 ghost use Rattle.bastion.specs.Places.{places_of};
-ghost use Rattle.bastion.specs.Words.{after_options, any_twice, caller_in, caller_of, command_in, command_of, is_option_pair, is_option_name, line_of, name_in, netacl_by, netacl_in, peer_by, peer_in, query_of, run_in, stands, table_in, table_named, client_in, client_of, word_after, word_or};
+ghost use Rattle.bastion.specs.Words.{after_options, any_twice, caller_in, caller_of, command_in, drill_by, drill_in, is_option_pair, is_option_name, is_option_word, line_of, order_in, order_of, places_in, slots_in, slots_or, spool_init_in, name_in, netacl_by, netacl_in, peer_by, peer_in, query_of, run_in, stands, table_in, table_named, client_in, client_of, word_after, word_or};
 
 use crate::Places;
-use fw_types::{HostName, Octets, Peer, read_numbered_port, read_quad};
+use drill_lines::Drill;
+use fw_types::{HostName, Octets, Peer, in_range, read_number, read_numbered_port, read_quad};
 use gate_rules::{Label, Service};
 use std::marker::Model;
 
@@ -33,7 +35,7 @@ pub struct Caller {
     pub peer: Peer,
 }
 
-/// What the words of a command line ask for.
+/// What the words of a command line ask for that goes by the table.
 #[derive(Drop)]
 pub enum Command {
     /// `netacl DAEMON ADDR [NAME]`: log and print what the table decides.
@@ -50,9 +52,33 @@ pub enum Command {
     TnGw(Peer),
 }
 
+/// What the words of a command line ask for that needs no table.
+#[derive(Clone, Copy, Debug, PartialEq, Eq)]
+pub enum Job {
+    /// `drill START N`: draw the lines of a table and as many peers, and print how many of them it permits.
+    Drill(Drill),
+    /// `spool-init`: make a free slot of each disk.
+    SpoolInit,
+}
+
+/// What the words of a command line ask for.
+#[derive(Drop)]
+pub enum Order {
+    /// It goes by the table.
+    ByTable(Command),
+    /// It needs no table.
+    Alone(Job),
+}
+
 const DEFAULT_TABLE: &[u8] = b"/usr/local/etc/netperm-table";
 
 const DEFAULT_DB: &[u8] = b"authdb";
+
+const DEFAULT_SPOOL: &[u8] = b"spool";
+
+const DEFAULT_SLOTS: u32 = 8;
+
+const DEFAULT_MAILER: &[u8] = b"/usr/lib/sendmail";
 
 fn is_word(word: &Octets, text: &[u8]) -> bool
     ensures { result ≡ bytes_eq word.now text.now }
@@ -63,13 +89,35 @@ fn is_word(word: &Octets, text: &[u8]) -> bool
 fn is_option_name(word: &Octets) -> bool
     ensures { result ≡ is_option_name word.now }
 {
-    is_word(word, b"-t") || is_word(word, b"-r")
+    is_word(word, b"-t")
+        || is_word(word, b"-r")
+        || is_word(word, b"-s")
+        || is_word(word, b"-n")
+        || is_word(word, b"-m")
+}
+
+fn slots_in(word: &[u8]) -> Option<u32>
+    ensures { result ≡ slots_in word.now }
+{
+    match in_range(1, 64, read_number(word)) {
+        Some(slots) => Some(slots as u32),
+        None => None,
+    }
+}
+
+fn is_option_word(option: &Octets, word: &Octets) -> bool
+    ensures { result ≡ is_option_word option.now word.now }
+{
+    if is_word(option, b"-n") {
+        return slots_in(word.bytes()).is_some();
+    }
+    !word.bytes().is_empty()
 }
 
 fn is_option_pair(option: &Octets, word: &Octets) -> bool
     ensures { result ≡ is_option_pair option.now word.now }
 {
-    is_option_name(option) && !word.bytes().is_empty()
+    is_option_name(option) && is_option_word(option, word)
 }
 
 fn word_after<'a>(name: &[u8], mut words: &'a [Octets]) -> Option<&'a [u8]>
@@ -276,15 +324,71 @@ fn command_in(words: &[Octets]) -> Option<Command>
     }
 }
 
-/// The command that the words are, or nothing where they are none.
-#[tactic(auto, unfolding(crate::specs::Words::command_of))]
-pub fn read_command(words: &[Octets]) -> Option<Command>
-    ensures { result ≡ command_of words.now }
+// A number of 32 bits in a range.
+fn short_in(lowest: u32, highest: u32, word: &[u8]) -> Option<u32>
+    ensures { result ≡ in_range lowest highest (number_of word.now) }
+{
+    match in_range(u64::from(lowest), u64::from(highest), read_number(word)) {
+        Some(number) => Some(number as u32),
+        None => None,
+    }
+}
+
+fn drill_by(start: Option<u32>, count: Option<u32>) -> Option<Drill>
+    ensures { result ≡ drill_by start count }
+{
+    let start = start?;
+    let count = count?;
+    Some(Drill { start, count })
+}
+
+fn drill_in(words: &[Octets]) -> Option<Drill>
+    ensures { result ≡ drill_in words.now }
+{
+    match words {
+        [start, count] => drill_by(
+            short_in(0, 2_147_483_647, start.bytes()),
+            short_in(1, 10_000, count.bytes()),
+        ),
+        _ => None,
+    }
+}
+
+fn spool_init_in(words: &[Octets]) -> Option<Job>
+    ensures { result ≡ spool_init_in words.now }
+{
+    match words {
+        [] => Some(Job::SpoolInit),
+        _ => None,
+    }
+}
+
+fn order_in(words: &[Octets]) -> Option<Order>
+    ensures { result ≡ order_in words.now }
+{
+    match words {
+        [name, more @ ..] => {
+            if is_word(name, b"drill") {
+                return drill_in(more).map(Job::Drill).map(Order::Alone);
+            }
+            if is_word(name, b"spool-init") {
+                return spool_init_in(more).map(Order::Alone);
+            }
+            command_in(words).map(Order::ByTable)
+        }
+        [] => None,
+    }
+}
+
+/// The order that the words are, or nothing where they are no command.
+#[tactic(auto, unfolding(crate::specs::Words::order_of))]
+pub fn read_order(words: &[Octets]) -> Option<Order>
+    ensures { result ≡ order_of words.now }
 {
     if any_twice(words) {
         return None;
     }
-    command_in(after_options(words))
+    order_in(after_options(words))
 }
 
 /// The word after an option. Another text where it isn't there.
@@ -298,14 +402,34 @@ fn word_or<'a>(option: &[u8], other: &'a [u8], words: &'a [Octets]) -> &'a [u8]
     }
 }
 
+fn slots_or(other: u32, word: Option<&[u8]>) -> u32
+    ensures { result ≡ slots_or other (option_copied word.entry) }
+{
+    match word {
+        Some(word) => slots_in(word).unwrap_or(other),
+        None => other,
+    }
+}
+
+fn places_in(words: &[Octets]) -> Places<'_>
+    ensures { result ≡ places_in words.entry.now }
+{
+    Places {
+        db: word_or(b"-r", DEFAULT_DB, words),
+        spool: word_or(b"-s", DEFAULT_SPOOL, words),
+        slots: slots_or(DEFAULT_SLOTS, word_after(b"-n", words)),
+        mailer: word_or(b"-m", DEFAULT_MAILER, words),
+    }
+}
+
 /// A command line, read.
 #[derive(Drop)]
 pub struct CommandLine<'a> {
-    pub command: Command,
+    pub order: Order,
     /// The table's name: the word after `-t`, or the place where it stands when no word says so.
     pub table: &'a [u8],
-    /// The name of the file with the records: the word after `-r`, or `authdb`.
-    pub db: &'a [u8],
+    /// What the other options name.
+    pub places: Places<'a>,
 }
 
 impl<'a> Model for CommandLine<'a> {
@@ -313,7 +437,7 @@ impl<'a> Model for CommandLine<'a> {
 
     ghost Value = { LineView };
 
-    ghost view = { λ line. record { command = line.command; table = line.table.now; db = line.db.now } };
+    ghost view = { λ line. record { order = line.order; table = line.table.now; places = line.places } };
 }
 
 impl<'a> CommandLine<'a> {
@@ -321,11 +445,11 @@ impl<'a> CommandLine<'a> {
     pub fn read(words: &'a [Octets]) -> Option<CommandLine<'a>>
         ensures { result ≡ line_of words.entry.now }
     {
-        match read_command(words) {
-            Some(command) => Some(CommandLine {
-                command,
+        match read_order(words) {
+            Some(order) => Some(CommandLine {
+                order,
                 table: word_or(b"-t", DEFAULT_TABLE, words),
-                db: word_or(b"-r", DEFAULT_DB, words),
+                places: places_in(words),
             }),
             None => None,
         }
@@ -342,12 +466,17 @@ pub fn table_named(words: &[Octets]) -> &[u8]
     }
 }
 
-/// What the words name: the word after the option, or a name of its own where no word says so.
+/// What the words name: the word after the option, or what holds where no word says so.
 pub fn places(words: &[Octets]) -> Places<'_>
     ensures { result ≡ places_of words.entry.now }
 {
     match CommandLine::read(words) {
-        Some(line) => Places { db: line.db },
-        None => Places { db: DEFAULT_DB },
+        Some(line) => line.places,
+        None => Places {
+            db: DEFAULT_DB,
+            spool: DEFAULT_SPOOL,
+            slots: DEFAULT_SLOTS,
+            mailer: DEFAULT_MAILER,
+        },
     }
 }

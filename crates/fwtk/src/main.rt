@@ -3,12 +3,16 @@
 //! `main` has no contract of its own. It answers `--help` and `--version`.
 #![tactic(auto)]
 
-use bastion::{Command, CommandLine, Device, Outcome, Step, World, places, run};
+use bastion::{
+    Command, CommandLine, Device, Job, Order, Outcome, Places, Step, World, places, run,
+};
 use fw_memory::MemDice;
 use fw_outside::{Dice, Sink};
-use fw_real::{Paths, Reading, Records, Salts, StandardInput, SystemClock, Writing};
+use fw_real::{
+    FileDisk, Paths, Reading, Records, Salts, SlotFile, StandardInput, SystemClock, Writing,
+};
 use fw_types::Octets;
-use process::Process;
+use process::{Process, SlotDisk};
 use real_links::{ClientHosts, LinkSink, Programs, StandardOutput, TcpDialer};
 use std::env;
 use std::io::ErrorKind;
@@ -23,9 +27,13 @@ usage: fwtk [-t FILE] netacl [-run] DAEMON ADDRESS [NAME]
        fwtk [-t FILE] [-r FILE] authsrv [-console] ADDRESS [NAME]
        fwtk [-t FILE] plug-gw PORT ADDRESS [NAME]
        fwtk [-t FILE] [-r FILE] tn-gw ADDRESS [NAME]
+       fwtk [-s FOLDER] [-n SLOTS] spool-init
+       fwtk drill START COUNT
        fwtk --help | --version
   -t FILE  the permission table, /usr/local/etc/netperm-table by default
   -r FILE  the records of users, authdb in the current directory by default
+  -s FOLDER  the folder of the mail's slots, spool in the current directory by default
+  -n SLOTS  how many slots there are, 1 to 64, 8 by default
 fwtk(8) lists the exit statuses; netacl(8), authsrv(8), plug-gw(8), tn-gw(8) and netperm-table(5) have the rest.
 ";
 
@@ -90,32 +98,48 @@ fn tell(rt: &HostRuntime, stop: &Stop) -> u8 {
 // What the words say of the devices.
 #[derive(Drop)]
 struct Needs<'a> {
-    // The file with the records.
-    db: &'a [u8],
+    // What the options name.
+    places: Places<'a>,
     // Whether salts are drawn.
     salts: bool,
+    // Whether slots are made.
+    slots: bool,
 }
 
 impl<'a> Needs<'a> {
     fn of(words: &'a [Octets]) -> Needs<'a> {
         match CommandLine::read(words) {
             Some(line) => Needs {
-                db: line.db,
-                salts: matches!(line.command, Command::Authsrv(_)),
+                places: line.places,
+                salts: matches!(line.order, Order::ByTable(Command::Authsrv(_))),
+                slots: matches!(line.order, Order::Alone(Job::SpoolInit)),
             },
             None => Needs {
-                db: places(words).db,
+                places: places(words),
                 salts: false,
+                slots: false,
             },
         }
     }
+}
+
+// The disks of the slots, whose files are made where they are missing; no disk for a command that needs none.
+fn disks_of(rt: HostRuntime, needs: &Needs) -> Result<Vec<SlotDisk>, Outcome> {
+    let mut disks = Vec::new(rt.alloc());
+    if needs.slots {
+        for number in 0..needs.places.slots {
+            let file = SlotFile::made(rt, needs.places.spool, number)?;
+            disks.push(FileDisk::new(file))?;
+        }
+    }
+    Ok(disks)
 }
 
 fn run_with<H, D>(
     threads: &H,
     rt: HostRuntime,
     words: &[Octets],
-    db: &[u8],
+    needs: &Needs,
     output: LinkSink<StandardOutput>,
     hosts: Option<ClientHosts>,
     dice: D,
@@ -131,9 +155,10 @@ where
         logs: Writing::new(rt.stderr()),
         clock: SystemClock::new(rt),
         dice,
-        keeper: Some(Records::new(rt, db)?),
+        keeper: Some(Records::new(rt, needs.places.db)?),
         dialer: TcpDialer::new(rt, rt.alloc(), hosts),
         launcher: Programs::new(rt, rt.alloc()),
+        disks: disks_of(rt, needs)?,
     };
     Ok(run(threads, rt.alloc(), words, &mut world))
 }
@@ -155,14 +180,14 @@ fn serve<H: Threads + Sync>(threads: &H, rt: HostRuntime) -> Result<u8, Stop> {
             threads,
             rt,
             &words,
-            needs.db,
+            &needs,
             output,
             hosts,
             MemDice::new(0),
         )?);
     }
     match Salts::new(&rt) {
-        Ok(salts) => Ok(run_with(threads, rt, &words, needs.db, output, hosts, salts)?),
+        Ok(salts) => Ok(run_with(threads, rt, &words, &needs, output, hosts, salts)?),
         Err(_) => Err(Stop::NoRandomBytes),
     }
 }

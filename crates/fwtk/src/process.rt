@@ -2,10 +2,14 @@
 
 use bastion::Kit;
 use fw_outside::Dice;
-use fw_real::{Paths, Reading, Records, StandardInput, SystemClock, Writing};
+use fw_real::{FileDisk, Paths, Reading, Records, SlotFile, StandardInput, SystemClock, Writing};
 use real_links::{LinkSink, Programs, StandardOutput, TcpDialer};
+use std::fs::File;
 use std::io::Stderr;
 use std::marker::PhantomData;
+
+/// The file of a slot, as a disk.
+pub type SlotDisk = FileDisk<SlotFile, File>;
 
 /// The kinds of device that a process has, with dice of this kind.
 #[derive(Drop)]
@@ -31,4 +35,6 @@ impl<D: Dice> Kit for Process<D> {
     type Dial = TcpDialer<HostRuntime>;
 
     type Launch = Programs<HostRuntime>;
+
+    type Disk = SlotDisk;
 }

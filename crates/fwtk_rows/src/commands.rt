@@ -1,7 +1,7 @@
 //! Rows whose words are read and not run.
 
 use arrayvec::ArrayVec;
-use bastion::{Caller, Command, Query, places, read_command, table_named};
+use bastion::{Caller, Command, Job, Order, Query, places, read_order, table_named};
 use format_of_rows::{Row, TABLE};
 use fw_types::{NoMemory, Octets, Peer};
 use gate_rules::Service;
@@ -43,20 +43,38 @@ fn add_caller(alloc: Global, out: &mut Vec<u8>, caller: &Caller) -> Result<(), N
     add_client(out, word.as_bytes(), &caller.peer)
 }
 
-// What the words ask for, with the service and the peer.
+// What a command asks for, with the service and the peer.
+fn add_command(alloc: Global, out: &mut Vec<u8>, command: &Command) -> Result<(), NoMemory> {
+    match command {
+        Command::Netacl(query) => add_query(out, b"netacl ", query),
+        Command::NetaclRun(query) => add_query(out, b"netacl -run ", query),
+        Command::Table(query) => add_query(out, b"table ", query),
+        Command::Authsrv(client) if client.console => add_client(out, b"console ", &client.peer),
+        Command::PlugGw(caller) => add_caller(alloc, out, caller),
+        Command::TnGw(peer) => add_client(out, b"tn-gw ", peer),
+        Command::Authsrv(client) => add_client(out, b"authsrv ", &client.peer),
+    }
+}
+
+fn add_job(alloc: Global, out: &mut Vec<u8>, job: Job) -> Result<(), NoMemory> {
+    match job {
+        Job::Drill(drill) => {
+            let (start, count) = (drill.start, drill.count);
+            let text = format!(in alloc; "drill {start} {count}")?;
+            out.extend_from_slice(text.as_bytes())?;
+        }
+        Job::SpoolInit => out.extend_from_slice(b"spool-init")?,
+    }
+    Ok(())
+}
+
+// What the words ask for.
 fn told_of(alloc: Global, words: &[Octets]) -> Result<Vec<u8>, NoMemory> {
     let mut out = Vec::new(alloc);
-    match read_command(words) {
+    match read_order(words) {
         None => out.extend_from_slice(b"none")?,
-        Some(Command::Netacl(query)) => add_query(&mut out, b"netacl ", &query)?,
-        Some(Command::NetaclRun(query)) => add_query(&mut out, b"netacl -run ", &query)?,
-        Some(Command::Table(query)) => add_query(&mut out, b"table ", &query)?,
-        Some(Command::Authsrv(client)) if client.console => {
-            add_client(&mut out, b"console ", &client.peer)?;
-        }
-        Some(Command::PlugGw(caller)) => add_caller(alloc, &mut out, &caller)?,
-        Some(Command::TnGw(peer)) => add_client(&mut out, b"tn-gw ", &peer)?,
-        Some(Command::Authsrv(client)) => add_client(&mut out, b"authsrv ", &client.peer)?,
+        Some(Order::ByTable(command)) => add_command(alloc, &mut out, &command)?,
+        Some(Order::Alone(job)) => add_job(alloc, &mut out, job)?,
     }
     Ok(out)
 }

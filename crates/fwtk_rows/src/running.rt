@@ -2,7 +2,7 @@
 
 use bastion::{Kit, World, run};
 use fw_memory::{
-    MemClock, MemDialer, MemDice, MemFiles, MemKeeper, MemLauncher, MemSink, MemSource,
+    MemClock, MemDialer, MemDice, MemDisk, MemFiles, MemKeeper, MemLauncher, MemSink, MemSource,
 };
 use fw_types::Octets;
 use runs_of_rows::{Devices, Ended, Helpers, Place, Talk};
@@ -31,6 +31,8 @@ impl Kit for Memory {
     type Dial = MemDialer;
 
     type Launch = MemLauncher;
+
+    type Disk = MemDisk;
 }
 
 // The status, and the devices after the run.
@@ -45,6 +47,7 @@ fn ended_of(status: u8, world: World<Memory>) -> Ended {
         keeper,
         dialer,
         launcher,
+        disks: _,
     } = world;
     let place = Place {
         files,
@@ -95,6 +98,7 @@ pub(crate) fn run_over<H: Threads + Sync>(
         keeper: Some(keeper),
         dialer,
         launcher,
+        disks: Vec::new(alloc),
     };
     let status = run(rt, alloc, words, &mut world);
     ended_of(status, world)

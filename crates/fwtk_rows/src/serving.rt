@@ -3,7 +3,7 @@ ghost use Rattle.client_service.specs.Conn.{IsServed};
 
 use auth_machine::{Book, Policy};
 use auth_port::FaultyPort;
-use bastion::{Command, Outcome, conn, read_command, table_named};
+use bastion::{Command, Order, Outcome, conn, read_order, table_named};
 use fw_memory::{Calls, MemFiles, MemKeeper, MemSource};
 use fw_outside::Files;
 use fw_types::{Ending, Octets, Peer};
@@ -27,11 +27,11 @@ struct Server {
 }
 
 fn client_of(words: &[Octets]) -> Option<(Service, Peer)> {
-    match read_command(words) {
-        Some(Command::Authsrv(client)) if !client.console => {
+    match read_order(words) {
+        Some(Order::ByTable(Command::Authsrv(client))) if !client.console => {
             Some((Service::Authsrv, client.peer))
         }
-        Some(Command::TnGw(peer)) => Some((Service::TnGw, peer)),
+        Some(Order::ByTable(Command::TnGw(peer))) => Some((Service::TnGw, peer)),
         _ => None,
     }
 }

@@ -19,6 +19,18 @@ fn clear<D: Disk>(disk: &mut D) -> Result<(), Failed>
     disk.sync()
 }
 
+/// The same of a disk that stays where it is: a free slot, whatever a crash leaves of it. Where the disk fails, anything
+/// may stand on it.
+#[tactic(auto, using(crate::proofs::ShutLemmas::told_vacant, crate::proofs::ShutLemmas::vacant_free))]
+pub fn format_in_place<D: Disk>(disk: &mut D) -> Result<(), Failed>
+    ensures ok { OnOk result (HasCleared (D.disk_view disk.old) (D.disk_view disk.new)) }
+    ensures images { OnOk result (Now (EachImage IsFreeImage) (D.disk_view disk.new)) }
+    ensures tells { StillTells (D.disk_view disk.old) (D.disk_view disk.new) }
+    ensures err { OnErr result (Rose (D.disk_view disk.old).faults (D.disk_view disk.new).faults) }
+{
+    clear(disk)
+}
+
 /// Makes a free slot of any disk: what stood on it is lost.
 #[tactic(auto, using(crate::proofs::ShutLemmas::told_vacant, crate::proofs::ShutLemmas::vacant_free))]
 pub fn format<D: Disk>(number: u32, disk: D) -> Result<Free<D>, Broken<D>>

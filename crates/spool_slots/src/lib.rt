@@ -26,7 +26,7 @@ mod starting;
 
 pub use aside::Aside;
 pub use broken::Broken;
-pub use clearing::format;
+pub use clearing::{format, format_in_place};
 pub use filling::Filling;
 pub use free::Free;
 pub use full::Full;

@@ -1,7 +1,7 @@
 use Rattle.bastion.specs.Run.{Run}
 use Rattle.bastion.specs.Words.{line_of}
 use Rattle.bastion.proofs.RoseLemmas.{does_rose}
-use Rattle.bastion.proofs.RunLemmas.{run_back, run_status, run_takes}
+use Rattle.bastion.proofs.RunLemmas.{run_back, run_disks, run_status, run_takes}
 use Rattle.bastion.proofs.CompleteLemmas.{run_complete}
 use Rattle.bastion.proofs.HeadlineLemmas.{run_headline}
 use Rattle.bastion.proofs.running.run.Goals as goal
@@ -25,6 +25,7 @@ returns g c =
       status = run_status (line_of c.args.words.now) c.status.result old new ran;
       taken = run_takes (line_of c.args.words.now) c.status.result old new ran;
       complete = run_complete (line_of c.args.words.now) c.status.result old new ran;
+      disks = run_disks (line_of c.args.words.now) c.status.result old new ran;
       returned = back.out;
       kept = back.keeper c.requires.keeper;
     }

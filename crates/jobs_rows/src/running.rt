@@ -1,0 +1,85 @@
+//! The one call of `run`.
+
+use bastion::{Kit, World, run};
+use fw_memory::{
+    Calls, MemClock, MemDialer, MemDice, MemDisk, MemFiles, MemKeeper, MemLauncher, MemSink,
+    MemSource,
+};
+use fw_types::{NoMemory, Octets};
+use std::alloc::Global;
+
+/// The kinds of device in memory.
+#[derive(Drop)]
+pub(crate) struct Memory;
+
+impl Kit for Memory {
+    type Files = MemFiles;
+
+    type Input = MemSource;
+
+    type Output = MemSink;
+
+    type Logs = MemSink;
+
+    type Tick = MemClock;
+
+    type Dice = MemDice;
+
+    type Keeper = MemKeeper;
+
+    type Dial = MemDialer;
+
+    type Launch = MemLauncher;
+
+    type Disk = MemDisk;
+}
+
+/// The status of a run, and its devices.
+#[derive(Drop)]
+pub(crate) struct Ended {
+    pub(crate) status: u8,
+    pub(crate) world: World<Memory>,
+}
+
+// The words of a command line.
+fn words_of(alloc: Global, line: &[u8]) -> Result<Vec<Octets>, NoMemory> {
+    let mut words = Vec::new(alloc);
+    for word in line.split(|byte| *byte == b' ') {
+        words.push(Octets::copy(alloc, word)?)?;
+    }
+    Ok(words)
+}
+
+// The devices: no table, nobody who says anything, no records, no server.
+fn world_of(alloc: Global, disks: Vec<MemDisk>, refuses: Calls) -> Result<World<Memory>, NoMemory> {
+    let none = Octets::copy(alloc, b"")?;
+    let output = MemSink::new(alloc, 1024, refuses)?;
+    let logs = MemSink::new(alloc, 1024, Calls::none())?;
+    let dialer = MemDialer::new(alloc, Vec::new(alloc), 1, Calls::none())?;
+    Ok(World {
+        files: MemFiles::new(alloc, Vec::new(alloc), 1, Calls::none(), Calls::none()),
+        input: MemSource::new(none, 1, Calls::none(), Calls::none()),
+        output,
+        logs,
+        clock: MemClock::new(Vec::new(alloc)),
+        dice: MemDice::new(0),
+        keeper: Some(MemKeeper::new(alloc, Vec::new(alloc), Calls::none())),
+        dialer,
+        launcher: MemLauncher::new(alloc, Vec::new(alloc), Calls::none()),
+        disks,
+    })
+}
+
+/// Runs a command line over these disks. The output refuses these calls.
+pub(crate) fn run_over(
+    rt: HostRuntime,
+    line: &[u8],
+    disks: Vec<MemDisk>,
+    refuses: Calls,
+) -> Result<Ended, NoMemory> {
+    let alloc = rt.alloc();
+    let words = words_of(alloc, line)?;
+    let mut world = world_of(alloc, disks, refuses)?;
+    let status = run(&rt, alloc, &words, &mut world);
+    Ok(Ended { status, world })
+}
