@@ -176,15 +176,7 @@ fn serve<H: Threads + Sync>(threads: &H, rt: HostRuntime) -> Result<u8, Stop> {
     }
     let needs = Needs::of(&words);
     if !needs.salts {
-        return Ok(run_with(
-            threads,
-            rt,
-            &words,
-            &needs,
-            output,
-            hosts,
-            MemDice::new(0),
-        )?);
+        return Ok(run_with(threads, rt, &words, &needs, output, hosts, MemDice::new(0))?);
     }
     match Salts::new(&rt) {
         Ok(salts) => Ok(run_with(threads, rt, &words, &needs, output, hosts, salts)?),
