@@ -7,6 +7,7 @@ use fw_memory::{
 };
 use fw_types::{NoMemory, Octets};
 use std::alloc::Global;
+use std::thread::Threads;
 
 /// The kinds of device in memory.
 #[derive(Drop)]
@@ -71,15 +72,15 @@ fn world_of(alloc: Global, disks: Vec<MemDisk>, refuses: Calls) -> Result<World<
 }
 
 /// Runs a command line over these disks. The output refuses these calls.
-pub(crate) fn run_over(
-    rt: HostRuntime,
+pub(crate) fn run_over<H: Threads + Sync>(
+    threads: &H,
+    alloc: Global,
     line: &[u8],
     disks: Vec<MemDisk>,
     refuses: Calls,
 ) -> Result<Ended, NoMemory> {
-    let alloc = rt.alloc();
     let words = words_of(alloc, line)?;
     let mut world = world_of(alloc, disks, refuses)?;
-    let status = run(&rt, alloc, &words, &mut world);
+    let status = run(threads, alloc, &words, &mut world);
     Ok(Ended { status, world })
 }
