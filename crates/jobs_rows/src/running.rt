@@ -56,7 +56,7 @@ fn world_of(alloc: Global, disks: Vec<MemDisk>, refuses: Calls) -> Result<World<
     let none = Octets::copy(alloc, b"")?;
     let output = MemSink::new(alloc, 1024, refuses)?;
     let logs = MemSink::new(alloc, 1024, Calls::none())?;
-    let dialer = MemDialer::new(alloc, Vec::new(alloc), 1, Calls::none())?;
+    let dialer = MemDialer::new(alloc, Vec::new(alloc), Vec::new(alloc), 1, Calls::none())?;
     Ok(World {
         files: MemFiles::new(alloc, Vec::new(alloc), 1, Calls::none(), Calls::none()),
         input: MemSource::new(none, 1, Calls::none(), Calls::none()),
