@@ -34,6 +34,7 @@ usage: fwtk [-t FILE] netacl [-run] DAEMON ADDRESS [NAME]
   -r FILE  the records of users, authdb in the current directory by default
   -s FOLDER  the folder of the mail's slots, spool in the current directory by default
   -n SLOTS  how many slots there are, 1 to 64, 8 by default
+  -m PROGRAM  the program that mail is handed to, /usr/lib/sendmail by default
 fwtk(8) lists the exit statuses; netacl(8), authsrv(8), plug-gw(8), tn-gw(8) and netperm-table(5) have the rest.
 ";
 
