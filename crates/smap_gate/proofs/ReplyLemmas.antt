@@ -22,7 +22,7 @@ use Rattle.session_acts.specs.World.{Speaker, World}
 use Rattle.session_acts.specs.declared.cause.Cause.{Cause}
 use Rattle.session_acts.specs.declared.deposited.Deposited.{Deposited}
 use Rattle.session_acts.specs.declared.deposited.Deposited.TheVariants as ends
-use Rattle.smap_gate.specs.Dialogue.{command_row, bare_row, data_if, data_row, deposited_row, fault_text, heard_row, helo_if, mail_row, rcpt_row, recipient_if, recipient_row, sender_row, smap_row, smap_rows}
+use Rattle.smap_gate.specs.Dialogue.{command_row, bare_row, data_if, data_row, deposited_row, heard_row, helo_if, mail_row, rcpt_row, recipient_if, recipient_row, sender_row, smap_row, smap_rows}
 use Rattle.smap_gate.specs.Gate.{Gate}
 use Rattle.smap_gate.specs.LogLines.{mail_line}
 use Rattle.smap_gate.specs.Paths.{path_behind}
