@@ -1,4 +1,5 @@
 mod DraftLemmas
+pub mod LoggingLemmas
 pub mod MessageLemmas
 mod PathLemmas
 pub mod ReplyLemmas

@@ -1,12 +1,14 @@
 //! What holds of every session of mail.
+ghost use Rattle.std.specs.Prelude.{None};
 ghost use Rattle.fw_types.specs.declared.ending.Ending.{Ending};
-ghost use Rattle.session_acts.specs.Deeds.{gives};
+ghost use Rattle.session_acts.specs.Deeds.{deeds_ran, gives};
 ghost use Rattle.session_acts.specs.Laws.{TellsClient, told};
 ghost use Rattle.session_acts.specs.Session.{Held, deeds_of};
 ghost use Rattle.session_acts.specs.Stored.{CountsFaulted, CountsUnslotted, PutsAllBack, faulted, unslotted};
 ghost use Rattle.session_acts.specs.World.{World};
 ghost use Rattle.smap_gate.specs.Dialogue.{smap_row, smap_rows};
 ghost use Rattle.smap_gate.specs.Gate.{Gate};
+ghost use Rattle.smap_gate.specs.Logging.{LogsDue};
 ghost use Rattle.smap_gate.specs.Messages.{KeepsMessages};
 ghost use Rattle.smap_gate.specs.Replies.{ToldInOrder};
 
@@ -36,6 +38,13 @@ pub fn each_reply_is_told<Origin>()
 pub fn the_kept_messages_are_put<Origin>()
     ensures { (gate : Gate) (old new : World Origin) (ending : Ending)
         (held : Held (smap_rows gate) smap_row old new ending) → KeepsMessages gate held }
+{}
+
+/// Right behind a message that was kept its line is logged, with the number of its slot, of its recipients and of its bytes,
+/// before anything is told, so no client is told of a message that the log doesn't have. No other line is logged.
+pub fn each_kept_message_is_logged<Origin>()
+    ensures { (gate : Gate) (old new : World Origin) (ending : Ending)
+        (held : Held (smap_rows gate) smap_row old new ending) → LogsDue gate.peer None (deeds_ran held.ran) }
 {}
 
 /// Each slot that a session takes is put back.
