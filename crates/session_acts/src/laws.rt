@@ -284,7 +284,8 @@ pub fn a_used_up_link_ends_it<Origin, P>()
 
 /// The messages that a session kept stand in slots that were put full, in the order in which it kept them: at the back of the
 /// full queue, where the store tells its queues, and at the end of the list of those put, where it keeps that list. Nothing
-/// else was put full. Each has the message's sender and recipients and, as its body, that of the data that were heard.
+/// else was put full. Each has the message's sender and recipients and, as its body, that of the data that were heard, which
+/// has as many bytes as the answer said.
 pub fn the_messages_are_put<Origin, P>()
     ensures { (rows : PlaceTable (acts Origin) P) (first : Row (acts Origin) P) (old new : World Origin) (ending : Ending)
         (held : Held rows first old new ending) → PutsMails (gives kept (deeds_of held)) old new }
