@@ -42,8 +42,9 @@ pub fn the_client_is_told<Origin, P>()
 {}
 
 /// What a session took of a client of which nothing was pending is what its deeds heard, one piece after another: each line
-/// with its end, and what was read for nothing where no line was heard. Behind that at most 4,096 bytes were taken, which
-/// are pending. So a session that stops has taken no more beyond the line, or the end, to which the act belongs.
+/// with its end, what was read for nothing where no line was heard, the data of each message as they came, and what a relay
+/// took. Behind that at most 4,096 bytes were taken, which are pending. So a session that stops has taken no more beyond the
+/// line, or the end, to which the act belongs.
 pub fn the_client_is_heard<Origin, P>()
     ensures { (rows : PlaceTable (acts Origin) P) (first : Row (acts Origin) P) (old new : World Origin) (ending : Ending)
         (held : Held rows first old new ending) → old.client.reader.pending ≡ [] →
@@ -209,7 +210,7 @@ pub fn a_line_is_logged_first<Origin, P>()
 {}
 
 /// In a session that ends for want of memory some request got no answer for that, be it one of the script's or the close that
-/// was owed.
+/// was owed; or there was no memory to begin a message, or for what the script allots.
 pub fn the_memory_was_lacking<Origin, P>()
     ensures { (rows : PlaceTable (acts Origin) P) (first : Row (acts Origin) P) (old new : World Origin) (ending : Ending)
         (held : Held rows first old new ending) → ending ≡ NoMemory → one_lacked_memory (deeds_of held) ≡ true }
