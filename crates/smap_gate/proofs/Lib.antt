@@ -7,3 +7,4 @@ mod RowLemmas
 pub mod ServerlessLemmas
 pub mod SessionLemmas
 mod TurnLemmas
+pub mod WantedLemmas

@@ -9,3 +9,4 @@ pub mod Messages
 pub mod Paths
 pub mod Replies
 pub mod Texts
+pub mod Wanted
