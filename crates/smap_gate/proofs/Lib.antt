@@ -1,4 +1,5 @@
 mod DraftLemmas
+pub mod LastHeardLemmas
 pub mod LoggingLemmas
 pub mod MessageLemmas
 mod PathLemmas

@@ -3,6 +3,7 @@ pub mod Draft
 pub mod Dummies
 pub mod Ends
 pub mod Gate
+pub mod LastHeard
 pub mod Logging
 pub mod LogLines
 pub mod Messages
