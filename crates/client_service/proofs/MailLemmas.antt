@@ -8,16 +8,19 @@ use Rattle.fw_types.specs.declared.ending.Ending.TheVariants as endings
 use Rattle.session_acts.specs.Causes.{SessionKeeps}
 use Rattle.session_acts.specs.Client.{LogsFirst, with_line}
 use Rattle.session_acts.specs.Deeds.{Deed, gives}
+use Rattle.session_acts.specs.Dummies.{nowhere}
 use Rattle.session_acts.specs.Serverless.{CausedAlone, TakesExactly}
 use Rattle.session_acts.specs.Session.{Session, deeds_of}
 use Rattle.session_acts.specs.Stored.{faulted, unslotted}
 use Rattle.session_acts.specs.World.{Devices, World, at_first}
 use Rattle.session_acts.proofs.ClientLemmas.{logs_first}
 use Rattle.session_acts.proofs.DeedLemmas.{all_gain, all_last, held_deeds}
+use Rattle.session_acts.proofs.ServerlessLemmas.{logged_serverless, session_serverless}
 use Rattle.session_acts.proofs.StoredLemmas.{back_lasts, faulted_gains, kept_gains, unslotted_gains}
 use Rattle.smap_gate.specs.Dialogue.{smap_row, smap_rows}
 use Rattle.smap_gate.specs.Gate.{Gate}
 use Rattle.smap_gate.proofs.ReplyLemmas.{told_in_order}
+use Rattle.smap_gate.proofs.ServerlessLemmas.{keeps_serverless}
 use Rattle.smap_gate.proofs.SessionLemmas.{never}
 use Rattle.spool_rack.specs.Store.{PutGrew, StoreView}
 use Rattle.client_service.specs.MailService.{MailsBehind, MailsOrFails, mail_devices}
@@ -62,6 +65,16 @@ module _ {Origin : Type 0} where
     origin = ap (λ (p : Port Origin). p.origin) port;
     home = ap (λ (p : Port Origin). p.home) port;
   }
+
+-- ---- its dialer is nobody's
+
+-- a session over a dialer that is as at first is one over `nowhere`, since it asks for nothing
+pub over_nowhere : (line : List ℕ) (gate : Gate) (old new : Devices (Unit {0})) (ending : Ending) → old.dialer ≡ nowhere → Session (smap_rows gate) (logged_row line smap_row) old new ending
+    → Session (smap_rows gate) (logged_row line smap_row) (record old { dialer = nowhere }) (record new { dialer = nowhere }) ending
+over_nowhere line gate old new ending is session =
+    let now : new.dialer ≡ nowhere = session_serverless (smap_rows gate) (logged_row line smap_row) old new ending session (logged_serverless line (keeps_serverless (Unit {0}) gate)) ∙ is in
+    let first = subst (λ (d : DialerView). Session (smap_rows gate) (logged_row line smap_row) (record old { dialer = d }) new ending) is session in
+    subst (λ (d : DialerView). Session (smap_rows gate) (logged_row line smap_row) (record old { dialer = nowhere }) (record new { dialer = d }) ending) now first
 
 -- ---- what the store is given
 

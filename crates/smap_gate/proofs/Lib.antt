@@ -1,4 +1,5 @@
 mod DraftLemmas
+pub mod LastHeardLemmas
 pub mod LoggingLemmas
 pub mod MessageLemmas
 mod PathLemmas
@@ -7,3 +8,4 @@ mod RowLemmas
 pub mod ServerlessLemmas
 pub mod SessionLemmas
 mod TurnLemmas
+pub mod WantedLemmas

@@ -1,5 +1,5 @@
 -- A message that is kept is logged before anything else is done.
-use Rattle.std.proofs.Common.{◌≡◌, refl, sym, ap, subst, ◌∙◌, ℕ, ◌==◌, Bool, true, false, nat_lt, List, [], ◌∷◌, ◌++◌, map, length, Option, Some, None, Result, Ok, Err}
+use Rattle.std.proofs.Common.{◌≡◌, refl, ap, subst, ℕ, ◌==◌, Bool, true, false, nat_lt, List, [], ◌∷◌, ◌++◌, map, length, Option, Some, None, Result, Ok, Err}
 use Rattle.fw_acts.specs.Acts.{Row, Step}
 use Rattle.fw_acts.specs.Acts.Row.{Do, At, Over}
 use Rattle.fw_acts.specs.Histories.{AllMay, Leaves, history}
@@ -8,7 +8,7 @@ use Rattle.fw_acts.proofs.HistoryLemmas.{run_leaves, run_may}
 use Rattle.fw_outside.specs.declared.heard.Heard.{Heard}
 use Rattle.fw_outside.specs.declared.heard.Heard.TheVariants.{Line, TooLong, Stopped}
 use Rattle.fw_types.specs.declared.ending.Ending.{Ending}
-use Rattle.session_acts.specs.Acts.{Act, Answer}
+use Rattle.session_acts.specs.Acts.{Act, Answer, Halt}
 use Rattle.session_acts.specs.Acts.Act.{Hear, Say, Try, Log, Note, Ask, Renew, Dial, Reach, Take, Pass, HangUp, Relay, Deposit, Allot}
 use Rattle.session_acts.specs.Deeds.{Deed, deed_last, deeds_ran, done}
 use Rattle.session_acts.specs.Met.{acts}
@@ -31,7 +31,8 @@ use Rattle.smap_lines.specs.Command.Command.{bare, helo, mail, rcpt}
 use Rattle.smap_lines.specs.declared.path.PathFault.{PathFault}
 use Rattle.smap_lines.specs.declared.verb.Verb.{Verb}
 use Rattle.smap_lines.specs.declared.verb.Verb.TheVariants as verbs
-use Rattle.smap_gate.proofs.ReplyLemmas.{MayCome, first_tells, noted, own_rows, rows_tell, want_behind, watch}
+use Rattle.smap_gate.specs.Wanted.{IsWanted, owing_behind, want_behind}
+use Rattle.smap_gate.proofs.ReplyLemmas.{first_tells, own_rows, rows_tell, watch}
 
 -- the line that is wanted
 abbrev line_wanted : Want → Option (List ℕ)
@@ -111,7 +112,7 @@ behind_wants gate rcpts ends.Faulted = refl
 behind_wants gate rcpts ends.Ended = refl
 
 -- each act comes only where the line that is wanted lets it
-act_due : (gate : Gate) (owing : Reply) (act : Act) → MayCome gate owing act → IsDue act (line_wanted owing.want)
+act_due : (gate : Gate) (owing : Reply) (act : Act) → IsWanted gate owing act → IsDue act (line_wanted owing.want)
 act_due gate owing (Say text) may = ap line_wanted may.0
 act_due gate owing (Hear form) may = ap line_wanted may.0
 act_due gate owing (Log text) may = ap line_wanted may
@@ -129,7 +130,7 @@ act_due gate owing HangUp may = absurd may
 act_due gate owing Relay may = absurd may
 
 -- and wants what is due behind it
-act_wants : (gate : Gate) (owing : Reply) (act : Act) (answer : Answer act) → MayCome gate owing act → line_wanted (noted gate owing act answer).want ≡ line_due gate.peer act (Ok answer)
+act_wants : (gate : Gate) (owing : Reply) (act : Act) (answer : Answer act) → IsWanted gate owing act → line_wanted (owing_behind gate owing act answer).want ≡ line_due gate.peer act (Ok answer)
 act_wants gate owing (Say text) answer may = refl
 act_wants gate owing (Hear form) answer may = heard_quiet gate owing.place answer
 act_wants gate owing (Log text) answer may = refl
@@ -146,21 +147,41 @@ act_wants gate owing (Pass text) answer may = absurd may
 act_wants gate owing HangUp answer may = absurd may
 act_wants gate owing Relay answer may = absurd may
 
+-- an act that stopped wants no line
+stop_wants : (gate : Gate) (act : Act) (halt : Halt act) → line_due gate.peer act (Err halt) ≡ None
+stop_wants gate (Deposit sender rcpts words most) halt = refl
+stop_wants gate (Say text) halt = refl
+stop_wants gate (Hear form) halt = refl
+stop_wants gate (Log text) halt = refl
+stop_wants gate Allot halt = refl
+stop_wants gate (Try text) halt = refl
+stop_wants gate (Note text) halt = refl
+stop_wants gate (Ask request) halt = refl
+stop_wants gate (Renew name hash) halt = refl
+stop_wants gate (Dial dest) halt = refl
+stop_wants gate (Reach dest) halt = refl
+stop_wants gate Take halt = refl
+stop_wants gate (Pass text) halt = refl
+stop_wants gate HangUp halt = refl
+stop_wants gate Relay halt = refl
+
 -- ---- the session
 
 module _ {Origin : Type 0} (gate : Gate) where
   last_due : (owing : Reply) (dialogue : Result (Unit {0}) Cause) (new mid : World Origin) (left : Row (acts Origin) Place) (comes : Comes (smap_rows gate) (λ (over : Unit {0}). Over) dialogue new left mid) → Leaves (watch Origin gate) left owing
       → LogsDue gate.peer (line_wanted owing.want) (deed_last (smap_rows gate) (λ (over : Unit {0}). Over) dialogue new left mid comes)
-  last_due owing (Ok over) new mid left comes leaves = tt
-  last_due owing (Err cause) new mid (Do act go) comes leaves = (act_due gate owing act leaves.0, tt)
-  last_due owing (Err cause) new mid (At place) comes leaves = (act_due gate owing ((own_rows Origin gate).act place) (rows_tell Origin gate place owing leaves).0, tt)
+  last_due owing (Ok over) new mid left comes leaves =
+      let settled : (owing.want ≡ Nothing) × (owing.text ≡ []) = subst (λ (row : Row (acts Origin) Place). Leaves (watch Origin gate) row owing) comes.0 leaves in
+      ap line_wanted settled.0
+  last_due owing (Err cause) new mid (Do act go) comes leaves = (act_due gate owing act leaves.0, stop_wants gate act comes.halt)
+  last_due owing (Err cause) new mid (At place) comes leaves = (act_due gate owing ((own_rows Origin gate).act place) (rows_tell Origin gate place owing leaves).0, stop_wants gate ((own_rows Origin gate).act place) comes.halt)
   last_due owing (Err cause) new mid Over comes leaves = absurd comes
 
   steps_due : (owing : Reply) (steps : List (Step (acts Origin))) (last : List Deed) → AllMay (watch Origin gate) owing steps → LogsDue gate.peer (line_wanted (history (watch Origin gate) owing steps).want) last
       → LogsDue gate.peer (line_wanted owing.want) (map done steps ++ last)
   steps_due owing [] last all ends = ends
   steps_due owing (step ∷ steps) last all ends =
-      let next = noted gate owing step.act step.answer in
+      let next = owing_behind gate owing step.act step.answer in
       let later = steps_due next steps last all.1 ends in
       (act_due gate owing step.act all.0, subst (λ (due : Option (List ℕ)). LogsDue gate.peer due (map done steps ++ last)) (act_wants gate owing step.act step.answer all.0) later)
 

@@ -26,11 +26,11 @@ abbrev pub line_due : Peer → (act : Act) → Outcome act → Option (List ℕ)
 line_due peer (Deposit sender rcpts words most) outcome = line_of peer (length rcpts) outcome
 line_due peer act outcome = None
 
--- where a line is due it is logged next, before anything is told; else none is logged
+-- Where a line is due it is logged next, before anything is told or heard, and before the end; else none is logged.
 abbrev pub IsDue : Act → Option (List ℕ) → Type 0
 IsDue (Log text) due = due ≡ Some text
 IsDue act due = due ≡ None
 
 abbrev pub LogsDue : Peer → Option (List ℕ) → List Deed → Type 0
-LogsDue peer due [] = Unit {0}
+LogsDue peer due [] = due ≡ None
 LogsDue peer due (deed ∷ deeds) = IsDue deed.act due × LogsDue peer (line_due peer deed.act deed.outcome) deeds

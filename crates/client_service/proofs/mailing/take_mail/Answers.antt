@@ -16,9 +16,9 @@ use Rattle.client_service.proofs.mailing.take_mail.Goals as goal
 
 pub returns : goal.returns
 returns g c =
-    let new : Devices (Unit {0}) = lent (g.S.Source.source_view c.mail.new.from) (g.K.Sink.sink_view c.mail.new.to) (g.G.Sink.sink_view c.mail.new.logs) (g.M.SlotStore.store_view c.mail.new.store) in
+    let new : Devices (Unit {0}) = lent (g.S.Source.source_view c.mail.new.from) (g.K.Sink.sink_view c.mail.new.to) (g.G.Sink.sink_view c.mail.new.logs) (g.M-SlotStore.store_view c.mail.new.store) in
     let At : Gate → List ℕ → SourceView → Type 0 =
-    λ gate t s. Session (smap_rows gate) (logged_row t smap_row) (lent s (g.K.Sink.sink_view c.args.to.now) (g.G.Sink.sink_view c.args.logs.now) (g.M.SlotStore.store_view c.args.store.now)) new c.mail.result in
+    λ gate t s. Session (smap_rows gate) (logged_row t smap_row) (lent s (g.K.Sink.sink_view c.args.to.now) (g.G.Sink.sink_view c.args.logs.now) (g.M-SlotStore.store_view c.args.store.now)) new c.mail.result in
     let inlet : SourceView = g.S.Source.source_view c.args.from.now in
     let gate : Gate = mail_gate_of c.args.rules.now c.args.peer.now in
     let line : List ℕ = decision_text (Permit c.args.line) Smap c.args.peer.now in

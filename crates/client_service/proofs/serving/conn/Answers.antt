@@ -15,9 +15,9 @@ treat-ending-requires-clause-options g c lifetimes outlive =
 pub returns : goal.returns
 returns g c =
     let old : Devices g.row.P-Origin.Denot = mail_devices_with (g.P.AuthPort.port c.args.port.now) (g.S.Source.source_view c.args.from.now) (g.K.Sink.sink_view c.args.to.now) (g.G.Sink.sink_view c.args.logs.now)
-    (g.D.Dialer.dialer_view c.args.dialer.now) (g.C.Clock.clock_view c.args.clock.now) (g.R.Dice.dice_view c.args.dice.now) (g.M.SlotStore.store_view c.args.store.now) in
+    (g.D.Dialer.dialer_view c.args.dialer.now) (g.C.Clock.clock_view c.args.clock.now) (g.R.Dice.dice_view c.args.dice.now) (g.M-SlotStore.store_view c.args.store.now) in
     let mid : Devices g.row.P-Origin.Denot = mail_devices_with (g.P.AuthPort.port c.treat-ending.new.port) (g.S.Source.source_view c.treat-ending.new.from) (g.K.Sink.sink_view c.treat-ending.new.to) (g.G.Sink.sink_view c.treat-ending.new.logs)
-    (g.D.Dialer.dialer_view c.treat-ending.new.dialer) (g.C.Clock.clock_view c.treat-ending.new.clock) (g.R.Dice.dice_view c.treat-ending.new.dice) (g.M.SlotStore.store_view c.treat-ending.new.store) in
+    (g.D.Dialer.dialer_view c.treat-ending.new.dialer) (g.C.Clock.clock_view c.treat-ending.new.clock) (g.R.Dice.dice_view c.treat-ending.new.dice) (g.M-SlotStore.store_view c.treat-ending.new.store) in
     let new : Devices g.row.P-Origin.Denot = record mid { logs = g.G.Sink.sink_view c.note_ending.new.logs } in
     let treats = subst (λ (v : Verdict). Treats v c.args.service.now c.args.rules.now c.args.peer.now c.treat-ending.result old mid) c.verdict_of-verdict.ensures c.treat-ending.ensures.treats in
     let conn : Conn c.args.service.now c.args.rules.now c.args.peer.now old new c.treat-ending.result = record { logs = g.G.Sink.sink_view c.treat-ending.new.logs; treats = treats; noted = c.note_ending.ensures } in
