@@ -142,7 +142,7 @@ full_back slot one put old number named long keeps =
     record {
       slots = put ∷ [];
       grew = record { queued = grew.queued ∙ ap (option_map (λ (full : List FullView). full ++ put ∷ [])) (full_lent old.queues); listed = grew.listed };
-      are = (named, long, keeps, tt);
+      are = (named, keeps, tt, long);
       out = struck_here put.number slot.number old.out number;
       no_free = omega arith;
       broken = omega arith;
@@ -222,7 +222,7 @@ kept_both : (first more : List KeptMail) (a b : List FullView) → AreKept first
 kept_both [] more [] b x y = y
 kept_both [] more (slot ∷ a) b x y = absurd x
 kept_both (one ∷ first) more [] b x y = absurd x
-kept_both (one ∷ first) more (slot ∷ a) b x y = (x.0, x.1, x.2, kept_both first more a b x.3 y)
+kept_both (one ∷ first) more (slot ∷ a) b x y = (x.0, x.1, kept_both first more a b x.2 y, x.3)
 
 least_both : (first more : List (List ℕ)) (a b c : ℕ) → min (a + length first) (2 ^ 64 - 1) ≤ b → min (b + length more) (2 ^ 64 - 1) ≤ c → min (a + length (first ++ more)) (2 ^ 64 - 1) ≤ c
 least_both first more a b c before after = let lengths = length-append first more in omega (arith, before, after, lengths)

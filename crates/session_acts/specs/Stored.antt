@@ -41,7 +41,7 @@ kept act outcome = []
 -- these are the messages in these slots, one by one, each with as many bytes of body as was said
 abbrev pub AreKept : List KeptMail → List FullView → Type 0
 AreKept [] [] = Unit {0}
-AreKept (one ∷ more) (slot ∷ slots) = (slot.number ≡ one.number) × (length one.mail.body ≡ one.bytes) × Keeps one.mail slot × AreKept more slots
+AreKept (one ∷ more) (slot ∷ slots) = (slot.number ≡ one.number) × Keeps one.mail slot × AreKept more slots × (length one.mail.body ≡ one.bytes)
 AreKept _ _ = ⊥
 
 -- slots with these messages were put full, in this order, and no other
