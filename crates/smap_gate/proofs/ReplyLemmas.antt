@@ -117,7 +117,7 @@ module _ (Origin : Type 0) (gate : Gate) where
 
   pub rows_tell : Keeps own_rows (watch Origin gate)
   rows_tell place owing stands =
-      subst (λ (o : Reply). Leaves (watch Origin gate) (Do (own_rows.act place) (own_rows.go place)) o) (sym stands) ((refl, refl), λ heard. heard_tells place heard)
+      subst (λ (o : Reply). Leaves (watch Origin gate) (Do (own_rows.act place) (own_rows.go place)) o) (sym stands) ((refl, refl, refl), λ heard. heard_tells place heard)
 
   pub first_tells : Tells smap_row (says texts.ready Waiting)
   first_tells = ((refl, refl), λ done. refl)
@@ -161,7 +161,7 @@ step_tells gate owing HangUp answer words_left told_left end may later = absurd 
 step_tells gate owing Relay answer words_left told_left end may later = absurd may
 
 -- the place behind an act is that of what is owing_behind
-step_place : (gate : Gate) (owing : Reply) (act : Act) (answer : Answer act) → place_then gate owing.place act (Ok answer) ≡ (owing_behind gate owing act answer).place
+pub step_place : (gate : Gate) (owing : Reply) (act : Act) (answer : Answer act) → place_then gate owing.place act (Ok answer) ≡ (owing_behind gate owing act answer).place
 step_place gate owing (Say text) answer = refl
 step_place gate owing (Hear form) answer = refl
 step_place gate owing (Log text) answer = refl
