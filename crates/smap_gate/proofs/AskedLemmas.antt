@@ -1,13 +1,12 @@
 -- A message is taken in behind the line that asks for it, and behind each such line.
-use Rattle.std.proofs.Common.{◌≡◌, refl, sym, ap, subst, ◌∙◌, ℕ, List, [], ◌∷◌, ◌++◌, length, Result, Ok, Err, append_assoc, append-nil}
+use Rattle.std.proofs.Common.{◌≡◌, refl, sym, ap, subst, ◌∙◌, ℕ, List, [], ◌∷◌, ◌++◌, length, Ok, Err, append_assoc, append-nil}
 use Rattle.session_acts.specs.Acts.{Act, Answer, Outcome}
 use Rattle.session_acts.specs.Acts.Act.{Hear, Say, Try, Log, Note, Ask, Renew, Dial, Reach, Take, Pass, HangUp, Relay, Deposit, Allot}
 use Rattle.session_acts.specs.Deeds.{Deed}
-use Rattle.session_acts.specs.declared.form.Form.{Form}
 use Rattle.session_acts.specs.declared.form.Form.TheVariants.{Lines, Telnet}
 use Rattle.smap_gate.specs.Gate.{Gate}
-use Rattle.smap_gate.specs.Replies.{Reply, Want, place_then, to_heard}
-use Rattle.smap_gate.specs.Replies.Want.{Nothing, Memory, Message, Logging}
+use Rattle.smap_gate.specs.Replies.{Reply, place_then, to_heard}
+use Rattle.smap_gate.specs.Replies.Want.{Memory, Message, Logging}
 use Rattle.smap_gate.specs.Texts as texts
 use Rattle.smap_gate.specs.Wanted.{AreWanted, AsksAreMet, DepositsAreAsked, IsAsked, IsTakenIn, IsWanted, Onward, greeting, line_heard, owing_behind, place_after}
 use Rattle.smap_gate.specs.declared.place.Place.{Place}

@@ -1,17 +1,17 @@
 -- Each message is of the sender and to the recipients that stood.
-use Rattle.std.proofs.Common.{◌≡◌, refl, sym, ap, subst, ◌∙◌, ℕ, List, [], ◌∷◌, ◌++◌, map, length, Option, Some, None, Result, Ok, Err, append_assoc, append-nil}
+use Rattle.std.proofs.Common.{◌≡◌, refl, sym, ap, subst, ◌∙◌, ℕ, List, [], ◌∷◌, ◌++◌, map, length, Option, Some, None, Result, Ok, Err, append-nil}
 use Rattle.std.proofs.lemmas.List.Concat.{flat_map-append}
 use Rattle.auth_events.specs.declared.port.PortFault.{PortFault}
 use Rattle.auth_events.specs.declared.reply.Reply as answers
 use Rattle.fw_acts.specs.Acts.{Row, Step}
 use Rattle.fw_acts.specs.Acts.Row.{Do, At, Over}
-use Rattle.fw_acts.specs.Histories.{AllMay, history}
+use Rattle.fw_acts.specs.Histories.{AllMay}
 use Rattle.fw_acts.specs.Ran.{Comes}
 use Rattle.fw_acts.proofs.HistoryLemmas.{run_may}
 use Rattle.fw_types.specs.declared.ending.Ending.{Ending}
 use Rattle.session_acts.specs.Acts.{Act, Answer, Halt}
 use Rattle.session_acts.specs.Acts.Act.{Hear, Say, Try, Log, Note, Ask, Renew, Dial, Reach, Take, Pass, HangUp, Relay, Deposit, Allot}
-use Rattle.session_acts.specs.Deeds.{Deed, deed_last, deeds_ran, done, gives}
+use Rattle.session_acts.specs.Deeds.{Deed, deed_last, done, gives}
 use Rattle.session_acts.specs.Met.{acts}
 use Rattle.session_acts.specs.Session.{Held, closing, deeds_of, freeing, owed}
 use Rattle.session_acts.specs.Stored.{KeptMail, PutsMails, kept}
@@ -25,7 +25,7 @@ use Rattle.smap_gate.specs.Dialogue.{smap_row, smap_rows}
 use Rattle.smap_gate.specs.Gate.{Gate}
 use Rattle.smap_gate.specs.Messages.{KeepsMessages, Standing, mail_asked, mail_then, mails, stands_then, unasked}
 use Rattle.smap_gate.specs.Replies.{Reply, Want, says, to_heard}
-use Rattle.smap_gate.specs.Replies.Want.{Nothing, Memory, Message, Logging}
+use Rattle.smap_gate.specs.Replies.Want.{Nothing, Message}
 use Rattle.smap_gate.specs.Texts as texts
 use Rattle.smap_gate.specs.declared.place.Place.{Place}
 use Rattle.smap_gate.specs.declared.place.Place.TheVariants.{Waiting}

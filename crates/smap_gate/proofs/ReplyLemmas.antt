@@ -22,12 +22,11 @@ use Rattle.session_acts.specs.World.{Speaker, World}
 use Rattle.session_acts.specs.declared.cause.Cause.{Cause}
 use Rattle.session_acts.specs.declared.deposited.Deposited.{Deposited}
 use Rattle.session_acts.specs.declared.deposited.Deposited.TheVariants as ends
-use Rattle.smap_gate.specs.Dialogue.{command_row, bare_row, data_if, data_row, deposited_row, fault_text, heard_row, helo_if, mail_row, rcpt_row, recipient_if, recipient_row, sender_row, smap_row, smap_rows}
+use Rattle.smap_gate.specs.Dialogue.{command_row, bare_row, data_if, data_row, deposited_row, heard_row, helo_if, mail_row, rcpt_row, recipient_if, recipient_row, sender_row, smap_row, smap_rows}
 use Rattle.smap_gate.specs.Gate.{Gate}
-use Rattle.smap_gate.specs.LogLines.{mail_line}
 use Rattle.smap_gate.specs.Paths.{path_behind}
-use Rattle.smap_gate.specs.Replies.{Reply, ToldInOrder, Want, all_due, due, end_text, place_then, says, to_command, to_data, to_data_if, to_heard, to_helo, to_mail, to_rcpt, to_recipient, to_recipient_if, to_sender, to_verb}
-use Rattle.smap_gate.specs.Replies.Want.{Nothing, Memory, Message, Logging}
+use Rattle.smap_gate.specs.Replies.{Reply, ToldInOrder, all_due, due, end_text, place_then, says, to_command, to_data, to_data_if, to_heard, to_helo, to_mail, to_rcpt, to_recipient, to_recipient_if, to_sender, to_verb}
+use Rattle.smap_gate.specs.Replies.Want.{Nothing}
 use Rattle.smap_gate.specs.Texts as texts
 use Rattle.smap_gate.specs.Wanted.{IsWanted, owing_behind, want_behind}
 use Rattle.smap_gate.specs.declared.place.Place.{Place}

@@ -78,8 +78,8 @@ pub fn the_kept_messages_are_put<Origin>()
 {}
 
 /// Right behind a message that was kept its line is logged, with the number of its slot, of its recipients and of its bytes,
-/// before anything is told, so no client is told of a message that the log doesn't have. No other
-/// line is logged, and none is still due at the end.
+/// before anything is told, so no client is told of a message that the log doesn't have. No other line is logged, and none is
+/// still due at the end.
 pub fn each_kept_message_is_logged<Origin>()
     ensures { (gate : Gate) (old new : World Origin) (ending : Ending)
         (held : Held (smap_rows gate) smap_row old new ending) → LogsDue gate.peer None (deeds_ran held.ran) }
