@@ -10,7 +10,7 @@ use Rattle.fw_acts.proofs.HistoryLemmas.{run_leaves, run_may}
 use Rattle.fw_outside.specs.declared.heard.Heard.{Heard}
 use Rattle.fw_outside.specs.declared.heard.Heard.TheVariants.{Line, TooLong, Stopped}
 use Rattle.fw_types.specs.declared.ending.Ending.{Ending}
-use Rattle.session_acts.specs.Acts.{Act, Answer, Outcome}
+use Rattle.session_acts.specs.Acts.{Act, Outcome}
 use Rattle.session_acts.specs.Acts.Act.{Hear, Say, Try, Log, Note, Ask, Renew, Dial, Reach, Take, Pass, HangUp, Relay, Deposit, Allot}
 use Rattle.session_acts.specs.Deeds.{Deed, deed_last, deeds_ran, done, gives}
 use Rattle.session_acts.specs.Hearing.{Fate, heard_in}

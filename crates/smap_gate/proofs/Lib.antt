@@ -1,3 +1,4 @@
+mod AskedLemmas
 mod DraftLemmas
 pub mod LastHeardLemmas
 pub mod LoggingLemmas

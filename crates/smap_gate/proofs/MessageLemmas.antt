@@ -37,10 +37,10 @@ record Fits (owing : Reply) (standing : Standing) : Type 0 where
   place : owing.place ≡ standing.place
   asks : (sender : List ℕ) (rcpts : List (List ℕ)) → owing.want ≡ Message sender rcpts → standing.asks ≡ Message sender rcpts
 
-no_message : (sender : List ℕ) (rcpts : List (List ℕ)) → Nothing ≡ Message sender rcpts → ⊥
+pub no_message : (sender : List ℕ) (rcpts : List (List ℕ)) → Nothing ≡ Message sender rcpts → ⊥
 no_message sender rcpts is = cc
 
-no_more : (gate : Gate) (count : ℕ) (deposited : Deposited) (sender : List ℕ) (rcpts : List (List ℕ)) → want_behind gate count deposited ≡ Message sender rcpts → ⊥
+pub no_more : (gate : Gate) (count : ℕ) (deposited : Deposited) (sender : List ℕ) (rcpts : List (List ℕ)) → want_behind gate count deposited ≡ Message sender rcpts → ⊥
 no_more gate count ends.NoSlot sender rcpts is = cc
 no_more gate count ends.NotBegun sender rcpts is = cc
 no_more gate count (ends.Kept slot bytes) sender rcpts is = cc

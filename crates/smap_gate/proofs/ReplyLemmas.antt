@@ -24,10 +24,9 @@ use Rattle.session_acts.specs.declared.deposited.Deposited.{Deposited}
 use Rattle.session_acts.specs.declared.deposited.Deposited.TheVariants as ends
 use Rattle.smap_gate.specs.Dialogue.{command_row, bare_row, data_if, data_row, deposited_row, heard_row, helo_if, mail_row, rcpt_row, recipient_if, recipient_row, sender_row, smap_row, smap_rows}
 use Rattle.smap_gate.specs.Gate.{Gate}
-use Rattle.smap_gate.specs.LogLines.{mail_line}
 use Rattle.smap_gate.specs.Paths.{path_behind}
-use Rattle.smap_gate.specs.Replies.{Reply, ToldInOrder, Want, all_due, due, end_text, place_then, says, to_command, to_data, to_data_if, to_heard, to_helo, to_mail, to_rcpt, to_recipient, to_recipient_if, to_sender, to_verb}
-use Rattle.smap_gate.specs.Replies.Want.{Nothing, Memory, Message, Logging}
+use Rattle.smap_gate.specs.Replies.{Reply, ToldInOrder, all_due, due, end_text, place_then, says, to_command, to_data, to_data_if, to_heard, to_helo, to_mail, to_rcpt, to_recipient, to_recipient_if, to_sender, to_verb}
+use Rattle.smap_gate.specs.Replies.Want.{Nothing}
 use Rattle.smap_gate.specs.Texts as texts
 use Rattle.smap_gate.specs.Wanted.{IsWanted, owing_behind, want_behind}
 use Rattle.smap_gate.specs.declared.place.Place.{Place}
@@ -117,7 +116,7 @@ module _ (Origin : Type 0) (gate : Gate) where
 
   pub rows_tell : Keeps own_rows (watch Origin gate)
   rows_tell place owing stands =
-      subst (λ (o : Reply). Leaves (watch Origin gate) (Do (own_rows.act place) (own_rows.go place)) o) (sym stands) ((refl, refl), λ heard. heard_tells place heard)
+      subst (λ (o : Reply). Leaves (watch Origin gate) (Do (own_rows.act place) (own_rows.go place)) o) (sym stands) ((refl, refl, refl), λ heard. heard_tells place heard)
 
   pub first_tells : Tells smap_row (says texts.ready Waiting)
   first_tells = ((refl, refl), λ done. refl)
@@ -161,7 +160,7 @@ step_tells gate owing HangUp answer words_left told_left end may later = absurd 
 step_tells gate owing Relay answer words_left told_left end may later = absurd may
 
 -- the place behind an act is that of what is owing_behind
-step_place : (gate : Gate) (owing : Reply) (act : Act) (answer : Answer act) → place_then gate owing.place act (Ok answer) ≡ (owing_behind gate owing act answer).place
+pub step_place : (gate : Gate) (owing : Reply) (act : Act) (answer : Answer act) → place_then gate owing.place act (Ok answer) ≡ (owing_behind gate owing act answer).place
 step_place gate owing (Say text) answer = refl
 step_place gate owing (Hear form) answer = refl
 step_place gate owing (Log text) answer = refl

@@ -1,5 +1,5 @@
 -- Each act of a session is wanted.
-use Rattle.std.proofs.Common.{◌≡◌, refl, subst, List, [], ◌∷◌, ◌++◌, map, Result, Ok, Err}
+use Rattle.std.proofs.Common.{refl, subst, List, [], ◌∷◌, ◌++◌, map, Result, Ok, Err}
 use Rattle.fw_acts.specs.Acts.{Row, Step}
 use Rattle.fw_acts.specs.Acts.Row.{Do, At, Over}
 use Rattle.fw_acts.specs.Histories.{AllMay, Leaves, history}
@@ -14,7 +14,6 @@ use Rattle.session_acts.specs.declared.cause.Cause.{Cause}
 use Rattle.smap_gate.specs.Dialogue.{smap_row, smap_rows}
 use Rattle.smap_gate.specs.Gate.{Gate}
 use Rattle.smap_gate.specs.Replies.{Reply}
-use Rattle.smap_gate.specs.Replies.Want.{Nothing}
 use Rattle.smap_gate.specs.Wanted.{AreWanted, greeting, owing_behind}
 use Rattle.smap_gate.specs.declared.place.Place.{Place}
 use Rattle.smap_gate.proofs.ReplyLemmas.{first_tells, own_rows, rows_tell, watch}

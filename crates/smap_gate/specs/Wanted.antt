@@ -1,16 +1,19 @@
 -- Which act may come next, by what is still owed: what the last line wants, and what the client is to be told. No row is
 -- named here.
-use Rattle.std.specs.Prelude.{◌≡◌, ℕ, List, [], ◌∷◌, length, Result, Ok, Err}
+use Rattle.std.specs.Prelude.{◌≡◌, ℕ, List, [], ◌∷◌, ◌++◌, length, Result, Ok, Err}
+use Rattle.fw_outside.specs.declared.heard.Heard.{Heard}
 use Rattle.session_acts.specs.Acts.{Act, Answer}
 use Rattle.session_acts.specs.Acts.Act.{Allot, Deposit, Hear, Log, Say}
 use Rattle.session_acts.specs.Deeds.{Deed}
 use Rattle.session_acts.specs.declared.deposited.Deposited.{Deposited}
 use Rattle.session_acts.specs.declared.deposited.Deposited.TheVariants as ends
+use Rattle.session_acts.specs.declared.form.Form.TheVariants.{Lines}
 use Rattle.smap_gate.specs.Gate.{Gate}
 use Rattle.smap_gate.specs.LogLines.{mail_line}
-use Rattle.smap_gate.specs.Replies.{Reply, Want, end_text, says, to_heard}
+use Rattle.smap_gate.specs.Replies.{Reply, Want, end_text, place_then, says, to_heard}
 use Rattle.smap_gate.specs.Replies.Want.{Nothing, Memory, Message, Logging}
 use Rattle.smap_gate.specs.Texts as texts
+use Rattle.smap_gate.specs.declared.place.Place.{Place}
 use Rattle.smap_gate.specs.declared.place.Place.TheVariants.{Waiting}
 
 -- ---- what is owed
@@ -41,7 +44,7 @@ owing_behind gate owing act answer = owing
 -- words before its data and as many bytes as the gate lets a body have. Nothing else is done.
 abbrev pub IsWanted : Gate → Reply → Act → Type 0
 IsWanted gate owing (Say text) = (owing.want ≡ Nothing) × (text ≡ owing.text)
-IsWanted gate owing (Hear form) = (owing.want ≡ Nothing) × (owing.text ≡ [])
+IsWanted gate owing (Hear form) = (owing.want ≡ Nothing) × (owing.text ≡ []) × (form ≡ Lines)
 IsWanted gate owing (Log text) = owing.want ≡ Logging text
 IsWanted gate owing Allot = owing.want ≡ Memory
 IsWanted gate owing (Deposit sender rcpts words most) = (owing.want ≡ Message sender rcpts) × (owing.text ≡ []) × (words ≡ texts.go_ahead) × (most ≡ gate.most_bytes)
@@ -62,3 +65,45 @@ AreWanted gate owing (deed ∷ deeds) =
 -- at first the greeting is owed
 abbrev pub greeting : Reply
 greeting = says texts.ready Waiting
+
+-- ---- the same of messages, said of what stands before and behind each
+
+-- what stands of a message after these deeds
+abbrev pub place_after : Gate → Place → List Deed → Place
+place_after gate place [] = place
+place_after gate place (deed ∷ deeds) = place_after gate (place_then gate place deed.act deed.outcome) deeds
+
+-- a line, or the end, was heard
+abbrev pub line_heard : Heard → Deed
+line_heard heard = record { act = Hear Lines; outcome = Ok heard }
+
+-- what this line wants after these deeds
+abbrev pub wanted_by : Gate → List Deed → Heard → Want
+wanted_by gate before heard = (to_heard gate (place_after gate Waiting before) heard).want
+
+-- The last of these deeds is that a line was heard, which wants a message of this sender to these recipients.
+pub record IsAsked (gate : Gate) (sender : List ℕ) (rcpts : List (List ℕ)) (before : List Deed) : Type 0 where
+  pub earlier : List Deed
+  pub heard : Heard
+  pub last : before ≡ earlier ++ line_heard heard ∷ []
+  pub wants : wanted_by gate earlier heard ≡ Message sender rcpts
+
+-- Each message is asked for right before it is taken in, with the words before its data and as many bytes as the gate lets a
+-- body have.
+abbrev pub DepositsAreAsked : Gate → List Deed → Type 0
+DepositsAreAsked gate deeds =
+    (before after : List Deed) (deed : Deed) (sender : List ℕ) (rcpts : List (List ℕ)) (words : List ℕ) (most : ℕ) → deeds ≡ before ++ deed ∷ after → deed.act ≡ Deposit sender rcpts words most
+    → IsAsked gate sender rcpts before × (words ≡ texts.go_ahead) × (most ≡ gate.most_bytes)
+
+-- The first of these deeds takes in such a message, or stops at that.
+pub record IsTakenIn (gate : Gate) (sender : List ℕ) (rcpts : List (List ℕ)) (after : List Deed) : Type 0 where
+  pub deed : Deed
+  pub more : List Deed
+  pub next : after ≡ deed ∷ more
+  pub takes : deed.act ≡ Deposit sender rcpts texts.go_ahead gate.most_bytes
+
+-- Right behind each line that wants a message that is taken in.
+abbrev pub AsksAreMet : Gate → List Deed → Type 0
+AsksAreMet gate deeds =
+    (before after : List Deed) (heard : Heard) (sender : List ℕ) (rcpts : List (List ℕ)) → deeds ≡ before ++ line_heard heard ∷ after → wanted_by gate before heard ≡ Message sender rcpts
+    → IsTakenIn gate sender rcpts after

@@ -13,7 +13,7 @@ ghost use Rattle.smap_gate.specs.LastHeard.{EndsThere, HasEnd};
 ghost use Rattle.smap_gate.specs.Logging.{LogsDue};
 ghost use Rattle.smap_gate.specs.Messages.{KeepsMessages};
 ghost use Rattle.smap_gate.specs.Replies.{ToldInOrder};
-ghost use Rattle.smap_gate.specs.Wanted.{AreWanted, greeting};
+ghost use Rattle.smap_gate.specs.Wanted.{AreWanted, AsksAreMet, DepositsAreAsked, greeting};
 
 use crate::Place;
 use session_acts::laws;
@@ -46,13 +46,18 @@ pub fn each_reply_is_told<Origin>()
         (held : Held (smap_rows gate) smap_row old new ending) → ToldInOrder gate held }
 {}
 
-/// Each act of a dialogue is wanted (`specs/Wanted.antt`). A message is taken in right behind the line that asks for its data,
-/// from the sender and to the recipients that stand, with the words before its data and with as many bytes as the gate lets a
-/// body have; and behind such a line nothing else is done. No line is heard while something is owed: a reply, memory for a
-/// recipient, a message, or its line in the log. At the end nothing is owed, unless the session stopped.
+/// Each act of a dialogue is wanted (`each`, `specs/Wanted.antt`): nothing is said but what is owed, and no line is heard while
+/// something is owed: a reply, memory for a recipient, a message, or its line in the log. At the end nothing is owed, unless
+/// the session stopped. So a message is taken in right behind the line that asks for its data, from the sender and to the
+/// recipients that stand, with the words before its data and with as many bytes as the gate lets a body have (`deposits`); and
+/// right behind each such line one is (`asks`).
 pub fn each_act_is_wanted<Origin>()
-    ensures { (gate : Gate) (old new : World Origin) (ending : Ending)
+    ensures each { (gate : Gate) (old new : World Origin) (ending : Ending)
         (held : Held (smap_rows gate) smap_row old new ending) → AreWanted gate greeting (deeds_ran held.ran) }
+    ensures deposits { (gate : Gate) (old new : World Origin) (ending : Ending)
+        (held : Held (smap_rows gate) smap_row old new ending) → DepositsAreAsked gate (deeds_ran held.ran) }
+    ensures asks { (gate : Gate) (old new : World Origin) (ending : Ending)
+        (held : Held (smap_rows gate) smap_row old new ending) → AsksAreMet gate (deeds_ran held.ran) }
 {}
 
 /// A dialogue that comes to its end ends with QUIT, or with the end of what the client says, in place of a line or within a
@@ -73,8 +78,8 @@ pub fn the_kept_messages_are_put<Origin>()
 {}
 
 /// Right behind a message that was kept its line is logged, with the number of its slot, of its recipients and of its bytes,
-/// before anything is told, so no client is told of a message that the log doesn't have. No other
-/// line is logged, and none is still due at the end.
+/// before anything is told, so no client is told of a message that the log doesn't have. No other line is logged, and none is
+/// still due at the end.
 pub fn each_kept_message_is_logged<Origin>()
     ensures { (gate : Gate) (old new : World Origin) (ending : Ending)
         (held : Held (smap_rows gate) smap_row old new ending) → LogsDue gate.peer None (deeds_ran held.ran) }
