@@ -23,7 +23,7 @@ use Rattle.authsrv_lines.specs.declared.wire.Wire.{Wire}
 use Rattle.authsrv_lines.specs.declared.wire.Wire.TheVariants as wires
 use Rattle.authsrv_lines.specs.declared.wire.WireFault.{WireFault}
 use Rattle.session_acts.specs.Acts.{Act, Answer, Halt}
-use Rattle.session_acts.specs.Acts.Act.{Hear, Say, Try, Log, Note, Ask, Renew, Dial, Reach, Take, Pass, HangUp, Relay}
+use Rattle.session_acts.specs.Acts.Act.{Hear, Say, Try, Log, Note, Ask, Renew, Dial, Reach, Take, Pass, HangUp, Relay, Deposit, Allot}
 use Rattle.session_acts.specs.Deeds.{Deed, deed_last, done, gives}
 use Rattle.session_acts.specs.Laws.{told}
 use Rattle.session_acts.specs.Met.{acts}
@@ -43,6 +43,7 @@ abbrev MayTell : Owing → Act → Type 0
 MayTell owing (Say text) = text ≡ owing.text
 MayTell owing (Try text) = ⊥
 MayTell owing Relay = ⊥
+MayTell owing (Deposit sender rcpts words most) = ⊥
 MayTell owing act = owing.text ≡ []
 
 abbrev Stands : Owing → Place → Type 0
@@ -120,6 +121,7 @@ step_tells : (owing : Owing) (act : Act) (answer : Answer act) (words_left told_
 step_tells owing (Say text) answer words_left told_left end may later = said_then text owing.text [] words_left told_left end may later
 step_tells owing (Try text) answer words_left told_left end may later = absurd may
 step_tells owing Relay answer words_left told_left end may later = absurd may
+step_tells owing (Deposit sender rcpts words most) answer words_left told_left end may later = absurd may
 step_tells owing (Hear form) answer words_left told_left end may later = quiet_then owing.text (due owing.hearer (Hear form) (Ok answer) ++ words_left) told_left end may later
 step_tells owing (Log text) answer words_left told_left end may later = quiet_then owing.text words_left told_left end may later
 step_tells owing (Note text) answer words_left told_left end may later = quiet_then owing.text words_left told_left end may later
@@ -130,6 +132,7 @@ step_tells owing (Reach dest) answer words_left told_left end may later = quiet_
 step_tells owing Take answer words_left told_left end may later = quiet_then owing.text words_left told_left end may later
 step_tells owing (Pass text) answer words_left told_left end may later = quiet_then owing.text words_left told_left end may later
 step_tells owing HangUp answer words_left told_left end may later = quiet_then owing.text words_left told_left end may later
+step_tells owing Allot answer words_left told_left end may later = quiet_then owing.text words_left told_left end may later
 
 module _ {Origin : Type 0} where
   -- these acts, and what the client is to be told at their end
@@ -180,6 +183,7 @@ stop_breaks owing (Say text) halt may = record {
 }
 stop_breaks owing (Try text) halt may = absurd may
 stop_breaks owing Relay halt may = absurd may
+stop_breaks owing (Deposit sender rcpts words most) halt may = absurd may
 stop_breaks owing (Hear form) halt may = nothing_broken owing.text [] may refl
 stop_breaks owing (Log text) halt may = nothing_broken owing.text [] may refl
 stop_breaks owing (Note text) halt may = absurd halt
@@ -189,6 +193,7 @@ stop_breaks owing (Dial dest) halt may = absurd halt
 stop_breaks owing (Reach dest) halt may = nothing_broken owing.text [] may refl
 stop_breaks owing Take halt may = nothing_broken owing.text [] may refl
 stop_breaks owing (Pass text) halt may = nothing_broken owing.text [] may refl
+stop_breaks owing Allot halt may = nothing_broken owing.text [] may refl
 stop_breaks owing HangUp halt may = absurd halt
 
 -- ---- the session

@@ -5,6 +5,7 @@ use Rattle.auth_machine.specs.Port.{BookOrigin}
 use Rattle.authsrv_gate.specs.Dialogue.{rows}
 use Rattle.client_service.specs.Conn.{NotedIf, Treats}
 use Rattle.client_service.specs.Endings.{denied_text, ending_line}
+use Rattle.client_service.specs.Meeting.{mailless}
 use Rattle.fw_outside.specs.ClockView.{ClockView}
 use Rattle.fw_outside.specs.DialerView.{DialerView}
 use Rattle.fw_outside.specs.KeeperView.{KeeperView}
@@ -32,7 +33,7 @@ pub record OfSession (console : Bool) (verdict : Verdict) (rules : RuleBook) (pe
   pub line : ℕ
   pub admitted : console ≡ false → verdict ≡ Permit line
   pub logs : SinkView
-  pub session : Session rows (begins console peer line) (lent_to console rules old) (record new { logs = logs }) ending
+  pub session : Session rows (begins console peer line) (lent_to console rules (mailless old)) (mailless (record new { logs = logs })) ending
   pub noted : NotedIf (ending_line services.Authsrv peer ending) logs new.logs
 
 -- or it was denied
@@ -41,7 +42,7 @@ OfClient console verdict rules peer old new ending = OfSession console verdict r
 
 treats_so : (verdict : Verdict) (rules : RuleBook) (peer : Peer) (old new : Devices BookOrigin) (logs : SinkView) (ending : Ending) → Treats verdict services.Authsrv rules peer ending old (record new { logs = logs })
     → NotedIf (ending_line services.Authsrv peer ending) logs new.logs → OfClient false verdict rules peer old new ending
-treats_so (Permit line) rules peer old new logs ending h noted = inl (record { line = line; admitted = λ outside. refl; logs = logs; session = h; noted = noted })
+treats_so (Permit line) rules peer old new logs ending h noted = inl (record { line = line; admitted = λ outside. refl; logs = logs; session = h.session; noted = noted })
 treats_so (Deny line) rules peer old new logs ending h noted = inr (record { outside = refl; line = line; denied = refl; logs = logs; told = h.told; session = h.session; ends = h.ends; noted = noted })
 
 pub serves_so : (console : Bool) (rules : RuleBook) (peer : Peer) (old new : Devices BookOrigin) (ending : Ending) → Serves console rules peer old new ending → OfClient console (verdict_of rules peer) rules peer old new ending

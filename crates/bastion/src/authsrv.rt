@@ -14,7 +14,7 @@ use auth_machine::Book;
 use client_service::{conn, console};
 use fw_types::{Ending, Peer};
 use gate_rules::{Rules, Service};
-use session_acts::Nowhere;
+use session_acts::{NoStore, Nowhere};
 use std::alloc::Global;
 use std::thread::Threads;
 
@@ -49,6 +49,7 @@ fn hold_at_console<T: Kit>(
 // A client whom the rules permit or deny.
 fn hold_by_rules<H, T>(
     rt: &H,
+    alloc: Global,
     rules: &Rules,
     peer: &Peer,
     book: &mut Book<T::Keeper>,
@@ -67,8 +68,10 @@ where
     ensures launcher { world.new.inputs.launcher ≡ world.old.inputs.launcher }
     ensures disks { world.new.inputs.disks ≡ world.old.inputs.disks }
 {
+    let mut store = NoStore;
     conn(
         rt,
+        alloc,
         &Service::Authsrv,
         rules,
         peer,
@@ -77,6 +80,7 @@ where
         &mut world.output,
         &mut world.logs,
         dialer,
+        &mut store,
         &mut world.clock,
         &mut world.dice,
     )
@@ -84,6 +88,7 @@ where
 
 fn hold<H, T>(
     rt: &H,
+    alloc: Global,
     rules: &Rules,
     client: &Client,
     book: &mut Book<T::Keeper>,
@@ -106,12 +111,13 @@ where
     if client.console {
         return hold_at_console(&client.peer, book, world, dialer);
     }
-    hold_by_rules(rt, rules, &client.peer, book, world, dialer)
+    hold_by_rules(rt, alloc, rules, &client.peer, book, world, dialer)
 }
 
 // Holds the session over this book, and gives its keeper back. No server is met.
 fn hold_over<H, T>(
     rt: &H,
+    alloc: Global,
     rules: &Rules,
     client: &Client,
     book: Book<T::Keeper>,
@@ -124,7 +130,7 @@ where
 {
     let mut book = book;
     let mut dialer = Nowhere::new();
-    let ending = hold(rt, rules, client, &mut book, world, &mut dialer);
+    let ending = hold(rt, alloc, rules, client, &mut book, world, &mut dialer);
     end_over(book, ending, world)
 }
 
@@ -143,7 +149,7 @@ where
     ensures { DoesFor name.now (Authsrv client.now) result world.old world.new }
 {
     match open_for(alloc, name, &Service::Authsrv, world) {
-        Ok((rules, book)) => hold_over(rt, &rules, client, book, world),
+        Ok((rules, book)) => hold_over(rt, alloc, &rules, client, book, world),
         Err(outcome) => outcome,
     }
 }

@@ -11,11 +11,18 @@ use crate::{Caller, Kit, Outcome, World};
 use client_service::conn;
 use gate_rules::{Rules, Service};
 use plug_gate::NoPort;
+use session_acts::NoStore;
 use std::alloc::Global;
 use std::thread::Threads;
 
 // A client whom the rules permit or deny. Nobody is asked at the port.
-fn link<H, T>(rt: &H, rules: &Rules, caller: &Caller, world: &mut World<T>) -> Outcome
+fn link<H, T>(
+    rt: &H,
+    alloc: Global,
+    rules: &Rules,
+    caller: &Caller,
+    world: &mut World<T>,
+) -> Outcome
 where
     H: Threads + Sync,
     T: Kit,
@@ -23,8 +30,10 @@ where
     ensures { Linked caller.now (record no_inputs { rules = rules.now }) result world.old world.new }
 {
     let mut port = NoPort;
+    let mut store = NoStore;
     let ending = conn(
         rt,
+        alloc,
         &Service::PlugGw(caller.port),
         rules,
         &caller.peer,
@@ -33,6 +42,7 @@ where
         &mut world.output,
         &mut world.logs,
         &mut world.dialer,
+        &mut store,
         &mut world.clock,
         &mut world.dice,
     );
@@ -56,7 +66,7 @@ where
     ensures { DoesFor name.now (PlugGw caller.now) result world.old world.new }
 {
     match rules_for(alloc, name, &Service::PlugGw(caller.port), world) {
-        Ok(rules) => link(rt, &rules, caller, world),
+        Ok(rules) => link(rt, alloc, &rules, caller, world),
         Err(outcome) => outcome,
     }
 }

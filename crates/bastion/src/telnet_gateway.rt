@@ -14,12 +14,14 @@ use auth_machine::Book;
 use client_service::conn;
 use fw_types::{Ending, Peer};
 use gate_rules::{Rules, Service};
+use session_acts::NoStore;
 use std::alloc::Global;
 use std::thread::Threads;
 
 // A client whom the rules permit or deny.
 fn pass<H, T>(
     rt: &H,
+    alloc: Global,
     rules: &Rules,
     peer: &Peer,
     book: &mut Book<T::Keeper>,
@@ -35,8 +37,10 @@ where
     ensures launcher { world.new.inputs.launcher ≡ world.old.inputs.launcher }
     ensures disks { world.new.inputs.disks ≡ world.old.inputs.disks }
 {
+    let mut store = NoStore;
     conn(
         rt,
+        alloc,
         &Service::TnGw,
         rules,
         peer,
@@ -45,6 +49,7 @@ where
         &mut world.output,
         &mut world.logs,
         &mut world.dialer,
+        &mut store,
         &mut world.clock,
         &mut world.dice,
     )
@@ -53,6 +58,7 @@ where
 // Serves the client over this book, and gives its keeper back.
 fn pass_over<H, T>(
     rt: &H,
+    alloc: Global,
     rules: &Rules,
     peer: &Peer,
     book: Book<T::Keeper>,
@@ -64,7 +70,7 @@ where
     ensures { PassesOver peer.now rules.now book result world.old world.new }
 {
     let mut book = book;
-    let ending = pass(rt, rules, peer, &mut book, world);
+    let ending = pass(rt, alloc, rules, peer, &mut book, world);
     end_over(book, ending, world)
 }
 
@@ -83,7 +89,7 @@ where
     ensures { DoesFor name.now (TnGw peer.now) result world.old world.new }
 {
     match open_for(alloc, name, &Service::TnGw, world) {
-        Ok((rules, book)) => pass_over(rt, &rules, peer, book, world),
+        Ok((rules, book)) => pass_over(rt, alloc, &rules, peer, book, world),
         Err(outcome) => outcome,
     }
 }

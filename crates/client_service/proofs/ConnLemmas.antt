@@ -23,6 +23,8 @@ use Rattle.session_acts.specs.Denying.{no_rows}
 use Rattle.session_acts.specs.Serverless.{CausedAlone, TakesExactly}
 use Rattle.session_acts.specs.Session.{Session}
 use Rattle.session_acts.specs.World.{Devices}
+use Rattle.smap_gate.specs.Dialogue.{smap_row, smap_rows}
+use Rattle.smap_gate.proofs.ServerlessLemmas as mail
 use Rattle.tn_gate.specs.Gate.{gate_at}
 use Rattle.session_acts.proofs.AloneLemmas.{session_alone, session_exact}
 use Rattle.session_acts.proofs.CauseLemmas.{relay_keeps, session_keeps}
@@ -31,17 +33,20 @@ use Rattle.session_acts.proofs.DeviceLemmas.{by_nothing}
 use Rattle.session_acts.proofs.ServerlessLemmas.{logged_serverless, session_serverless}
 use Rattle.session_acts.proofs.SpentLemmas.{session_spent}
 use Rattle.session_acts.proofs.WaitedLemmas.{session_waited}
-use Rattle.client_service.specs.Conn.{AtConsole, CausedBy, Causes, Conn, Dials, FrontsBy, IsRefused, NotedIf, Permits, TakesBy, Treats, TurnsAway, Unasked, WaitsAs}
+use Rattle.client_service.specs.Conn.{AtConsole, CausedBy, Causes, Conn, Dials, FrontsBy, IsRefused, Permits, TakesBy, Treats, TurnsAway, Unasked, WaitsAs}
 use Rattle.client_service.specs.Decision.{decision_text}
-use Rattle.client_service.specs.Endings.{denied_words, ending_line}
+use Rattle.client_service.specs.Endings.{NotedIf, denied_words, ending_line}
 use Rattle.client_service.specs.GateService.{LetsIn, gate_devices}
 use Rattle.client_service.specs.Kind.{Kind, kind_of, may_relay}
 use Rattle.client_service.specs.Kind.Kind.{Alone, Gated, Plugged}
-use Rattle.client_service.specs.Meeting.{away_row, denied_by, dialer_then, lent_by, logged_row, patient, timeout_of}
+use Rattle.client_service.specs.MailService.{MailsTo, mail_devices, mail_gate_of}
+use Rattle.client_service.specs.Meeting.{away_row, denied_by, dialer_then, lent_by, logged_row, mailless, patient, timeout_of}
 use Rattle.client_service.specs.PlugService.{LinksTo, plug_devices}
 use Rattle.client_service.proofs.FrontsLemmas.{fronts_later, plug_gives}
 use Rattle.client_service.proofs.GateLemmas.{fronts_behind, gate_caused, gate_keeps, gate_takes, gate_unasked, gate_waits}
 use Rattle.client_service.proofs.LaterLemmas.{caused_later, causes_later, keeps_later, noted_most, noted_shut, takes_later, unasked_later, waits_with, with_logs}
+use Rattle.client_service.proofs.MailLemmas.{mail_caused, mail_keeps, mail_takes}
+use Rattle.client_service.proofs.MaillessLemmas.{caused_mailless, caused_patient, mailless_keeps, takes_mailless, takes_patient}
 use Rattle.client_service.proofs.PlugLemmas.{LogsOnly, plug_caused, plug_dials, silent_denial}
 use Rattle.client_service.proofs.SinkLemmas.{same_low}
 use Rattle.client_service.proofs.WaitLemmas.{session_waits}
@@ -60,19 +65,6 @@ denied_alone FtpGw line = refl
 denied_alone Smap line = refl
 
 module _ {Origin : Type 0} where
-  -- how long the devices wait counts for nothing
-  caused_patient : (seconds : ℕ) (ending : Ending) (old new : Devices Origin) → CausedAlone ending (patient seconds old) new → CausedAlone ending old new
-  caused_patient seconds Done old new h = tt
-  caused_patient seconds (Denied line) old new h = h
-  caused_patient seconds ClientFault old new h = h
-  caused_patient seconds ServerFault old new h = h
-  caused_patient seconds LogFault old new h = h
-  caused_patient seconds AuthFault old new h = h
-  caused_patient seconds Idle old new h = h
-  caused_patient seconds NoRoute old new h = h
-  caused_patient seconds Spent old new h = record { took = record { bytes = h.took.bytes; most = h.took.most; grew = h.took.grew; is = h.took.is }; all = h.all }
-  caused_patient seconds NoMemory old new h = tt
-
   -- ---- causes
 
   none_denies : (kind : Kind) (line : ℕ) (verdict : Verdict) (old new : Devices Origin) → CausedBy kind (Denied line) old new → Causes kind verdict (Denied line) old new
@@ -97,9 +89,6 @@ module _ {Origin : Type 0} where
   -- who is turned away is asked for none
   takes_none : (ending : Ending) (old new : Devices Origin) → is_spent_ending ending ≡ false → new.inlet ≡ old.inlet → TakesExactly ending old new
   takes_none ending old new never is = record { took = record { bytes = []; most = omega (arith); grew = subst (λ (s : SourceView). Grew 0 old.inlet.amount s.amount) (sym is) (grew_none old.inlet.amount); is = ap (λ (s : SourceView). s.taken) is ∙ by_nothing old.inlet.taken }; all = never }
-
-  takes_patient : (seconds : ℕ) (ending : Ending) (old new : Devices Origin) → TakesExactly ending (patient seconds old) new → TakesExactly ending old new
-  takes_patient seconds ending old new h = record { took = record { bytes = h.took.bytes; most = h.took.most; grew = h.took.grew; is = h.took.is }; all = h.all }
 
   relay_takes : (seconds : ℕ) (ending : Ending) (old new : Devices Origin) → RelayTakesFor ending (patient seconds (plug_devices old)) (plug_devices new) → RelayTakesFor ending old new
   relay_takes seconds ending old new h = record { took = record { bytes = h.took.bytes; most = h.took.most; grew = h.took.grew; is = h.took.is }; all = h.all }
@@ -206,13 +195,35 @@ module _ {Origin : Type 0} where
   held_facts : (line : ℕ) (rules : RuleBook) (peer : Peer) (ending : Ending) (old new : Devices Origin) → Permits line rules peer ending old new → Facts Alone (Permit line) rules ending old new
   held_facts line rules peer ending old new h =
       let first = logged_row (decision_text (Permit line) Authsrv peer) (session_row false) in
-      let lent = patient (timeout_of rules) old in
+      let seconds = timeout_of rules in
+      let lent = patient seconds (mailless old) in
       let alone = logged_serverless (decision_text (Permit line) Authsrv peer) (keeps_serverless Origin false) in
-      let keeps = session_keeps h in
+      let keeps = mailless_keeps seconds old new (session_keeps h.session) in
       record {
-        caused = causes_of Alone (Permit line) ending old new (caused_patient (timeout_of rules) ending old new (session_alone rows first lent new ending h alone));
-        spent = takes_patient (timeout_of rules) ending old new (session_exact rows first lent new ending h alone);
-        waited = session_waits rows first lent new ending h alone;
+        caused = causes_of Alone (Permit line) ending old new (caused_patient seconds ending old new (session_alone rows first lent (mailless new) ending h.session alone));
+        spent = takes_patient seconds ending old new (session_exact rows first lent (mailless new) ending h.session alone);
+        waited = session_waits rows first lent (mailless new) ending h.session alone;
+        refused = tt;
+        unasked = tt;
+        keeps = keeps;
+        origin = keeps.origin;
+        home = keeps.home;
+      }
+
+  -- one of `smap`
+  mailed_facts : (line : ℕ) (rules : RuleBook) (peer : Peer) (ending : Ending) (old new : Devices Origin) → MailsTo line rules peer ending old new → Facts Alone (Permit line) rules ending old new
+  mailed_facts line rules peer ending old new h =
+      let seconds = timeout_of rules in
+      let gate = mail_gate_of rules peer in
+      let first = logged_row (decision_text (Permit line) Smap peer) smap_row in
+      let lent = mail_devices (patient seconds old) in
+      let left = mail_devices new in
+      let alone = logged_serverless (decision_text (Permit line) Smap peer) (mail.keeps_serverless (Unit {0}) gate) in
+      let keeps = mail_keeps seconds old new h.port h.dialer (session_keeps h.over) in
+      record {
+        caused = causes_of Alone (Permit line) ending old new (mail_caused seconds ending old new (session_alone (smap_rows gate) first lent left ending h.over alone));
+        spent = mail_takes seconds ending old new (session_exact (smap_rows gate) first lent left ending h.over alone);
+        waited = session_waits (smap_rows gate) first lent left ending h.over alone;
         refused = tt;
         unasked = tt;
         keeps = keeps;
@@ -260,7 +271,7 @@ module _ {Origin : Type 0} where
   treats_facts (Permit line) Authsrv rules peer ending old new h = held_facts line rules peer ending old new h
   treats_facts (Permit line) (Netacl label) rules peer ending old new h = absurd h
   treats_facts (Permit line) FtpGw rules peer ending old new h = absurd h
-  treats_facts (Permit line) Smap rules peer ending old new h = absurd h
+  treats_facts (Permit line) Smap rules peer ending old new h = mailed_facts line rules peer ending old new h
 
   conn_facts : (service : Service) (rules : RuleBook) (peer : Peer) (old new : Devices Origin) (ending : Ending) → Conn service rules peer old new ending → Facts (kind_of service (verdict_of rules peer)) (verdict_of rules peer) rules ending old new
   conn_facts service rules peer old new ending conn =
@@ -329,7 +340,7 @@ module _ {Origin : Type 0} where
 
   held_undialed : (line : ℕ) (rules : RuleBook) (peer : Peer) (ending : Ending) (old new : Devices Origin) → Permits line rules peer ending old new → new.dialer ≡ dialer_then (Permit line) rules old.dialer
   held_undialed line rules peer ending old new h =
-      session_serverless rows (logged_row (decision_text (Permit line) Authsrv peer) (session_row false)) (patient (timeout_of rules) old) new ending h
+      session_serverless rows (logged_row (decision_text (Permit line) Authsrv peer) (session_row false)) (patient (timeout_of rules) (mailless old)) (mailless new) ending h.session
       (logged_serverless (decision_text (Permit line) Authsrv peer) (keeps_serverless Origin false))
 
   treats_dialed : (verdict : Verdict) (service : Service) (rules : RuleBook) (peer : Peer) (ending : Ending) (old new : Devices Origin) (logs : SinkView) → Treats verdict service rules peer ending old (with_logs new logs)
@@ -341,7 +352,7 @@ module _ {Origin : Type 0} where
   treats_dialed (Permit line) Authsrv rules peer ending old new logs h noted = held_undialed line rules peer ending old (with_logs new logs) h
   treats_dialed (Permit line) (Netacl label) rules peer ending old new logs h noted = absurd h
   treats_dialed (Permit line) FtpGw rules peer ending old new logs h noted = absurd h
-  treats_dialed (Permit line) Smap rules peer ending old new logs h noted = absurd h
+  treats_dialed (Permit line) Smap rules peer ending old new logs h noted = h.dialer
 
   pub conn_dialed : (service : Service) (rules : RuleBook) (peer : Peer) (old new : Devices Origin) (ending : Ending) → Conn service rules peer old new ending → Dials service (verdict_of rules peer) rules peer ending old new
   conn_dialed service rules peer old new ending conn = treats_dialed (verdict_of rules peer) service rules peer ending old new conn.logs conn.treats conn.noted
@@ -356,32 +367,35 @@ module _ {Origin : Type 0} where
   none_front FtpGw line rules peer ending old new = tt
   none_front Smap line rules peer ending old new = tt
 
-  treats_fronts : (verdict : Verdict) (service : Service) (rules : RuleBook) (peer : Peer) (ending : Ending) (old new : Devices Origin) (logs : SinkView) → Treats verdict service rules peer ending old (with_logs new logs) → FrontsBy service verdict rules peer ending old new
-  treats_fronts (Deny line) service rules peer ending old new logs h = none_front service line rules peer ending old new
-  treats_fronts (Permit line) (PlugGw at) rules peer ending old new logs h = fronts_later ending old new logs (plug_gives at line rules peer ending old (with_logs new logs) h)
-  treats_fronts (Permit line) TnGw rules peer ending old new logs h =
-      record { logs = logs; so = fronts_behind (decision_text (Permit line) TnGw peer) (gate_at rules line peer) ending (patient (timeout_of rules) (gate_devices old)) (gate_devices (with_logs new logs)) h.held }
-  treats_fronts (Permit line) Authsrv rules peer ending old new logs h = tt
-  treats_fronts (Permit line) (Netacl label) rules peer ending old new logs h = absurd h
-  treats_fronts (Permit line) FtpGw rules peer ending old new logs h = absurd h
-  treats_fronts (Permit line) Smap rules peer ending old new logs h = absurd h
+  treats_fronts : (verdict : Verdict) (service : Service) (rules : RuleBook) (peer : Peer) (ending : Ending) (old new : Devices Origin) (logs : SinkView) → Treats verdict service rules peer ending old (with_logs new logs)
+      → NotedIf (ending_line service peer ending) logs new.logs → FrontsBy service verdict rules peer ending old new
+  treats_fronts (Deny line) service rules peer ending old new logs h noted = none_front service line rules peer ending old new
+  treats_fronts (Permit line) (PlugGw at) rules peer ending old new logs h noted = fronts_later ending old new logs (plug_gives at line rules peer ending old (with_logs new logs) h)
+  treats_fronts (Permit line) TnGw rules peer ending old new logs h noted =
+      record { logs = logs; noted = noted; so = fronts_behind (decision_text (Permit line) TnGw peer) (gate_at rules line peer) ending (patient (timeout_of rules) (gate_devices old)) (gate_devices (with_logs new logs)) h.held }
+  treats_fronts (Permit line) Authsrv rules peer ending old new logs h noted = tt
+  treats_fronts (Permit line) (Netacl label) rules peer ending old new logs h noted = absurd h
+  treats_fronts (Permit line) FtpGw rules peer ending old new logs h noted = absurd h
+  treats_fronts (Permit line) Smap rules peer ending old new logs h noted = tt
 
   pub conn_fronts : (service : Service) (rules : RuleBook) (peer : Peer) (old new : Devices Origin) (ending : Ending) → Conn service rules peer old new ending → FrontsBy service (verdict_of rules peer) rules peer ending old new
-  conn_fronts service rules peer old new ending conn = treats_fronts (verdict_of rules peer) service rules peer ending old new conn.logs conn.treats
+  conn_fronts service rules peer old new ending conn = treats_fronts (verdict_of rules peer) service rules peer ending old new conn.logs conn.treats conn.noted
 
   -- ---- at the console
 
   pub console_caused : (service : Service) (peer : Peer) (old new : Devices Origin) (ending : Ending) → AtConsole service peer old new ending → CausedAlone ending old new
   console_caused service peer old new ending h =
       caused_later ending old new h.logs (noted_most (ending_line service peer ending) h.logs new.logs h.noted)
-      (session_alone rows (session_row true) old (with_logs new h.logs) ending h.session (keeps_serverless Origin true))
+      (caused_mailless ending old (with_logs new h.logs) (session_alone rows (session_row true) (mailless old) (mailless (with_logs new h.logs)) ending h.session (keeps_serverless Origin true)))
 
   pub console_spent : (service : Service) (peer : Peer) (old new : Devices Origin) (ending : Ending) → AtConsole service peer old new ending → TakesExactly ending old new
   console_spent service peer old new ending h =
-      takes_later Alone ending old new h.logs (session_exact rows (session_row true) old (with_logs new h.logs) ending h.session (keeps_serverless Origin true))
+      takes_later Alone ending old new h.logs
+      (takes_mailless ending old (with_logs new h.logs) (session_exact rows (session_row true) (mailless old) (mailless (with_logs new h.logs)) ending h.session (keeps_serverless Origin true)))
 
   pub console_undialed : (service : Service) (peer : Peer) (old new : Devices Origin) (ending : Ending) → AtConsole service peer old new ending → new.dialer ≡ old.dialer
-  console_undialed service peer old new ending h = session_serverless rows (session_row true) old (with_logs new h.logs) ending h.session (keeps_serverless Origin true)
+  console_undialed service peer old new ending h =
+      session_serverless rows (session_row true) (mailless old) (mailless (with_logs new h.logs)) ending h.session (keeps_serverless Origin true)
 
   pub console_origin : (service : Service) (peer : Peer) (old new : Devices Origin) (ending : Ending) → AtConsole service peer old new ending → new.port.origin ≡ old.port.origin
   console_origin service peer old new ending h = (session_keeps h.session).origin

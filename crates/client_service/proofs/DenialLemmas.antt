@@ -47,7 +47,7 @@ module _ {Origin : Type 0} where
             comes = record {
               halt = front_of cut;
               is_cause = refl;
-              met = record { client = refl; logs = cut_at cut; office = refl; server = refl; names = refl; may = tt };
+              met = record { client = refl; logs = cut_at cut; office = refl; server = refl; store = refl; names = refl; may = tt };
             };
           };
           answer = Err faults.Link;
@@ -78,10 +78,10 @@ module _ {Origin : Type 0} where
             run = (tt, refl, (h.tried, refl, refl));
             does = (
               noted,
-              record { client = refl; logs = logged; office = refl; server = refl; names = refl; may = tt },
+              record { client = refl; logs = logged; office = refl; server = refl; store = refl; names = refl; may = tt },
               (
                 last,
-                record { client = record { outlet = told; gets = h.gets; is = refl }; logs = refl; office = refl; server = refl; names = refl; may = tt },
+                record { client = record { outlet = told; gets = h.gets; is = refl }; logs = refl; office = refl; server = refl; store = refl; names = refl; may = tt },
                 refl,
               ),
             );
@@ -125,7 +125,7 @@ module _ {Origin : Type 0} where
             comes = record {
               halt = front_of cut;
               is_cause = refl;
-              met = record { client = refl; logs = cut_at cut; office = refl; server = refl; names = refl; may = tt };
+              met = record { client = refl; logs = cut_at cut; office = refl; server = refl; store = refl; names = refl; may = tt };
             };
           };
           answer = Err faults.Link;
@@ -151,7 +151,7 @@ module _ {Origin : Type 0} where
             left = Over;
             mid = last;
             run = (tt, refl, refl);
-            does = (last, record { client = refl; logs = logged; office = refl; server = refl; names = refl; may = tt }, refl);
+            does = (last, record { client = refl; logs = logged; office = refl; server = refl; store = refl; names = refl; may = tt }, refl);
             comes = (refl, refl);
           };
           answer = Err faults.Link;

@@ -2,7 +2,10 @@ pub mod ConnLemmas
 pub mod DenialLemmas
 pub mod FrontsLemmas
 pub mod GateLemmas
+pub mod KeptLemmas
 pub mod LaterLemmas
+pub mod MailLemmas
+pub mod MaillessLemmas
 pub mod NoMemoryLemmas
 pub mod OptionsLemmas
 pub mod PlugLemmas

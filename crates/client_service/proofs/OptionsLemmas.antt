@@ -205,6 +205,11 @@ none_needed : (verdict : Verdict) (rules : RuleBook) → OptionsFor verdict Auth
 none_needed (Permit line) rules = tt
 none_needed (Deny line) rules = tt
 
+-- nor does `smap`
+unlimited : (verdict : Verdict) (rules : RuleBook) → OptionsFor verdict Smap rules
+unlimited (Permit line) rules = tt
+unlimited (Deny line) rules = tt
+
 -- so it is for whom the rules of a service permit
 pub served_options : (service : Service) (rules : RuleBook) (peer : Peer) → IsServed service rules → OptionsFor (verdict_of rules peer) service rules
 served_options Authsrv rules peer served = none_needed (verdict_of rules peer) rules
@@ -212,4 +217,4 @@ served_options TnGw rules peer served = options_by rules peer (verdict_of rules 
 served_options (PlugGw at) rules peer served = target_by at served.lines rules peer served.read (verdict_of rules peer) refl
 served_options (Netacl label) rules peer served = absurd served
 served_options FtpGw rules peer served = absurd served
-served_options Smap rules peer served = absurd served
+served_options Smap rules peer served = unlimited (verdict_of rules peer) rules

@@ -9,8 +9,9 @@ use Rattle.gate_rules.specs.declared.service.Service.TheVariants.{Authsrv, FtpGw
 use Rattle.gate_rules.specs.declared.verdict.Verdict.{Verdict}
 use Rattle.gate_rules.specs.declared.verdict.Verdict.TheVariants.{Permit, Deny}
 use Rattle.session_acts.specs.World.{Devices}
-use Rattle.client_service.specs.Conn.{Permits, PermitsBy, Treats, TurnsAway, Unthrown, Untouched}
+use Rattle.client_service.specs.Conn.{Permits, PermitsBy, Treats, TurnsAway, Unstored, Unthrown, Untouched}
 use Rattle.client_service.specs.GateService.{LetsIn, is_gate}
+use Rattle.client_service.specs.MailService.{MailsTo, is_mail}
 use Rattle.client_service.specs.Options.{HasOptions}
 use Rattle.client_service.specs.PlugService.{plug_in}
 
@@ -22,13 +23,21 @@ is_gateway (Netacl label) is = absurd (cc)
 is_gateway FtpGw is = absurd (cc)
 is_gateway Smap is = absurd (cc)
 
-pub is_authsrv : (service : Service) (rules : RuleBook) (line : ℕ) → plug_in service ≡ None → is_gate service ≡ false → HasOptions service rules line → service ≡ Authsrv
-is_authsrv Authsrv rules line unplugged ungated h = refl
-is_authsrv (PlugGw port) rules line unplugged ungated h = absurd (cc)
-is_authsrv TnGw rules line unplugged ungated h = absurd (cc)
-is_authsrv (Netacl label) rules line unplugged ungated h = absurd h
-is_authsrv FtpGw rules line unplugged ungated h = absurd h
-is_authsrv Smap rules line unplugged ungated h = absurd h
+pub is_mailer : (service : Service) → is_mail service ≡ true → service ≡ Smap
+is_mailer Smap is = refl
+is_mailer (PlugGw port) is = absurd (cc)
+is_mailer Authsrv is = absurd (cc)
+is_mailer (Netacl label) is = absurd (cc)
+is_mailer FtpGw is = absurd (cc)
+is_mailer TnGw is = absurd (cc)
+
+pub is_authsrv : (service : Service) (rules : RuleBook) (line : ℕ) → plug_in service ≡ None → is_gate service ≡ false → is_mail service ≡ false → HasOptions service rules line → service ≡ Authsrv
+is_authsrv Authsrv rules line unplugged ungated unmailed h = refl
+is_authsrv (PlugGw port) rules line unplugged ungated unmailed h = absurd (cc)
+is_authsrv TnGw rules line unplugged ungated unmailed h = absurd (cc)
+is_authsrv Smap rules line unplugged ungated unmailed h = absurd (cc)
+is_authsrv (Netacl label) rules line unplugged ungated unmailed h = absurd h
+is_authsrv FtpGw rules line unplugged ungated unmailed h = absurd h
 
 -- ---- what is left as it was
 
@@ -45,6 +54,48 @@ denied_untouched {A} service verdict line old new is same = subst (λ (v : Verdi
 
 pub permitted_untouched : {A : Type 0} (service : Service) (verdict : Verdict) (line : ℕ) (old new : A) → verdict ≡ Permit line → Untouched service (Permit line) old new → Untouched service verdict old new
 permitted_untouched {A} service verdict line old new is h = subst (λ (v : Verdict). Untouched service v old new) (sym is) h
+
+-- the mail store
+pub denied_unstored : {A : Type 0} (service : Service) (verdict : Verdict) (line : ℕ) (old new : A) → verdict ≡ Deny line → new ≡ old → Unstored service verdict old new
+denied_unstored {A} service verdict line old new is same = subst (λ (v : Verdict). Unstored service v old new) (sym is) (by service)
+  where
+    by : (s : Service) → Unstored s (Deny line) old new
+    by (PlugGw port) = same
+    by Authsrv = same
+    by (Netacl label) = same
+    by TnGw = same
+    by FtpGw = same
+    by Smap = same
+
+pub permitted_unstored : {A : Type 0} (service : Service) (verdict : Verdict) (line : ℕ) (old new : A) → verdict ≡ Permit line → Unstored service (Permit line) old new → Unstored service verdict old new
+permitted_unstored {A} service verdict line old new is h = subst (λ (v : Verdict). Unstored service v old new) (sym is) h
+
+-- whom it isn't lent
+pub same_unstored : {A : Type 0} (service : Service) (line : ℕ) (old new : A) → new ≡ old → Unstored service (Permit line) old new
+same_unstored Smap line old new same = tt
+same_unstored (PlugGw port) line old new same = same
+same_unstored Authsrv line old new same = same
+same_unstored (Netacl label) line old new same = same
+same_unstored TnGw line old new same = same
+same_unstored FtpGw line old new same = same
+
+-- and whom it is
+pub mail_unstored : {A : Type 0} (service : Service) (line : ℕ) (old new : A) → is_mail service ≡ true → Unstored service (Permit line) old new
+mail_unstored Smap line old new is = tt
+mail_unstored (PlugGw port) line old new is = absurd (cc)
+mail_unstored Authsrv line old new is = absurd (cc)
+mail_unstored (Netacl label) line old new is = absurd (cc)
+mail_unstored TnGw line old new is = absurd (cc)
+mail_unstored FtpGw line old new is = absurd (cc)
+
+-- what stays as it is is untouched
+pub same_untouched : {A : Type 0} (service : Service) (line : ℕ) (old new : A) → new ≡ old → Untouched service (Permit line) old new
+same_untouched (PlugGw port) line old new same = same
+same_untouched Smap line old new same = same
+same_untouched Authsrv line old new same = tt
+same_untouched (Netacl label) line old new same = tt
+same_untouched TnGw line old new same = tt
+same_untouched FtpGw line old new same = tt
 
 -- what is untouched isn't thrown, but for a client of the gateway that is as it was
 pub unthrown_by : {A : Type 0} (service : Service) (verdict : Verdict) (old new : A) → is_gate service ≡ false → Untouched service verdict old new → Unthrown service verdict old new
@@ -71,6 +122,9 @@ permitted_unthrown {A} service verdict line old new is h = subst (λ (v : Verdic
 module _ {Origin : Type 0} where
   pub permitted_gate : (service : Service) (line : ℕ) (rules : RuleBook) (peer : Peer) (ending : Ending) (old new : Devices Origin) → is_gate service ≡ true → LetsIn line rules peer ending old new → PermitsBy service line rules peer ending old new
   permitted_gate service line rules peer ending old new is h = subst (λ (s : Service). PermitsBy s line rules peer ending old new) (sym (is_gateway service is)) h
+
+  pub permitted_mail : (service : Service) (line : ℕ) (rules : RuleBook) (peer : Peer) (ending : Ending) (old new : Devices Origin) → is_mail service ≡ true → MailsTo line rules peer ending old new → PermitsBy service line rules peer ending old new
+  permitted_mail service line rules peer ending old new is h = subst (λ (s : Service). PermitsBy s line rules peer ending old new) (sym (is_mailer service is)) h
 
   pub permitted_alone : (service : Service) (line : ℕ) (rules : RuleBook) (peer : Peer) (ending : Ending) (old new : Devices Origin) → service ≡ Authsrv → Permits line rules peer ending old new → PermitsBy service line rules peer ending old new
   permitted_alone service line rules peer ending old new is h = subst (λ (s : Service). PermitsBy s line rules peer ending old new) (sym is) h

@@ -7,7 +7,7 @@ use Rattle.auth_events.specs.declared.request.Request.TheVariants.{Password}
 use Rattle.fw_acts.specs.Acts.{Row, PlaceTable}
 use Rattle.fw_types.specs.declared.ending.Ending.{Ending}
 use Rattle.session_acts.specs.Acts.{Act, Outcome}
-use Rattle.session_acts.specs.Acts.Act.{Hear, Say, Try, Log, Note, Ask, Renew, Dial, Reach, Take, Pass, HangUp, Relay}
+use Rattle.session_acts.specs.Acts.Act.{Hear, Say, Try, Log, Note, Ask, Renew, Dial, Reach, Take, Pass, HangUp, Relay, Deposit, Allot}
 use Rattle.session_acts.specs.Deeds.{Gains, gives}
 use Rattle.session_acts.specs.Met.{Met, acts, reply_of}
 use Rattle.session_acts.specs.Session.{Held, deeds_of}
@@ -47,6 +47,8 @@ module _ {Origin : Type 0} where
   unasked_one (Pass text) outcome old new met is = met.office
   unasked_one HangUp outcome old new met is = met.office
   unasked_one Relay outcome old new met is = met.office
+  unasked_one (Deposit sender rcpts words most) outcome old new met is = met.office
+  unasked_one Allot outcome old new met is = met.office
 
   unasked_gains : Gains Origin asked OfficeStays
   unasked_gains = record {

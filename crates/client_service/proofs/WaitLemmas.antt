@@ -1,5 +1,5 @@
 -- A session that speaks with no server is idle only since its client was, which waited then as long as it was to.
-use Rattle.std.proofs.Common.{arith, ◌≡◌, ◌≤◌, ◌∙◌, sym, ap, subst, ℕ, true, map}
+use Rattle.std.proofs.Common.{arith, ◌≡◌, ◌≤◌, ◌∙◌, sym, ap, subst, ℕ, List, true, map}
 use Rattle.std.specs.Prelude.{Option, Some, None, Result, Ok, Err}
 use Rattle.auth_events.specs.declared.port.PortFault.{PortFault}
 use Rattle.auth_events.specs.declared.port.PortFault.TheVariants as faults
@@ -15,10 +15,11 @@ use Rattle.fw_outside.specs.declared.heard.Heard.TheVariants.{Stopped}
 use Rattle.fw_outside.specs.declared.heard.Stop.TheVariants as stops
 use Rattle.fw_types.specs.declared.ending.Ending.{Ending}
 use Rattle.fw_types.specs.declared.ending.Ending.TheVariants as endings
-use Rattle.session_acts.specs.Acts.{Act, Halt, cause_by, fault_cause, silence_cause}
-use Rattle.session_acts.specs.Acts.Act.{Hear, Say, Try, Log, Note, Ask, Renew, Dial, Reach, Take, Pass, HangUp, Relay}
+use Rattle.session_acts.specs.Acts.{Act, Halt, Undeposited, cause_by, deposit_cause, fault_cause, silence_cause}
+use Rattle.session_acts.specs.Acts.Act.{Hear, Say, Try, Log, Note, Ask, Renew, Dial, Reach, Take, Pass, HangUp, Relay, Deposit, Allot}
+use Rattle.session_acts.specs.Acts.Undeposited.{Lacks, Unsaid, Unheard}
 use Rattle.session_acts.specs.Deeds.{done}
-use Rattle.session_acts.specs.Met.{Hears, Heeds, Met, acts}
+use Rattle.session_acts.specs.Met.{AtClientDeposit, DrawsAfter, Hears, Heeds, Met, acts, stop_of}
 use Rattle.session_acts.specs.Serverless.{KeepsServerless, is_serverless, serverless_watch}
 use Rattle.session_acts.specs.Session.{Session, ending_by, ending_of}
 use Rattle.session_acts.specs.World.{Devices, Speaker, World, at_first}
@@ -29,7 +30,7 @@ use Rattle.session_acts.specs.declared.silence.Silence.{Silence}
 use Rattle.session_acts.specs.declared.silence.Silence.TheVariants.{Quiet, Broken, Limit}
 use Rattle.session_acts.proofs.CauseLemmas.{WasIdle, idled, session_stays}
 use Rattle.session_acts.proofs.DeedLemmas.{all_last, deeds_done}
-use Rattle.session_acts.proofs.DeviceLemmas.{halted_waited, rose_within}
+use Rattle.session_acts.proofs.DeviceLemmas.{halted_idles, halted_waited, rose_within}
 use Rattle.session_acts.proofs.SpentLemmas.{owed_client}
 use Rattle.session_acts.proofs.StaysLemmas.{stays_last}
 use Rattle.client_service.specs.Conn.{WaitsAlone}
@@ -46,6 +47,26 @@ hear_quiet : (form : Form) (silence : Silence) (old new : Speaker) → Hears for
 hear_quiet form Quiet old new h = record { rose = idled form old new h; waited = waited_so form old new h }
 hear_quiet form Broken old new h = tt
 hear_quiet form Limit old new h = tt
+
+-- a client that was idle within the data of a mail
+drew_idle : (words data_heard : List ℕ) (old new : Speaker) → DrawsAfter words (Some stops.Idle) data_heard old new → WasIdle old.inlet new.inlet
+drew_idle words data_heard old new h =
+    let draws = h.draws in
+    let same : h.middle.inlet ≡ old.inlet = ap (λ (s : Speaker). s.inlet) h.told.is in
+    let was : WasIdle h.middle.inlet new.inlet =
+    subst (λ (s : Speaker). WasIdle h.middle.inlet s.inlet) (sym draws.is)
+    (record { rose = halted_idles draws.reads.taken_now h.middle.inlet draws.middle draws.inlet draws.reads.takes draws.closes.1; waited = halted_waited draws.middle draws.inlet draws.closes.1 }) in
+    subst (λ (s : SourceView). WasIdle s new.inlet) same was
+
+data_quiet : (words data_heard : List ℕ) (silence : Silence) (old new : Speaker) → DrawsAfter words (Some (stop_of silence)) data_heard old new → QuietBy (ending_by (silence_cause causes.ClientFault silence)) old new
+data_quiet words data_heard Quiet old new h = drew_idle words data_heard old new h
+data_quiet words data_heard Broken old new h = tt
+data_quiet words data_heard Limit old new h = tt
+
+deposit_quiet : (words : List ℕ) (halt : Undeposited words) (old new : Speaker) → AtClientDeposit words (Err halt) old new → QuietBy (ending_by (deposit_cause halt)) old new
+deposit_quiet words Lacks old new h = tt
+deposit_quiet words (Unsaid front) old new h = tt
+deposit_quiet words (Unheard silence data_heard) old new h = data_quiet words data_heard silence old new h
 
 fault_quiet : (fault : PortFault) (old new : Speaker) → QuietBy (ending_by (fault_cause fault)) old new
 fault_quiet faults.NoMemory old new = tt
@@ -66,6 +87,8 @@ stop_quiet Take halt old new is met = absurd (cc)
 stop_quiet (Pass text) halt old new is met = absurd (cc)
 stop_quiet HangUp halt old new is met = absurd (cc)
 stop_quiet Relay halt old new is met = absurd (cc)
+stop_quiet (Deposit sender rcpts words most) halt old new is met = deposit_quiet words halt old.client new.client met.client
+stop_quiet Allot halt old new is met = tt
 
 waits_by : (ending : Ending) (old new : SourceView) (before last : Speaker) → QuietBy ending before last → old.idles ≤ before.inlet.idles → last.inlet.waits ≡ old.waits → last.inlet ≡ new → WaitsAlone ending old new
 waits_by endings.Idle old new before last h least waits same =

@@ -1,16 +1,15 @@
 -- One client of a service: the line of its verdict, its session or its denial, and the line of its ending.
-use Rattle.std.specs.Prelude.{◌≡◌, ℕ, ◌⊎◌, true, false, List, Option, Some, None, Result}
+use Rattle.std.specs.Prelude.{◌≡◌, ℕ, ◌⊎◌, true, false}
 use Rattle.authsrv_gate.specs.Dialogue.{rows, session_row}
-use Rattle.fw_outside.specs.SinkView.{Gives, SinkView}
+use Rattle.fw_outside.specs.SinkView.{SinkView}
 use Rattle.fw_outside.specs.SourceView.{SourceView}
-use Rattle.fw_outside.specs.declared.failed.Failed.{Failed}
 use Rattle.fw_types.specs.declared.ending.Ending.{Ending}
 use Rattle.fw_types.specs.declared.ending.Ending.TheVariants as endings
 use Rattle.fw_types.specs.declared.peer.Peer.{Peer}
 use Rattle.gate_rules.specs.Reading.{RuleBook}
 use Rattle.gate_rules.specs.Verdict.{options_at, verdict_of}
 use Rattle.gate_rules.specs.declared.service.Service.{Service}
-use Rattle.gate_rules.specs.declared.service.Service.TheVariants.{Authsrv, PlugGw, TnGw}
+use Rattle.gate_rules.specs.declared.service.Service.TheVariants.{Authsrv, PlugGw, Smap, TnGw}
 use Rattle.gate_rules.specs.declared.verdict.Verdict.{Verdict}
 use Rattle.gate_rules.specs.declared.verdict.Verdict.TheVariants.{Permit, Deny}
 use Rattle.plug_gate.specs.Laws.{GivesFronts}
@@ -22,16 +21,19 @@ use Rattle.session_acts.specs.World.{Devices}
 use Rattle.tn_gate.specs.Gate.{asks_login, options_or_none}
 use Rattle.client_service.specs.Decision.{decision_text}
 use Rattle.client_service.specs.Endings.{denied_words, ending_line}
+pub use Rattle.client_service.specs.Endings.{Noted, NotedIf}
 use Rattle.client_service.specs.GateService.{CausedGated, LetsIn, RelaysIn, StaysUnasked}
 use Rattle.client_service.specs.Kind.{Kind}
 use Rattle.client_service.specs.Kind.Kind.{Alone, Gated, Plugged}
-use Rattle.client_service.specs.Meeting.{away_row, denied_by, dialer_then, logged_row, patient, timeout_of}
+use Rattle.client_service.specs.MailService.{MailsIn, MailsTo}
+use Rattle.client_service.specs.Meeting.{away_row, denied_by, dialer_then, logged_row, mailless, patient, timeout_of}
 use Rattle.client_service.specs.PlugService.{AreRulesOf, AsksLogged, CausedLinked, LinksTo}
 
 -- the services whose clients are served; the rules are the plug's, so that a line that permits has a destination
 abbrev pub IsServed : Service → RuleBook → Type 0
 IsServed Authsrv rules = Unit {0}
 IsServed TnGw rules = Unit {0}
+IsServed Smap rules = Unit {0}
 IsServed (PlugGw port) rules = AreRulesOf (PlugGw port) rules
 IsServed service rules = ⊥
 
@@ -43,15 +45,17 @@ pub record TurnsAway {Origin : Type 0} (line : ℕ) (service : Service) (peer : 
   pub session : Session no_rows (away_row (decision_text (Deny line) service peer) (denied_words service line)) old new told
   pub ends : ending ≡ denied_by line told
 
--- the line of the permission is logged, and then the session of `authsrv` held, over devices that wait as the table has it
-abbrev pub Permits : {Origin : Type 0} → ℕ → RuleBook → Peer → Ending → Devices Origin → Devices Origin → Type 0
-Permits line rules peer ending old new =
-    Session rows (logged_row (decision_text (Permit line) Authsrv peer) (session_row false)) (patient (timeout_of rules) old) new ending
+-- the line of the permission is logged, and then the session of `authsrv` held, over devices that wait as the table has it;
+-- and the mail store stays as it is
+pub record Permits {Origin : Type 0} (line : ℕ) (rules : RuleBook) (peer : Peer) (ending : Ending) (old new : Devices Origin) : Type 0 where
+  pub session : Session rows (logged_row (decision_text (Permit line) Authsrv peer) (session_row false)) (patient (timeout_of rules) (mailless old)) (mailless new) ending
+  pub store : new.store ≡ old.store
 
 -- whom the rules permit: a row a service
 abbrev pub PermitsBy : {Origin : Type 0} → Service → ℕ → RuleBook → Peer → Ending → Devices Origin → Devices Origin → Type 0
 PermitsBy (PlugGw port) line rules peer ending old new = LinksTo port line rules peer ending old new
 PermitsBy TnGw line rules peer ending old new = LetsIn line rules peer ending old new
+PermitsBy Smap line rules peer ending old new = MailsTo line rules peer ending old new
 PermitsBy Authsrv line rules peer ending old new = Permits line rules peer ending old new
 PermitsBy service line rules peer ending old new = ⊥
 
@@ -61,16 +65,6 @@ Treats (Permit line) service rules peer ending old new = PermitsBy service line 
 
 -- ---- the ending's line
 
--- a sink was given a line, in whole or in part
-pub record Noted (line : List ℕ) (old new : SinkView) : Type 0 where
-  pub told : Result (Unit {0}) Failed
-  pub gives : Gives told line old new
-
--- where there is one
-abbrev pub NotedIf : Option (List ℕ) → SinkView → SinkView → Type 0
-NotedIf None old new = new ≡ old
-NotedIf (Some line) old new = Noted line old new
-
 -- a client of a service is treated by its verdict, and then its ending's line given to the log, which changes no ending.
 -- Kept by `conn` (`conn`); body: src/serving.rt.
 pub record Conn {Origin : Type 0} (service : Service) (rules : RuleBook) (peer : Peer) (old new : Devices Origin) (ending : Ending) : Type 0 where
@@ -78,10 +72,10 @@ pub record Conn {Origin : Type 0} (service : Service) (rules : RuleBook) (peer :
   pub treats : Treats (verdict_of rules peer) service rules peer ending old (record new { logs = logs })
   pub noted : NotedIf (ending_line service peer ending) logs new.logs
 
--- a session at the console, and then its ending's line
+-- a session at the console, where there is no mail store, and then its ending's line
 pub record AtConsole {Origin : Type 0} (service : Service) (peer : Peer) (old new : Devices Origin) (ending : Ending) : Type 0 where
   pub logs : SinkView
-  pub session : Session rows (session_row true) old (record new { logs = logs }) ending
+  pub session : Session rows (session_row true) (mailless old) (mailless (record new { logs = logs })) ending
   pub noted : NotedIf (ending_line service peer ending) logs new.logs
 
 -- ---- what an ending says
@@ -142,6 +136,7 @@ abbrev pub FrontsBy : {Origin : Type 0} → Service → Verdict → RuleBook →
 FrontsBy (PlugGw port) (Permit line) rules peer ending old new = GivesFronts old new ending
 FrontsBy TnGw (Permit line) rules peer ending old new = RelaysIn line rules peer ending old new
 FrontsBy Authsrv (Permit line) rules peer ending old new = Unit {0}
+FrontsBy Smap (Permit line) rules peer ending old new = Unit {0}
 FrontsBy service (Permit line) rules peer ending old new = ⊥
 FrontsBy service (Deny line) rules peer ending old new = Unit {0}
 
@@ -151,9 +146,16 @@ abbrev pub Unasked : {Origin : Type 0} → Kind → Verdict → RuleBook → End
 Unasked Gated (Permit line) rules ending old new = asks_login (options_or_none (options_at rules line)) ≡ false → StaysUnasked ending old new
 Unasked kind verdict rules ending old new = Unit {0}
 
--- the port, and the clock: where the verdict denies, and for each client of the plug, they are left as they were
+-- What the mail store is given: of a client of `smap` whom the verdict permits the messages that its session kept, and of any
+-- other nothing.
+abbrev pub Mails : {Origin : Type 0} → Service → Verdict → RuleBook → Peer → Ending → Devices Origin → Devices Origin → Type 0
+Mails Smap (Permit line) rules peer ending old new = MailsIn line rules peer ending old new
+Mails service verdict rules peer ending old new = new.store ≡ old.store
+
+-- the port, and the clock: where the verdict denies, and for each client of the plug or of `smap`, they are left as they were
 abbrev pub Untouched : {A : Type 0} → Service → Verdict → A → A → Type 0
 Untouched (PlugGw port) verdict old new = new ≡ old
+Untouched Smap verdict old new = new ≡ old
 Untouched service (Deny line) old new = new ≡ old
 Untouched service (Permit line) old new = Unit {0}
 
@@ -161,3 +163,8 @@ Untouched service (Permit line) old new = Unit {0}
 abbrev pub Unthrown : {A : Type 0} → Service → Verdict → A → A → Type 0
 Unthrown TnGw verdict old new = new ≡ old
 Unthrown service verdict old new = Untouched service verdict old new
+
+-- the mail store: it is left as it was, but for a client of `smap` whom the verdict permits
+abbrev pub Unstored : {A : Type 0} → Service → Verdict → A → A → Type 0
+Unstored Smap (Permit line) old new = Unit {0}
+Unstored service verdict old new = new ≡ old

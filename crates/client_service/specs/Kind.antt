@@ -5,7 +5,7 @@ use Rattle.gate_rules.specs.declared.service.Service.TheVariants.{PlugGw, TnGw}
 use Rattle.gate_rules.specs.declared.verdict.Verdict.{Verdict}
 use Rattle.gate_rules.specs.declared.verdict.Verdict.TheVariants.{Permit}
 
--- nobody; the one destination that its line names; or the destinations that it asks for
+-- nobody, as of `authsrv` and of `smap`; the one destination that its line names; or the destinations that it asks for
 pub data Kind : Type 0 where
   Alone : Kind
   Plugged : Kind

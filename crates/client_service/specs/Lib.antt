@@ -3,6 +3,7 @@ pub mod Decision
 pub mod Endings
 pub mod GateService
 pub mod Kind
+pub mod MailService
 pub mod Meeting
 pub mod Options
 pub mod PlugService

@@ -14,7 +14,7 @@ use Rattle.gate_rules.specs.declared.verdict.Verdict.TheVariants.{Permit, Deny}
 use Rattle.session_acts.specs.Acts.Act.{Log}
 use Rattle.session_acts.specs.Denying.{denying_row}
 use Rattle.session_acts.specs.Met.{acts}
-use Rattle.session_acts.specs.World.{Devices}
+use Rattle.session_acts.specs.World.{Devices, no_store}
 use Rattle.session_acts.specs.declared.denying.NoPlace.{NoPlace}
 
 -- the seconds that a source waits for a client: as the table sets them, or else an hour
@@ -28,6 +28,10 @@ timeout_of rules = seconds_by (setting_of rules Timeout)
 -- these devices, whose source and whose links wait so long
 abbrev pub patient : {Origin : Type 0} → ℕ → Devices Origin → Devices Origin
 patient seconds devices = record devices { inlet = waiting devices.inlet seconds; dialer = dialer_waiting devices.dialer seconds }
+
+-- the devices that a session without mail meets: a mail store has no part in it
+abbrev pub mailless : {Origin : Type 0} → Devices Origin → Devices Origin
+mailless devices = record devices { store = no_store }
 
 -- how long links wait is set for whom the verdict permits
 abbrev pub dialer_then : Verdict → RuleBook → DialerView → DialerView

@@ -4,7 +4,7 @@ use Rattle.std.specs.Prelude.{ℕ, IsSome}
 use Rattle.gate_rules.specs.Reading.{RuleBook}
 use Rattle.gate_rules.specs.Verdict.{options_at}
 use Rattle.gate_rules.specs.declared.service.Service.{Service}
-use Rattle.gate_rules.specs.declared.service.Service.TheVariants.{Authsrv, PlugGw, TnGw}
+use Rattle.gate_rules.specs.declared.service.Service.TheVariants.{Authsrv, PlugGw, Smap, TnGw}
 use Rattle.gate_rules.specs.declared.verdict.Verdict.{Verdict}
 use Rattle.gate_rules.specs.declared.verdict.Verdict.TheVariants.{Permit, Deny}
 use Rattle.client_service.specs.PlugService.{target_of}
@@ -15,6 +15,7 @@ abbrev pub HasOptions : Service → RuleBook → ℕ → Type 0
 HasOptions (PlugGw port) rules line = IsSome (target_of rules line)
 HasOptions TnGw rules line = IsSome (options_at rules line)
 HasOptions Authsrv rules line = Unit {0}
+HasOptions Smap rules line = Unit {0}
 HasOptions service rules line = ⊥
 
 abbrev pub OptionsFor : Verdict → Service → RuleBook → Type 0

@@ -47,7 +47,8 @@ target_of rules line = target_in (options_at rules line)
 
 -- ---- what is done
 
--- the devices that a client of the plug meets: a port, a clock and dice have no part in its session
+-- the devices that a client of the plug meets: a port, a clock, dice and a mail store have no part in its
+-- session
 abbrev pub plug_devices : {Origin : Type 0} → Devices Origin → Devices (Unit {0})
 plug_devices devices = lent devices.inlet devices.outlet devices.logs devices.dialer
 
@@ -58,12 +59,13 @@ pub record LinksOver (at line : ℕ) (rules : RuleBook) (peer : Peer) (ending : 
   pub target : target_of rules line ≡ Some dest
   pub session : RelaySession (relayed no_rows) (logged_row (decision_text (Permit line) (PlugGw at) peer) (plug_row (connect_text at peer dest line) dest)) (patient (timeout_of rules) old) new ending
 
--- so it is, and port, clock and dice stay as they are
+-- so it is, and port, clock, dice and mail store stay as they are
 pub record LinksTo {Origin : Type 0} (at line : ℕ) (rules : RuleBook) (peer : Peer) (ending : Ending) (old new : Devices Origin) : Type 0 where
   pub over : LinksOver at line rules peer ending (plug_devices old) (plug_devices new)
   pub port : new.port ≡ old.port
   pub clock : new.clock ≡ old.clock
   pub dice : new.dice ≡ old.dice
+  pub store : new.store ≡ old.store
 
 -- ---- what that comes to
 

@@ -1,9 +1,11 @@
 //! Sessions of `authsrv`: of a client whom the rules permit, and at the console.
 ghost use Rattle.std.specs.Prelude.{◌≡◌, true, false};
 ghost use Rattle.authsrv_gate.specs.Dialogue.{rows, session_row};
-ghost use Rattle.client_service.specs.Conn.{AtConsole, Permits};
+ghost use Rattle.client_service.specs.Conn.{AtConsole};
+ghost use Rattle.client_service.specs.Decision.{decision_text};
 ghost use Rattle.client_service.specs.Meeting.{logged_row, patient, timeout_of};
 ghost use Rattle.gate_rules.specs.declared.service.Service.TheVariants.{Authsrv};
+ghost use Rattle.gate_rules.specs.declared.verdict.Verdict.TheVariants.{Permit};
 ghost use Rattle.session_acts.specs.Session.{Session};
 ghost use Rattle.session_acts.specs.World.{devices_with};
 
@@ -108,11 +110,13 @@ where
     C: Clock,
     R: Dice,
     requires { service.now ≡ Authsrv }
-    ensures { Permits line rules.now peer.now result
+    ensures { Session rows (logged_row (decision_text (Permit line) Authsrv peer.now) (session_row false))
+        (patient (timeout_of rules.now)
         (devices_with (P.port port.old) (S.source_view from.old) (K.sink_view to.old) (G.sink_view logs.old)
-        (D.dialer_view dialer.old) (C.clock_view clock.old) (R.dice_view dice.old))
+        (D.dialer_view dialer.old) (C.clock_view clock.old) (R.dice_view dice.old)))
         (devices_with (P.port port.new) (S.source_view from.new) (K.sink_view to.new) (G.sink_view logs.new)
-        (D.dialer_view dialer.new) (C.clock_view clock.new) (R.dice_view dice.new)) }
+        (D.dialer_view dialer.new) (C.clock_view clock.new) (R.dice_view dice.new))
+        result }
 {
     let text = decision_line(Verdict::Permit { line }, service, peer);
     admit_by(

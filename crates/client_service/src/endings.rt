@@ -1,8 +1,7 @@
 //! How the end of a session is told.
 ghost use Rattle.std.specs.Prelude.{◌≡◌, ◌≤◌, length, IfSome, MatchOption, None, Some};
 ghost use Rattle.std.specs.Option.{option_copied, option_map};
-ghost use Rattle.client_service.specs.Conn.{NotedIf};
-ghost use Rattle.client_service.specs.Endings.{denied_text, denied_words, end_text, ending_line, ending_word};
+ghost use Rattle.client_service.specs.Endings.{NotedIf, denied_text, denied_words, end_text, ending_line, ending_word, mail_refusal};
 ghost use Rattle.tn_gate.specs.Texts.{refusal};
 
 use crate::decision::{LogLine, append_peer, append_service};
@@ -86,6 +85,17 @@ fn refusal(line: u32) -> LogLine
     out
 }
 
+// Those of the mail gateway.
+fn mail_refusal(line: u32) -> LogLine
+    ensures { result.items ≡ mail_refusal line }
+{
+    let mut out = ArrayVec::new();
+    append(&mut out, b"421 Denied (line ");
+    append_u32(&mut out, line);
+    append(&mut out, b")\r\n");
+    out
+}
+
 /// The words to a client of a service that the line of this number denies. None for the plug, and for a service whose clients
 /// aren't served.
 pub fn denied_words(service: &Service, line: u32) -> Option<LogLine>
@@ -94,6 +104,7 @@ pub fn denied_words(service: &Service, line: u32) -> Option<LogLine>
     match service {
         Service::Authsrv => Some(denied_line(line)),
         Service::TnGw => Some(refusal(line)),
+        Service::Smap => Some(mail_refusal(line)),
         Service::PlugGw(_) => None,
         _ => None,
     }

@@ -11,6 +11,7 @@ mod denying;
 mod endings;
 mod gating;
 mod linking;
+mod mailing;
 mod serving;
 mod waiting;
 

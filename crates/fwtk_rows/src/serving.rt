@@ -10,6 +10,7 @@ use fw_types::{Ending, Octets, Peer};
 use gate_rules::{Rules, Service};
 use netperm_table::Table;
 use runs_of_rows::{Devices, Ended};
+use session_acts::NoStore;
 use std::alloc::Global;
 use std::thread::Threads;
 
@@ -65,6 +66,7 @@ fn close(book: Book<MemKeeper>, limit: u64, ending: Ending) -> (u8, MemKeeper) {
 // The one call of `conn`.
 fn conn_as<H: Threads + Sync>(
     rt: &H,
+    alloc: Global,
     service: &Service,
     server: &Server,
     port: &mut FaultyPort<MemKeeper>,
@@ -72,8 +74,10 @@ fn conn_as<H: Threads + Sync>(
 ) -> Ending
     requires { IsServed service.now server.now.rules }
 {
+    let mut store = NoStore;
     conn(
         rt,
+        alloc,
         service,
         &server.rules,
         &server.peer,
@@ -82,6 +86,7 @@ fn conn_as<H: Threads + Sync>(
         &mut ended.devices.talk.output,
         &mut ended.devices.place.logs,
         &mut ended.devices.helpers.dialer,
+        &mut store,
         &mut ended.devices.place.clock,
         &mut ended.devices.place.dice,
     )
@@ -90,25 +95,27 @@ fn conn_as<H: Threads + Sync>(
 // A client of the gateway, or else of the server.
 fn conn_over<H: Threads + Sync>(
     rt: &H,
+    alloc: Global,
     server: &Server,
     port: &mut FaultyPort<MemKeeper>,
     ended: &mut Ended,
 ) -> Ending {
     match server.service {
-        Service::TnGw => conn_as(rt, &Service::TnGw, server, port, ended),
-        _ => conn_as(rt, &Service::Authsrv, server, port, ended),
+        Service::TnGw => conn_as(rt, alloc, &Service::TnGw, server, port, ended),
+        _ => conn_as(rt, alloc, &Service::Authsrv, server, port, ended),
     }
 }
 
 // Serves the client, and says what it came to.
 fn hold<H: Threads + Sync>(
     rt: &H,
+    alloc: Global,
     server: &Server,
     mut port: FaultyPort<MemKeeper>,
     limit: u64,
     ended: &mut Ended,
 ) {
-    let ending = conn_over(rt, server, &mut port, ended);
+    let ending = conn_over(rt, alloc, server, &mut port, ended);
     let (status, keeper) = close(port.into_book(), limit, ending);
     ended.status = status;
     ended.keeper = Some(keeper);
@@ -136,7 +143,7 @@ pub(crate) fn serve_over<H: Threads + Sync>(
     };
     if let Ok(book) = Book::open(alloc, keeper, policy, limit) {
         let port = FaultyPort::new(book, fails.unwrap_or(Calls::none()));
-        hold(rt, &server, port, limit, &mut ended);
+        hold(rt, alloc, &server, port, limit, &mut ended);
     }
     ended
 }

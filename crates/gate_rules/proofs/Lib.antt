@@ -1,7 +1,10 @@
+pub mod BucketLemmas
+pub mod IndexLemmas
 pub mod LawLemmas
 pub mod LeftmostLemmas
 pub mod LineFaultLemmas
 pub mod ListsLemmas
+pub mod MergingLemmas
 pub mod OptionCheckLemmas
 pub mod OptionsBuilderLemmas
 pub mod RulesLemmas

@@ -82,7 +82,7 @@ module _ {Origin : Type 0} where
       let met = h.stops.met in
       let start = at_first old session.names in
       let misses = met.server.connects in
-      let is = world_by held.mid start.client start.logs start.office (record { dialer = misses.dialer; link = None }) start.names met.client met.logs met.office misses.is met.names in
+      let is = world_by held.mid start.client start.logs start.office (record { dialer = misses.dialer; link = None }) start.store start.names met.client met.logs met.office misses.is met.store met.names in
       let last = nothing_owed held.mid session.last held.answer (ap (λ (w : World Origin). w.server.link) is) (ap (λ (w : World Origin). w.office.opened) is) held.after in
       let leaves : new ≡ record old { dialer = misses.dialer } = sym session.leaves ∙ ap devices_of (sym last ∙ is) in
       let refused : Refuses (Main dest) old.dialer misses.dialer = subst (λ (d : DialerView). Refuses (Main dest) d misses.dialer) met.server.clears misses.refused in
@@ -117,8 +117,8 @@ module _ {Origin : Type 0} where
       let start = at_first old session.names in
       let connects = p.met.server.connects in
       let link : Speaker = record { inlet = connects.inlet; reader = unheard; outlet = connects.outlet } in
-      let linked_up : World Origin = record { client = start.client; logs = start.logs; office = start.office; server = record { dialer = connects.dialer; link = Some link }; names = start.names } in
-      let is : p.next ≡ linked_up = world_by p.next start.client start.logs start.office (record { dialer = connects.dialer; link = Some link }) start.names p.met.client p.met.logs p.met.office connects.is p.met.names in
+      let linked_up : World Origin = record { client = start.client; logs = start.logs; office = start.office; server = record { dialer = connects.dialer; link = Some link }; store = start.store; names = start.names } in
+      let is : p.next ≡ linked_up = world_by p.next start.client start.logs start.office (record { dialer = connects.dialer; link = Some link }) start.store start.names p.met.client p.met.logs p.met.office connects.is p.met.store p.met.names in
       let relay : Relayed held.dialogue linked_up mid = subst (λ (w : World Origin). Relayed held.dialogue w mid) is (relayed_from p.next mid held.dialogue p.rest) in
       let over : Linked relay.outcome link start.client mid.client linked_up.server mid.server = linked relay.outcome (flow_of relay.outcome) link start.client mid.client linked_up.server mid.server refl relay.met.client relay.met.server in
       let here = over.here in
@@ -130,7 +130,7 @@ module _ {Origin : Type 0} where
       let dialer = hung.server.dialer in
       let clears : HangsUp there.inlet there.outlet connects.dialer dialer = subst (λ (s : Server). Clears s.link s.dialer dialer) up hung.server.clears in
       let client : Speaker = record { inlet = here.inlet; reader = record { pending = []; room = here.room }; outlet = here.outlet } in
-      let last = world_by session.last client start.logs start.office (record { dialer = dialer; link = None }) start.names (hung.client ∙ here.is) (hung.logs ∙ relay.met.logs) (hung.office ∙ relay.met.office) hung.server.is (hung.names ∙ relay.met.names) in
+      let last = world_by session.last client start.logs start.office (record { dialer = dialer; link = None }) start.store start.names (hung.client ∙ here.is) (hung.logs ∙ relay.met.logs) (hung.office ∙ relay.met.office) hung.server.is (hung.store ∙ relay.met.store) (hung.names ∙ relay.met.names) in
       let leaves : new ≡ record old { inlet = here.inlet; outlet = here.outlet; dialer = dialer } = sym session.leaves ∙ ap devices_of last in
       subst (λ (d : Devices Origin). IsPlugged dest old d ending) (sym leaves) (record {
         came = record { from = connects.inlet; to = connects.outlet };

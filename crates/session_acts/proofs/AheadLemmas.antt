@@ -10,7 +10,7 @@ use Rattle.fw_outside.specs.declared.heard.Stop.TheVariants as stops
 use Rattle.relay_ways.specs.Carried.{Way}
 use Rattle.session_acts.specs.Relaying.{Flow, flow_of}
 use Rattle.session_acts.specs.Acts.{Act, Front, Outcome}
-use Rattle.session_acts.specs.Acts.Act.{Hear, Say, Try, Log, Note, Ask, Renew, Dial, Reach, Take, Pass, HangUp, Relay}
+use Rattle.session_acts.specs.Acts.Act.{Hear, Say, Try, Log, Note, Ask, Renew, Dial, Reach, Take, Pass, HangUp, Relay, Deposit, Allot}
 use Rattle.session_acts.specs.Deeds.{Lasts}
 use Rattle.session_acts.specs.Distance.{ahead, ahead_of_client}
 use Rattle.session_acts.specs.Met.{AtClient, Carrying, ClientRelays, Hears, Heeds, HeedsLine, IsTold, Met, acts, stop_of}
@@ -22,6 +22,7 @@ use Rattle.session_acts.specs.declared.silence.Silence.{Silence}
 use Rattle.session_acts.specs.Forms.{IsHeardIn}
 use Rattle.session_acts.proofs.DeedLemmas.{ran_last}
 use Rattle.telnet_hearing.proofs.WholeLemmas.{some_bytes}
+use Rattle.session_acts.proofs.DepositLemmas.{HoldsThen, deposit_by, draws_ahead}
 
 pub heeds_ahead : (form : Form) (heard : Heard) (old new : Speaker) (h : Heeds form heard old new) → ahead old ≡ length h.listens.bytes + ahead new
 heeds_ahead form heard old new h =
@@ -62,6 +63,16 @@ relays_nearer (Some flow) old new h = carrying_nearer flow.up flow.down old new 
 told_nearer : (text : List ℕ) (outcome : Result (Unit {0}) (Front text)) (old new : Speaker) → IsTold text outcome old new → ahead new ≤ ahead old
 told_nearer text outcome old new h = subst (λ (s : Speaker). ahead s ≤ ahead old) (sym h.is) (omega (arith))
 
+draws_nearer : (words : List ℕ) (old : Speaker) → HoldsThen (λ (s : Speaker). ahead s ≤ ahead old) words old
+draws_nearer words old = record {
+  stays = omega (arith);
+  cut = λ front new h. told_nearer words (Err front) old new h;
+  draws = λ stop data_heard new h. (
+      let told = told_nearer words (Ok tt) old h.middle h.told in
+      let drawn = draws_ahead stop data_heard h.middle new h.draws in
+      omega (arith, told, drawn));
+}
+
 client_nearer : (act : Act) (outcome : Outcome act) (old new : Speaker) → AtClient act outcome old new → ahead new ≤ ahead old
 client_nearer (Hear form) outcome old new h = hears_nearer form outcome old new h
 client_nearer (Say text) outcome old new h = told_nearer text outcome old new h
@@ -77,6 +88,8 @@ client_nearer Take outcome old new h = same_nearer old new h
 client_nearer (Pass text) outcome old new h = same_nearer old new h
 client_nearer HangUp outcome old new h = same_nearer old new h
 client_nearer Relay outcome old new h = relays_nearer (flow_of outcome) old new h
+client_nearer (Deposit sender rcpts words most) outcome old new h = deposit_by (λ (s : Speaker). ahead s ≤ ahead old) words outcome old new (draws_nearer words old) h
+client_nearer Allot outcome old new h = same_nearer old new h
 
 pub met_ahead : {Origin : Type 0} (act : Act) (outcome : Outcome act) (old new : World Origin) → Met act outcome old new → ahead_of_client new ≤ ahead_of_client old
 met_ahead act outcome old new met = client_nearer act outcome old.client new.client met.client

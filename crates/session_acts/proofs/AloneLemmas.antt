@@ -1,5 +1,5 @@
 -- A session whose rows speak with no server ends by the client, the log or the port.
-use Rattle.std.proofs.Common.{arith, ◌≡◌, ◌≢◌, refl, sym, ap, subst, ℕ, ◌≤◌, Bool, true, false, ◌⊎◌, inl, inr, length, Option, Some, None, Result, Ok, Err, map}
+use Rattle.std.proofs.Common.{arith, ◌≡◌, ◌≢◌, refl, sym, ap, subst, ℕ, ◌≤◌, Bool, true, false, ◌⊎◌, inl, inr, length, List, Option, Some, None, Result, Ok, Err, map}
 use Rattle.std.specs.Prelude.{◌==◌}
 use Rattle.std.proofs.lemmas.Bool.{eqb-true}
 use Rattle.std.proofs.lemmas.Bool.Decides.{eqb_tells}
@@ -17,7 +17,7 @@ use Rattle.fw_outside.specs.SourceView.{SourceView}
 use Rattle.fw_types.specs.declared.ending.Ending.{Ending}
 use Rattle.fw_types.specs.declared.ending.Ending.TheVariants as endings
 use Rattle.session_acts.specs.Acts.{Act, Halt, cause_by, fault_cause, silence_cause}
-use Rattle.session_acts.specs.Acts.Act.{Hear, Say, Try, Log, Note, Ask, Renew, Dial, Reach, Take, Pass, HangUp, Relay}
+use Rattle.session_acts.specs.Acts.Act.{Hear, Say, Try, Log, Note, Ask, Renew, Dial, Reach, Take, Pass, HangUp, Relay, Deposit, Allot}
 use Rattle.session_acts.specs.Causes.{Caused, TookMost, is_spent_ending}
 use Rattle.session_acts.specs.Deeds.{done}
 use Rattle.session_acts.specs.Met.{Hears, Met, acts}
@@ -34,6 +34,11 @@ use Rattle.session_acts.proofs.DeedLemmas.{all_last, deeds_done}
 use Rattle.session_acts.proofs.DeviceLemmas.{rose_within}
 use Rattle.session_acts.proofs.SpentLemmas.{all_spent, owed_client}
 use Rattle.session_acts.proofs.StaysLemmas.{stays_last}
+use Rattle.session_acts.specs.Acts.{Undeposited}
+use Rattle.session_acts.specs.Acts.Undeposited.{Lacks, Unsaid, Unheard}
+use Rattle.session_acts.specs.Acts.{deposit_cause}
+use Rattle.session_acts.specs.Met.{AtClientDeposit, DrawsAfter, stop_of}
+use Rattle.session_acts.proofs.CauseLemmas.{draws_rose, drawn_up}
 
 -- how a stop ended the session: not by a server, and as idle or spent only by the client
 abbrev EndsAlone : Ending → Speaker → Speaker → Type 0
@@ -53,6 +58,16 @@ fault_alone faults.NoMemory old new = tt
 fault_alone faults.Link old new = tt
 fault_alone faults.Strange old new = tt
 
+data_alone : (silence : Silence) (words data_heard : List ℕ) (old new : Speaker) → DrawsAfter words (Some (stop_of silence)) data_heard old new → EndsAlone (ending_by (silence_cause causes.ClientFault silence)) old new
+data_alone Quiet words data_heard old new h = draws_rose words data_heard old new h
+data_alone Broken words data_heard old new h = tt
+data_alone Limit words data_heard old new h = drawn_up data_heard h.middle new h.draws
+
+deposit_alone : (words : List ℕ) (halt : Undeposited words) (old new : Speaker) → AtClientDeposit words (Err halt) old new → EndsAlone (ending_by (deposit_cause halt)) old new
+deposit_alone words Lacks old new h = tt
+deposit_alone words (Unsaid front) old new h = tt
+deposit_alone words (Unheard silence data_heard) old new h = data_alone silence words data_heard old new h
+
 stop_alone : {Origin : Type 0} (act : Act) (halt : Halt act) (old new : World Origin) → is_serverless act ≡ true → Met act (Err halt) old new → EndsAlone (ending_by (cause_by act halt)) old.client new.client
 stop_alone (Hear form) halt old new is met = hear_alone form halt old.client new.client met.client
 stop_alone (Say text) halt old new is met = tt
@@ -67,6 +82,8 @@ stop_alone Take halt old new is met = absurd (cc)
 stop_alone (Pass text) halt old new is met = absurd (cc)
 stop_alone HangUp halt old new is met = absurd (cc)
 stop_alone Relay halt old new is met = absurd (cc)
+stop_alone (Deposit sender rcpts words most) halt old new is met = deposit_alone words halt old.client new.client met.client
+stop_alone Allot halt old new is met = tt
 
 spent_room : (ending : Ending) (old new : Speaker) → EndsAlone ending old new → is_spent_ending ending ≡ true → new.reader.room ≡ 0
 spent_room endings.Done old new h is = absurd (cc)

@@ -9,7 +9,7 @@ use Rattle.auth_events.specs.declared.request.Request.TheVariants as requests
 use Rattle.fw_outside.proofs.CountLemmas.{grew_by, grew_none}
 use Rattle.fw_outside.specs.Counts.{Grew}
 use Rattle.session_acts.specs.Acts.{Act, Outcome}
-use Rattle.session_acts.specs.Acts.Act.{Hear, Say, Try, Log, Note, Ask, Renew, Dial, Reach, Take, Pass, HangUp, Relay}
+use Rattle.session_acts.specs.Acts.Act.{Hear, Say, Try, Log, Note, Ask, Renew, Dial, Reach, Take, Pass, HangUp, Relay, Deposit, Allot}
 use Rattle.session_acts.specs.Deeds.{Gains}
 use Rattle.session_acts.specs.Met.{Asking, AtOffice, number_told}
 use Rattle.session_acts.specs.Talk.{CountsAsks, asked}
@@ -31,6 +31,8 @@ module _ {Origin : Type 0} where
   one_counts (Say text) outcome old new h = same_counts old new h
   one_counts (Try text) outcome old new h = same_counts old new h
   one_counts (Log text) outcome old new h = same_counts old new h
+  one_counts (Deposit sender rcpts words most) outcome old new h = same_counts old new h
+  one_counts Allot outcome old new h = same_counts old new h
   one_counts (Note text) outcome old new h = same_counts old new h
   one_counts (Dial dest) outcome old new h = same_counts old new h
   one_counts (Reach dest) outcome old new h = same_counts old new h

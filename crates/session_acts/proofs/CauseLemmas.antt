@@ -27,7 +27,7 @@ use Rattle.relay_ways.specs.declared.way_end.WayEnd.{WayEnd}
 use Rattle.relay_ways.specs.declared.way_end.WayEnd.TheVariants as ways
 use Rattle.session_acts.specs.Relaying.{Flow, Stuck, stops_by}
 use Rattle.session_acts.specs.Acts.{Act, Front, Halt, cause_by, fault_cause, silence_cause}
-use Rattle.session_acts.specs.Acts.Act.{Hear, Say, Try, Log, Note, Ask, Renew, Dial, Reach, Take, Pass, HangUp, Relay}
+use Rattle.session_acts.specs.Acts.Act.{Hear, Say, Try, Log, Note, Ask, Renew, Dial, Reach, Take, Pass, HangUp, Relay, Deposit, Allot}
 use Rattle.session_acts.specs.Causes.{Caused, IsLast, KeepsAs, LinkTookMost, RelayKeeps, SessionKeeps, StaysShut, TookMost}
 use Rattle.session_acts.specs.Deeds.{DeedsAll, deeds_ran, done}
 use Rattle.session_acts.specs.Met.{Asking, Carrying, Clears, Hanging, Hears, Heeds, IsTold, Met, Passes, ServerRelays, Takes, acts}
@@ -44,6 +44,11 @@ use Rattle.session_acts.proofs.DeviceLemmas.{halted_faults, halted_idles, halted
 use Rattle.session_acts.proofs.OwedLemmas.{closing_server}
 use Rattle.session_acts.proofs.ShutLemmas.{unshut_last}
 use Rattle.session_acts.proofs.StaysLemmas.{IsSound, LinkSound, Stays, clears_keeps, stays_both, stays_last, stays_same}
+use Rattle.session_acts.specs.Acts.{Undeposited}
+use Rattle.session_acts.specs.Acts.Undeposited.{Lacks, Unsaid, Unheard}
+use Rattle.session_acts.specs.Acts.{deposit_cause}
+use Rattle.session_acts.specs.Depositing.{Draws}
+use Rattle.session_acts.specs.Met.{AtClientDeposit, DrawsAfter, stop_of}
 
 -- ---- what a stop counts, as the session stands then
 
@@ -108,6 +113,35 @@ dropped : (text : List ℕ) (front : Front text) (old new : Speaker) → IsTold 
 dropped text front old new h =
     subst (λ (s : Speaker). Rose old.outlet.faults s.outlet.faults) (sym h.is) (subst (λ (s : SinkView). Rose old.outlet.faults s.faults) (sym h.gets.is) h.gets.rose)
 
+-- ---- data that were heard behind words
+
+drawn_faulted : (data_heard : List ℕ) (old new : Speaker) → Draws (Some stops.Failed) data_heard old new → Rose old.inlet.faults new.inlet.faults
+drawn_faulted data_heard old new h =
+    subst (λ (s : Speaker). Rose old.inlet.faults s.inlet.faults) (sym h.is) (halted_faults h.reads.taken_now old.inlet h.middle h.inlet h.reads.takes h.closes.1)
+
+drawn_idled : (data_heard : List ℕ) (old new : Speaker) → Draws (Some stops.Idle) data_heard old new → Rose old.inlet.idles new.inlet.idles
+drawn_idled data_heard old new h =
+    subst (λ (s : Speaker). Rose old.inlet.idles s.inlet.idles) (sym h.is) (halted_idles h.reads.taken_now old.inlet h.middle h.inlet h.reads.takes h.closes.1)
+
+pub drawn_waited : (data_heard : List ℕ) (old new : Speaker) → Draws (Some stops.Idle) data_heard old new → new.inlet.waited ≡ new.inlet.waits
+drawn_waited data_heard old new h =
+    subst (λ (s : Speaker). s.inlet.waited ≡ s.inlet.waits) (sym h.is) (halted_waited h.middle h.inlet h.closes.1)
+
+pub drawn_up : (data_heard : List ℕ) (old new : Speaker) → Draws (Some stops.Spent) data_heard old new → new.reader.room ≡ 0
+drawn_up data_heard old new h = ap (λ (s : Speaker). s.reader.room) h.is ∙ eqb-true h.reader.room 0 (sym h.spent)
+
+-- words leave the source
+words_inlet : (words : List ℕ) (outcome : Result (Unit {0}) (Front words)) (old new : Speaker) → IsTold words outcome old new → new.inlet ≡ old.inlet
+words_inlet words outcome old new h = ap (λ (s : Speaker). s.inlet) h.is
+
+pub draws_faulted : (words data_heard : List ℕ) (old new : Speaker) → DrawsAfter words (Some stops.Failed) data_heard old new → Rose old.inlet.faults new.inlet.faults
+draws_faulted words data_heard old new h =
+    subst (λ (s : SourceView). Rose s.faults new.inlet.faults) (words_inlet words (Ok tt) old h.middle h.told) (drawn_faulted data_heard h.middle new h.draws)
+
+pub draws_rose : (words data_heard : List ℕ) (old new : Speaker) → DrawsAfter words (Some stops.Idle) data_heard old new → Rose old.inlet.idles new.inlet.idles
+draws_rose words data_heard old new h =
+    subst (λ (s : SourceView). Rose s.idles new.inlet.idles) (words_inlet words (Ok tt) old h.middle h.told) (drawn_idled data_heard h.middle new h.draws)
+
 abbrev failed : Cause → Result (Unit {0}) Cause
 failed cause = Err cause
 
@@ -140,6 +174,16 @@ module _ {Origin : Type 0} where
   hear_counted form Quiet old new h = inl (record { rose = idled form old.client new.client h; waited = waited_so form old.client new.client h })
   hear_counted form Broken old new h = inl (faulted form old.client new.client h)
   hear_counted form Limit old new h = inl (used_up form old.client new.client h)
+
+  data_counted : (silence : Silence) (words data_heard : List ℕ) (old new : World Origin) → DrawsAfter words (Some (stop_of silence)) data_heard old.client new.client → Counted (silence_cause ClientFault silence) old new
+  data_counted Quiet words data_heard old new h = inl (record { rose = draws_rose words data_heard old.client new.client h; waited = drawn_waited data_heard h.middle new.client h.draws })
+  data_counted Broken words data_heard old new h = inl (draws_faulted words data_heard old.client new.client h)
+  data_counted Limit words data_heard old new h = inl (drawn_up data_heard h.middle new.client h.draws)
+
+  deposit_counted : (words : List ℕ) (halt : Undeposited words) (old new : World Origin) → AtClientDeposit words (Err halt) old.client new.client → Counted (deposit_cause halt) old new
+  deposit_counted words Lacks old new h = tt
+  deposit_counted words (Unsaid front) old new h = inr (dropped words front old.client new.client h)
+  deposit_counted words (Unheard silence data_heard) old new h = data_counted silence words data_heard old new h
 
   fault_counted : (request : Request) (fault : PortFault) (before : Office Origin) (old new : World Origin) → before.port ≡ old.office.port → Asking request (Err fault) before new.office → Counted (fault_cause fault) old new
   fault_counted request faults.NoMemory before old new same h = tt
@@ -241,6 +285,8 @@ module _ {Origin : Type 0} where
   stop_counted (Pass text) halt old new met = pass_counted text halt old.server.link old new met.server
   stop_counted HangUp halt old new met = absurd halt
   stop_counted Relay halt old new met = relay_counted halt old new met
+  stop_counted (Deposit sender rcpts words most) halt old new met = deposit_counted words halt old new met.client
+  stop_counted Allot halt old new met = tt
 
   -- what was counted before is counted over a longer time
   pub counted_since : (cause : Cause) (old mid new : World Origin) → Stays old mid → Counted cause mid new → Counted cause old new

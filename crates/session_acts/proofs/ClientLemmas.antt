@@ -21,6 +21,7 @@ use Rattle.session_acts.specs.World.{Devices, Names, Office, Server, Speaker, Wo
 use Rattle.session_acts.specs.declared.cause.Cause.{Cause}
 use Rattle.session_acts.proofs.DeedLemmas.{all_gain, held_deeds}
 use Rattle.session_acts.proofs.ToldLemmas.{by_both, logged_gains}
+use Rattle.spool_rack.specs.Store.{StoreView}
 
 -- ---- one act first
 
@@ -67,15 +68,16 @@ module _ {Origin P : Type 0} where
 -- ---- worlds
 
 -- a world by its parts
-pub world_by : {Origin : Type 0} (w : World Origin) (client : Speaker) (logs : SinkView) (office : Office Origin) (server : Server) (names : Names)
-    → w.client ≡ client → w.logs ≡ logs → w.office ≡ office → w.server ≡ server → w.names ≡ names
-    → w ≡ record { client = client; logs = logs; office = office; server = server; names = names }
-world_by {Origin} w client logs office server names c l o s n =
-    ap (λ (x : Speaker). record { client = x; logs = w.logs; office = w.office; server = w.server; names = w.names }) c
-    ∙ ap (λ (x : SinkView). record { client = client; logs = x; office = w.office; server = w.server; names = w.names }) l
-    ∙ ap (λ (x : Office Origin). record { client = client; logs = logs; office = x; server = w.server; names = w.names }) o
-    ∙ ap (λ (x : Server). record { client = client; logs = logs; office = office; server = x; names = w.names }) s
-    ∙ ap (λ (x : Names). record { client = client; logs = logs; office = office; server = server; names = x }) n
+pub world_by : {Origin : Type 0} (w : World Origin) (client : Speaker) (logs : SinkView) (office : Office Origin) (server : Server) (store : StoreView) (names : Names)
+    → w.client ≡ client → w.logs ≡ logs → w.office ≡ office → w.server ≡ server → w.store ≡ store → w.names ≡ names
+    → w ≡ record { client = client; logs = logs; office = office; server = server; store = store; names = names }
+world_by {Origin} w client logs office server store names c l o s m n =
+    ap (λ (x : Speaker). record { client = x; logs = w.logs; office = w.office; server = w.server; store = w.store; names = w.names }) c
+    ∙ ap (λ (x : SinkView). record { client = client; logs = x; office = w.office; server = w.server; store = w.store; names = w.names }) l
+    ∙ ap (λ (x : Office Origin). record { client = client; logs = logs; office = x; server = w.server; store = w.store; names = w.names }) o
+    ∙ ap (λ (x : Server). record { client = client; logs = logs; office = office; server = x; store = w.store; names = w.names }) s
+    ∙ ap (λ (x : StoreView). record { client = client; logs = logs; office = office; server = server; store = x; names = w.names }) m
+    ∙ ap (λ (x : Names). record { client = client; logs = logs; office = office; server = server; store = store; names = x }) n
 
 -- where no session is open and no link is up, nothing is owed
 pub nothing_owed : {Origin : Type 0} (mid new : World Origin) (answer : Result Reply PortFault) → mid.server.link ≡ None → mid.office.opened ≡ None → DeedsAll (owed mid answer) mid new → mid ≡ new
@@ -91,7 +93,7 @@ module _ {Origin P : Type 0} where
       let held = session.held in
       let met = h.stops.met in
       let start = at_first old session.names in
-      let is = world_by held.mid start.client held.mid.logs start.office start.server start.names met.client refl met.office met.server met.names in
+      let is = world_by held.mid start.client held.mid.logs start.office start.server start.store start.names met.client refl met.office met.server met.store met.names in
       let last = nothing_owed held.mid session.last held.answer (ap (λ (s : Server). s.link) met.server) (ap (λ (o : Office Origin). o.opened) met.office) held.after in
       let leaves : new ≡ record old { logs = held.mid.logs } = sym session.leaves ∙ ap devices_of (sym last) ∙ ap devices_of is in
       let logs : held.mid.logs ≡ new.logs = sym (ap (λ (d : Devices Origin). d.logs) leaves) in
@@ -112,7 +114,7 @@ module _ {Origin P : Type 0} where
   went_on line rows first old new ending session p =
       let held = session.held in
       let start = at_first (with_line line old) session.names in
-      let is = world_by p.next start.client start.logs start.office start.server start.names p.met.client p.met.logs p.met.office p.met.server p.met.names in
+      let is = world_by p.next start.client start.logs start.office start.server start.store start.names p.met.client p.met.logs p.met.office p.met.server p.met.store p.met.names in
       let rest : Held rows first p.next session.last ending = record { dialogue = held.dialogue; mid = held.mid; ran = p.rest; answer = held.answer; after = held.after; ends = held.ends } in
       let from : HeldFrom rows first session.last ending (deeds_of rest) start = subst (λ (w : World Origin). HeldFrom rows first session.last ending (deeds_of rest) w) is (record { held = rest; same = refl }) in
       let log = all_gain logged_gains (deeds_of from.held) start session.last (held_deeds from.held) in
@@ -170,7 +172,7 @@ module _ {Origin : Type 0} where
       let held = session.held in
       let start = at_first old session.names in
       let told : IsTold words p.answer start.client p.next.client = p.met.client in
-      let is = world_by p.next (record (start.client) { outlet = told.outlet }) start.logs start.office start.server start.names told.is p.met.logs p.met.office p.met.server p.met.names in
+      let is = world_by p.next (record (start.client) { outlet = told.outlet }) start.logs start.office start.server start.store start.names told.is p.met.logs p.met.office p.met.server p.met.store p.met.names in
       let over = over_ran no_rows p.next held.mid held.dialogue p.rest in
       let closed : held.mid.office.opened ≡ None = ap (λ (w : World Origin). w.office.opened) (sym over.same ∙ is) in
       let last = nothing_owed held.mid session.last held.answer (ap (λ (w : World Origin). w.server.link) (sym over.same ∙ is)) closed held.after in

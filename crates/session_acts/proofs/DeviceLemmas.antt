@@ -27,6 +27,9 @@ use Rattle.relay_ways.specs.declared.way_end.WayEnd.TheVariants.{Done, ReadFault
 use Rattle.session_acts.specs.Causes.{StaysShut}
 use Rattle.session_acts.specs.Forms.{ListensIn}
 use Rattle.session_acts.specs.declared.form.Form.{Form}
+use Rattle.fw_outside.specs.declared.heard.Stop.{Stop}
+use Rattle.session_acts.specs.Depositing.{DataLeave, Draws}
+use Rattle.session_acts.specs.World.{Speaker}
 
 -- ---- counts
 
@@ -152,6 +155,15 @@ pulled_source bytes u v before middle taken_now room =
 pub listens_source : (form : Form) (heard : Heard) (u v : LineReaderView) (before after : SourceView) → ListensIn form heard u v before after → SourceKeeps before after u v
 listens_source form heard u v before after h =
     both_source before h.middle after u v v (pulled_source h.reads.taken_now u v before h.middle h.reads.takes h.reads.room) (halts_source heard v h.middle after h.closes)
+
+-- why data came to no end
+data_source : (stop : Option Stop) (left : LineReaderView) (before after : SourceView) → DataLeave stop left before after → SourceKeeps before after left left
+data_source None left before after h = halts_source TooLong left before after h
+data_source (Some stop) left before after h = halts_source (Stopped stop) left before after h
+
+pub draws_source : (stop : Option Stop) (data_heard : List ℕ) (old new : Speaker) (h : Draws stop data_heard old new) → SourceKeeps old.inlet h.inlet old.reader h.reader
+draws_source stop data_heard old new h =
+    both_source old.inlet h.middle h.inlet old.reader h.reader h.reader (pulled_source h.reads.taken_now old.reader h.reader old.inlet h.middle h.reads.takes h.reads.room) (data_source stop h.reader h.middle h.inlet h.closes)
 
 -- ---- a way of a relay
 

@@ -16,7 +16,7 @@ use Rattle.fw_types.specs.declared.ending.Ending.{Ending}
 use Rattle.relay_ways.specs.Carried.{Way}
 use Rattle.session_acts.specs.Relaying.{Flow, flow_of}
 use Rattle.session_acts.specs.Acts.{Act, Front, Outcome}
-use Rattle.session_acts.specs.Acts.Act.{Hear, Say, Try, Log, Note, Ask, Renew, Dial, Reach, Take, Pass, HangUp, Relay}
+use Rattle.session_acts.specs.Acts.Act.{Hear, Say, Try, Log, Note, Ask, Renew, Dial, Reach, Take, Pass, HangUp, Relay, Deposit, Allot}
 use Rattle.session_acts.specs.Deeds.{Gains, gives}
 use Rattle.session_acts.specs.Hearing.{AreHeard, Fate, TakesHeard, carried_up, heard_in}
 use Rattle.session_acts.specs.Hearing.Fate.{IsHeard, IsCarried}
@@ -27,6 +27,14 @@ use Rattle.session_acts.specs.declared.form.Form.{Form}
 use Rattle.session_acts.proofs.DeedLemmas.{all_gain, held_deeds}
 use Rattle.session_acts.proofs.DeviceLemmas.{by_nothing, drains_grew, drains_took}
 use Rattle.session_acts.proofs.ToldLemmas.{by_both}
+use Rattle.session_acts.specs.Acts.{Undeposited}
+use Rattle.session_acts.specs.Acts.Undeposited.{Lacks, Unsaid, Unheard}
+use Rattle.session_acts.specs.declared.deposited.Deposited.{Deposited}
+use Rattle.session_acts.specs.declared.deposited.Deposited.TheVariants.{NoSlot, NotBegun, Kept, TooLarge, Faulted, Ended}
+use Rattle.fw_outside.specs.declared.heard.Stop.{Stop}
+use Rattle.session_acts.specs.Depositing.{DataLeave, Draws}
+use Rattle.session_acts.specs.Hearing.{data_if, data_in}
+use Rattle.session_acts.specs.Met.{AtClientDeposit, ClientDeposits, DrawsAfter}
 
 -- some bytes were taken, and what was pending before and these are what was heard and what is pending now
 pub record HearsOn (heards : List Fate) (old new : Speaker) : Type 0 where
@@ -151,6 +159,44 @@ relays_hearing : (flow : Option Flow) (old new : Speaker) → ClientRelays flow 
 relays_hearing None old new h = same_hearing old new h
 relays_hearing (Some flow) old new h = carrying_hearing flow.up flow.down old new h
 
+data_untaken : (stop : Option Stop) (left : LineReaderView) (before after : SourceView) → DataLeave stop left before after → Untaken before after
+data_untaken None left before after h = leaves_untaken TooLong left before after h
+data_untaken (Some stop) left before after h = leaves_untaken (Stopped stop) left before after h
+
+draws_hearing : (stop : Option Stop) (data_heard : List ℕ) (old new : Speaker) → Draws stop data_heard old new → HearsOn (IsCarried data_heard ∷ []) old new
+draws_hearing stop data_heard old new h =
+    let reads = h.reads in
+    let middle = h.middle in
+    let untaken = data_untaken stop h.reader middle h.inlet h.closes in
+    let grew : Grew (length reads.taken_now) old.inlet.amount middle.amount = subst (λ (s : SourceView). Grew (length reads.taken_now) old.inlet.amount s.amount) (sym reads.takes.is) reads.takes.grew in
+    subst (λ (s : Speaker). HearsOn (IsCarried data_heard ∷ []) old s) (sym h.is) (record {
+      bytes = reads.taken_now;
+      pieces = data_heard ∷ [];
+      grew = subst (λ (n : ℕ). Grew (length reads.taken_now) old.inlet.amount n) (sym untaken.amount) grew;
+      took = untaken.taken ∙ ap (λ (s : SourceView). s.taken) reads.takes.is;
+      are_heard = (refl, tt);
+      all = reads.reader ∙ ap (λ (z : List ℕ). z ++ h.reader.pending) (sym (append-nil data_heard));
+      near = λ near. h.near;
+    })
+
+after_hearing : (words : List ℕ) (stop : Option Stop) (data_heard : List ℕ) (old new : Speaker) → DrawsAfter words stop data_heard old new → HearsOn (IsCarried data_heard ∷ []) old new
+after_hearing words stop data_heard old new h =
+    hears_both [] (IsCarried data_heard ∷ []) old h.middle new (told_hearing words (Ok tt) old h.middle h.told) (draws_hearing stop data_heard h.middle new h.draws)
+
+deposited_hearing : (words : List ℕ) (deposited : Deposited) (data_heard : List ℕ) (old new : Speaker) → ClientDeposits words deposited data_heard old new → HearsOn (data_if deposited data_heard) old new
+deposited_hearing words NoSlot data_heard old new h = same_hearing old new h
+deposited_hearing words NotBegun data_heard old new h = same_hearing old new h
+deposited_hearing words (Kept number bytes) data_heard old new h = after_hearing words None data_heard old new h
+deposited_hearing words TooLarge data_heard old new h = after_hearing words None data_heard old new h
+deposited_hearing words Faulted data_heard old new h = after_hearing words None data_heard old new h
+deposited_hearing words Ended data_heard old new h = after_hearing words (Some stops.End) data_heard old new h
+
+deposit_hearing : (words : List ℕ) (outcome : Result (Deposited × List ℕ) (Undeposited words)) (old new : Speaker) → AtClientDeposit words outcome old new → HearsOn (data_in outcome) old new
+deposit_hearing words (Ok answer) old new h = deposited_hearing words answer.0 answer.1 old new h
+deposit_hearing words (Err Lacks) old new h = same_hearing old new h
+deposit_hearing words (Err (Unsaid front)) old new h = told_hearing words (Err front) old new h
+deposit_hearing words (Err (Unheard silence data_heard)) old new h = after_hearing words (Some (stop_of silence)) data_heard old new h
+
 act_hearing : (act : Act) (outcome : Outcome act) (old new : Speaker) → AtClient act outcome old new → HearsOn (heard_in act outcome) old new
 act_hearing (Hear form) (Ok heard) old new h = line_hearing form heard old new h
 act_hearing (Hear form) (Err silence) old new h = heeds_hearing form (Stopped (stop_of silence)) old new h
@@ -167,6 +213,8 @@ act_hearing Take outcome old new h = same_hearing old new h
 act_hearing (Pass text) outcome old new h = same_hearing old new h
 act_hearing HangUp outcome old new h = same_hearing old new h
 act_hearing Relay outcome old new h = relays_hearing (flow_of outcome) old new h
+act_hearing (Deposit sender rcpts words most) outcome old new h = deposit_hearing words outcome old new h
+act_hearing Allot outcome old new h = same_hearing old new h
 
 -- ---- the session
 

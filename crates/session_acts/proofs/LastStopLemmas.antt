@@ -14,7 +14,7 @@ use Rattle.relay_ways.specs.declared.way_end.WayEnd.{WayEnd}
 use Rattle.relay_ways.specs.declared.way_end.WayEnd.TheVariants.{Done, ReadFault, WriteFault, Idle, Spent}
 use Rattle.session_acts.specs.Relaying.{stops_by}
 use Rattle.session_acts.specs.Acts.{Act, Halt, cause_by, fault_cause, silence_cause}
-use Rattle.session_acts.specs.Acts.Act.{Hear, Say, Try, Log, Note, Ask, Renew, Dial, Reach, Take, Pass, HangUp, Relay}
+use Rattle.session_acts.specs.Acts.Act.{Hear, Say, Try, Log, Note, Ask, Renew, Dial, Reach, Take, Pass, HangUp, Relay, Deposit, Allot}
 use Rattle.session_acts.specs.Deeds.{Deed, deed_last, done}
 use Rattle.session_acts.specs.LastStop.{StopsLast, is_no_memory, lacked_memory, one_lacked_memory}
 use Rattle.session_acts.specs.Met.{acts}
@@ -24,6 +24,10 @@ use Rattle.session_acts.specs.declared.cause.Cause.{Cause}
 use Rattle.session_acts.specs.declared.cause.Cause.TheVariants as causes
 use Rattle.session_acts.specs.declared.silence.Silence.{Silence}
 use Rattle.session_acts.specs.declared.silence.Silence.TheVariants.{Quiet, Broken, Limit}
+use Rattle.session_acts.specs.Acts.{Undeposited}
+use Rattle.session_acts.specs.Acts.Undeposited.{Lacks, Unsaid, Unheard}
+use Rattle.session_acts.specs.Acts.{deposit_cause}
+use Rattle.session_acts.specs.LastStop.{lacked_depositing}
 
 -- these are the one act that stopped for this cause
 record IsStop (cause : Cause) (deeds : List Deed) : Type 0 where
@@ -109,6 +113,11 @@ relay_has Spent Spent = refl
 relay_lacks : (up down : WayEnd) (cause : Cause) → stops_by (ways.ending_of up down) ≡ Err cause → cause ≡ causes.NoMemory → false ≡ true
 relay_lacks up down cause is none = ap has_memory (sym (is ∙ ap failed none)) ∙ relay_has up down
 
+deposit_lacks : (words : List ℕ) (halt : Undeposited words) → deposit_cause halt ≡ causes.NoMemory → lacked_depositing (Err halt) ≡ true
+deposit_lacks words Lacks is = refl
+deposit_lacks words (Unsaid front) is = absurd (cc)
+deposit_lacks words (Unheard silence data_heard) is = let lacks : false ≡ true = hear_lacks silence is in absurd (cc)
+
 stop_lacks : (act : Act) (halt : Halt act) → cause_by act halt ≡ causes.NoMemory → lacked_memory act (Err halt) ≡ true
 stop_lacks (Hear form) halt is = hear_lacks halt is
 stop_lacks (Say text) halt is = absurd (cc)
@@ -123,6 +132,8 @@ stop_lacks Take halt is = take_lacks halt is
 stop_lacks (Pass text) halt is = absurd (cc)
 stop_lacks HangUp halt is = absurd halt
 stop_lacks Relay halt is = relay_lacks halt.flow.up.end halt.flow.down.end halt.cause halt.is is
+stop_lacks (Deposit sender rcpts words most) halt is = deposit_lacks words halt is
+stop_lacks Allot halt is = refl
 
 ending_lacks : (cause : Cause) → ending_by cause ≡ endings.NoMemory → cause ≡ causes.NoMemory
 ending_lacks causes.ClientFault is = absurd (cc)

@@ -5,9 +5,12 @@ pub mod AskCountLemmas
 pub mod CauseLemmas
 pub mod ClientLemmas
 pub mod CourseLemmas
+pub mod DataLemmas
 pub mod DeedLemmas
+pub mod DepositLemmas
 pub mod DeviceLemmas
 pub mod EntryLemmas
+pub mod FillLemmas
 pub mod FullPortLemmas
 pub mod HearingLemmas
 pub mod KeptLemmas
@@ -31,6 +34,7 @@ pub mod RelayLastLemmas
 pub mod TalkLemmas
 pub mod ToldLemmas
 pub mod StaysLemmas
+pub mod StoredLemmas
 pub mod TurnLemmas
 pub mod UsedUpLemmas
 pub mod WaitedLemmas

@@ -10,7 +10,7 @@ use Rattle.fw_outside.specs.declared.heard.Heard.{Heard}
 use Rattle.fw_types.specs.declared.dest.Dest.{Dest}
 use Rattle.session_acts.specs.Relaying.{Flow, flow_of}
 use Rattle.session_acts.specs.Acts.{Act, Front, Outcome}
-use Rattle.session_acts.specs.Acts.Act.{Hear, Say, Try, Log, Note, Ask, Renew, Dial, Reach, Take, Pass, HangUp, Relay}
+use Rattle.session_acts.specs.Acts.Act.{Hear, Say, Try, Log, Note, Ask, Renew, Dial, Reach, Take, Pass, HangUp, Relay, Deposit, Allot}
 use Rattle.session_acts.specs.Deeds.{Gains}
 use Rattle.session_acts.specs.Laws.{Adds, CallsDialer, LinksDialer, called, linked, up_if, up_now}
 use Rattle.session_acts.specs.Met.{Clears, ConnectsIf, Dialing, Hanging, Met, Passes, ServerRelays, Takes}
@@ -147,6 +147,8 @@ module _ {Origin : Type 0} where
   served_one (Say text) outcome old new met = served_same old.server new.server met.server
   served_one (Try text) outcome old new met = served_same old.server new.server met.server
   served_one (Log text) outcome old new met = served_same old.server new.server met.server
+  served_one (Deposit sender rcpts words most) outcome old new met = served_same old.server new.server met.server
+  served_one Allot outcome old new met = served_same old.server new.server met.server
   served_one (Note text) outcome old new met = served_same old.server new.server met.server
   served_one (Ask request) outcome old new met = served_same old.server new.server met.server
   served_one (Renew name hash) outcome old new met = served_same old.server new.server met.server

@@ -8,7 +8,7 @@ use Rattle.fw_acts.specs.Acts.{Row, PlaceTable}
 use Rattle.session_acts.specs.Relaying.{Flow, flow_of, given_up}
 use Rattle.session_acts.proofs.DeviceLemmas.{supplies_given}
 use Rattle.session_acts.specs.Acts.{Act, Front, Outcome}
-use Rattle.session_acts.specs.Acts.Act.{Hear, Say, Try, Log, Note, Ask, Renew, Dial, Reach, Take, Pass, HangUp, Relay}
+use Rattle.session_acts.specs.Acts.Act.{Hear, Say, Try, Log, Note, Ask, Renew, Dial, Reach, Take, Pass, HangUp, Relay, Deposit, Allot}
 use Rattle.session_acts.specs.Laws.{got}
 use Rattle.session_acts.specs.Met.{Carrying, IsTold, Met, Passes, ServerRelays, Takes, acts}
 use Rattle.session_acts.specs.Passing.{GivesServers, IsGiven, WasGiven, hung_by, passed_over, up_after, up_with}
@@ -101,6 +101,8 @@ module _ {Origin : Type 0} where
   passing_step (Say text) outcome up old new met holds = same_step passing up old.server new.server holds met.server
   passing_step (Try text) outcome up old new met holds = same_step passing up old.server new.server holds met.server
   passing_step (Log text) outcome up old new met holds = same_step passing up old.server new.server holds met.server
+  passing_step (Deposit sender rcpts words most) outcome up old new met holds = same_step passing up old.server new.server holds met.server
+  passing_step Allot outcome up old new met holds = same_step passing up old.server new.server holds met.server
   passing_step (Note text) outcome up old new met holds = same_step passing up old.server new.server holds met.server
   passing_step (Ask request) outcome up old new met holds = same_step passing up old.server new.server holds met.server
   passing_step (Renew name hash) outcome up old new met holds = same_step passing up old.server new.server holds met.server

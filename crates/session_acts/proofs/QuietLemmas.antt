@@ -15,7 +15,7 @@ use Rattle.fw_outside.specs.SourceView.{SourceView}
 use Rattle.fw_outside.specs.ToldList.{IsOver}
 use Rattle.fw_outside.specs.declared.ask.Ask as asks
 use Rattle.session_acts.specs.Acts.{Act, Outcome}
-use Rattle.session_acts.specs.Acts.Act.{Hear, Say, Try, Log, Note, Ask, Renew, Dial, Reach, Take, Pass, HangUp, Relay}
+use Rattle.session_acts.specs.Acts.Act.{Hear, Say, Try, Log, Note, Ask, Renew, Dial, Reach, Take, Pass, HangUp, Relay, Deposit, Allot}
 use Rattle.session_acts.specs.Deeds.{Deed, DeedsAll, deed_last, deeds_ran, done}
 use Rattle.session_acts.specs.Met.{Met, ServerRelays, acts}
 use Rattle.session_acts.specs.Passing.{AreOver, hung_by, over_each, over_last, up_if_dialed, up_if_reached}
@@ -77,6 +77,8 @@ flow_on (Hear form) outcome later is = refl
 flow_on (Say text) outcome later is = refl
 flow_on (Try text) outcome later is = refl
 flow_on (Log text) outcome later is = refl
+flow_on (Deposit sender rcpts words most) outcome later is = refl
+flow_on Allot outcome later is = refl
 flow_on (Note text) outcome later is = refl
 flow_on (Ask request) outcome later is = refl
 flow_on (Renew name hash) outcome later is = refl
@@ -101,6 +103,8 @@ talk_on (Hear form) deeds is = refl
 talk_on (Say text) deeds is = refl
 talk_on (Try text) deeds is = refl
 talk_on (Log text) deeds is = refl
+talk_on (Deposit sender rcpts words most) deeds is = refl
+talk_on Allot deeds is = refl
 talk_on (Note text) deeds is = refl
 talk_on (Ask request) deeds is = refl
 talk_on (Renew name hash) deeds is = refl
@@ -132,6 +136,8 @@ idle_by (Hear form) outcome is = refl
 idle_by (Say text) outcome is = refl
 idle_by (Try text) outcome is = refl
 idle_by (Log text) outcome is = refl
+idle_by (Deposit sender rcpts words most) outcome is = refl
+idle_by Allot outcome is = refl
 idle_by (Note text) outcome is = refl
 idle_by (Ask request) outcome is = refl
 idle_by (Renew name hash) outcome is = refl
@@ -214,6 +220,8 @@ module _ {Origin : Type 0} where
   idle_step (Say text) outcome up old new is met holds = same_step unused up old.server new.server holds met.server
   idle_step (Try text) outcome up old new is met holds = same_step unused up old.server new.server holds met.server
   idle_step (Log text) outcome up old new is met holds = same_step unused up old.server new.server holds met.server
+  idle_step (Deposit sender rcpts words most) outcome up old new is met holds = same_step unused up old.server new.server holds met.server
+  idle_step Allot outcome up old new is met holds = same_step unused up old.server new.server holds met.server
   idle_step (Note text) outcome up old new is met holds = same_step unused up old.server new.server holds met.server
   idle_step (Ask request) outcome up old new is met holds = same_step unused up old.server new.server holds met.server
   idle_step (Renew name hash) outcome up old new is met holds = same_step unused up old.server new.server holds met.server

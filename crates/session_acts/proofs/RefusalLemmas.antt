@@ -6,7 +6,7 @@ use Rattle.fw_outside.specs.Counts.{Rose}
 use Rattle.fw_outside.specs.DialerView.{DialerView}
 use Rattle.fw_types.specs.declared.dest.Dest.{Dest}
 use Rattle.session_acts.specs.Acts.{Act, Outcome}
-use Rattle.session_acts.specs.Acts.Act.{Hear, Say, Try, Log, Note, Ask, Renew, Dial, Reach, Take, Pass, HangUp, Relay}
+use Rattle.session_acts.specs.Acts.Act.{Hear, Say, Try, Log, Note, Ask, Renew, Dial, Reach, Take, Pass, HangUp, Relay, Deposit, Allot}
 use Rattle.session_acts.specs.Deeds.{Gains}
 use Rattle.session_acts.specs.Laws.{CountsRefusals, refused}
 use Rattle.session_acts.specs.Met.{Dialing, Met}
@@ -37,6 +37,8 @@ module _ {Origin : Type 0} where
   refused_one (Say text) outcome old new met = none_refused (Say text) outcome old new met
   refused_one (Try text) outcome old new met = none_refused (Try text) outcome old new met
   refused_one (Log text) outcome old new met = none_refused (Log text) outcome old new met
+  refused_one (Deposit sender rcpts words most) outcome old new met = none_refused (Deposit sender rcpts words most) outcome old new met
+  refused_one Allot outcome old new met = none_refused Allot outcome old new met
   refused_one (Note text) outcome old new met = none_refused (Note text) outcome old new met
   refused_one (Ask request) outcome old new met = none_refused (Ask request) outcome old new met
   refused_one (Renew name hash) outcome old new met = none_refused (Renew name hash) outcome old new met

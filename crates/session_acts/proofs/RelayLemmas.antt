@@ -97,6 +97,7 @@ module _ {Origin : Type 0} where
           logs = refl;
           office = refl;
           server = subst (λ (l : Option Speaker). ServerRelays (Some h.flow) l old.server (record (old.server) { link = new })) (sym up) (record { speaker = h.speaker; carries = h.for_server; is = ap (λ (l : Option Speaker). record (old.server) { link = l }) h.linked });
+          store = refl;
           names = refl;
           may = lent;
         };
@@ -109,6 +110,7 @@ module _ {Origin : Type 0} where
       logs = refl;
       office = refl;
       server = subst (λ (l : Option Speaker). ServerRelays (Some h.flow) l old.server (record (old.server) { link = new })) (sym up) (record { speaker = h.speaker; carries = h.for_server; is = ap (λ (l : Option Speaker). record (old.server) { link = l }) h.linked });
+      store = refl;
       names = refl;
       may = lent;
     };
@@ -123,6 +125,7 @@ module _ {Origin : Type 0} where
       logs = refl;
       office = refl;
       server = subst (λ (l : Option Speaker). ServerRelays None l old.server (record (old.server) { link = new })) (sym none) (ap (λ (l : Option Speaker). record (old.server) { link = l }) (h.2 ∙ sym none));
+      store = refl;
       names = refl;
       may = lent;
     };

@@ -8,7 +8,7 @@ use Rattle.fw_outside.specs.declared.heard.Heard.TheVariants.{Line, TooLong, Sto
 use Rattle.fw_outside.specs.declared.heard.Stop.TheVariants as stops
 use Rattle.fw_types.specs.declared.ending.Ending.{Ending}
 use Rattle.session_acts.specs.Acts.{Act, Outcome}
-use Rattle.session_acts.specs.Acts.Act.{Hear, Say, Try, Log, Note, Ask, Renew, Dial, Reach, Take, Pass, HangUp, Relay}
+use Rattle.session_acts.specs.Acts.Act.{Hear, Say, Try, Log, Note, Ask, Renew, Dial, Reach, Take, Pass, HangUp, Relay, Deposit, Allot}
 use Rattle.session_acts.specs.Deeds.{Gains, gives}
 use Rattle.session_acts.specs.Hearing.{AreHeard, Fate, carried_up, heard_in}
 use Rattle.session_acts.specs.Hearing.Fate.{IsHeard, IsCarried}
@@ -24,6 +24,13 @@ use Rattle.session_acts.proofs.DeedLemmas.{all_gain, held_deeds}
 use Rattle.session_acts.proofs.HearingLemmas.{held_heard}
 use Rattle.telnet.specs.Lines.{lines_heard}
 use Rattle.telnet_hearing.proofs.WholeLemmas.{heard_on, none_in}
+use Rattle.session_acts.specs.Acts.{Undeposited}
+use Rattle.session_acts.specs.Acts.Undeposited.{Lacks, Unsaid, Unheard}
+use Rattle.session_acts.specs.declared.deposited.Deposited.{Deposited}
+use Rattle.session_acts.specs.declared.deposited.Deposited.TheVariants.{NoSlot, NotBegun, Kept, TooLarge, Faulted, Ended}
+use Rattle.session_acts.specs.Hearing.{data_if, data_in}
+use Rattle.session_acts.specs.Met.{AtClientDeposit, ClientDeposits}
+use Rattle.std.specs.Prelude.{Result}
 
 -- ---- what is heard last
 
@@ -81,6 +88,23 @@ relay_dries : (flow : Option Flow) (old new : Speaker) → ClientRelays flow old
 relay_dries None old new h = dries_same old new (ap (λ (s : Speaker). s.reader) h)
 relay_dries (Some flow) old new h = record { same = λ none. absurd (cc); dry = λ ends. absurd (cc) }
 
+data_dries : (data_heard : List ℕ) (old new : Speaker) → Dries (IsCarried data_heard ∷ []) old new
+data_dries data_heard old new = record { same = λ none. absurd (cc); dry = λ ends. absurd (cc) }
+
+deposited_dries : (words : List ℕ) (deposited : Deposited) (data_heard : List ℕ) (old new : Speaker) → ClientDeposits words deposited data_heard old new → Dries (data_if deposited data_heard) old new
+deposited_dries words NoSlot data_heard old new h = dries_same old new (ap (λ (s : Speaker). s.reader) h)
+deposited_dries words NotBegun data_heard old new h = dries_same old new (ap (λ (s : Speaker). s.reader) h)
+deposited_dries words (Kept number bytes) data_heard old new h = data_dries data_heard old new
+deposited_dries words TooLarge data_heard old new h = data_dries data_heard old new
+deposited_dries words Faulted data_heard old new h = data_dries data_heard old new
+deposited_dries words Ended data_heard old new h = data_dries data_heard old new
+
+deposit_dries : (words : List ℕ) (outcome : Result (Deposited × List ℕ) (Undeposited words)) (old new : Speaker) → AtClientDeposit words outcome old new → Dries (data_in outcome) old new
+deposit_dries words (Ok answer) old new h = deposited_dries words answer.0 answer.1 old new h
+deposit_dries words (Err Lacks) old new h = dries_same old new (ap (λ (s : Speaker). s.reader) h)
+deposit_dries words (Err (Unsaid front)) old new h = dries_same old new (ap (λ (s : Speaker). s.reader) h.is)
+deposit_dries words (Err (Unheard silence data_heard)) old new h = data_dries data_heard old new
+
 act_dries : (act : Act) (outcome : Outcome act) (old new : Speaker) → AtClient act outcome old new → Dries (heard_in act outcome) old new
 act_dries (Hear form) (Ok (Line line)) old new h = dries_heard form (Line line) old new (λ ends. absurd (cc))
 act_dries (Hear form) (Ok TooLong) old new h = dries_heard form TooLong old new (λ ends. absurd (cc))
@@ -104,6 +128,8 @@ act_dries Take outcome old new h = dries_same old new (ap (λ (s : Speaker). s.r
 act_dries (Pass text) outcome old new h = dries_same old new (ap (λ (s : Speaker). s.reader) h)
 act_dries HangUp outcome old new h = dries_same old new (ap (λ (s : Speaker). s.reader) h)
 act_dries Relay outcome old new h = relay_dries (flow_of outcome) old new h
+act_dries (Deposit sender rcpts words most) outcome old new h = deposit_dries words outcome old new h
+act_dries Allot outcome old new h = dries_same old new (ap (λ (s : Speaker). s.reader) h)
 
 -- ---- the lines
 

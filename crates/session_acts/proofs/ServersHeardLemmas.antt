@@ -12,7 +12,7 @@ use Rattle.fw_outside.specs.declared.heard.Heard.{Heard}
 use Rattle.fw_outside.specs.declared.heard.Heard.TheVariants.{Stopped}
 use Rattle.fw_types.specs.declared.ending.Ending.{Ending}
 use Rattle.session_acts.specs.Acts.{Act, Front, Outcome}
-use Rattle.session_acts.specs.Acts.Act.{Hear, Say, Try, Log, Note, Ask, Renew, Dial, Reach, Take, Pass, HangUp, Relay}
+use Rattle.session_acts.specs.Acts.Act.{Hear, Say, Try, Log, Note, Ask, Renew, Dial, Reach, Take, Pass, HangUp, Relay, Deposit, Allot}
 use Rattle.session_acts.specs.Hearing.{Fate, heard_by}
 use Rattle.session_acts.specs.Hearing.Fate.{IsHeard}
 use Rattle.session_acts.specs.Met.{Hears, Met, Passes, ServerRelays, Takes, acts, stop_of}
@@ -138,6 +138,8 @@ module _ {Origin : Type 0} where
   listening_step (Say text) outcome up old new met holds = same_step listening up old.server new.server holds met.server
   listening_step (Try text) outcome up old new met holds = same_step listening up old.server new.server holds met.server
   listening_step (Log text) outcome up old new met holds = same_step listening up old.server new.server holds met.server
+  listening_step (Deposit sender rcpts words most) outcome up old new met holds = same_step listening up old.server new.server holds met.server
+  listening_step Allot outcome up old new met holds = same_step listening up old.server new.server holds met.server
   listening_step (Note text) outcome up old new met holds = same_step listening up old.server new.server holds met.server
   listening_step (Ask request) outcome up old new met holds = same_step listening up old.server new.server holds met.server
   listening_step (Renew name hash) outcome up old new met holds = same_step listening up old.server new.server holds met.server

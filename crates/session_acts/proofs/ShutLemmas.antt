@@ -3,12 +3,13 @@ use Rattle.std.proofs.Common.{◌≡◌, refl, sym, ap, ◌∙◌, ℕ, false, L
 use mathlib.Core.Bool.{true≢false}
 use Rattle.fw_outside.specs.SinkView.{SinkView}
 use Rattle.session_acts.specs.Acts.{Act, Front, Outcome}
-use Rattle.session_acts.specs.Acts.Act.{Hear, Say, Try, Log, Note, Ask, Renew, Dial, Reach, Take, Pass, HangUp, Relay}
+use Rattle.session_acts.specs.Acts.Act.{Hear, Say, Try, Log, Note, Ask, Renew, Dial, Reach, Take, Pass, HangUp, Relay, Deposit, Allot}
 use Rattle.session_acts.specs.Deeds.{Lasts}
 use Rattle.session_acts.specs.Met.{AtClient, IsTold, May}
 use Rattle.session_acts.specs.World.{Names, Speaker, World}
 use Rattle.session_acts.proofs.StaysLemmas.{gets_keeps}
 use Rattle.session_acts.proofs.ToldLemmas.{hears_outlet}
+use Rattle.session_acts.proofs.DepositLemmas.{HoldsThen, deposit_by, draws_outlet}
 
 pub record Unshut {Origin : Type 0} (old new : World Origin) : Type 0 where
   pub names : new.names ≡ old.names
@@ -19,6 +20,13 @@ told_unshut text outcome old new h = ap (λ (s : Speaker). s.outlet.shut) h.is �
 
 same_unshut : (old new : Speaker) → new ≡ old → new.outlet.shut ≡ old.outlet.shut
 same_unshut old new is = ap (λ (s : Speaker). s.outlet.shut) is
+
+deposit_unshut : (words : List ℕ) (old : Speaker) → HoldsThen (λ (s : Speaker). s.outlet.shut ≡ old.outlet.shut) words old
+deposit_unshut words old = record {
+  stays = refl;
+  cut = λ front new h. told_unshut words (Err front) old new h;
+  draws = λ stop data_heard new h. ap (λ (s : SinkView). s.shut) (draws_outlet stop data_heard h.middle new h.draws) ∙ told_unshut words (Ok tt) old h.middle h.told;
+}
 
 client_unshut : (act : Act) (outcome : Outcome act) (names : Names) (old new : Speaker) → AtClient act outcome old new → May act names → names.relays ≡ false → new.outlet.shut ≡ old.outlet.shut
 client_unshut (Hear form) outcome names old new h may none = ap (λ (s : SinkView). s.shut) (hears_outlet form outcome old new h)
@@ -35,6 +43,8 @@ client_unshut Take outcome names old new h may none = same_unshut old new h
 client_unshut (Pass text) outcome names old new h may none = same_unshut old new h
 client_unshut HangUp outcome names old new h may none = same_unshut old new h
 client_unshut Relay outcome names old new h may none = absurd (true≢false (sym may ∙ none))
+client_unshut (Deposit sender rcpts words most) outcome names old new h may none = deposit_by (λ (s : Speaker). s.outlet.shut ≡ old.outlet.shut) words outcome old new (deposit_unshut words old) h
+client_unshut Allot outcome names old new h may none = same_unshut old new h
 
 pub unshut_last : {Origin : Type 0} → Lasts Origin Unshut
 unshut_last = record {

@@ -21,20 +21,28 @@ use Rattle.relay_ways.specs.declared.way_end.WayEnd.{WayEnd}
 use Rattle.relay_ways.specs.declared.way_end.WayEnd.TheVariants as ways
 use Rattle.session_acts.specs.Relaying.{Stuck, stops_by}
 use Rattle.session_acts.specs.Acts.{Act, Answer, Front, Halt, cause_by, silence_cause}
-use Rattle.session_acts.specs.Acts.Act.{Hear, Say, Try, Log, Note, Ask, Renew, Dial, Reach, Take, Pass, HangUp, Relay}
+use Rattle.session_acts.specs.Acts.Act.{Hear, Say, Try, Log, Note, Ask, Renew, Dial, Reach, Take, Pass, HangUp, Relay, Deposit, Allot}
 use Rattle.session_acts.specs.Causes.{TakesAs, is_spent_ending, is_spent_or}
 use Rattle.session_acts.specs.Deeds.{DeedsAll, done}
 use Rattle.session_acts.specs.Met.{Carrying, Hears, Heeds, HeedsLine, IsTold, Met, acts}
 use Rattle.session_acts.specs.Session.{Session, SessionAs, closing, ending_by, ending_of, freeing, owed}
 use Rattle.session_acts.specs.World.{Devices, Names, Speaker, World, at_first, most_taken}
 use Rattle.session_acts.specs.declared.cause.Cause.{Cause}
-use Rattle.session_acts.specs.declared.cause.Cause.TheVariants.{ClientFault, Idle}
+use Rattle.session_acts.specs.declared.cause.Cause.TheVariants.{ClientFault, Idle, NoMemory}
 use Rattle.session_acts.specs.declared.form.Form.{Form}
 use Rattle.session_acts.specs.declared.silence.Silence.{Silence}
 use Rattle.session_acts.specs.declared.silence.Silence.TheVariants.{Quiet, Broken, Limit}
 use Rattle.session_acts.proofs.CauseLemmas.{session_stays}
 use Rattle.session_acts.proofs.DeedLemmas.{all_last, deeds_done, deeds_parted}
 use Rattle.session_acts.proofs.KeptLemmas.{names_last}
+use Rattle.session_acts.specs.Acts.{Undeposited}
+use Rattle.session_acts.specs.Acts.Undeposited.{Lacks, Unsaid, Unheard}
+use Rattle.session_acts.specs.declared.deposited.Deposited.{Deposited}
+use Rattle.session_acts.specs.declared.deposited.Deposited.TheVariants.{NoSlot, NotBegun, Kept, TooLarge, Faulted, Ended}
+use Rattle.fw_outside.specs.declared.heard.Stop.{Stop}
+use Rattle.session_acts.specs.Acts.{deposit_cause}
+use Rattle.session_acts.specs.Depositing.{Draws, data_stop_at_limit}
+use Rattle.session_acts.specs.Met.{AtClientDeposit, ClientDeposits, stop_of}
 
 -- whether no more bytes may be taken of the client
 abbrev pub none_left : Speaker → Bool
@@ -63,6 +71,18 @@ done_left off on old new is h =
     let leaves : LeavesSource ways.Done off.lost h.room h.drains.middle h.inlet = subst (λ (e : WayEnd). LeavesSource e off.lost h.room h.drains.middle h.inlet) is h.drains.leaves in
     ap none_left h.is ∙ ne_eqb h.room 0 leaves.0
 
+-- data that come to an end, or to that of the client, leave some
+draws_left : (stop : Option Stop) (data_heard : List ℕ) (old new : Speaker) → Draws stop data_heard old new → data_stop_at_limit stop ≡ false → none_left new ≡ false
+draws_left stop data_heard old new h less = ap none_left h.is ∙ sym h.spent ∙ less
+
+deposited_left : (words : List ℕ) (deposited : Deposited) (data_heard : List ℕ) (old new : Speaker) → ClientDeposits words deposited data_heard old new → none_left old ≡ false → none_left new ≡ false
+deposited_left words NoSlot data_heard old new h more = same_left old new h more
+deposited_left words NotBegun data_heard old new h more = same_left old new h more
+deposited_left words (Kept number bytes) data_heard old new h more = draws_left None data_heard h.middle new h.draws refl
+deposited_left words TooLarge data_heard old new h more = draws_left None data_heard h.middle new h.draws refl
+deposited_left words Faulted data_heard old new h more = draws_left None data_heard h.middle new h.draws refl
+deposited_left words Ended data_heard old new h more = draws_left (Some stops.End) data_heard h.middle new h.draws refl
+
 -- no act that is done takes all
 act_left : {Origin : Type 0} (act : Act) (answer : Answer act) (old new : World Origin) → Met act (Ok answer) old new → none_left old.client ≡ false → none_left new.client ≡ false
 act_left (Hear form) heard old new met more = line_left form heard old.client new.client met.client
@@ -79,6 +99,8 @@ act_left (Pass text) done old new met more = same_left old.client new.client met
 act_left HangUp done old new met more = same_left old.client new.client met.client more
 act_left Relay None old new met more = same_left old.client new.client met.client more
 act_left Relay (Some through) old new met more = done_left through.flow.up through.flow.down old.client new.client through.up met.client
+act_left (Deposit sender rcpts words most) answer old new met more = deposited_left words answer.0 answer.1 old.client new.client met.client more
+act_left Allot done old new met more = same_left old.client new.client met.client more
 
 -- a stop that takes all is one at the limit, or one of a relay
 abbrev pub IsSpentBy : Cause → Speaker → Type 0
@@ -137,6 +159,16 @@ silence_left fault form Quiet old new h = more_spent Idle new (heeds_left form (
 silence_left fault form Broken old new h = more_spent fault new (heeds_left form (Stopped stops.Failed) old new h ∙ sym h.listens.spent)
 silence_left fault form Limit old new h = λ none. refl
 
+data_left : (silence : Silence) (data_heard : List ℕ) (old new : Speaker) → Draws (Some (stop_of silence)) data_heard old new → IsSpentBy (silence_cause ClientFault silence) new
+data_left Quiet data_heard old new h = more_spent Idle new (draws_left (Some stops.Idle) data_heard old new h refl)
+data_left Broken data_heard old new h = more_spent ClientFault new (draws_left (Some stops.Failed) data_heard old new h refl)
+data_left Limit data_heard old new h = λ none. refl
+
+deposit_left : (words : List ℕ) (halt : Undeposited words) (old new : Speaker) → AtClientDeposit words (Err halt) old new → none_left old ≡ false → IsSpentBy (deposit_cause halt) new
+deposit_left words Lacks old new h more = more_spent NoMemory new (same_left old new h more)
+deposit_left words (Unsaid front) old new h more = more_spent ClientFault new (told_left words (Err front) old new h more)
+deposit_left words (Unheard silence data_heard) old new h more = data_left silence data_heard h.middle new h.draws
+
 stop_left : {Origin : Type 0} (relays : Bool) (act : Act) (halt : Halt act) (old new : World Origin) → Met act (Err halt) old new → old.names.relays ≡ relays → none_left old.client ≡ false → none_left new.client ≡ true → is_spent_or relays (ending_by (cause_by act halt)) ≡ true
 stop_left relays (Hear form) halt old new met lent more none = spent_or relays (ending_by (cause_by (Hear form) halt)) ((silence_left ClientFault form halt old.client new.client met.client) none)
 stop_left relays (Say text) halt old new met lent more none = spent_or relays (ending_by (cause_by (Say text) halt)) ((more_spent ClientFault new.client (told_left text (Err halt) old.client new.client met.client more)) none)
@@ -151,6 +183,8 @@ stop_left relays Take halt old new met lent more none = spent_or relays (ending_
 stop_left relays (Pass text) halt old new met lent more none = spent_or relays (ending_by (cause_by (Pass text) halt)) ((more_spent (cause_by (Pass text) halt) new.client (same_left old.client new.client met.client more)) none)
 stop_left relays HangUp halt old new met lent more none = absurd halt
 stop_left relays Relay halt old new met lent more none = relay_spent halt relays (sym lent ∙ met.may)
+stop_left relays (Deposit sender rcpts words most) halt old new met lent more none = spent_or relays (ending_by (deposit_cause halt)) (deposit_left words halt old.client new.client met.client more none)
+stop_left relays Allot halt old new met lent more none = spent_or relays (ending_by (cause_by Allot halt)) ((more_spent (cause_by Allot halt) new.client (same_left old.client new.client met.client more)) none)
 
 -- all that was taken
 none_by : (bytes : List ℕ) (left : ℕ) → most_taken ≡ length bytes + left → length bytes ≡ most_taken → (left == 0) ≡ true

@@ -97,6 +97,7 @@ dials_so source_view sink_view dest dialed up after link old mid met put comes m
         clears = subst (λ (s : Server). Clears old.server.link old.server.dialer s.dialer) (sym hanging.is) hanging.clears;
         connects = connects_so source_view sink_view dest dialed up mid.server.dialer after link put comes misses;
       };
+      store = met.store;
       names = met.names;
       may = tt;
     }

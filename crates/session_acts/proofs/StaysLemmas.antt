@@ -16,7 +16,7 @@ use Rattle.fw_types.specs.declared.dest.Dest.{Dest}
 use Rattle.relay_ways.specs.Carried.{Way}
 use Rattle.session_acts.specs.Relaying.{Flow, flow_of}
 use Rattle.session_acts.specs.Acts.{Act, Front, Outcome}
-use Rattle.session_acts.specs.Acts.Act.{Hear, Say, Try, Log, Note, Ask, Renew, Dial, Reach, Take, Pass, HangUp, Relay}
+use Rattle.session_acts.specs.Acts.Act.{Hear, Say, Try, Log, Note, Ask, Renew, Dial, Reach, Take, Pass, HangUp, Relay, Deposit, Allot}
 use Rattle.session_acts.specs.Deeds.{Lasts}
 use Rattle.session_acts.specs.Met.{Asking, AtClient, AtLogs, AtOffice, AtServer, Carrying, ClientRelays, Clears, ConnectsIf, Dialing, Gets, Hanging, Hears, Heeds, HeedsLine, IsTold, Met, Passes, ServerRelays, Takes, number_told, stop_of}
 use Rattle.session_acts.specs.World.{Office, Server, Speaker, World, most_taken}
@@ -24,6 +24,10 @@ use Rattle.session_acts.specs.declared.form.Form.{Form}
 use Rattle.session_acts.specs.declared.form.Form.TheVariants.{Lines}
 use Rattle.session_acts.specs.declared.silence.Silence.{Silence}
 use Rattle.session_acts.proofs.DeviceLemmas.{DialerKeeps, PortKeeps, SinkHolds, SinkKeeps, SourceKeeps, asks_port, both_dialer, both_holds, both_port, both_sink, both_source, drains_source, listens_source, rose_if, same_dialer, same_port, same_sink, same_source, sink_holds, supplies_sink}
+use Rattle.fw_outside.specs.declared.heard.Stop.{Stop}
+use Rattle.session_acts.specs.Depositing.{Draws}
+use Rattle.session_acts.proofs.DepositLemmas.{HoldsThen, deposit_by}
+use Rattle.session_acts.proofs.DeviceLemmas.{draws_source}
 
 -- ---- who is heard and told
 
@@ -66,6 +70,20 @@ relays_keeps : (flow : Option Flow) (old new : Speaker) → ClientRelays flow ol
 relays_keeps None old new h = same_speaker old new h
 relays_keeps (Some flow) old new h = carrying_keeps flow.up flow.down old new h
 
+draws_keeps : (stop : Option Stop) (data_heard : List ℕ) (old new : Speaker) → Draws stop data_heard old new → SpeakerKeeps old new
+draws_keeps stop data_heard old new h =
+    subst (λ (s : Speaker). SpeakerKeeps old s) (sym h.is) (record { source = draws_source stop data_heard old new h; sink = sink_holds old.outlet old.outlet (same_sink old.outlet) })
+
+both_keeps : (old mid new : Speaker) → SpeakerKeeps old mid → SpeakerKeeps mid new → SpeakerKeeps old new
+both_keeps old mid new a b = record { source = both_source old.inlet mid.inlet new.inlet old.reader mid.reader new.reader a.source b.source; sink = both_holds old.outlet mid.outlet new.outlet a.sink b.sink }
+
+deposit_keeps : (words : List ℕ) (old : Speaker) → HoldsThen (λ (s : Speaker). SpeakerKeeps old s) words old
+deposit_keeps words old = record {
+  stays = same_speaker old old refl;
+  cut = λ front new h. told_keeps words (Err front) old new h;
+  draws = λ stop data_heard new h. both_keeps old h.middle new (told_keeps words (Ok tt) old h.middle h.told) (draws_keeps stop data_heard h.middle new h.draws);
+}
+
 client_keeps : (act : Act) (outcome : Outcome act) (old new : Speaker) → AtClient act outcome old new → SpeakerKeeps old new
 client_keeps (Hear form) outcome old new h = hears_keeps form outcome old new h
 client_keeps (Say text) outcome old new h = told_keeps text outcome old new h
@@ -81,6 +99,8 @@ client_keeps Take outcome old new h = same_speaker old new h
 client_keeps (Pass text) outcome old new h = same_speaker old new h
 client_keeps HangUp outcome old new h = same_speaker old new h
 client_keeps Relay outcome old new h = relays_keeps (flow_of outcome) old new h
+client_keeps (Deposit sender rcpts words most) outcome old new h = deposit_by (λ (s : Speaker). SpeakerKeeps old s) words outcome old new (deposit_keeps words old) h
+client_keeps Allot outcome old new h = same_speaker old new h
 
 -- ---- the log
 
@@ -102,6 +122,8 @@ logs_keeps Take outcome old new h = same_logs old new h
 logs_keeps (Pass text) outcome old new h = same_logs old new h
 logs_keeps HangUp outcome old new h = same_logs old new h
 logs_keeps Relay outcome old new h = same_logs old new h
+logs_keeps (Deposit sender rcpts words most) outcome old new h = same_logs old new h
+logs_keeps Allot outcome old new h = same_logs old new h
 
 -- ---- the office
 
@@ -121,6 +143,8 @@ module _ {Origin : Type 0} where
   office_keeps (Say text) outcome old new h = same_office old new h
   office_keeps (Try text) outcome old new h = same_office old new h
   office_keeps (Log text) outcome old new h = same_office old new h
+  office_keeps (Deposit sender rcpts words most) outcome old new h = same_office old new h
+  office_keeps Allot outcome old new h = same_office old new h
   office_keeps (Note text) outcome old new h = same_office old new h
   office_keeps (Dial dest) outcome old new h = same_office old new h
   office_keeps (Reach dest) outcome old new h = same_office old new h
@@ -236,6 +260,8 @@ server_keeps (Hear form) outcome old new h = same_server old new h
 server_keeps (Say text) outcome old new h = same_server old new h
 server_keeps (Try text) outcome old new h = same_server old new h
 server_keeps (Log text) outcome old new h = same_server old new h
+server_keeps (Deposit sender rcpts words most) outcome old new h = same_server old new h
+server_keeps Allot outcome old new h = same_server old new h
 server_keeps (Note text) outcome old new h = same_server old new h
 server_keeps (Ask request) outcome old new h = same_server old new h
 server_keeps (Renew name hash) outcome old new h = same_server old new h

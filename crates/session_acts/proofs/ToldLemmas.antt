@@ -8,13 +8,21 @@ use Rattle.fw_outside.specs.declared.heard.Stop.TheVariants as stops
 use Rattle.session_acts.specs.Relaying.{Flow, flow_of, given_down}
 use Rattle.session_acts.proofs.DeviceLemmas.{supplies_given}
 use Rattle.session_acts.specs.Acts.{Act, Front, Outcome}
-use Rattle.session_acts.specs.Acts.Act.{Hear, Say, Try, Log, Note, Ask, Renew, Dial, Reach, Take, Pass, HangUp, Relay}
+use Rattle.session_acts.specs.Acts.Act.{Hear, Say, Try, Log, Note, Ask, Renew, Dial, Reach, Take, Pass, HangUp, Relay, Deposit, Allot}
 use Rattle.session_acts.specs.Deeds.{Gains}
 use Rattle.session_acts.specs.Laws.{TellsClient, TellsLog, got, logged, told}
 use Rattle.session_acts.specs.Met.{ClientRelays, Gets, Hears, HeedsLine, Met}
 use Rattle.session_acts.specs.World.{Speaker, World}
 use Rattle.session_acts.specs.declared.form.Form.{Form}
 use Rattle.session_acts.specs.declared.silence.Silence.{Silence}
+use Rattle.session_acts.specs.Acts.{Undeposited}
+use Rattle.session_acts.specs.Acts.Undeposited.{Lacks, Unsaid, Unheard}
+use Rattle.session_acts.specs.declared.deposited.Deposited.{Deposited}
+use Rattle.session_acts.specs.declared.deposited.Deposited.TheVariants.{NoSlot, NotBegun, Kept, TooLarge, Faulted, Ended}
+use Rattle.fw_outside.specs.declared.heard.Stop.{Stop}
+use Rattle.session_acts.specs.Laws.{words_if, words_told}
+use Rattle.session_acts.specs.Met.{AtClientDeposit, ClientDeposits, DrawsAfter, IsTold, stop_of}
+use Rattle.session_acts.proofs.DepositLemmas.{draws_outlet}
 
 pub by_nothing : (bytes : Option (List ℕ)) → bytes ≡ grown bytes []
 by_nothing None = refl
@@ -49,6 +57,29 @@ relays_told : (flow : Option Flow) (old new : Speaker) → ClientRelays flow old
 relays_told None old new h = same_sink old.outlet new.outlet (ap (λ (s : Speaker). s.outlet) h)
 relays_told (Some flow) old new h = ap (λ (s : Speaker). s.outlet.given) h.is ∙ supplies_given flow.down old.outlet h.outlet h.supplies
 
+words_given : (words : List ℕ) (outcome : Result (Unit {0}) (Front words)) (old new : Speaker) → IsTold words outcome old new → new.outlet.given ≡ grown old.outlet.given (got outcome)
+words_given words outcome old new h = ap (λ (s : Speaker). s.outlet.given) h.is ∙ gets_grew words outcome old.outlet h.outlet h.gets
+
+draws_told : (words : List ℕ) (stop : Option Stop) (data_heard : List ℕ) (old new : Speaker) → DrawsAfter words stop data_heard old new → new.outlet.given ≡ grown old.outlet.given words
+draws_told words stop data_heard old new h = ap (λ (s : SinkView). s.given) (draws_outlet stop data_heard h.middle new h.draws) ∙ words_given words (Ok tt) old h.middle h.told
+
+stays_told : (old new : Speaker) → new ≡ old → new.outlet.given ≡ grown old.outlet.given []
+stays_told old new h = same_sink old.outlet new.outlet (ap (λ (s : Speaker). s.outlet) h)
+
+deposited_told : (words : List ℕ) (deposited : Deposited) (data_heard : List ℕ) (old new : Speaker) → ClientDeposits words deposited data_heard old new → new.outlet.given ≡ grown old.outlet.given (words_if deposited words)
+deposited_told words NoSlot data_heard old new h = stays_told old new h
+deposited_told words NotBegun data_heard old new h = stays_told old new h
+deposited_told words (Kept number bytes) data_heard old new h = draws_told words None data_heard old new h
+deposited_told words TooLarge data_heard old new h = draws_told words None data_heard old new h
+deposited_told words Faulted data_heard old new h = draws_told words None data_heard old new h
+deposited_told words Ended data_heard old new h = draws_told words (Some stops.End) data_heard old new h
+
+deposit_told : (words : List ℕ) (outcome : Result (Deposited × List ℕ) (Undeposited words)) (old new : Speaker) → AtClientDeposit words outcome old new → new.outlet.given ≡ grown old.outlet.given (words_told outcome)
+deposit_told words (Ok answer) old new h = deposited_told words answer.0 answer.1 old new h
+deposit_told words (Err Lacks) old new h = stays_told old new h
+deposit_told words (Err (Unsaid front)) old new h = words_given words (Err front) old new h
+deposit_told words (Err (Unheard silence data_heard)) old new h = draws_told words (Some (stop_of silence)) data_heard old new h
+
 module _ {Origin : Type 0} where
   same_client : (old new : World Origin) → new.client ≡ old.client → TellsClient [] old new
   same_client old new same = same_sink old.client.outlet new.client.outlet (ap (λ (s : Speaker). s.outlet) same)
@@ -70,6 +101,8 @@ module _ {Origin : Type 0} where
   told_one (Pass text) outcome old new met = same_client old new met.client
   told_one HangUp outcome old new met = same_client old new met.client
   told_one Relay outcome old new met = relays_told (flow_of outcome) old.client new.client met.client
+  told_one (Deposit sender rcpts words most) outcome old new met = deposit_told words outcome old.client new.client met.client
+  told_one Allot outcome old new met = same_client old new met.client
 
   pub told_gains : Gains Origin told TellsClient
   told_gains = record {
@@ -93,6 +126,8 @@ module _ {Origin : Type 0} where
   logged_one (Pass text) outcome old new met = same_sink old.logs new.logs met.logs
   logged_one HangUp outcome old new met = same_sink old.logs new.logs met.logs
   logged_one Relay outcome old new met = same_sink old.logs new.logs met.logs
+  logged_one (Deposit sender rcpts words most) outcome old new met = same_sink old.logs new.logs met.logs
+  logged_one Allot outcome old new met = same_sink old.logs new.logs met.logs
 
   pub logged_gains : Gains Origin logged TellsLog
   logged_gains = record {

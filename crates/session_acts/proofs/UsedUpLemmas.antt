@@ -13,7 +13,7 @@ use Rattle.fw_outside.specs.declared.heard.Heard.{Heard}
 use Rattle.fw_types.specs.declared.dest.Dest.{Dest}
 use Rattle.fw_types.specs.declared.ending.Ending.{Ending}
 use Rattle.session_acts.specs.Acts.{Act, Answer, Front, Halt, cause_by, silence_cause}
-use Rattle.session_acts.specs.Acts.Act.{Hear, Say, Try, Log, Note, Ask, Renew, Dial, Reach, Take, Pass, HangUp, Relay}
+use Rattle.session_acts.specs.Acts.Act.{Hear, Say, Try, Log, Note, Ask, Renew, Dial, Reach, Take, Pass, HangUp, Relay, Deposit, Allot}
 use Rattle.session_acts.specs.Causes.{is_spent_or}
 use Rattle.session_acts.specs.Deeds.{deeds_ran, done}
 use Rattle.session_acts.specs.Met.{Dialing, Met, Passes, ServerRelays, Takes, acts}
@@ -71,6 +71,8 @@ link_left (Hear form) heard old new met more = same_link old.server new.server m
 link_left (Say text) done old new met more = same_link old.server new.server met.server more
 link_left (Try text) tried old new met more = same_link old.server new.server met.server more
 link_left (Log text) done old new met more = same_link old.server new.server met.server more
+link_left (Deposit sender rcpts words most) done old new met more = same_link old.server new.server met.server more
+link_left Allot done old new met more = same_link old.server new.server met.server more
 link_left (Note text) done old new met more = same_link old.server new.server met.server more
 link_left (Ask request) reply old new met more = same_link old.server new.server met.server more
 link_left (Renew name hash) salted old new met more = same_link old.server new.server met.server more
@@ -90,6 +92,8 @@ stop_used relays (Hear form) halt old new met lent more all = not_used (cause_by
 stop_used relays (Say text) halt old new met lent more all = not_used (cause_by (Say text) halt) relays (used_up new.server.link) (same_link old.server new.server met.server more) all
 stop_used relays (Try text) halt old new met lent more all = absurd halt
 stop_used relays (Log text) halt old new met lent more all = not_used (cause_by (Log text) halt) relays (used_up new.server.link) (same_link old.server new.server met.server more) all
+stop_used relays (Deposit sender rcpts words most) halt old new met lent more all = not_used (cause_by (Deposit sender rcpts words most) halt) relays (used_up new.server.link) (same_link old.server new.server met.server more) all
+stop_used relays Allot halt old new met lent more all = not_used (cause_by Allot halt) relays (used_up new.server.link) (same_link old.server new.server met.server more) all
 stop_used relays (Note text) halt old new met lent more all = absurd halt
 stop_used relays (Ask request) halt old new met lent more all = not_used (cause_by (Ask request) halt) relays (used_up new.server.link) (same_link old.server new.server met.server more) all
 stop_used relays (Renew name hash) halt old new met lent more all = not_used (cause_by (Renew name hash) halt) relays (used_up new.server.link) (same_link old.server new.server met.server more) all

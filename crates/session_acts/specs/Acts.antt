@@ -8,6 +8,7 @@ use Rattle.fw_outside.specs.declared.heard.Heard.{Heard}
 use Rattle.fw_types.specs.declared.dest.Dest.{Dest}
 use Rattle.session_acts.specs.Relaying.{Stuck, Through}
 use Rattle.session_acts.specs.declared.cause.Cause.{Cause}
+use Rattle.session_acts.specs.declared.deposited.Deposited.{Deposited}
 use Rattle.session_acts.specs.declared.form.Form.{Form}
 use Rattle.session_acts.specs.declared.silence.Silence.{Silence}
 use Rattle.session_acts.specs.declared.silence.Silence.TheVariants.{Quiet, Broken, Limit}
@@ -16,7 +17,8 @@ use Rattle.session_acts.specs.declared.cause.Cause.TheVariants.{ClientFault, Ser
 -- To the client: hear a line of it, in one of the forms; say a text; try to say one. To the log: log a text, and note one.
 -- At the port: ask, at a moment of the clock; and renew a password, which is salted by the dice. To the server: dial a
 -- destination; reach one; take a line of the server; pass a text to it; hang up. Between both: relay, both ways at once, to
--- the ends of both. What is tried or noted never stops the session. Dialing is answered by whether the link came up, and
+-- the ends of both. With the client and the mail store: deposit a message, for which a slot is taken, these words are said and
+-- the client's data heard. And for itself: allot memory. What is tried or noted never stops the session. Dialing is answered by whether the link came up, and
 -- reaching stops where it doesn't; both first hang up a link that is up.
 pub data Act : Type 0 where
   Hear : (form : Form) → Act
@@ -32,6 +34,8 @@ pub data Act : Type 0 where
   Pass : (text : List ℕ) → Act
   HangUp : Act
   Relay : Act
+  Deposit : (sender : List ℕ) (rcpts : List (List ℕ)) (words : List ℕ) (most : ℕ) → Act
+  Allot : Act
 
 -- a front of a text, which isn't all of it, unless there is nothing in it
 pub record Front (text : List ℕ) : Type 0 where
@@ -40,6 +44,14 @@ pub record Front (text : List ℕ) : Type 0 where
   pub cut : text ≡ part ++ rest
   pub short : text ≢ [] → rest ≢ []
 
+-- Why it isn't known what became of a message: there was no memory to begin it; the words weren't given; or the source
+-- stopped within the data, of which these were heard.
+pub data Undeposited (words : List ℕ) : Type 0 where
+  Lacks : Undeposited words
+  Unsaid : (front : Front words) → Undeposited words
+  Unheard : (silence : Silence) (data_heard : List ℕ) → Undeposited words
+
+-- A message's answer comes with the data that were heard, as they came.
 abbrev pub Answer : Act → Type 0
 Answer (Hear form) = Heard
 Answer (Say text) = Unit {0}
@@ -54,6 +66,8 @@ Answer Take = Heard
 Answer (Pass text) = Unit {0}
 Answer HangUp = Unit {0}
 Answer Relay = Option Through
+Answer (Deposit sender rcpts words most) = Deposited × List ℕ
+Answer Allot = Unit {0}
 
 -- in which ways an act stops
 abbrev pub Halt : Act → Type 0
@@ -70,6 +84,8 @@ Halt Take = Silence
 Halt (Pass text) = Front text
 Halt HangUp = ⊥
 Halt Relay = Stuck
+Halt (Deposit sender rcpts words most) = Undeposited words
+Halt Allot = Unit {0}
 
 -- an act is done, with an answer, or stops
 abbrev pub Outcome : Act → Type 0
@@ -88,6 +104,11 @@ silence_cause fault Quiet = Idle
 silence_cause fault Broken = fault
 silence_cause fault Limit = Spent
 
+abbrev pub deposit_cause : {words : List ℕ} → Undeposited words → Cause
+deposit_cause Lacks = NoMemory
+deposit_cause (Unsaid front) = ClientFault
+deposit_cause (Unheard silence data_heard) = silence_cause ClientFault silence
+
 abbrev pub cause_by : (act : Act) → Halt act → Cause
 cause_by (Hear form) halt = silence_cause ClientFault halt
 cause_by (Say text) halt = ClientFault
@@ -102,3 +123,5 @@ cause_by Take halt = silence_cause ServerFault halt
 cause_by (Pass text) halt = ServerFault
 cause_by HangUp halt = absurd halt
 cause_by Relay halt = halt.cause
+cause_by (Deposit sender rcpts words most) halt = deposit_cause halt
+cause_by Allot halt = NoMemory

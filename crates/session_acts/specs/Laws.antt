@@ -5,10 +5,13 @@ use Rattle.fw_outside.specs.ToldList.{grown}
 use Rattle.fw_outside.specs.declared.ask.Ask.TheVariants.{Main}
 use Rattle.fw_outside.specs.declared.ask.Ask as asks
 use Rattle.fw_types.specs.declared.dest.Dest.{Dest}
-use Rattle.session_acts.specs.Acts.{Act, Front, Outcome}
-use Rattle.session_acts.specs.Acts.Act.{Say, Try, Log, Note, Dial, Reach, Relay}
+use Rattle.session_acts.specs.Acts.{Act, Front, Outcome, Undeposited}
+use Rattle.session_acts.specs.Acts.Act.{Say, Try, Log, Note, Dial, Reach, Relay, Deposit}
+use Rattle.session_acts.specs.Acts.Undeposited.{Lacks, Unsaid, Unheard}
 use Rattle.session_acts.specs.Relaying.{flow_of, given_down}
 use Rattle.session_acts.specs.World.{Speaker, World}
+use Rattle.session_acts.specs.declared.deposited.Deposited.{Deposited}
+use Rattle.session_acts.specs.declared.deposited.Deposited.TheVariants.{NoSlot, NotBegun}
 
 -- ---- what the client and the log are given
 
@@ -21,11 +24,24 @@ abbrev pub got_trying : {text : List ℕ} {Never : Type 0} → Result (Result (U
 got_trying (Ok tried) = got tried
 got_trying (Err never) = []
 
--- what the client is told: what is said, what is tried, and what a relay carries to it
+-- the words that a message's data follow are said once a slot is taken and the message begun
+abbrev pub words_if : Deposited → List ℕ → List ℕ
+words_if NoSlot words = []
+words_if NotBegun words = []
+words_if deposited words = words
+
+abbrev pub words_told : {words : List ℕ} → Result (Deposited × List ℕ) (Undeposited words) → List ℕ
+words_told {words} (Ok answer) = words_if answer.0 words
+words_told (Err Lacks) = []
+words_told (Err (Unsaid front)) = front.part
+words_told {words} (Err (Unheard silence data_heard)) = words
+
+-- what the client is told: what is said, what is tried, what a relay carries to it, and what is said before a message's data
 abbrev pub told : (act : Act) → Outcome act → List ℕ
 told (Say text) outcome = got outcome
 told (Try text) outcome = got_trying outcome
 told Relay outcome = given_down (flow_of outcome)
+told (Deposit sender rcpts words most) outcome = words_told outcome
 told act outcome = []
 
 -- what the log is given: what is logged and what is noted

@@ -4,11 +4,13 @@ pub mod Client
 pub mod Closing
 pub mod Course
 pub mod Deeds
+pub mod Depositing
 pub mod Denying
 pub mod Distance
 pub mod Forms
 pub mod FullPort
 pub mod Hearing
+pub mod Intake
 pub mod Laws
 pub mod Link
 pub mod Met
@@ -21,6 +23,7 @@ pub mod RelayLast
 pub mod Finishing
 pub mod Said
 pub mod Session
+pub mod Stored
 pub mod Talk
 pub mod World
 pub mod LastStop

@@ -22,12 +22,17 @@ use Rattle.fw_outside.specs.declared.heard.Stop.{Stop}
 use Rattle.fw_outside.specs.declared.heard.Stop.TheVariants as stops
 use Rattle.fw_types.specs.declared.dest.Dest.{Dest}
 use Rattle.relay_ways.specs.Carried.{Drains, Supplies, Way}
-use Rattle.session_acts.specs.Acts.{Act, Answer, Front, Halt, Outcome, cause_by}
-use Rattle.session_acts.specs.Acts.Act.{Hear, Say, Try, Log, Note, Ask, Renew, Dial, Reach, Take, Pass, HangUp, Relay}
+use Rattle.spool_rack.specs.Store.{StoreView}
+use Rattle.session_acts.specs.Acts.{Act, Answer, Front, Halt, Outcome, Undeposited, cause_by}
+use Rattle.session_acts.specs.Acts.Act.{Hear, Say, Try, Log, Note, Ask, Renew, Dial, Reach, Take, Pass, HangUp, Relay, Deposit, Allot}
+use Rattle.session_acts.specs.Acts.Undeposited.{Lacks, Unsaid, Unheard}
+use Rattle.session_acts.specs.Depositing.{AtStoreDeposit, Draws}
 use Rattle.session_acts.specs.Forms.{ListensIn}
 use Rattle.session_acts.specs.Relaying.{Flow, Through, flow_of}
 use Rattle.session_acts.specs.World.{Names, Office, Server, Speaker, World, unheard}
 use Rattle.session_acts.specs.declared.cause.Cause.{Cause}
+use Rattle.session_acts.specs.declared.deposited.Deposited.{Deposited}
+use Rattle.session_acts.specs.declared.deposited.Deposited.TheVariants.{NoSlot, NotBegun, Kept, TooLarge, Faulted, Ended}
 use Rattle.session_acts.specs.declared.form.Form.{Form}
 use Rattle.session_acts.specs.declared.form.Form.TheVariants.{Lines}
 use Rattle.session_acts.specs.declared.silence.Silence.{Silence}
@@ -97,6 +102,26 @@ pub record Carrying (off on : Way) (old new : Speaker) : Type 0 where
   pub supplies : Supplies on old.outlet outlet
   pub is : new ≡ record { inlet = inlet; reader = record { pending = []; room = room }; outlet = outlet }
 
+-- the words were said, and then data heard, to their end or to where the source stopped
+pub record DrawsAfter (words : List ℕ) (stop : Option Stop) (data_heard : List ℕ) (old new : Speaker) : Type 0 where
+  pub middle : Speaker
+  pub told : IsTold words (Ok tt) old middle
+  pub draws : Draws stop data_heard middle new
+
+abbrev pub ClientDeposits : List ℕ → Deposited → List ℕ → Speaker → Speaker → Type 0
+ClientDeposits words NoSlot data_heard old new = new ≡ old
+ClientDeposits words NotBegun data_heard old new = new ≡ old
+ClientDeposits words (Kept number bytes) data_heard old new = DrawsAfter words None data_heard old new
+ClientDeposits words TooLarge data_heard old new = DrawsAfter words None data_heard old new
+ClientDeposits words Faulted data_heard old new = DrawsAfter words None data_heard old new
+ClientDeposits words Ended data_heard old new = DrawsAfter words (Some stops.End) data_heard old new
+
+abbrev pub AtClientDeposit : (words : List ℕ) → Result (Deposited × List ℕ) (Undeposited words) → Speaker → Speaker → Type 0
+AtClientDeposit words (Ok answer) old new = ClientDeposits words answer.0 answer.1 old new
+AtClientDeposit words (Err Lacks) old new = new ≡ old
+AtClientDeposit words (Err (Unsaid front)) old new = IsTold words (Err front) old new
+AtClientDeposit words (Err (Unheard silence data_heard)) old new = DrawsAfter words (Some (stop_of silence)) data_heard old new
+
 -- ---- the client and the log
 
 abbrev pub ClientRelays : Option Flow → Speaker → Speaker → Type 0
@@ -108,6 +133,7 @@ AtClient (Hear form) outcome old new = Hears form outcome old new
 AtClient (Say text) outcome old new = IsTold text outcome old new
 AtClient (Try text) outcome old new = IsTriedTold text outcome old new
 AtClient Relay outcome old new = ClientRelays (flow_of outcome) old new
+AtClient (Deposit sender rcpts words most) outcome old new = AtClientDeposit words outcome old new
 AtClient act outcome old new = new ≡ old
 
 abbrev pub AtLogs : (act : Act) → Outcome act → SinkView → SinkView → Type 0
@@ -258,6 +284,12 @@ AtServer HangUp outcome old new = HangsUpServer outcome old new
 AtServer Relay outcome old new = ServerRelays (flow_of outcome) old.link old new
 AtServer act outcome old new = new ≡ old
 
+-- ---- the mail store
+
+abbrev pub AtStore : (act : Act) → Outcome act → StoreView → StoreView → Type 0
+AtStore (Deposit sender rcpts words most) outcome old new = AtStoreDeposit sender rcpts words most outcome old new
+AtStore act outcome old new = new ≡ old
+
 -- ---- all parts
 
 -- only a session that is lent threads relays
@@ -271,6 +303,7 @@ pub record Met {Origin : Type 0} (act : Act) (outcome : Outcome act) (old new : 
   pub logs : AtLogs act outcome old.logs new.logs
   pub office : AtOffice act outcome old.office new.office
   pub server : AtServer act outcome old.server new.server
+  pub store : AtStore act outcome old.store new.store
   pub names : new.names ≡ old.names
   pub may : May act old.names
 
@@ -309,3 +342,12 @@ pub record RelayDone {Origin : Type 0} (old new : World Origin) : Type 0 where
 abbrev pub Relays : {Origin : Type 0} → Result (Unit {0}) Cause → World Origin → World Origin → Type 0
 Relays (Ok done) old new = RelayDone old new
 Relays (Err cause) old new = Stops Relay cause old new
+
+-- a message was deposited, of which these data were heard, or the session stopped at it
+pub record DepositDone {Origin : Type 0} (sender : List ℕ) (rcpts : List (List ℕ)) (words : List ℕ) (most : ℕ) (deposited : Deposited) (old new : World Origin) : Type 0 where
+  pub data_heard : List ℕ
+  pub met : Met (Deposit sender rcpts words most) (Ok (deposited, data_heard)) old new
+
+abbrev pub Deposits : {Origin : Type 0} → List ℕ → List (List ℕ) → List ℕ → ℕ → Result Deposited Cause → World Origin → World Origin → Type 0
+Deposits sender rcpts words most (Ok deposited) old new = DepositDone sender rcpts words most deposited old new
+Deposits sender rcpts words most (Err cause) old new = Stops (Deposit sender rcpts words most) cause old new

@@ -1,5 +1,5 @@
--- What a session meets, in four parts: the client, the log, the office where it asks, and the server.
-use Rattle.std.specs.Prelude.{ℕ, ◌^◌, Bool, List, [], Option, None}
+-- What a session meets, in five parts: the client, the log, the office where it asks, the server, and the mail store.
+use Rattle.std.specs.Prelude.{ℕ, ◌-◌, ◌^◌, Bool, List, [], Option, None}
 use Rattle.auth_events.specs.Port.{Port}
 use Rattle.fw_outside.specs.ClockView.{ClockView}
 use Rattle.fw_outside.specs.DialerView.{DialerView}
@@ -7,6 +7,7 @@ use Rattle.fw_outside.specs.DiceView.{DiceView}
 use Rattle.fw_outside.specs.LineReaderView.{LineReaderView}
 use Rattle.fw_outside.specs.SinkView.{SinkView}
 use Rattle.fw_outside.specs.SourceView.{SourceView}
+use Rattle.spool_rack.specs.Store.{StoreView}
 
 -- who says lines and is told texts, the client or the server: what comes from there, the buffer behind which it is heard,
 -- and what goes there
@@ -38,6 +39,7 @@ pub record World (Origin : Type 0) : Type 0 where
   pub logs : SinkView
   pub office : Office Origin
   pub server : Server
+  pub store : StoreView
   pub names : Names
 
 -- no more bytes than these are taken from a client, or from a server over one link
@@ -58,9 +60,17 @@ pub record Devices (Origin : Type 0) : Type 0 where
   pub clock : ClockView
   pub dice : DiceView
   pub dialer : DialerView
+  pub store : StoreView
+
+abbrev pub mail_devices_with : {Origin : Type 0} → Port Origin → SourceView → SinkView → SinkView → DialerView → ClockView → DiceView → StoreView → Devices Origin
+mail_devices_with port inlet outlet logs dialer clock dice store = record { inlet = inlet; outlet = outlet; logs = logs; port = port; clock = clock; dice = dice; dialer = dialer; store = store }
+
+-- the store of a session that has none: it tells nothing, has no slot, and its counts stand at their last value
+abbrev pub no_store : StoreView
+no_store = record { queues = None; handed = None; out = []; no_free = 2 ^ 64 - 1; no_full = 2 ^ 64 - 1; broken = 2 ^ 64 - 1 }
 
 abbrev pub devices_with : {Origin : Type 0} → Port Origin → SourceView → SinkView → SinkView → DialerView → ClockView → DiceView → Devices Origin
-devices_with port inlet outlet logs dialer clock dice = record { inlet = inlet; outlet = outlet; logs = logs; port = port; clock = clock; dice = dice; dialer = dialer }
+devices_with port inlet outlet logs dialer clock dice = mail_devices_with port inlet outlet logs dialer clock dice no_store
 
 -- at first nothing was heard, no session is open and no link is up
 abbrev pub at_first : {Origin : Type 0} → Devices Origin → Names → World Origin
@@ -69,6 +79,7 @@ at_first devices names = record {
   logs = devices.logs;
   office = record { port = devices.port; clock = devices.clock; dice = devices.dice; opened = None };
   server = record { dialer = devices.dialer; link = None };
+  store = devices.store;
   names = names;
 }
 
@@ -81,4 +92,5 @@ devices_of world = record {
   clock = world.office.clock;
   dice = world.office.dice;
   dialer = world.server.dialer;
+  store = world.store;
 }

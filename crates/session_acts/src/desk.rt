@@ -6,11 +6,14 @@ ghost use Rattle.session_acts.specs.Acts.{fault_cause, silence_cause};
 ghost use Rattle.session_acts.specs.Link.{link_view};
 ghost use Rattle.session_acts.specs.Met.{Asking, opened_then, reply_of};
 
+use crate::depositing::deposit;
 use crate::link::{Link, heed, pass_text, put_up, take_line};
-use crate::{Cause, Form, Silence, Stage};
+use crate::{Cause, Deposited, Form, Silence, Stage};
 use auth_events::{AuthPort, PortFault, Reply, Request};
 use fw_outside::{Clock, Dialer, Dice, Failed, Heard, LineReader, Sink, Source};
-use fw_types::{Dest, Name};
+use fw_types::{Dest, Name, OctetsList};
+use spool_rack::MailStore;
+use std::alloc::Global;
 
 /// The devices that a session is lent. The link stands outside of it, so that whoever lends it learns what became of it.
 #[derive(Drop)]
@@ -23,6 +26,7 @@ pub(crate) struct Desk<
     'l,
     'c,
     'r,
+    'm,
     P: AuthPort,
     S: Source,
     K: Sink,
@@ -30,6 +34,7 @@ pub(crate) struct Desk<
     D: Dialer,
     C: Clock,
     R: Dice,
+    M: MailStore,
 > {
     pub(crate) port: &'p mut P,
     pub(crate) from: &'s mut S,
@@ -39,6 +44,7 @@ pub(crate) struct Desk<
     pub(crate) link: &'l mut Option<Link<D::In, D::Out>>,
     pub(crate) clock: &'c mut C,
     pub(crate) dice: &'r mut R,
+    pub(crate) store: &'m mut M,
     pub(crate) reader: LineReader,
     pub(crate) opened: Option<u64>,
     pub(crate) relays: bool,
@@ -100,8 +106,8 @@ fn ask<P: AuthPort, C: Clock>(
     reply
 }
 
-impl<'p, 's, 'k, 'g, 'd, 'l, 'c, 'r, P, S, K, G, D, C, R> Stage
-    for Desk<'p, 's, 'k, 'g, 'd, 'l, 'c, 'r, P, S, K, G, D, C, R>
+impl<'p, 's, 'k, 'g, 'd, 'l, 'c, 'r, 'm, P, S, K, G, D, C, R, M> Stage
+    for Desk<'p, 's, 'k, 'g, 'd, 'l, 'c, 'r, 'm, P, S, K, G, D, C, R, M>
 where
     P: AuthPort,
     S: Source,
@@ -110,6 +116,7 @@ where
     D: Dialer,
     C: Clock,
     R: Dice,
+    M: MailStore,
 {
     type Origin = P::Origin;
 
@@ -118,7 +125,8 @@ where
       logs = G.sink_view d.logs.now;
       office = record { port = P.port d.port.now; clock = C.clock_view d.clock.now; dice = R.dice_view d.dice.now; opened = d.opened };
       server = record { dialer = D.dialer_view d.dialer.now; link = link_view D.In.source_view D.Out.sink_view d.link.now };
-      names = record { devices = d.port.ghost_name ∷ d.from.ghost_name ∷ d.to.ghost_name ∷ d.logs.ghost_name ∷ d.dialer.ghost_name ∷ d.link.ghost_name ∷ d.clock.ghost_name ∷ d.dice.ghost_name ∷ []; relays = d.relays };
+      store = M.store_view d.store.now;
+      names = record { devices = d.port.ghost_name ∷ d.from.ghost_name ∷ d.to.ghost_name ∷ d.logs.ghost_name ∷ d.dialer.ghost_name ∷ d.link.ghost_name ∷ d.clock.ghost_name ∷ d.dice.ghost_name ∷ d.store.ghost_name ∷ []; relays = d.relays };
     } };
 
     fn is_open(&self) -> bool {
@@ -208,5 +216,33 @@ where
         if let Some(up) = self.link.take() {
             self.dialer.hang_up(up.from, up.to);
         }
+    }
+
+    fn deposit(
+        &mut self,
+        alloc: Global,
+        sender: &[u8],
+        rcpts: &OctetsList,
+        words: &[u8],
+        most: u32,
+    ) -> Result<Deposited, Cause> {
+        deposit(
+            &mut self.reader,
+            self.from,
+            self.to,
+            self.store,
+            alloc,
+            sender,
+            rcpts,
+            words,
+            most,
+        )
+    }
+
+    fn allot(&mut self, lacks: bool) -> Result<(), Cause> {
+        if lacks {
+            return Err(Cause::NoMemory);
+        }
+        Ok(())
     }
 }

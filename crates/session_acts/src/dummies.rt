@@ -1,10 +1,14 @@
 //! Devices that stand in for those which a kind of session doesn't have.
-ghost use Rattle.std.specs.Prelude.{◌≡◌, None};
+ghost use Rattle.std.specs.Prelude.{◌≡◌, None, refl};
+ghost use Rattle.fw_outside.specs.Counts.{Rose};
 ghost use Rattle.fw_outside.specs.SourceView.{fresh, waiting};
-ghost use Rattle.session_acts.specs.Dummies.{nowhere, silent};
+ghost use Rattle.session_acts.specs.Dummies.{failing, nowhere, silent};
+ghost use Rattle.session_acts.specs.World.{no_store};
 
+use fw_disk::Disk;
 use fw_outside::{Dialed, Dialer, Failed, Got, Sink, Source};
 use fw_types::Dest;
+use spool_rack::{Aside, Broken, Free, Full, MailStore, SlotStore};
 use std::marker::Model;
 
 /// A sink that tells nothing of what it is given, and never fails: the log of a session that has none.
@@ -41,6 +45,10 @@ impl Source for NoSource {
     }
 }
 
+/// A door that never opens.
+#[derive(Drop)]
+pub struct NoDoor;
+
 /// A dialer that refuses all: that of a session which has no server.
 #[derive(Drop)]
 pub struct Nowhere {
@@ -67,6 +75,13 @@ impl Nowhere {
             waits: 3600,
         }
     }
+
+    fn refuse(&mut self)
+        ensures rose { Rose self.old.refusals self.new.refusals }
+        ensures is { self.new ≡ record self.old { refusals = self.new.refusals } }
+    {
+        self.refusals = self.refusals.saturating_add(1);
+    }
 }
 
 impl Dialer for Nowhere {
@@ -74,10 +89,36 @@ impl Dialer for Nowhere {
 
     type Out = Silent;
 
+    type DataIn = NoSource;
+
+    type DataOut = Silent;
+
+    type Door = NoDoor;
+
     ghost dialer_view = { λ dialer. dialer };
 
     fn dial(&mut self, _dest: &Dest) -> Dialed<NoSource, Silent> {
-        self.refusals = self.refusals.saturating_add(1);
+        self.refuse();
+        Dialed::Refused
+    }
+
+    fn side(&mut self, _dest: &Dest) -> Dialed<NoSource, Silent> {
+        self.refuse();
+        Dialed::Refused
+    }
+
+    fn back(&mut self, _addr: [u8; 4], _port: u16) -> Dialed<NoSource, Silent> {
+        self.refuse();
+        Dialed::Refused
+    }
+
+    fn door(&mut self) -> Option<(NoDoor, [u8; 4], u16)> {
+        self.refuse();
+        None
+    }
+
+    fn accept(&mut self, _door: &mut NoDoor) -> Dialed<NoSource, Silent> {
+        self.refuse();
         Dialed::Refused
     }
 
@@ -86,7 +127,90 @@ impl Dialer for Nowhere {
         let _ = &self.waits;
     }
 
+    fn let_go(&mut self, _from: NoSource, _to: Silent) {
+        let _ = &self.waits;
+    }
+
     fn patience(&mut self, seconds: u32) {
         self.waits = seconds;
     }
+}
+
+/// The disk of a slot that isn't there: each call fails.
+#[derive(Drop)]
+pub struct NoDisk;
+
+impl Disk for NoDisk {
+    ghost disk_view = { λ disk. failing };
+
+    fn read(&mut self, _at: u64, _buf: &mut [u8]) -> Result<usize, Failed> {
+        Err(Failed)
+    }
+
+    fn write_at(&mut self, _at: u64, _bytes: &[u8]) -> Result<(), Failed> {
+        Err(Failed)
+    }
+
+    fn cut(&mut self, _len: u64) -> Result<(), Failed> {
+        Err(Failed)
+    }
+
+    fn sync(&mut self) -> Result<(), Failed> {
+        Err(Failed)
+    }
+
+    fn doubt(&mut self) {}
+}
+
+/// The mail store of a session that has none: it has no slot.
+#[derive(Drop)]
+pub struct NoStore;
+
+impl SlotStore for NoStore {
+    type Free = Free<NoDisk>;
+
+    type Full = Full<NoDisk>;
+
+    type Aside = Aside<NoDisk>;
+
+    type Broken = Broken<NoDisk>;
+
+    ghost store_view = { λ store. no_store };
+
+    ghost free_view = { λ slot. slot };
+
+    ghost full_view = { λ slot. slot };
+
+    ghost aside_view = { λ slot. slot };
+
+    ghost broken_view = { λ slot. slot };
+
+    fn take_free(&mut self) -> Option<Free<NoDisk>> {
+        None
+    }
+
+    fn take_full(&mut self) -> Option<Full<NoDisk>> {
+        None
+    }
+
+    // No slot is ever taken, so none is put.
+    fn put_free(&mut self, _slot: Free<NoDisk>) {}
+
+    fn put_full(&mut self, _slot: Full<NoDisk>) {}
+
+    fn put_aside(&mut self, _slot: Aside<NoDisk>) {}
+
+    fn put_broken(&mut self, _slot: Broken<NoDisk>) {}
+}
+
+impl MailStore for NoStore {
+    type D = NoDisk;
+
+    ghost sees_free = { λ slot. refl };
+
+    ghost sees_full = { λ slot. refl };
+
+    ghost sees_aside = { λ slot. refl };
+
+    ghost sees_broken = { λ slot. refl };
 }

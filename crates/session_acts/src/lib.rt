@@ -12,12 +12,15 @@
 
 mod cause;
 mod denying;
+mod deposited;
+mod depositing;
 mod desk;
 mod dummies;
 mod form;
 pub mod laws;
 mod link;
 mod logged;
+mod mailing;
 mod relayed;
 mod relaying;
 mod script;
@@ -28,9 +31,11 @@ mod telling;
 
 pub use cause::Cause;
 pub use denying::{Denying, NoPlace};
-pub use dummies::{NoSource, Nowhere, Silent};
+pub use deposited::Deposited;
+pub use dummies::{NoDisk, NoDoor, NoSource, NoStore, Nowhere, Silent};
 pub use form::Form;
 pub use logged::Logged;
+pub use mailing::mail_session_over;
 pub use relayed::relayed_over;
 pub use script::Script;
 pub use session::session_over;

@@ -7,14 +7,15 @@ ghost use Rattle.session_acts.specs.Closing.{Closing, ending_told};
 ghost use Rattle.session_acts.specs.Deeds.{DeedsAll};
 ghost use Rattle.session_acts.specs.Finishing.{Finishing};
 ghost use Rattle.session_acts.specs.Session.{Held, Session, ending_by, freeing};
-ghost use Rattle.session_acts.specs.World.{devices_with, unheard};
+ghost use Rattle.session_acts.specs.World.{devices_with, mail_devices_with, unheard};
 
 use crate::desk::Desk;
-use crate::link::MOST_TAKEN;
-use crate::{Cause, Script, Stage};
+use crate::mailing::mail_session_over;
+use crate::{Cause, NoStore, Script, Stage};
 use auth_events::{AuthPort, Request};
-use fw_outside::{Clock, Dialer, Dice, LineReader, Sink, Source};
+use fw_outside::{Clock, Dialer, Dice, Sink, Source};
 use fw_types::Ending;
+use spool_rack::MailStore;
 
 // The dialogue, to its end or to the act at which it stopped.
 fn turns<T: Script, D: Stage>(script: &T, stage: &mut D) -> Result<(), Cause>
@@ -108,9 +109,9 @@ fn held<T: Script, D: Stage>(script: &T, stage: &mut D) -> Ending
 }
 
 // The session over these devices, before anything was heard, with no session open and no link up.
-fn session_at<'p, 's, 'k, 'g, 'd, 'l, 'c, 'r, P, S, K, G, D, C, R, T>(
+pub(crate) fn session_at<'p, 's, 'k, 'g, 'd, 'l, 'c, 'r, 'm, P, S, K, G, D, C, R, M, T>(
     script: &T,
-    desk: &mut Desk<'p, 's, 'k, 'g, 'd, 'l, 'c, 'r, P, S, K, G, D, C, R>,
+    desk: &mut Desk<'p, 's, 'k, 'g, 'd, 'l, 'c, 'r, 'm, P, S, K, G, D, C, R, M>,
 ) -> Ending
 where
     P: AuthPort,
@@ -120,18 +121,19 @@ where
     D: Dialer,
     C: Clock,
     R: Dice,
+    M: MailStore,
     T: Script,
     requires reader { desk.old.reader ≡ unheard }
     requires opened { desk.old.opened ≡ None }
     requires alone { desk.old.relays ≡ false }
     requires link { desk.old.link.now ≡ None }
     ensures session { Session (T.rows script.now P.Origin) (T.first script.now P.Origin)
-        (devices_with (P.port desk.old.port.now) (S.source_view desk.old.from.now) (K.sink_view desk.old.to.now)
+        (mail_devices_with (P.port desk.old.port.now) (S.source_view desk.old.from.now) (K.sink_view desk.old.to.now)
         (G.sink_view desk.old.logs.now) (D.dialer_view desk.old.dialer.now) (C.clock_view desk.old.clock.now)
-        (R.dice_view desk.old.dice.now))
-        (devices_with (P.port desk.new.port.now) (S.source_view desk.new.from.now) (K.sink_view desk.new.to.now)
+        (R.dice_view desk.old.dice.now) (M.store_view desk.old.store.now))
+        (mail_devices_with (P.port desk.new.port.now) (S.source_view desk.new.from.now) (K.sink_view desk.new.to.now)
         (G.sink_view desk.new.logs.now) (D.dialer_view desk.new.dialer.now) (C.clock_view desk.new.clock.now)
-        (R.dice_view desk.new.dice.now))
+        (R.dice_view desk.new.dice.now) (M.store_view desk.new.store.now))
         result }
     ensures same_port { desk.new.port.ghost_name ≡ desk.old.port.ghost_name }
     ensures same_from { desk.new.from.ghost_name ≡ desk.old.from.ghost_name }
@@ -141,6 +143,7 @@ where
     ensures same_link { desk.new.link.ghost_name ≡ desk.old.link.ghost_name }
     ensures same_clock { desk.new.clock.ghost_name ≡ desk.old.clock.ghost_name }
     ensures same_dice { desk.new.dice.ghost_name ≡ desk.old.dice.ghost_name }
+    ensures same_store { desk.new.store.ghost_name ≡ desk.old.store.ghost_name }
 {
     held(script, desk)
 }
@@ -194,19 +197,8 @@ where
         (devices_with (P.port port.new) (S.source_view from.new) (K.sink_view to.new) (G.sink_view logs.new)
         (D.dialer_view dialer.new) (C.clock_view clock.new) (R.dice_view dice.new)) }
 {
-    let mut link = None;
-    let mut desk = Desk {
-        port,
-        from,
-        to,
-        logs,
-        dialer,
-        link: &mut link,
-        clock,
-        dice,
-        reader: LineReader::new(MOST_TAKEN),
-        opened: None,
-        relays: false,
-    };
-    session_at(script, &mut desk)
+    let mut store = NoStore;
+    mail_session_over(
+        script, port, from, to, logs, dialer, clock, dice, &mut store,
+    )
 }

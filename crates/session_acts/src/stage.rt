@@ -1,12 +1,14 @@
-ghost use Rattle.std.specs.Prelude.{◌≡◌, false, is_some, Ok};
-ghost use Rattle.session_acts.specs.Acts.Act.{Ask, Dial, HangUp, Hear, Log, Pass, Reach, Renew, Say, Take};
-ghost use Rattle.session_acts.specs.Met.{Acted, Jotted, Met, Tried, is_password};
+ghost use Rattle.std.specs.Prelude.{◌≡◌, ◌≤◌, false, is_err, is_some, Ok};
+ghost use Rattle.session_acts.specs.Acts.Act.{Allot, Ask, Dial, HangUp, Hear, Log, Pass, Reach, Renew, Say, Take};
+ghost use Rattle.session_acts.specs.Met.{Acted, Deposits, Jotted, Met, Tried, is_password};
 ghost use Rattle.session_acts.specs.World.{World};
+ghost use Rattle.slot_bytes.specs.Layout.{IsEnvelope};
 
-use crate::{Cause, Form};
+use crate::{Cause, Deposited, Form};
 use auth_events::{Reply, Request};
 use fw_outside::Heard;
-use fw_types::{Dest, Name};
+use fw_types::{Dest, Name, OctetsList};
+use std::alloc::Global;
 
 /// Where a session takes place: its acts, one by one.
 pub trait Stage {
@@ -75,4 +77,25 @@ pub trait Stage {
     /// Hangs up a link that is up.
     fn hang_up(&mut self)
         ensures { Met HangUp (Ok tt) (world self.old) (world self.new) };
+
+    /// Takes in a message, with a body of at most `most` bytes: takes a free slot of the store, begins the message, says the
+    /// words, hears the client's data to the line that is a period alone, and puts the slot back: full where the message
+    /// stands, else free, or broken where its disk failed. Where the body is too large or the disk failed, the data are heard
+    /// to their end all the same; the earlier of the two decides.
+    fn deposit(
+        &mut self,
+        alloc: Global,
+        sender: &[u8],
+        rcpts: &OctetsList,
+        words: &[u8],
+        most: u32,
+    ) -> Result<Deposited, Cause>
+        requires envelope { IsEnvelope sender.now rcpts.now }
+        requires small { most ≤ 67108864 }
+        ensures { Deposits sender.now rcpts.now words.now most result (world self.old) (world self.new) };
+
+    /// Stops the session where it lacks memory of its own.
+    fn allot(&mut self, lacks: bool) -> Result<(), Cause>
+        ensures acted { Acted Allot result (world self.old) (world self.new) }
+        ensures lacks { is_err result ≡ lacks };
 }

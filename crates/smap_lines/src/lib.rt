@@ -20,3 +20,4 @@ mod verb;
 pub use body::{BodyStep, MailBody};
 pub use command::{MailCommand, read_mail_command};
 pub use path::{Path, PathFault, read_path};
+pub use verb::Verb;

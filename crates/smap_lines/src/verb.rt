@@ -9,7 +9,7 @@ use crate::blank::is_blank;
 
 /// What the first word of a line asks for.
 #[derive(Clone, Copy, Debug, PartialEq, Eq)]
-pub(crate) enum Verb {
+pub enum Verb {
     Helo,
     Mail,
     Rcpt,

@@ -3,5 +3,5 @@ mod RackLemmas
 mod OpeningLemmas
 mod ShelfLemmas
 mod ClosingLemmas
-mod StoreLemmas
+pub mod StoreLemmas
 pub mod SeenLemmas

@@ -53,6 +53,13 @@ impl<D: Disk> Filling<D> {
         self.number
     }
 
+    /// How many bytes the body has so far.
+    pub fn len(&self) -> u32
+        ensures { result ≡ self.now.pen.len }
+    {
+        self.pen.len()
+    }
+
     /// Adds a piece at the body's end, which stays within 67,108,864 bytes. Each full 8,192 bytes are written, and at
     /// most 8,191 are held back.
     #[tactic(auto, using(crate::proofs::ShutLemmas::through_free, crate::proofs::EventLemmas::runs_added))]

@@ -9,7 +9,7 @@ use Rattle.fw_outside.specs.declared.ask.Ask.TheVariants.{Main}
 use Rattle.fw_outside.specs.declared.heard.Heard.{Heard}
 use Rattle.fw_types.specs.declared.dest.Dest.{Dest}
 use Rattle.session_acts.specs.Acts.{Act, Outcome}
-use Rattle.session_acts.specs.Acts.Act.{Hear, Say, Try, Log, Note, Ask, Renew, Dial, Reach, Take, Pass, HangUp, Relay}
+use Rattle.session_acts.specs.Acts.Act.{Hear, Say, Try, Log, Note, Ask, Renew, Dial, Reach, Take, Pass, HangUp, Relay, Deposit, Allot}
 use Rattle.session_acts.specs.Deeds.{Deed, gives}
 use Rattle.session_acts.specs.Hearing.{heard_by}
 use Rattle.session_acts.specs.Laws.{called}
@@ -123,6 +123,8 @@ total_by gate deeds later n Take outcome = later (note gate n Take outcome)
 total_by gate deeds later n (Pass text) outcome = later (note gate n (Pass text) outcome)
 total_by gate deeds later n HangUp outcome = later (note gate n HangUp outcome)
 total_by gate deeds later n Relay outcome = later (note gate n Relay outcome)
+total_by gate deeds later n (Deposit sender rcpts words most) outcome = later (note gate n (Deposit sender rcpts words most) outcome)
+total_by gate deeds later n Allot outcome = later (note gate n Allot outcome)
 
 total_from : (gate : Gate) (deeds : List Deed) → AllFrom gate deeds
 total_from gate [] n = nothing_more gate n
@@ -155,6 +157,8 @@ calls_by gate deeds later n Take outcome = later (note gate n Take outcome)
 calls_by gate deeds later n (Pass text) outcome = later (note gate n (Pass text) outcome)
 calls_by gate deeds later n HangUp outcome = later (note gate n HangUp outcome)
 calls_by gate deeds later n Relay outcome = later (note gate n Relay outcome)
+calls_by gate deeds later n (Deposit sender rcpts words most) outcome = later (note gate n (Deposit sender rcpts words most) outcome)
+calls_by gate deeds later n Allot outcome = later (note gate n Allot outcome)
 
 calls_from : (gate : Gate) (deeds : List Deed) → CallsFrom gate deeds
 calls_from gate [] n = sym (append-nil (map Main n.calls))
@@ -183,6 +187,8 @@ deeds_by gate deeds later n Take outcome = later (note gate n Take outcome) ∙ 
 deeds_by gate deeds later n (Pass text) outcome = later (note gate n (Pass text) outcome) ∙ append_assoc n.deeds (deed_of (Pass text) outcome ∷ []) deeds
 deeds_by gate deeds later n HangUp outcome = later (note gate n HangUp outcome) ∙ append_assoc n.deeds (deed_of HangUp outcome ∷ []) deeds
 deeds_by gate deeds later n Relay outcome = later (note gate n Relay outcome) ∙ append_assoc n.deeds (deed_of Relay outcome ∷ []) deeds
+deeds_by gate deeds later n (Deposit sender rcpts words most) outcome = later (note gate n (Deposit sender rcpts words most) outcome) ∙ append_assoc n.deeds (deed_of (Deposit sender rcpts words most) outcome ∷ []) deeds
+deeds_by gate deeds later n Allot outcome = later (note gate n Allot outcome) ∙ append_assoc n.deeds (deed_of Allot outcome ∷ []) deeds
 
 deeds_from : (gate : Gate) (deeds : List Deed) → DeedsFrom gate deeds
 deeds_from gate [] n = sym (append-nil n.deeds)
@@ -219,6 +225,8 @@ talk_by gate deeds later n Take outcome = later (note gate n Take outcome)
 talk_by gate deeds later n (Pass text) outcome = later (note gate n (Pass text) outcome)
 talk_by gate deeds later n HangUp outcome = later (note gate n HangUp outcome)
 talk_by gate deeds later n Relay outcome = later (note gate n Relay outcome)
+talk_by gate deeds later n (Deposit sender rcpts words most) outcome = later (note gate n (Deposit sender rcpts words most) outcome)
+talk_by gate deeds later n Allot outcome = later (note gate n Allot outcome)
 
 talk_from : (gate : Gate) (deeds : List Deed) → TalkFrom gate deeds
 talk_from gate [] n = sym (append-nil (n.talk ++ n.said))

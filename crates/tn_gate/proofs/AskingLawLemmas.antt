@@ -20,7 +20,7 @@ use Rattle.fw_outside.specs.declared.heard.Heard.TheVariants.{Stopped}
 use Rattle.fw_outside.specs.declared.heard.Stop.{Stop}
 use Rattle.fw_types.specs.declared.ending.Ending.{Ending}
 use Rattle.session_acts.specs.Acts.{Act, Halt, Outcome}
-use Rattle.session_acts.specs.Acts.Act.{Hear, Say, Try, Log, Note, Ask, Renew, Dial, Reach, Take, Pass, HangUp, Relay}
+use Rattle.session_acts.specs.Acts.Act.{Hear, Say, Try, Log, Note, Ask, Renew, Dial, Reach, Take, Pass, HangUp, Relay, Deposit, Allot}
 use Rattle.session_acts.specs.Deeds.{Deed, deed_last, deeds_ran, done, gives}
 use Rattle.session_acts.specs.Hearing.{heard_by, heard_in}
 use Rattle.session_acts.specs.Laws.{called}
@@ -122,6 +122,8 @@ module _ (gate : Gate) (before : List Deed) where
   due_is (Pass text) outcome is = clash is
   due_is HangUp outcome is = clash is
   due_is Relay outcome is = clash is
+  due_is (Deposit sender rcpts words most) outcome is = clash is
+  due_is Allot outcome is = clash is
 
   ends_is : (act : Act) (outcome : Outcome act) → ends_at gate here act outcome ≡ ends_dialogue gate before act outcome
   ends_is (Hear form) outcome = ap (λ (b : Bool). is_last_heard b (heard_by outcome)) commands_is
@@ -137,6 +139,8 @@ module _ (gate : Gate) (before : List Deed) where
   ends_is (Pass text) outcome = refl
   ends_is HangUp outcome = refl
   ends_is Relay outcome = refl
+  ends_is (Deposit sender rcpts words most) outcome = refl
+  ends_is Allot outcome = refl
 
 -- ---- a stop, and what is owed
 
@@ -159,6 +163,8 @@ stop_none gate p Take halt may = absurd may.asks
 stop_none gate p (Pass text) halt may = absurd may.asks
 stop_none gate p HangUp halt may = absurd halt
 stop_none gate p Relay halt may = may.asks
+stop_none gate p (Deposit sender rcpts words most) halt may = absurd may.asks
+stop_none gate p Allot halt may = absurd may.asks
 
 none_behind : (text : List ℕ) (answer : Result Reply PortFault) → behind_opening text (reply_of answer) requests.Close ≡ None
 none_behind text (Ok (replies.Opened sid)) = refl
@@ -234,6 +240,8 @@ asks_by p Take outcome gate deeds may later = absurd may.asks
 asks_by p (Pass text) outcome gate deeds may later = absurd may.asks
 asks_by p HangUp outcome gate deeds may later = later
 asks_by p Relay outcome gate deeds may later = later
+asks_by p (Deposit sender rcpts words most) outcome gate deeds may later = absurd may.asks
+asks_by p Allot outcome gate deeds may later = absurd may.asks
 
 asks_next : (gate : Gate) (p : Point) (deeds : List Deed) → AllFit gate p deeds → AsksNext p.due deeds
 asks_next gate p [] fit = fit
@@ -270,6 +278,8 @@ calls_none Take outcome is = refl
 calls_none (Pass text) outcome is = refl
 calls_none HangUp outcome is = refl
 calls_none Relay outcome is = refl
+calls_none (Deposit sender rcpts words most) outcome is = refl
+calls_none Allot outcome is = refl
 
 none_called : (gate : Gate) (p : Point) (deeds : List Deed) → p.over ≡ true → AllFit gate p deeds → gives called deeds ≡ []
 none_called gate p [] over fit = refl
@@ -290,6 +300,8 @@ hears_none Take outcome rest is none = none
 hears_none (Pass text) outcome rest is none = none
 hears_none HangUp outcome rest is none = none
 hears_none Relay outcome rest is none = refl
+hears_none (Deposit sender rcpts words most) outcome rest is none = absurd (true≢false is)
+hears_none Allot outcome rest is none = none
 
 none_heard_after : (gate : Gate) (p : Point) (deeds : List Deed) → p.over ≡ true → AllFit gate p deeds → gives heard_in (before_relay deeds) ≡ []
 none_heard_after gate p [] over fit = refl

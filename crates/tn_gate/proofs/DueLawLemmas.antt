@@ -12,7 +12,7 @@ use Rattle.fw_acts.proofs.HistoryLemmas.{run_leaves, run_may}
 use Rattle.fw_types.specs.declared.dest.Dest.{Dest}
 use Rattle.fw_types.specs.declared.ending.Ending.{Ending}
 use Rattle.session_acts.specs.Acts.{Act, Halt, Outcome}
-use Rattle.session_acts.specs.Acts.Act.{Hear, Say, Try, Log, Note, Ask, Renew, Dial, Reach, Take, Pass, HangUp, Relay}
+use Rattle.session_acts.specs.Acts.Act.{Hear, Say, Try, Log, Note, Ask, Renew, Dial, Reach, Take, Pass, HangUp, Relay, Deposit, Allot}
 use Rattle.session_acts.specs.Client.{line_logged}
 use Rattle.session_acts.specs.Deeds.{Deed, deed_last, deeds_ran, done}
 use Rattle.session_acts.specs.Hearing.{heard_by}
@@ -73,6 +73,8 @@ free_stop gate deeds Take halt = record { due = refl; line = tt }
 free_stop gate deeds (Pass text) halt = record { due = refl; line = tt }
 free_stop gate deeds HangUp halt = absurd halt
 free_stop gate deeds Relay halt = record { due = refl; line = tt }
+free_stop gate deeds (Deposit sender rcpts words most) halt = record { due = refl; line = tt }
+free_stop gate deeds Allot halt = record { due = refl; line = tt }
 
 free_close : (gate : Gate) (deeds : List Deed) (answer : Result Reply PortFault) → IsFree (behind gate deeds (Ask requests.Close) answer)
 free_close gate deeds (Ok reply) = record { due = refl; line = tt }

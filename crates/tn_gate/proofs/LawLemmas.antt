@@ -22,7 +22,7 @@ use Rattle.fw_types.specs.declared.ending.Ending.{Ending}
 use Rattle.fw_types.specs.declared.host.Host.{Host}
 use Rattle.gate_rules.specs.Verdict.{allows}
 use Rattle.session_acts.specs.Acts.{Act, Halt, Outcome}
-use Rattle.session_acts.specs.Acts.Act.{Hear, Say, Try, Log, Note, Ask, Renew, Dial, Reach, Take, Pass, HangUp, Relay}
+use Rattle.session_acts.specs.Acts.Act.{Hear, Say, Try, Log, Note, Ask, Renew, Dial, Reach, Take, Pass, HangUp, Relay, Deposit, Allot}
 use Rattle.session_acts.specs.Deeds.{Deed, deed_last, deeds_ran, done, gives}
 use Rattle.session_acts.specs.Laws.{called}
 use Rattle.session_acts.specs.Met.{acts, stop_of}
@@ -75,6 +75,8 @@ fits_by gate n Take outcome may = absurd may
 fits_by gate n (Pass text) outcome may = absurd may
 fits_by gate n HangUp outcome may = absurd may
 fits_by gate n Relay outcome may = absurd may
+fits_by gate n (Deposit sender rcpts words most) outcome may = absurd may
+fits_by gate n Allot outcome may = absurd may
 
 fits_hang_up : (gate : Gate) (n : Noted) (outcome : Outcome HangUp) → Fits gate n (deed_of HangUp outcome)
 fits_hang_up gate n outcome = record { dials = λ dest is. no_call dest is }
@@ -121,6 +123,8 @@ stop_behind gate n Take halt may = absurd may
 stop_behind gate n (Pass text) halt may = absurd may
 stop_behind gate n HangUp halt may = absurd may
 stop_behind gate n Relay halt may = absurd may
+stop_behind gate n (Deposit sender rcpts words most) halt may = absurd may
+stop_behind gate n Allot halt may = absurd may
 
 -- ---- what is owed
 

@@ -17,7 +17,7 @@ use Rattle.relay_ways.specs.Ending as ways
 use Rattle.relay_ways.specs.declared.way_end.WayEnd.{WayEnd}
 use Rattle.relay_ways.specs.declared.way_end.WayEnd.TheVariants as ends
 use Rattle.session_acts.specs.Acts.{Act, Halt, Outcome, cause_by, fault_cause, silence_cause}
-use Rattle.session_acts.specs.Acts.Act.{Hear, Say, Try, Log, Note, Ask, Renew, Dial, Reach, Take, Pass, HangUp, Relay}
+use Rattle.session_acts.specs.Acts.Act.{Hear, Say, Try, Log, Note, Ask, Renew, Dial, Reach, Take, Pass, HangUp, Relay, Deposit, Allot}
 use Rattle.session_acts.specs.Deeds.{Deed, deed_last, deeds_ran, done, gives}
 use Rattle.session_acts.specs.Hearing.{Fate, carried_up, heard_by, heard_in}
 use Rattle.session_acts.specs.Met.{Met, acts}
@@ -68,6 +68,8 @@ own_by gate n Take may = absurd may
 own_by gate n (Pass text) may = absurd may
 own_by gate n HangUp may = absurd may
 own_by gate n Relay may = absurd may
+own_by gate n (Deposit sender rcpts words most) may = absurd may
+own_by gate n Allot may = absurd may
 
 abbrev AllOwn : Gate → List Deed → Type 0
 AllOwn gate [] = Unit {0}
@@ -135,6 +137,8 @@ same_by gate Take outcome deeds own same = absurd own
 same_by gate (Pass text) outcome deeds own same = absurd own
 same_by gate HangUp outcome deeds own same = absurd own
 same_by gate Relay outcome deeds own same = absurd own
+same_by gate (Deposit sender rcpts words most) outcome deeds own same = absurd own
+same_by gate Allot outcome deeds own same = absurd own
 
 same_both : (gate : Gate) (first more : List Deed) → AllOwn gate first → Same more → Same (first ++ more)
 same_both gate [] more own same = same
@@ -183,6 +187,8 @@ act_unasked gate Take outcome own none = absurd own
 act_unasked gate (Pass text) outcome own none = absurd own
 act_unasked gate HangUp outcome own none = absurd own
 act_unasked gate Relay outcome own none = absurd own
+act_unasked gate (Deposit sender rcpts words most) outcome own none = absurd own
+act_unasked gate Allot outcome own none = absurd own
 
 all_unasked : (gate : Gate) (deeds : List Deed) → AllOwn gate deeds → asks_login gate.options ≡ false → gives asked deeds ≡ []
 all_unasked gate [] own none = refl
@@ -221,6 +227,8 @@ plain_stops gate Take halt own none = absurd own
 plain_stops gate (Pass text) halt own none = absurd own
 plain_stops gate HangUp halt own none = absurd own
 plain_stops gate Relay halt own none = absurd own
+plain_stops gate (Deposit sender rcpts words most) halt own none = absurd own
+plain_stops gate Allot halt own none = absurd own
 
 routed_hears : (silence : Silence) → is_routed (silence_cause causes.ClientFault silence) ≡ true
 routed_hears Quiet = refl
@@ -246,6 +254,8 @@ routed_stops gate Take halt own = absurd own
 routed_stops gate (Pass text) halt own = absurd own
 routed_stops gate HangUp halt own = absurd own
 routed_stops gate Relay halt own = absurd own
+routed_stops gate (Deposit sender rcpts words most) halt own = absurd own
+routed_stops gate Allot halt own = absurd own
 
 -- no relay stops for such a cause
 abbrev failed : Cause → Result (Unit {0}) Cause

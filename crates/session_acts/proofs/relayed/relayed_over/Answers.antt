@@ -7,16 +7,16 @@ use Rattle.session_acts.proofs.relayed.relayed_over.Goals as goal
 
 pub returns-clause-keeps : goal.returns-clause-keeps
 returns-clause-keeps g c =
-    relay_keeps {rows = relayed (g.T.Script.rows c.args.script.now g.row.P-Origin.Denot)} {first = then_relay (g.T.Script.first c.args.script.now g.row.P-Origin.Denot)} {ending = c.relayed_at.result} (search rules)
+    relay_keeps {rows = relayed (g.T.Script.rows c.args.script.now g.row.P-Origin.Denot)} {first = then_relay (g.T.Script.first c.args.script.now g.row.P-Origin.Denot)} {ending = c.relayed_with.result} (search rules)
 
 pub returns-clause-caused : goal.returns-clause-caused
 returns-clause-caused g c =
-    session_caused {relays = true} {rows = relayed (g.T.Script.rows c.args.script.now g.row.P-Origin.Denot)} {first = then_relay (g.T.Script.first c.args.script.now g.row.P-Origin.Denot)} {ending = c.relayed_at.result} (search rules)
+    session_caused {relays = true} {rows = relayed (g.T.Script.rows c.args.script.now g.row.P-Origin.Denot)} {first = then_relay (g.T.Script.first c.args.script.now g.row.P-Origin.Denot)} {ending = c.relayed_with.result} (search rules)
 
 pub returns-clause-spent : goal.returns-clause-spent
 returns-clause-spent g c =
-    session_spent {relays = true} {rows = relayed (g.T.Script.rows c.args.script.now g.row.P-Origin.Denot)} {first = then_relay (g.T.Script.first c.args.script.now g.row.P-Origin.Denot)} {ending = c.relayed_at.result} (search rules)
+    session_spent {relays = true} {rows = relayed (g.T.Script.rows c.args.script.now g.row.P-Origin.Denot)} {first = then_relay (g.T.Script.first c.args.script.now g.row.P-Origin.Denot)} {ending = c.relayed_with.result} (search rules)
 
 pub returns-clause-waited : goal.returns-clause-waited
 returns-clause-waited g c =
-    session_waited {relays = true} {rows = relayed (g.T.Script.rows c.args.script.now g.row.P-Origin.Denot)} {first = then_relay (g.T.Script.first c.args.script.now g.row.P-Origin.Denot)} {ending = c.relayed_at.result} (search rules)
+    session_waited {relays = true} {rows = relayed (g.T.Script.rows c.args.script.now g.row.P-Origin.Denot)} {first = then_relay (g.T.Script.first c.args.script.now g.row.P-Origin.Denot)} {ending = c.relayed_with.result} (search rules)

@@ -6,5 +6,5 @@ pub returns-in-Err : goal.returns-in-Err
 returns-in-Err g c = record {
   halt = front_of c.in-Err.ensures;
   is_cause = refl;
-  met = record { client = refl; logs = cut_at c.in-Err.ensures; office = refl; server = refl; names = refl; may = tt };
+  met = record { client = refl; logs = cut_at c.in-Err.ensures; office = refl; server = refl; store = refl; names = refl; may = tt };
 }

@@ -7,6 +7,7 @@ returns-in-Ok g c = record {
   logs = refl;
   office = record { dice = g.R.Dice.dice_view c.salt-salt.new.self; gave_salt = c.salt-salt.ensures; asking = c.in-Ok.ensures (g.R.Dice.dice_view c.salt-salt.new.self) };
   server = refl;
+  store = refl;
   names = refl;
   may = tt;
 }
@@ -20,6 +21,7 @@ returns-in-Err g c = record {
     logs = refl;
     office = record { dice = g.R.Dice.dice_view c.salt-salt.new.self; gave_salt = c.salt-salt.ensures; asking = c.in-Err.ensures (g.R.Dice.dice_view c.salt-salt.new.self) };
     server = refl;
+    store = refl;
     names = refl;
     may = tt;
   };

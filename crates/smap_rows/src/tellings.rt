@@ -1,0 +1,125 @@
+//! What is told of a session.
+
+use crate::play::{Fails, Played, number_in_front, play};
+use fw_memory::{Calls, MemDisk};
+use fw_types::{Ending, NoMemory};
+use lines_of_rows::{Told, add, add_hex, add_word, cut_word, number_of};
+use slot_bytes::{Slot, SlotFault, read_slot};
+use std::alloc::Global;
+
+// A text, with `^` for each CR LF and for each other LF.
+fn add_text(out: &mut Told, text: &[u8]) {
+    for byte in text {
+        match byte {
+            b'\r' => (),
+            b'\n' => add(out, b"^"),
+            other => add(out, &[*other]),
+        }
+    }
+}
+
+fn ending_name(ending: Ending) -> &'static [u8] {
+    match ending {
+        Ending::Done => b"Done",
+        Ending::Denied { .. } => b"Denied",
+        Ending::ClientFault => b"ClientFault",
+        Ending::ServerFault => b"ServerFault",
+        Ending::LogFault => b"LogFault",
+        Ending::AuthFault => b"AuthFault",
+        Ending::Idle => b"Idle",
+        Ending::NoRoute => b"NoRoute",
+        Ending::Spent => b"Spent",
+        Ending::NoMemory => b"NoMemory",
+    }
+}
+
+/// A letter for what a disk's bytes are read as: `f` free, `w` whole, `a` aside, `b` bad.
+pub(crate) fn letter_of(alloc: Global, disk: &MemDisk) -> Result<&'static [u8], NoMemory> {
+    match read_slot(alloc, disk.bytes()) {
+        Ok(Slot::Free) => Ok(b"f"),
+        Ok(Slot::Whole(_)) => Ok(b"w"),
+        Ok(Slot::Aside(_)) => Ok(b"a"),
+        Err(SlotFault::Bad { at: _ }) => Ok(b"b"),
+        Err(SlotFault::NoMemory) => Err(NoMemory),
+    }
+}
+
+fn add_ending(alloc: Global, played: &Played, out: &mut Told) -> Result<(), NoMemory> {
+    add_word(out, ending_name(played.ending));
+    for disk in &played.disks {
+        add_word(out, letter_of(alloc, disk)?);
+    }
+    Ok(())
+}
+
+/// `replies SLOTS BYTES RCPTS CLIENT => TEXT`: what the client is told.
+pub(crate) fn tell_replies(alloc: Global, asked: &[u8], out: &mut Told) -> Result<(), NoMemory> {
+    match play(alloc, asked, Fails::none())? {
+        Some(played) => add_text(out, played.to.bytes()),
+        None => add(out, b"no rack"),
+    }
+    Ok(())
+}
+
+/// `log SLOTS BYTES RCPTS CLIENT => TEXT`: what the log is given.
+pub(crate) fn tell_log(alloc: Global, asked: &[u8], out: &mut Told) -> Result<(), NoMemory> {
+    match play(alloc, asked, Fails::none())? {
+        Some(played) => add_text(out, played.log.bytes()),
+        None => add(out, b"no rack"),
+    }
+    Ok(())
+}
+
+/// `after SLOTS BYTES RCPTS CLIENT => ENDING LETTERS`: how the session ends, and what the slots hold then.
+pub(crate) fn tell_after(alloc: Global, asked: &[u8], out: &mut Told) -> Result<(), NoMemory> {
+    match play(alloc, asked, Fails::none())? {
+        Some(played) => add_ending(alloc, &played, out)?,
+        None => add(out, b"no rack"),
+    }
+    Ok(())
+}
+
+/// `bytes SLOT SLOTS BYTES RCPTS CLIENT => DIGITS`: the bytes of the slot with this number then.
+pub(crate) fn tell_bytes(alloc: Global, asked: &[u8], out: &mut Told) -> Result<(), NoMemory> {
+    let (number, asked) = number_in_front(asked);
+    let Some(played) = play(alloc, asked, Fails::none())? else {
+        add(out, b"no rack");
+        return Ok(());
+    };
+    let mut at = 0u64;
+    for disk in &played.disks {
+        if at == number {
+            add_hex(out, disk.bytes());
+        }
+        at = at.saturating_add(1);
+    }
+    Ok(())
+}
+
+// The calls of one device that fail, from this one on.
+fn fails_of(device: &[u8], first: u64) -> Fails {
+    let mut fails = Fails::none();
+    match device {
+        b"client" => fails.source = Calls::onward(first),
+        b"output" => fails.sink = Calls::onward(first),
+        b"log" => fails.log = Calls::onward(first),
+        _ => (),
+    }
+    fails
+}
+
+/// `faults DEVICE CALL SLOTS BYTES RCPTS CLIENT => ENDING LETTERS TEXT`: the same, and what the client is told, where `client`,
+/// `output` or `log` fails from this call on.
+pub(crate) fn tell_faults(alloc: Global, asked: &[u8], out: &mut Told) -> Result<(), NoMemory> {
+    let (device, rest) = cut_word(asked);
+    let (first, asked) = cut_word(rest);
+    match play(alloc, asked, fails_of(device, number_of(first)))? {
+        Some(played) => {
+            add_ending(alloc, &played, out)?;
+            add_word(out, b"");
+            add_text(out, played.to.bytes());
+        }
+        None => add(out, b"no rack"),
+    }
+    Ok(())
+}
