@@ -4,6 +4,7 @@ pub mod LawLemmas
 pub mod LeftmostLemmas
 pub mod LineFaultLemmas
 pub mod ListsLemmas
+pub mod LoneRuleLemmas
 pub mod MergingLemmas
 pub mod OptionCheckLemmas
 pub mod OptionsBuilderLemmas

@@ -8,6 +8,7 @@
 #![tactic(auto)]
 
 mod attribute;
+pub mod bucket_laws;
 mod fault;
 mod gathered;
 mod index;
