@@ -25,8 +25,8 @@ decided_by (Some rule) = if rule.permits then Permit rule.line else Deny rule.li
 abbrev pub rule_matches : Peer → Rule → Bool
 rule_matches peer rule = list_matches rule.hosts peer
 
--- the first rule whose host list matches the peer decides. Kept by `Rules::verdict` (`answer`); body: `verdict_in` of
--- src/rules.rt.
+-- the first rule whose host list matches the peer decides. Kept by `Rules::verdict` (`answer`); body: `verdict_by` of
+-- src/merging.rt.
 unfoldable pub verdict_of : RuleBook → Peer → Verdict
 verdict_of book peer = decided_by (find (rule_matches peer) book.rules)
 
