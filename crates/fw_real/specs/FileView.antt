@@ -70,3 +70,8 @@ pub record IsDone (P : Option FileView → Option FileView → Type 0) (old new 
   pub was : IsKept old (Some before)
   pub done : P before after
   pub is : new ≡ Some after
+
+-- a sync: of a file that is missing there is nothing to sync, and the bytes of any other are synced
+abbrev pub IsSynced : Option (Option FileView) → Option (Option FileView) → Type 0
+IsSynced old None = IsKept old None
+IsSynced old (Some file) = IsDone Settles old (Some file)

@@ -3,7 +3,7 @@ ghost use Rattle.fw_outside.specs.Counts.{Rose, counted};
 ghost use Rattle.fw_disk.specs.DiskView.{Changes, Doubts, Reads, Syncs};
 ghost use Rattle.fw_disk.specs.Medium.{cut_at, written_at};
 ghost use Rattle.fw_real.specs.Disks.{is_lost_after, untold_disk};
-ghost use Rattle.fw_real.specs.FileView.{Cuts, IsDone, IsKept, IsReadFrom, Lays, Settles};
+ghost use Rattle.fw_real.specs.FileView.{Cuts, IsDone, IsKept, IsReadFrom, IsSynced, Lays};
 
 use crate::RawFile;
 use crate::through::{read_through, write_through};
@@ -19,7 +19,7 @@ pub trait Place<F>: Drop {
 
 /// A file as a disk, which is opened at the first call, and stays open.
 ///
-/// A file that is missing is read as an empty one; any other call of it fails. After a sync of the open file that failed
+/// A file that is missing is read as an empty one, of which there is nothing to sync; any other call of it fails. After a sync of the open file that failed
 /// each call fails: the system may answer the next one as done though the bytes are lost. Before the file is open nothing
 /// was written to it, so what fails then can be tried again.
 #[derive(Drop)]
@@ -120,7 +120,7 @@ impl<P: Place<F>, F: RawFile> FileDisk<P, F> {
     // Syncs the file; where that fails, the disk is lost.
     #[tactic(auto, using(crate::proofs::FileLemmas::is_done, crate::proofs::FileLemmas::kept_then))]
     fn sync_file(&mut self) -> io::Result<()>
-        ensures bytes { OnOk result (IsDone Settles
+        ensures bytes { OnOk result (IsSynced
             (option_map F.file_view self.old.file) (option_map F.file_view self.new.file)) }
         ensures for_good { self.old.is_lost ≡ true → IsErr result }
         ensures lost { self.new.is_lost ≡ is_lost_after self.old.is_lost self.new.file result }
@@ -136,7 +136,7 @@ impl<P: Place<F>, F: RawFile> FileDisk<P, F> {
                     Err(fault)
                 }
             },
-            None => Err(io::Error::from(ErrorKind::NotFound)),
+            None => Ok(()),
         }
     }
 
@@ -200,7 +200,7 @@ impl<P: Place<F>, F: RawFile> Disk for FileDisk<P, F> {
 
     fn sync(&mut self) -> Result<(), Failed>
         ensures syncs { Syncs result (untold_disk self.old.faults) (untold_disk self.new.faults) }
-        ensures bytes { OnOk result (IsDone Settles
+        ensures bytes { OnOk result (IsSynced
             (option_map F.file_view self.old.file) (option_map F.file_view self.new.file)) }
         ensures for_good { self.old.is_lost ≡ true → IsErr result }
         ensures lost { self.new.is_lost ≡ is_lost_after self.old.is_lost self.new.file result }
