@@ -72,9 +72,9 @@ fn no_links(alloc: Global) -> Vec<(MemSource, MemSink)>
 fn dialer(alloc: Global, linked: bool, server: &[u8]) -> Result<MemDialer, NoMemory> {
     if linked {
         let links = alone(alloc, link(alloc, server)?)?;
-        return MemDialer::new(alloc, links, 16, Calls::none());
+        return MemDialer::new(alloc, links, Vec::new(alloc), 16, Calls::none());
     }
-    MemDialer::new(alloc, no_links(alloc), 16, Calls::none())
+    MemDialer::new(alloc, no_links(alloc), Vec::new(alloc), 16, Calls::none())
 }
 
 fn add_dest(out: &mut Told, dest: &Dest) {
@@ -89,8 +89,8 @@ fn add_dest(out: &mut Told, dest: &Dest) {
 fn dials(asked: &[Ask]) -> Told {
     let mut told = Told::new();
     for ask in asked {
-        match ask {
-            Ask::Main(dest) => add_dest(&mut told, dest),
+        if let Ask::Main(dest) = ask {
+            add_dest(&mut told, dest);
         }
     }
     told

@@ -33,9 +33,9 @@ use Rattle.session_acts.proofs.DeviceLemmas.{by_nothing}
 use Rattle.session_acts.proofs.ServerlessLemmas.{logged_serverless, session_serverless}
 use Rattle.session_acts.proofs.SpentLemmas.{session_spent}
 use Rattle.session_acts.proofs.WaitedLemmas.{session_waited}
-use Rattle.client_service.specs.Conn.{AtConsole, CausedBy, Causes, Conn, Dials, FrontsBy, IsRefused, NotedIf, Permits, TakesBy, Treats, TurnsAway, Unasked, WaitsAs}
+use Rattle.client_service.specs.Conn.{AtConsole, CausedBy, Causes, Conn, Dials, FrontsBy, IsRefused, Permits, TakesBy, Treats, TurnsAway, Unasked, WaitsAs}
 use Rattle.client_service.specs.Decision.{decision_text}
-use Rattle.client_service.specs.Endings.{denied_words, ending_line}
+use Rattle.client_service.specs.Endings.{NotedIf, denied_words, ending_line}
 use Rattle.client_service.specs.GateService.{LetsIn, gate_devices}
 use Rattle.client_service.specs.Kind.{Kind, kind_of, may_relay}
 use Rattle.client_service.specs.Kind.Kind.{Alone, Gated, Plugged}
@@ -367,18 +367,19 @@ module _ {Origin : Type 0} where
   none_front FtpGw line rules peer ending old new = tt
   none_front Smap line rules peer ending old new = tt
 
-  treats_fronts : (verdict : Verdict) (service : Service) (rules : RuleBook) (peer : Peer) (ending : Ending) (old new : Devices Origin) (logs : SinkView) → Treats verdict service rules peer ending old (with_logs new logs) → FrontsBy service verdict rules peer ending old new
-  treats_fronts (Deny line) service rules peer ending old new logs h = none_front service line rules peer ending old new
-  treats_fronts (Permit line) (PlugGw at) rules peer ending old new logs h = fronts_later ending old new logs (plug_gives at line rules peer ending old (with_logs new logs) h)
-  treats_fronts (Permit line) TnGw rules peer ending old new logs h =
-      record { logs = logs; so = fronts_behind (decision_text (Permit line) TnGw peer) (gate_at rules line peer) ending (patient (timeout_of rules) (gate_devices old)) (gate_devices (with_logs new logs)) h.held }
-  treats_fronts (Permit line) Authsrv rules peer ending old new logs h = tt
-  treats_fronts (Permit line) (Netacl label) rules peer ending old new logs h = absurd h
-  treats_fronts (Permit line) FtpGw rules peer ending old new logs h = absurd h
-  treats_fronts (Permit line) Smap rules peer ending old new logs h = tt
+  treats_fronts : (verdict : Verdict) (service : Service) (rules : RuleBook) (peer : Peer) (ending : Ending) (old new : Devices Origin) (logs : SinkView) → Treats verdict service rules peer ending old (with_logs new logs)
+      → NotedIf (ending_line service peer ending) logs new.logs → FrontsBy service verdict rules peer ending old new
+  treats_fronts (Deny line) service rules peer ending old new logs h noted = none_front service line rules peer ending old new
+  treats_fronts (Permit line) (PlugGw at) rules peer ending old new logs h noted = fronts_later ending old new logs (plug_gives at line rules peer ending old (with_logs new logs) h)
+  treats_fronts (Permit line) TnGw rules peer ending old new logs h noted =
+      record { logs = logs; noted = noted; so = fronts_behind (decision_text (Permit line) TnGw peer) (gate_at rules line peer) ending (patient (timeout_of rules) (gate_devices old)) (gate_devices (with_logs new logs)) h.held }
+  treats_fronts (Permit line) Authsrv rules peer ending old new logs h noted = tt
+  treats_fronts (Permit line) (Netacl label) rules peer ending old new logs h noted = absurd h
+  treats_fronts (Permit line) FtpGw rules peer ending old new logs h noted = absurd h
+  treats_fronts (Permit line) Smap rules peer ending old new logs h noted = tt
 
   pub conn_fronts : (service : Service) (rules : RuleBook) (peer : Peer) (old new : Devices Origin) (ending : Ending) → Conn service rules peer old new ending → FrontsBy service (verdict_of rules peer) rules peer ending old new
-  conn_fronts service rules peer old new ending conn = treats_fronts (verdict_of rules peer) service rules peer ending old new conn.logs conn.treats
+  conn_fronts service rules peer old new ending conn = treats_fronts (verdict_of rules peer) service rules peer ending old new conn.logs conn.treats conn.noted
 
   -- ---- at the console
 

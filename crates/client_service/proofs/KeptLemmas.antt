@@ -17,7 +17,7 @@ use Rattle.session_acts.specs.World.{Devices}
 use Rattle.session_acts.proofs.ClientLemmas.{denies}
 use Rattle.client_service.specs.Conn.{Conn, Mails, Treats}
 use Rattle.client_service.specs.Decision.{decision_text}
-use Rattle.client_service.specs.Endings.{denied_words}
+use Rattle.client_service.specs.Endings.{NotedIf, denied_words, ending_line}
 use Rattle.client_service.specs.MailService.{mail_devices, mail_gate_of}
 use Rattle.client_service.specs.Meeting.{away_row, patient, timeout_of}
 use Rattle.client_service.proofs.LaterLemmas.{with_logs}
@@ -45,16 +45,17 @@ module _ {Origin : Type 0} where
   denied_mails FtpGw line rules peer ending old new h = h
   denied_mails Smap line rules peer ending old new h = h
 
-  treats_kept : (verdict : Verdict) (service : Service) (rules : RuleBook) (peer : Peer) (ending : Ending) (old new : Devices Origin) (logs : SinkView) → Treats verdict service rules peer ending old (with_logs new logs) → Mails service verdict rules peer ending old new
-  treats_kept (Deny line) service rules peer ending old new logs h =
+  treats_kept : (verdict : Verdict) (service : Service) (rules : RuleBook) (peer : Peer) (ending : Ending) (old new : Devices Origin) (logs : SinkView) → Treats verdict service rules peer ending old (with_logs new logs)
+      → NotedIf (ending_line service peer ending) logs new.logs → Mails service verdict rules peer ending old new
+  treats_kept (Deny line) service rules peer ending old new logs h noted =
       denied_mails service line rules peer ending old new (away_kept (decision_text (Deny line) service peer) (denied_words service line) h.told old (with_logs new logs) h.session)
-  treats_kept (Permit line) (PlugGw at) rules peer ending old new logs h = h.store
-  treats_kept (Permit line) TnGw rules peer ending old new logs h = h.store
-  treats_kept (Permit line) Authsrv rules peer ending old new logs h = h.store
-  treats_kept (Permit line) Smap rules peer ending old new logs h =
-      record { logs = logs; so = mails_behind (decision_text (Permit line) Smap peer) (mail_gate_of rules peer) ending (mail_devices (patient (timeout_of rules) old)) (mail_devices (with_logs new logs)) h.over }
-  treats_kept (Permit line) (Netacl label) rules peer ending old new logs h = absurd h
-  treats_kept (Permit line) FtpGw rules peer ending old new logs h = absurd h
+  treats_kept (Permit line) (PlugGw at) rules peer ending old new logs h noted = h.store
+  treats_kept (Permit line) TnGw rules peer ending old new logs h noted = h.store
+  treats_kept (Permit line) Authsrv rules peer ending old new logs h noted = h.store
+  treats_kept (Permit line) Smap rules peer ending old new logs h noted =
+      record { logs = logs; noted = noted; so = mails_behind (decision_text (Permit line) Smap peer) (mail_gate_of rules peer) ending (mail_devices (patient (timeout_of rules) old)) (mail_devices (with_logs new logs)) h.over }
+  treats_kept (Permit line) (Netacl label) rules peer ending old new logs h noted = absurd h
+  treats_kept (Permit line) FtpGw rules peer ending old new logs h noted = absurd h
 
   pub conn_kept : (service : Service) (rules : RuleBook) (peer : Peer) (old new : Devices Origin) (ending : Ending) → Conn service rules peer old new ending → Mails service (verdict_of rules peer) rules peer ending old new
-  conn_kept service rules peer old new ending conn = treats_kept (verdict_of rules peer) service rules peer ending old new conn.logs conn.treats
+  conn_kept service rules peer old new ending conn = treats_kept (verdict_of rules peer) service rules peer ending old new conn.logs conn.treats conn.noted

@@ -10,7 +10,8 @@ use Rattle.gate_rules.specs.declared.verdict.Verdict.TheVariants.{Permit, Deny}
 use Rattle.session_acts.specs.Causes.{KeepsAs, WaitsFor}
 use Rattle.session_acts.specs.Serverless.{CausedAlone}
 use Rattle.session_acts.specs.World.{Devices}
-use Rattle.client_service.specs.Conn.{CausedBy, Causes, NotedIf, TakesBy, Unasked, WaitsAs}
+use Rattle.client_service.specs.Conn.{CausedBy, Causes, TakesBy, Unasked, WaitsAs}
+use Rattle.client_service.specs.Endings.{NotedIf}
 use Rattle.client_service.specs.GateService.{CausedGated}
 use Rattle.client_service.specs.Kind.{Kind}
 use Rattle.client_service.specs.Kind.Kind.{Alone, Gated, Plugged}

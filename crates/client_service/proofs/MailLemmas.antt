@@ -1,14 +1,16 @@
 -- What a client of `smap` comes to: what holds of the devices that it meets, and what the store is given.
-use Rattle.std.proofs.Common.{◌≡◌, ◌∙◌, sym, ap, subst, ℕ, ◌+◌, ◌-◌, ◌^◌, ◌≤◌, List, length, inl, inr}
+use Rattle.std.proofs.Common.{◌≡◌, ◌∙◌, sym, ap, subst, ℕ, ◌+◌, ◌-◌, ◌^◌, ◌≤◌, List, ◌++◌, length, inl, inr}
 use Rattle.std.specs.Prelude.{min}
 use Rattle.auth_events.specs.Port.{Port}
 use Rattle.fw_outside.specs.DialerView.{DialerView, dialer_waiting}
+use Rattle.fw_outside.specs.ToldList.{grown}
 use Rattle.fw_types.specs.declared.ending.Ending.{Ending}
 use Rattle.fw_types.specs.declared.ending.Ending.TheVariants as endings
 use Rattle.session_acts.specs.Causes.{SessionKeeps}
 use Rattle.session_acts.specs.Client.{LogsFirst, with_line}
 use Rattle.session_acts.specs.Deeds.{Deed, gives}
 use Rattle.session_acts.specs.Dummies.{nowhere}
+use Rattle.session_acts.specs.Laws.{logged, told}
 use Rattle.session_acts.specs.Serverless.{CausedAlone, TakesExactly}
 use Rattle.session_acts.specs.Session.{Session, deeds_of}
 use Rattle.session_acts.specs.Stored.{faulted, unslotted}
@@ -17,8 +19,11 @@ use Rattle.session_acts.proofs.ClientLemmas.{logs_first}
 use Rattle.session_acts.proofs.DeedLemmas.{all_gain, all_last, held_deeds}
 use Rattle.session_acts.proofs.ServerlessLemmas.{logged_serverless, session_serverless}
 use Rattle.session_acts.proofs.StoredLemmas.{back_lasts, faulted_gains, kept_gains, unslotted_gains}
+use Rattle.session_acts.proofs.ToldLemmas.{by_both, logged_gains, told_gains}
 use Rattle.smap_gate.specs.Dialogue.{smap_row, smap_rows}
 use Rattle.smap_gate.specs.Gate.{Gate}
+use Rattle.smap_gate.proofs.LoggingLemmas.{logs_due}
+use Rattle.smap_gate.proofs.MessageLemmas.{keeps_messages}
 use Rattle.smap_gate.proofs.ReplyLemmas.{told_in_order}
 use Rattle.smap_gate.proofs.ServerlessLemmas.{keeps_serverless}
 use Rattle.smap_gate.proofs.SessionLemmas.{never}
@@ -78,7 +83,21 @@ over_nowhere line gate old new ending is session =
 
 -- ---- what the store is given
 
--- by the laws of all sessions
+-- what the client's sink and the log are given
+client_given : (line : List ℕ) (gate : Gate) (ending : Ending) (old new : Devices (Unit {0})) (session : Session (smap_rows gate) smap_row (with_line line old) new ending)
+    → new.outlet.given ≡ grown old.outlet.given (gives told (deeds_of session.held))
+client_given line gate ending old new session =
+    subst (λ (d : Devices (Unit {0})). d.outlet.given ≡ grown old.outlet.given (gives told (deeds_of session.held))) session.leaves
+    (all_gain told_gains (deeds_of session.held) (at_first (with_line line old) session.names) session.last (held_deeds session.held))
+
+log_given : (line : List ℕ) (gate : Gate) (ending : Ending) (old new : Devices (Unit {0})) (session : Session (smap_rows gate) smap_row (with_line line old) new ending)
+    → new.logs.given ≡ grown old.logs.given (line ++ gives logged (deeds_of session.held))
+log_given line gate ending old new session =
+    subst (λ (d : Devices (Unit {0})). d.logs.given ≡ grown (grown old.logs.given line) (gives logged (deeds_of session.held))) session.leaves
+    (all_gain logged_gains (deeds_of session.held) (at_first (with_line line old) session.names) session.last (held_deeds session.held))
+    ∙ by_both old.logs.given line (gives logged (deeds_of session.held))
+
+-- by the laws of all sessions and of the gateway
 stored_by : (line : List ℕ) (gate : Gate) (ending : Ending) (old new : Devices (Unit {0})) → Session (smap_rows gate) smap_row (with_line line old) new ending → MailsBehind line gate ending old new
 stored_by line gate ending old new session =
     let deeds : List Deed = deeds_of session.held in
@@ -89,6 +108,10 @@ stored_by line gate ending old new session =
     record {
       session = session;
       replies = told_in_order gate begun session.last ending session.held;
+      asked = keeps_messages gate begun session.last ending session.held;
+      due = logs_due gate begun session.last ending session.held;
+      told = client_given line gate ending old new session;
+      logged = log_given line gate ending old new session;
       stores = record {
         slots = puts.slots;
         grew = subst (λ (s : StoreView). PutGrew puts.slots old.store s) same puts.grew;

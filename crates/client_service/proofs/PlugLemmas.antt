@@ -38,7 +38,7 @@ use Rattle.session_acts.specs.declared.denying.NoPlace.{NoPlace}
 use Rattle.session_acts.proofs.CauseLemmas.{session_caused}
 use Rattle.session_acts.proofs.ClientLemmas.{logs_first}
 use Rattle.session_acts.proofs.ToldLemmas.{by_both, by_nothing}
-use Rattle.client_service.specs.Conn.{Noted, NotedIf}
+use Rattle.client_service.specs.Endings.{Noted, NotedIf}
 use Rattle.client_service.specs.Decision.{decision_text}
 use Rattle.client_service.specs.Meeting.{patient, silent_row, timeout_of}
 use Rattle.client_service.specs.PlugService.{AsksLogged, CausedLinked, IsAsked, IsUnasked, LinksTo, plug_devices}

@@ -1,9 +1,8 @@
 -- One client of a service: the line of its verdict, its session or its denial, and the line of its ending.
-use Rattle.std.specs.Prelude.{◌≡◌, ℕ, ◌⊎◌, true, false, List, Option, Some, None, Result}
+use Rattle.std.specs.Prelude.{◌≡◌, ℕ, ◌⊎◌, true, false}
 use Rattle.authsrv_gate.specs.Dialogue.{rows, session_row}
-use Rattle.fw_outside.specs.SinkView.{Gives, SinkView}
+use Rattle.fw_outside.specs.SinkView.{SinkView}
 use Rattle.fw_outside.specs.SourceView.{SourceView}
-use Rattle.fw_outside.specs.declared.failed.Failed.{Failed}
 use Rattle.fw_types.specs.declared.ending.Ending.{Ending}
 use Rattle.fw_types.specs.declared.ending.Ending.TheVariants as endings
 use Rattle.fw_types.specs.declared.peer.Peer.{Peer}
@@ -22,6 +21,7 @@ use Rattle.session_acts.specs.World.{Devices}
 use Rattle.tn_gate.specs.Gate.{asks_login, options_or_none}
 use Rattle.client_service.specs.Decision.{decision_text}
 use Rattle.client_service.specs.Endings.{denied_words, ending_line}
+pub use Rattle.client_service.specs.Endings.{Noted, NotedIf}
 use Rattle.client_service.specs.GateService.{CausedGated, LetsIn, RelaysIn, StaysUnasked}
 use Rattle.client_service.specs.Kind.{Kind}
 use Rattle.client_service.specs.Kind.Kind.{Alone, Gated, Plugged}
@@ -64,16 +64,6 @@ Treats (Deny line) service rules peer ending old new = TurnsAway line service pe
 Treats (Permit line) service rules peer ending old new = PermitsBy service line rules peer ending old new
 
 -- ---- the ending's line
-
--- a sink was given a line, in whole or in part
-pub record Noted (line : List ℕ) (old new : SinkView) : Type 0 where
-  pub told : Result (Unit {0}) Failed
-  pub gives : Gives told line old new
-
--- where there is one
-abbrev pub NotedIf : Option (List ℕ) → SinkView → SinkView → Type 0
-NotedIf None old new = new ≡ old
-NotedIf (Some line) old new = Noted line old new
 
 -- a client of a service is treated by its verdict, and then its ending's line given to the log, which changes no ending.
 -- Kept by `conn` (`conn`); body: src/serving.rt.

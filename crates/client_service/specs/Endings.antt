@@ -1,7 +1,9 @@
 -- How the end of a session is told.
-use Rattle.std.specs.Prelude.{ℕ, List, ◌++◌, Option, Some, None, codes}
+use Rattle.std.specs.Prelude.{◌≡◌, ℕ, List, ◌++◌, Option, Some, None, Result, codes}
 use Rattle.std.specs.Fmt.{decimal}
 use Rattle.std.specs.Option.{option_map}
+use Rattle.fw_outside.specs.SinkView.{Gives, SinkView}
+use Rattle.fw_outside.specs.declared.failed.Failed.{Failed}
 use Rattle.fw_types.specs.Peer.{peer_text}
 use Rattle.fw_types.specs.declared.ending.Ending.{Ending}
 use Rattle.fw_types.specs.declared.ending.Ending.TheVariants.{Done, Denied, ClientFault, ServerFault, LogFault, AuthFault, Idle, NoRoute, Spent, NoMemory}
@@ -31,6 +33,16 @@ end_text service peer word = codes "end " ++ service_text service ++ codes " " +
 -- the log's line of an ending
 abbrev pub ending_line : Service → Peer → Ending → Option (List ℕ)
 ending_line service peer ending = option_map (end_text service peer) (ending_word ending)
+
+-- a sink was given a line, in whole or in part
+pub record Noted (line : List ℕ) (old new : SinkView) : Type 0 where
+  pub told : Result (Unit {0}) Failed
+  pub gives : Gives told line old new
+
+-- where there is one
+abbrev pub NotedIf : Option (List ℕ) → SinkView → SinkView → Type 0
+NotedIf None old new = new ≡ old
+NotedIf (Some line) old new = Noted line old new
 
 -- ---- the words to a client that the line with this number denies
 

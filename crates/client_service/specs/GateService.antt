@@ -23,6 +23,7 @@ use Rattle.tn_gate.specs.Dummies.{lent}
 use Rattle.tn_gate.specs.Gate.{Gate, asks_login, gate_at}
 use Rattle.tn_gate.specs.Laws.{AsksExactly, DenialsLogged, DialsCleared, LinesDialed}
 use Rattle.client_service.specs.Decision.{decision_text}
+use Rattle.client_service.specs.Endings.{NotedIf, ending_line}
 use Rattle.client_service.specs.Meeting.{patient, timeout_of}
 
 -- the service is the Telnet gateway
@@ -80,7 +81,8 @@ pub record RelaysBehind {Origin : Type 0} (line : List ℕ) (gate : Gate) (endin
 abbrev pub FrontsBehind : {Origin : Type 0} → List ℕ → Gate → Ending → Devices Origin → Devices Origin → Type 0
 FrontsBehind line gate ending old new = LogFails line old new ending ⊎ RelaysBehind line gate ending old new
 
--- so it was with the line of the permission, up to the line of the ending
+-- so it was with the line of the permission, up to the line of the ending, which was logged behind that
 pub record RelaysIn {Origin : Type 0} (line : ℕ) (rules : RuleBook) (peer : Peer) (ending : Ending) (old new : Devices Origin) : Type 0 where
   pub logs : SinkView
   pub so : FrontsBehind (decision_text (Permit line) TnGw peer) (gate_at rules line peer) ending (patient (timeout_of rules) (gate_devices old)) (gate_devices (record new { logs = logs }))
+  pub noted : NotedIf (ending_line TnGw peer ending) logs new.logs

@@ -1,7 +1,8 @@
 -- A client of `smap` whom the rules permit: its session is held over the mail store, behind the line of the permission.
-use Rattle.std.specs.Prelude.{◌≡◌, ℕ, ◌+◌, ◌-◌, ◌^◌, ◌≤◌, ◌⊎◌, Bool, true, false, min, List, length, Option, Some, None}
+use Rattle.std.specs.Prelude.{◌≡◌, ℕ, ◌+◌, ◌-◌, ◌^◌, ◌≤◌, ◌⊎◌, Bool, true, false, min, List, ◌++◌, length, Option, Some, None}
 use Rattle.fw_outside.specs.DialerView.{dialer_waiting}
 use Rattle.fw_outside.specs.SinkView.{SinkView}
+use Rattle.fw_outside.specs.ToldList.{grown}
 use Rattle.fw_types.specs.declared.ending.Ending.{Ending}
 use Rattle.fw_types.specs.declared.peer.Peer.{Peer}
 use Rattle.gate_rules.specs.Reading.{RuleBook}
@@ -11,17 +12,21 @@ use Rattle.gate_rules.specs.declared.service.Service.TheVariants.{Smap}
 use Rattle.gate_rules.specs.declared.setting.Setting.TheVariants.{MaxBytes, MaxRecip}
 use Rattle.gate_rules.specs.declared.verdict.Verdict.TheVariants.{Permit}
 use Rattle.session_acts.specs.Client.{LogFails, with_line}
-use Rattle.session_acts.specs.Deeds.{gives}
+use Rattle.session_acts.specs.Deeds.{deeds_ran, gives}
+use Rattle.session_acts.specs.Laws.{logged, told}
 use Rattle.session_acts.specs.Session.{Session, deeds_of}
 use Rattle.session_acts.specs.Stored.{AreKept, KeptMail, faulted, kept, unslotted}
 use Rattle.session_acts.specs.World.{Devices}
 use Rattle.smap_gate.specs.Dialogue.{smap_row, smap_rows}
 use Rattle.smap_gate.specs.Dummies.{lent}
 use Rattle.smap_gate.specs.Gate.{Gate}
+use Rattle.smap_gate.specs.Logging.{LogsDue}
+use Rattle.smap_gate.specs.Messages.{KeepsMessages}
 use Rattle.smap_gate.specs.Replies.{ToldInOrder}
 use Rattle.spool_rack.specs.Store.{PutGrew, StoreView}
 use Rattle.spool_slots.specs.States.{FullView}
 use Rattle.client_service.specs.Decision.{decision_text}
+use Rattle.client_service.specs.Endings.{NotedIf, ending_line}
 use Rattle.client_service.specs.Meeting.{logged_row, patient, timeout_of}
 
 -- the service is the mail gateway
@@ -74,11 +79,18 @@ pub record Stores (mails : List KeptMail) (old new : StoreView) : Type 0 where
   pub back : new.out ≡ old.out
 
 -- The session of the gateway was held behind this line. What the client was told is, for each line and each message in order,
--- its reply. The store was given the messages that the session's deeds kept, in order, and no other. It counted each for which no slot was free, and each at which the disk of a slot failed, as far as the counts
+-- its reply. The store was given the messages that the session's deeds kept, in order, and no other: each of the sender and to
+-- the recipients that stood at the line that asked for its data, and right behind each its line was logged, and no other line.
+-- What the client's sink was given is what these deeds told, and what the log was given is this line and what they logged.
+-- The store counted each message for which no slot was free, and each at which the disk of a slot failed, as far as the counts
 -- go.
 pub record MailsBehind (line : List ℕ) (gate : Gate) (ending : Ending) (old new : Devices (Unit {0})) : Type 0 where
   pub session : Session (smap_rows gate) smap_row (with_line line old) new ending
   pub replies : ToldInOrder gate session.held
+  pub asked : KeepsMessages gate session.held
+  pub due : LogsDue gate.peer None (deeds_ran session.held.ran)
+  pub told : new.outlet.given ≡ grown old.outlet.given (gives told (deeds_of session.held))
+  pub logged : new.logs.given ≡ grown old.logs.given (line ++ gives logged (deeds_of session.held))
   pub stores : Stores (gives kept (deeds_of session.held)) old.store new.store
   pub unslotted : min (old.store.no_free + length (gives unslotted (deeds_of session.held))) (2 ^ 64 - 1) ≤ new.store.no_free
   pub faulted : min (old.store.broken + length (gives faulted (deeds_of session.held))) (2 ^ 64 - 1) ≤ new.store.broken
@@ -87,7 +99,8 @@ pub record MailsBehind (line : List ℕ) (gate : Gate) (ending : Ending) (old ne
 abbrev pub MailsOrFails : List ℕ → Gate → Ending → Devices (Unit {0}) → Devices (Unit {0}) → Type 0
 MailsOrFails line gate ending old new = LogFails line old new ending ⊎ MailsBehind line gate ending old new
 
--- so it was with the line of the permission, up to the line of the ending
+-- so it was with the line of the permission, up to the line of the ending, which was logged behind that
 pub record MailsIn {Origin : Type 0} (line : ℕ) (rules : RuleBook) (peer : Peer) (ending : Ending) (old new : Devices Origin) : Type 0 where
   pub logs : SinkView
   pub so : MailsOrFails (decision_text (Permit line) Smap peer) (mail_gate_of rules peer) ending (mail_devices (patient (timeout_of rules) old)) (mail_devices (record new { logs = logs }))
+  pub noted : NotedIf (ending_line Smap peer ending) logs new.logs

@@ -8,9 +8,8 @@ use Rattle.fw_types.specs.declared.ending.Ending.TheVariants.{Done, LogFault}
 use Rattle.fw_types.specs.declared.peer.Peer.{Peer}
 use Rattle.gate_rules.specs.declared.service.Service.{Service}
 use Rattle.gate_rules.specs.declared.verdict.Verdict.TheVariants.{Deny}
-use Rattle.client_service.specs.Conn.{Noted}
 use Rattle.client_service.specs.Decision.{decision_text}
-use Rattle.client_service.specs.Endings.{denied_words}
+use Rattle.client_service.specs.Endings.{Noted, denied_words}
 use Rattle.client_service.specs.Meeting.{denied_by}
 
 -- the log failed within the line, and the client was told nothing

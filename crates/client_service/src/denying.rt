@@ -1,7 +1,7 @@
 //! A client whom the rules deny.
 ghost use Rattle.std.specs.Prelude.{◌≡◌};
 ghost use Rattle.std.specs.Option.{option_map};
-ghost use Rattle.client_service.specs.Conn.{Noted};
+ghost use Rattle.client_service.specs.Endings.{Noted};
 ghost use Rattle.client_service.specs.Meeting.{denied_by};
 ghost use Rattle.client_service.specs.TurningAway.{LogsAlone, TellsOff, TurnedAway, TurnedBy};
 

@@ -1,8 +1,7 @@
 //! How the end of a session is told.
 ghost use Rattle.std.specs.Prelude.{◌≡◌, ◌≤◌, length, IfSome, MatchOption, None, Some};
 ghost use Rattle.std.specs.Option.{option_copied, option_map};
-ghost use Rattle.client_service.specs.Conn.{NotedIf};
-ghost use Rattle.client_service.specs.Endings.{denied_text, denied_words, end_text, ending_line, ending_word, mail_refusal};
+ghost use Rattle.client_service.specs.Endings.{NotedIf, denied_text, denied_words, end_text, ending_line, ending_word, mail_refusal};
 ghost use Rattle.tn_gate.specs.Texts.{refusal};
 
 use crate::decision::{LogLine, append_peer, append_service};

@@ -229,15 +229,16 @@ where
     ensures unclocked { Untouched service.now (verdict_of rules.now peer.now) clock.old clock.new }
     ensures unthrown { Unthrown service.now (verdict_of rules.now peer.now) dice.old dice.new }
     // For each client but one of `smap` whom the rules permit, the mail store isn't touched. For that one it was given the
-    // messages that its session kept, in order, and no other.
+    // messages that its session kept, in order, and no other; and of the same session it is said whose these are, what the
+    // client was told and which lines the log was given.
     ensures unstored { Unstored service.now (verdict_of rules.now peer.now) store.old store.new }
     ensures kept { Mails service.now (verdict_of rules.now peer.now) rules.now peer.now result
         (mail_devices_with (P.port port.old) (S.source_view from.old) (K.sink_view to.old) (G.sink_view logs.old)
         (D.dialer_view dialer.old) (C.clock_view clock.old) (R.dice_view dice.old) (M.store_view store.old))
         (mail_devices_with (P.port port.new) (S.source_view from.new) (K.sink_view to.new) (G.sink_view logs.new)
         (D.dialer_view dialer.new) (C.clock_view clock.new) (R.dice_view dice.new) (M.store_view store.new)) }
-    // No count falls; and for whom the rules permit, the client's source and the dialer wait as the rules have it at the
-    // return, too.
+    // No count but the store's falls, of which `kept` speaks; and for whom the rules permit, the client's source and the dialer
+    // wait as the rules have it at the return, too.
     ensures keeps { KeepsAs (may_relay (kind_of service.now (verdict_of rules.now peer.now)))
         (lent_by (verdict_of rules.now peer.now) rules.now
         (mail_devices_with (P.port port.old) (S.source_view from.old) (K.sink_view to.old) (G.sink_view logs.old)

@@ -1,1 +1,4 @@
+pub mod CountLemmas
 pub mod DrawLemmas
+mod Examples
+pub mod ReadLemmas

@@ -8,6 +8,7 @@
 mod counting;
 mod drawing;
 mod drill_fault;
+pub mod laws;
 mod plan;
 mod reading;
 mod tally;

@@ -7,9 +7,9 @@
 //! [`MemFiles`] gives. [`MemSink`] fails at those and at a gift for which there is no room, and at no other.
 //! [`MemFiles`] gives no source for a name that it lacks; that it gives one for each other name, if there is memory, is
 //! said by no clause. [`MemClock`] gives the moments that it was made with, then the last one again, and 0 if it has
-//! none. [`MemDice`] count up from the number that they were made with. [`MemDialer`] brings up the links that it was
-//! given, in order, and refuses exactly the calls that it is told, those past its room, and those for which no link is
-//! left. [`MemLauncher`] starts nothing: it fails at the calls that it is told, and if it has no memory to note a
+//! none. [`MemDice`] count up from the number that they were made with. [`MemDialer`] brings up the links and opens the
+//! doors that it was given, in order, and refuses exactly the calls that it is told, those past its room, and those for
+//! which no link or door is left. [`MemLauncher`] starts nothing: it fails at the calls that it is told, and if it has no memory to note a
 //! program, and answers as it is told at each other. [`MemDisk`] fails at the calls that it is told, and if it has no
 //! memory for a change; a crash of it leaves an image of its medium, which a number picks.
 #![tactic(auto)]
@@ -32,7 +32,7 @@ mod tape;
 
 pub use calls::Calls;
 pub use mem_clock::MemClock;
-pub use mem_dialer::MemDialer;
+pub use mem_dialer::{MemDialer, MemDoor};
 pub use mem_dice::MemDice;
 pub use mem_disk::MemDisk;
 pub use mem_files::MemFiles;

@@ -1,10 +1,10 @@
-ghost use Rattle.std.specs.Prelude.{◌≡◌, ◌<◌, ◌++◌, ◌∷◌, [], ◌||◌, ◌&&◌, All, nat_lt, length, false, not, is_some, IfOk, IfSome, IfNone, if◌then◌else◌};
+ghost use Rattle.std.specs.Prelude.{◌≡◌, ◌<◌, ◌++◌, ◌∷◌, [], ◌||◌, ◌&&◌, All, nat_lt, length, false, not, is_some, IfOk, IfSome, IfNone, None, if◌then◌else◌};
 ghost use Rattle.fw_outside.specs.Counts.{Rose, counted};
-ghost use Rattle.fw_outside.specs.DialerView.{ComesUp, HangsUp, IfRefused, IfUp, Refuses, RoseIf, dialer_waiting, has_broken};
+ghost use Rattle.fw_outside.specs.DialerView.{Accepts, ComesUp, HangsUp, IfRefused, IfUp, LetsGo, Opens, Refuses, RoseIf, TurnsAway, dialer_waiting, has_broken};
 ghost use Rattle.fw_outside.specs.ToldList.{AddsOne};
-ghost use Rattle.fw_outside.specs.declared.ask.Ask.TheVariants.{Main};
+ghost use Rattle.fw_outside.specs.declared.ask.Ask.TheVariants.{Back, Door, Main, Side};
 ghost use Rattle.fw_memory.specs.CallsView.{comes_at};
-ghost use Rattle.fw_memory.specs.MemDialerView.{CountsAsk, CountsHangUp, IsNewLink, IsNextLink, brings_up, dialer_view_of, has_ended_room, has_room, is_up, link_view_of};
+ghost use Rattle.fw_memory.specs.MemDialerView.{CountsAccept, CountsAsk, CountsDoor, CountsHangUp, CountsLetGo, IsNewLink, IsNextLink, accepts, brings_up, dialer_view_of, has_ended_room, has_room, is_up, link_view_of, opens, place_of};
 ghost use Rattle.fw_memory.specs.MemSinkView.{sink_view_of};
 ghost use Rattle.fw_memory.specs.MemSourceView.{source_view_of};
 
@@ -15,10 +15,15 @@ use std::alloc::Global;
 use std::collections::VecDeque;
 use std::marker::Model;
 
-/// A dialer in memory, which brings up links that it was given, and refuses calls as it is told.
+/// A door in memory.
+#[derive(Drop)]
+pub struct MemDoor;
+
+/// A dialer in memory, which brings up links and opens doors that it was given, and refuses calls as it is told.
 #[derive(Drop)]
 pub struct MemDialer {
     links: VecDeque<(MemSource, MemSink)>,
+    doors: VecDeque<([u8; 4], u16)>,
     room: usize,
     fails: Calls,
     calls: u64,
@@ -30,6 +35,8 @@ pub struct MemDialer {
     refusals: u64,
     link_faults: u64,
     link_idles: u64,
+    data_faults: u64,
+    data_idles: u64,
     waits: u32,
 }
 
@@ -42,6 +49,7 @@ impl Model for MemDialer {
 
     ghost view = { λ d. record {
       links = d.links.items;
+      doors = d.doors.items;
       room = d.room;
       fails = d.fails;
       calls = d.calls;
@@ -53,6 +61,8 @@ impl Model for MemDialer {
       refusals = d.refusals;
       link_faults = d.link_faults;
       link_idles = d.link_idles;
+      data_faults = d.data_faults;
+      data_idles = d.data_idles;
       waits = d.waits;
     } };
 
@@ -67,19 +77,22 @@ fn has_broken(from: &MemSource, to: &MemSink) -> bool
 }
 
 impl MemDialer {
-    /// A dialer that brings up these links, in order. Its calls of `dial` are numbered from 0; those in `fails` are
-    /// refused, and so are all when no link is left. There is room for `asks` entries of what was asked: a call past it
-    /// is refused, and from then on they aren't told. There is room for as many links that were hung up as there are
-    /// links; past it they aren't told.
+    /// A dialer that brings up these links and opens these doors, in order, each with its IPv4 address and port. Its calls
+    /// of `dial`, `side`, `back`, `door` and `accept` are numbered together from 0; those in `fails` are refused, and so is
+    /// each for which no link or door is left. There is room for `asks` entries of what was asked: a call past it is
+    /// refused, and from then on they aren't told; `accept` has no entry. There is room for as many links that were hung up
+    /// as there are links; past it they aren't told.
     pub fn new(
         alloc: Global,
         links: Vec<(MemSource, MemSink)>,
+        doors: Vec<([u8; 4], u16)>,
         asks: usize,
         fails: Calls,
     ) -> Result<MemDialer, NoMemory>
         requires { All IsNewLink links.items }
         ensures { IfOk result (λ dialer. dialer ≡ record {
           links = links.items;
+          doors = doors.items;
           room = asks;
           fails = fails;
           calls = 0;
@@ -91,6 +104,8 @@ impl MemDialer {
           refusals = 0;
           link_faults = 0;
           link_idles = 0;
+          data_faults = 0;
+          data_idles = 0;
           waits = 3600;
         }) }
     {
@@ -99,6 +114,7 @@ impl MemDialer {
         let ended = Vec::with_capacity(alloc, ended_room)?;
         Ok(MemDialer {
             links: VecDeque::from(links),
+            doors: VecDeque::from(doors),
             room: asks,
             fails,
             calls: 0,
@@ -110,6 +126,8 @@ impl MemDialer {
             refusals: 0,
             link_faults: 0,
             link_idles: 0,
+            data_faults: 0,
+            data_idles: 0,
             waits: 3600,
         })
     }
@@ -136,6 +154,12 @@ impl MemDialer {
         let call = self.calls;
         self.calls = call.saturating_add(1);
         self.fails.contains(call)
+    }
+
+    fn has_room(&self) -> bool
+        ensures { result ≡ has_room self.now }
+    {
+        self.asked.len() < self.room
     }
 
     // Notes what was asked, where there is room, and says whether there was.
@@ -189,7 +213,7 @@ impl MemDialer {
         self.refusals = self.refusals.saturating_add(1);
     }
 
-    // Counts a link that failed.
+    // Counts a main link that failed.
     fn count_fault(&mut self, broken: bool)
         ensures rose { RoseIf broken self.old.link_faults self.new.link_faults }
         ensures is { self.new ≡ record self.old {
@@ -201,7 +225,7 @@ impl MemDialer {
         }
     }
 
-    // Counts a link that was idle.
+    // Counts a main link that was idle.
     fn count_idle(&mut self, idle: bool)
         ensures rose { RoseIf idle self.old.link_idles self.new.link_idles }
         ensures is { self.new ≡ record self.old {
@@ -210,6 +234,72 @@ impl MemDialer {
     {
         if idle {
             self.link_idles = self.link_idles.saturating_add(1);
+        }
+    }
+
+    // Counts a data link that failed.
+    fn count_data_fault(&mut self, broken: bool)
+        ensures rose { RoseIf broken self.old.data_faults self.new.data_faults }
+        ensures is { self.new ≡ record self.old {
+          data_faults = (if broken then counted self.old.data_faults else self.old.data_faults);
+        } }
+    {
+        if broken {
+            self.data_faults = self.data_faults.saturating_add(1);
+        }
+    }
+
+    // Counts a data link that was idle.
+    fn count_data_idle(&mut self, idle: bool)
+        ensures rose { RoseIf idle self.old.data_idles self.new.data_idles }
+        ensures is { self.new ≡ record self.old {
+          data_idles = (if idle then counted self.old.data_idles else self.old.data_idles);
+        } }
+    {
+        if idle {
+            self.data_idles = self.data_idles.saturating_add(1);
+        }
+    }
+
+    // Counts one more call, and gives the place of the door that it opens.
+    fn next_door(&mut self) -> Option<([u8; 4], u16)>
+        ensures some { is_some result ≡ opens self.old }
+        ensures next { IfSome result (λ at. self.old.doors ≡ at ∷ self.new.doors) }
+        ensures none { IfNone result (self.new.doors ≡ self.old.doors) }
+        ensures is { self.new ≡ record self.old { calls = counted self.old.calls; doors = self.new.doors } }
+    {
+        if self.is_failing() {
+            return None;
+        }
+        if !self.has_room() {
+            return None;
+        }
+        self.doors.pop_front()
+    }
+
+    // Asks for a link, and brings the next one up.
+    fn bring(&mut self, ask: Ask) -> Dialed<MemSource, MemSink>
+        ensures up { IfUp result (λ from to. ComesUp ask
+            (source_view_of from) (sink_view_of to) (dialer_view_of self.old) (dialer_view_of self.new)) }
+        ensures refused { IfRefused result (Refuses ask (dialer_view_of self.old) (dialer_view_of self.new)) }
+        ensures answer { is_up result ≡ brings_up self.old }
+        ensures next { IfUp result (λ from to. IsNextLink from to self.old self.new) }
+        ensures kept { IfRefused result (self.new.links ≡ self.old.links) }
+        ensures once { CountsAsk ask self.old self.new }
+    {
+        if !self.begin(ask) {
+            self.refuse();
+            return Dialed::Refused;
+        }
+        match self.next_link() {
+            Some((mut from, to)) => {
+                from.patience(self.waits);
+                Dialed::Up(from, to)
+            }
+            None => {
+                self.refuse();
+                Dialed::Refused
+            }
         }
     }
 
@@ -237,6 +327,12 @@ impl Dialer for MemDialer {
 
     type Out = MemSink;
 
+    type DataIn = MemSource;
+
+    type DataOut = MemSink;
+
+    type Door = MemDoor;
+
     ghost dialer_view = { dialer_view_of };
 
     fn dial(&mut self, dest: &Dest) -> Dialed<MemSource, MemSink>
@@ -249,7 +345,68 @@ impl Dialer for MemDialer {
         ensures kept { IfRefused result (self.new.links ≡ self.old.links) }
         ensures once { CountsAsk (Main dest.now) self.old self.new }
     {
-        if !self.begin(Ask::Main(dest.twin())) {
+        self.bring(Ask::Main(dest.twin()))
+    }
+
+    fn side(&mut self, dest: &Dest) -> Dialed<MemSource, MemSink>
+        ensures up { IfUp result (λ from to. ComesUp (Side dest.now)
+            (source_view_of from) (sink_view_of to) (dialer_view_of self.old) (dialer_view_of self.new)) }
+        ensures refused { IfRefused result (Refuses (Side dest.now)
+            (dialer_view_of self.old) (dialer_view_of self.new)) }
+        ensures answer { is_up result ≡ brings_up self.old }
+        ensures next { IfUp result (λ from to. IsNextLink from to self.old self.new) }
+        ensures kept { IfRefused result (self.new.links ≡ self.old.links) }
+        ensures once { CountsAsk (Side dest.now) self.old self.new }
+    {
+        self.bring(Ask::Side(dest.twin()))
+    }
+
+    fn back(&mut self, addr: [u8; 4], port: u16) -> Dialed<MemSource, MemSink>
+        ensures up { IfUp result (λ from to. ComesUp (Back addr port)
+            (source_view_of from) (sink_view_of to) (dialer_view_of self.old) (dialer_view_of self.new)) }
+        ensures refused { IfRefused result (Refuses (Back addr port)
+            (dialer_view_of self.old) (dialer_view_of self.new)) }
+        ensures answer { is_up result ≡ brings_up self.old }
+        ensures next { IfUp result (λ from to. IsNextLink from to self.old self.new) }
+        ensures kept { IfRefused result (self.new.links ≡ self.old.links) }
+        ensures once { CountsAsk (Back addr port) self.old self.new }
+    {
+        self.bring(Ask::Back { addr, port })
+    }
+
+    fn door(&mut self) -> Option<(MemDoor, [u8; 4], u16)>
+        ensures opens { IfSome result (λ opened. Opens opened.1 opened.2
+            (dialer_view_of self.old) (dialer_view_of self.new)) }
+        ensures refused { IfNone result (Refuses (Door None) (dialer_view_of self.old) (dialer_view_of self.new)) }
+        ensures answer { is_some result ≡ opens self.old }
+        ensures next { IfSome result (λ opened. self.old.doors ≡ (opened.1, opened.2) ∷ self.new.doors) }
+        ensures kept { IfNone result (self.new.doors ≡ self.old.doors) }
+        ensures once { CountsDoor (place_of result) self.old self.new }
+    {
+        let at = self.next_door();
+        let _ = self.note(Ask::Door { at });
+        match at {
+            Some(place) => {
+                let addr = place.0;
+                Some((MemDoor, addr, place.1))
+            }
+            None => {
+                self.refuse();
+                None
+            }
+        }
+    }
+
+    fn accept(&mut self, _door: &mut MemDoor) -> Dialed<MemSource, MemSink>
+        ensures up { IfUp result (λ from to. Accepts
+            (source_view_of from) (sink_view_of to) (dialer_view_of self.old) (dialer_view_of self.new)) }
+        ensures refused { IfRefused result (TurnsAway (dialer_view_of self.old) (dialer_view_of self.new)) }
+        ensures answer { is_up result ≡ accepts self.old }
+        ensures next { IfUp result (λ from to. IsNextLink from to self.old self.new) }
+        ensures kept { IfRefused result (self.new.links ≡ self.old.links) }
+        ensures once { CountsAccept self.old self.new }
+    {
+        if self.is_failing() {
             self.refuse();
             return Dialed::Refused;
         }
@@ -272,6 +429,16 @@ impl Dialer for MemDialer {
     {
         self.count_fault(has_broken(&from, &to));
         self.count_idle(from.idles() > 0);
+        self.keep(from, to);
+    }
+
+    fn let_go(&mut self, from: MemSource, to: MemSink)
+        ensures lets_go { LetsGo (source_view_of from) (sink_view_of to)
+            (dialer_view_of self.old) (dialer_view_of self.new) }
+        ensures once { CountsLetGo from to self.old self.new }
+    {
+        self.count_data_fault(has_broken(&from, &to));
+        self.count_data_idle(from.idles() > 0);
         self.keep(from, to);
     }
 

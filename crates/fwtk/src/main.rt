@@ -15,7 +15,7 @@ use fw_real::{
 };
 use fw_types::Octets;
 use process::{Process, SlotDisk};
-use real_links::{LinkSink, Programs, StandardOutput, TcpDialer};
+use real_links::{ClientHosts, LinkSink, Programs, StandardOutput, TcpDialer};
 use std::env;
 use std::io::ErrorKind;
 use std::process::ExitCode;
@@ -37,6 +37,7 @@ usage: fwtk [-t FILE] netacl [-run] DAEMON ADDRESS [NAME]
   -r FILE  the records of users, authdb in the current directory by default
   -s FOLDER  the folder of the mail's slots, spool in the current directory by default
   -n SLOTS  how many slots there are, 1 to 64, 8 by default
+  -m PROGRAM  the program that mail is handed to, /usr/lib/sendmail by default
 fwtk(8) lists the exit statuses; netacl(8), authsrv(8), plug-gw(8), tn-gw(8), smap(8), netperm-table(5) and spool(5) have the
 rest.
 ";
@@ -174,6 +175,7 @@ fn run_with<H, D>(
     words: &[Octets],
     needs: &Needs,
     output: LinkSink<StandardOutput>,
+    hosts: Option<ClientHosts>,
     dice: D,
 ) -> Result<u8, Outcome>
 where
@@ -188,7 +190,7 @@ where
         clock: SystemClock::new(rt),
         dice,
         keeper: Some(Records::new(rt, needs.places.db)?),
-        dialer: TcpDialer::new(rt, rt.alloc()),
+        dialer: TcpDialer::new(rt, rt.alloc(), hosts),
         launcher: Programs::new(rt, rt.alloc()),
         disks: disks_of(rt, needs)?,
     };
@@ -197,7 +199,9 @@ where
 
 fn serve<H: Threads + Sync>(threads: &H, rt: HostRuntime) -> Result<u8, Stop> {
     let words = read_words(&rt)?;
-    let mut output = LinkSink::new(StandardOutput::of(rt.stdout()));
+    let stdout = StandardOutput::of(rt.stdout());
+    let hosts = stdout.hosts();
+    let mut output = LinkSink::new(stdout);
     if let Some(text) = answer(&words) {
         return match output.give(text) {
             Ok(()) => Ok(0),
@@ -206,10 +210,10 @@ fn serve<H: Threads + Sync>(threads: &H, rt: HostRuntime) -> Result<u8, Stop> {
     }
     let needs = Needs::of(&words);
     if !needs.salts {
-        return Ok(run_with(threads, rt, &words, &needs, output, MemDice::new(0))?);
+        return Ok(run_with(threads, rt, &words, &needs, output, hosts, MemDice::new(0))?);
     }
     match Salts::new(&rt) {
-        Ok(salts) => Ok(run_with(threads, rt, &words, &needs, output, salts)?),
+        Ok(salts) => Ok(run_with(threads, rt, &words, &needs, output, hosts, salts)?),
         Err(_) => Err(Stop::NoRandomBytes),
     }
 }

@@ -1,7 +1,11 @@
+pub mod BucketLemmas
+pub mod IndexLemmas
 pub mod LawLemmas
 pub mod LeftmostLemmas
 pub mod LineFaultLemmas
 pub mod ListsLemmas
+pub mod LoneRuleLemmas
+pub mod MergingLemmas
 pub mod OptionCheckLemmas
 pub mod OptionsBuilderLemmas
 pub mod RulesLemmas

@@ -1,14 +1,12 @@
 -- What is wrong with a line, by what is wrong with its parts.
-use Rattle.std.proofs.Common.{◌≡◌, ℕ, Bool, true, false, List, [], ◌∷◌, refl, sym, ap, ◌∙◌}
+use Rattle.std.proofs.Common.{◌≡◌, ℕ, Bool, true, false, List, refl, sym, ap, ◌∙◌}
 use Rattle.std.specs.Prelude.{◌==◌, is_ok, is_some, Option, Some, None, Result, Ok, Err}
 use Rattle.std.specs.Option.{option_or}
-use Rattle.std.specs.Result.{result_err, result_ok}
+use Rattle.std.specs.Result.{result_err}
 use Rattle.fw_types.specs.declared.host.Host.{Host}
 use Rattle.host_pattern.specs.Pattern.{Written}
 use Rattle.host_pattern.specs.declared.word.Word.{Word}
 use Rattle.gate_rules.specs.declared.fault.Why.{Why}
-use Rattle.gate_rules.specs.declared.fault.Why.TheVariants.{MissingValue}
-use Rattle.gate_rules.specs.declared.line_effect.LineEffect.{LineEffect}
 use Rattle.gate_rules.specs.declared.line_effect.LineEffect.TheVariants.{Nothing}
 use Rattle.gate_rules.specs.declared.options.Options.{Options}
 use Rattle.gate_rules.specs.declared.options_builder.OptionsBuilder.{OptionsBuilder}
@@ -17,7 +15,7 @@ use Rattle.gate_rules.specs.declared.setting.Setting.{Setting}
 use Rattle.gate_rules.specs.Faults.{target_among, target_fault}
 use Rattle.gate_rules.specs.Lists.{hosts_alone, hosts_in, mapped, options_in, patterns_of}
 use Rattle.gate_rules.specs.Options.{built, finished, no_options, options_of}
-use Rattle.gate_rules.specs.Reading.{deny_effect, permit_effect, plug_effect, plug_rule, ruled, setting_effect, where_ours, with_target}
+use Rattle.gate_rules.specs.Reading.{deny_effect, plug_effect, plug_rule, ruled, setting_effect, where_ours, with_target}
 use Rattle.gate_rules.specs.Service.{plug_port}
 use Rattle.gate_rules.specs.Settings.{set_to}
 

@@ -1,5 +1,5 @@
 -- Whether there is a target among options, one option further.
-use Rattle.std.proofs.Common.{◌≡◌, ℕ, ◌+◌, ◌<◌, ◌≤◌, Bool, true, false, ◌||◌, List, [], ◌∷◌, length, drop, get_or, refl, sym, ◌∙◌, ap, arith}
+use Rattle.std.proofs.Common.{◌≡◌, ℕ, ◌+◌, ◌<◌, ◌≤◌, Bool, true, false, ◌||◌, List, length, drop, get_or, refl, ◌∙◌, ap, arith}
 use Rattle.std.specs.Prelude.{is_some, Option, Some, None, Result, Ok, Err}
 use Rattle.std.specs.Option.{option_or}
 use Rattle.std.specs.Result.{result_err}
@@ -12,7 +12,7 @@ use Rattle.gate_rules.specs.declared.parsed_option.ParsedOption.{ParsedOption}
 use Rattle.gate_rules.specs.declared.parsed_option.ParsedOption.TheVariants as is
 use Rattle.gate_rules.specs.declared.service.Service.{Service}
 use Rattle.gate_rules.specs.Faults.{is_target, target_among}
-use Rattle.gate_rules.specs.Lists.{mapped, patterns_in}
+use Rattle.gate_rules.specs.Lists.{mapped}
 use Rattle.gate_rules.specs.Options.{builder_of, built, first, option_then, options_after, option_at, target_by, width_at}
 use Rattle.gate_rules.proofs.OptionsBuilderLemmas.{after_drop, begins, here}
 

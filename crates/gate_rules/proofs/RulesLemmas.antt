@@ -10,13 +10,15 @@ use Rattle.fw_types.specs.declared.peer.Peer.{Peer}
 use Rattle.host_pattern.specs.Pattern.{parsed}
 use Rattle.host_pattern.specs.PatternList.{patterns_tested}
 use Rattle.gate_rules.specs.declared.fault.RuleFault.{RuleFault}
+use Rattle.gate_rules.specs.declared.fault.RulesFault.{RulesFault}
+use Rattle.gate_rules.specs.declared.fault.RulesFault.TheVariants as faults
 use Rattle.gate_rules.specs.declared.fault.Why.{Why}
 use Rattle.gate_rules.specs.declared.rule.Rule.{Rule}
 use Rattle.gate_rules.specs.declared.line_effect.LineEffect.{LineEffect}
 use Rattle.gate_rules.specs.declared.line_effect.LineEffect.TheVariants.{Nothing, Ruled, Set}
 use Rattle.gate_rules.specs.Faults.{numbered}
-use Rattle.gate_rules.specs.Reading.{RuleBook, and_effect, closed, effect_then, with_book}
-use Rattle.gate_rules.specs.Verdict.{decided_by, pattern_count, rule_matches, rules_steps, tried}
+use Rattle.gate_rules.specs.Reading.{IsFaultIn, RuleBook, and_effect, closed, effect_then, with_book}
+use Rattle.gate_rules.specs.Verdict.{decided_by, pattern_count, rule_matches, rules_steps}
 
 -- a star is a pattern
 pub star_parsed : parsed (codes "*") ≡ Ok (record { negated = false; body = codes "*" })
@@ -89,6 +91,10 @@ closed_fault last (Err other) fault e = cc
 pub closed_ok : (last : List Rule) (book : Result RuleBook RuleFault) → None ≡ result_err book → is_ok (closed last book) ≡ true
 closed_ok last (Ok book) e = refl
 closed_ok last (Err other) e = absurd (cc)
+
+pub closed_too : (last : List Rule) (book : Result RuleBook RuleFault) (e : RulesFault) → IsFaultIn book e → IsFaultIn (closed last book) e
+closed_too last book (faults.Rule fault) h = rw h refl
+closed_too last book faults.NoMemory h = tt
 
 -- the fault of a line comes before those of the lines after it
 pub first_of_faults : (number : ℕ) (effect : Result LineEffect Why) (more : Result RuleBook RuleFault) → option_or (numbered number (result_err effect)) (result_err more) ≡ result_err (effect_then number effect more)

@@ -1,5 +1,7 @@
 pub mod Attribute
+pub mod Bucket
 pub mod Faults
+pub mod Index
 pub mod Label
 pub mod Lists
 pub mod Operation

@@ -12,6 +12,7 @@ use Rattle.gate_rules.specs.declared.rule.Rule.{Rule}
 use Rattle.gate_rules.specs.declared.setting.Setting.{Setting}
 use Rattle.gate_rules.specs.declared.verdict.Verdict.{Verdict}
 use Rattle.gate_rules.specs.declared.verdict.Verdict.TheVariants.{Permit, Deny}
+use Rattle.gate_rules.specs.Bucket.{bucket}
 use Rattle.gate_rules.specs.Reading.{RuleBook}
 use Rattle.gate_rules.specs.Settings.{is_same}
 
@@ -24,17 +25,17 @@ decided_by (Some rule) = if rule.permits then Permit rule.line else Deny rule.li
 abbrev pub rule_matches : Peer → Rule → Bool
 rule_matches peer rule = list_matches rule.hosts peer
 
--- the first rule whose host list matches the peer decides. Kept by `Rules::verdict` (`answer`); body: `verdict_in` of
--- src/rules.rt.
+-- the first rule whose host list matches the peer decides. Kept by `Rules::verdict` (`answer`); body: `verdict_by` of
+-- src/merging.rt.
 unfoldable pub verdict_of : RuleBook → Peer → Verdict
 verdict_of book peer = decided_by (find (rule_matches peer) book.rules)
 
--- how many patterns all host lists have
+-- how many patterns the host lists have
 abbrev pub pattern_count : List Rule → ℕ
 pattern_count [] = 0
 pattern_count (rule ∷ rules) = length rule.hosts + pattern_count rules
 
--- the rules that are tried for a peer: those up to the first whose host list matches, which is the last of them, or all
+-- the rules that are tried of a list: those up to the first whose host list matches, which is the last of them, or all
 abbrev pub tried : Peer → List Rule → List Rule
 tried peer rules = take (position_or_len (rule_matches peer) rules + 1) rules
 
@@ -42,8 +43,9 @@ tried peer rules = take (position_or_len (rule_matches peer) rules + 1) rules
 unfoldable pub rules_steps : Peer → List Rule → ℕ
 rules_steps peer rules = sum_by (λ rule. patterns_tested rule.hosts peer) (tried peer rules)
 
+-- only the rules of the peer's bucket are tried
 abbrev pub verdict_steps : RuleBook → Peer → ℕ
-verdict_steps book peer = rules_steps peer book.rules
+verdict_steps book peer = rules_steps peer (bucket peer book.rules)
 
 -- the options of the permit line with this number
 abbrev pub options_at : RuleBook → ℕ → Option Options

@@ -8,12 +8,16 @@
 #![tactic(auto)]
 
 mod attribute;
+pub mod bucket_laws;
 mod fault;
+mod gathered;
+mod index;
 mod label;
 pub mod laws;
 mod line_effect;
 mod line_fault;
 mod lists;
+mod merging;
 mod operation;
 mod operation_hosts;
 mod option_check;

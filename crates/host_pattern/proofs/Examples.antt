@@ -4,6 +4,8 @@ use Rattle.std.specs.Prelude.{codes}
 use Rattle.fw_types.specs.declared.peer.Peer.{Peer}
 use Rattle.host_pattern.specs.declared.fault.PatternFault.TheVariants.{Empty, BadByte}
 use Rattle.host_pattern.specs.declared.fault.ListFault.TheVariants as fault
+use Rattle.host_pattern.specs.declared.bucket.Bucket.TheVariants.{Every}
+use Rattle.host_pattern.specs.Bucket.{bucket_of}
 use Rattle.host_pattern.specs.Glob.{glob}
 use Rattle.host_pattern.specs.Party.{body_matches}
 use Rattle.host_pattern.specs.Pattern.{Written, parsed}
@@ -81,3 +83,15 @@ kept_case = refl
 bad_word : list_parsed (record { text = codes "a"; quoted = false } ∷ record { text = codes "b c"; quoted = true } ∷ []) ≡ Err (fault.Bad 1 (BadByte 1))
 unfolding list_parsed parsed
 bad_word = refl
+
+no_octet : bucket_of (codes "256.*") ≡ Every
+unfolding bucket_of
+no_octet = refl
+
+no_period : bucket_of (codes "1*") ≡ Every
+unfolding bucket_of
+no_period = refl
+
+name_everywhere : bucket_of (codes "10.relay.org") ≡ Every
+unfolding bucket_of
+name_everywhere = refl

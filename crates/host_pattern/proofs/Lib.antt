@@ -1,3 +1,5 @@
+pub mod BucketLaws
+pub mod BucketLemmas
 pub mod Examples
 pub mod GlobLaws
 pub mod ListLemmas

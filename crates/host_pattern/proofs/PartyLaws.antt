@@ -18,7 +18,7 @@ no_u : (b : ℕ) → (is_address_byte b || b == 42) ≡ true → (to_ascii_lower
 no_u b h = grind (arith, nat_tests)
 
 -- and no such body is `unknown`
-known : (body : List ℕ) → IsTrue (is_for_addresses body) → is_unknown body ≡ false
+pub known : (body : List ℕ) → IsTrue (is_for_addresses body) → is_unknown body ≡ false
 known [] h = refl
 known (b ∷ body) h = and_left _ _ (no_u b (and_parts _ _ h).0)
 

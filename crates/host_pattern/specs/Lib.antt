@@ -1,3 +1,4 @@
+pub mod Bucket
 pub mod Glob
 pub mod Party
 pub mod Pattern

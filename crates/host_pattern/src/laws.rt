@@ -1,8 +1,11 @@
 //! What the definitions of `specs/` come to. Each function states one law and does nothing.
-ghost use Rattle.std.specs.Prelude.{◌≡◌, ℕ, List, [], ◌∷◌, ◌++◌, Bool, true, false, not, ◌==◌, nat_eq, IsTrue, Ok, None, is_ok};
+ghost use Rattle.std.specs.Prelude.{◌≡◌, ◌≢◌, ◌<◌, ℕ, List, [], ◌∷◌, ◌++◌, Bool, true, false, not, ◌==◌, nat_eq, IsTrue, Ok, Some, None, is_ok};
+ghost use Rattle.std.specs.Fmt.{decimal};
 ghost use Rattle.std.specs.List.{list_all, starts_with, ends_with};
 ghost use Rattle.std.specs.Str.{bytes_eq};
 ghost use Rattle.fw_types.specs.declared.peer.Peer.{Peer};
+ghost use Rattle.host_pattern.specs.declared.bucket.Bucket.TheVariants.{Octet};
+ghost use Rattle.host_pattern.specs.Bucket.{bucket_of, list_reaches};
 ghost use Rattle.host_pattern.specs.Glob.{glob, is_plain};
 ghost use Rattle.host_pattern.specs.Party.{is_unknown, is_stars, is_for_addresses, body_matches};
 ghost use Rattle.host_pattern.specs.Pattern.{Written, is_body, body_of, parsed, written};
@@ -38,6 +41,38 @@ pub fn names_need_a_name()
 pub fn addresses_need_an_address()
     ensures { (body : List ℕ) (party : Peer) → IsTrue (is_for_addresses body) → is_stars body ≡ false →
         party.addr ≡ None → body_matches body party ≡ false }
+{}
+
+/// A body of digits, periods and stars that begins with the decimal of an octet and a period belongs to this octet.
+pub fn bodies_of_an_octet()
+    ensures { (octet : ℕ) (rest : List ℕ) → octet < 256 → IsTrue (is_for_addresses (decimal octet ++ 46 ∷ rest))
+        → bucket_of (decimal octet ++ 46 ∷ rest) ≡ Octet octet }
+{}
+
+/// And no other body does.
+pub fn octets_of_a_body()
+    ensures { (body : List ℕ) (octet : ℕ) → bucket_of body ≡ Octet octet → (octet < 256) × IsTrue (is_for_addresses body)
+        × ((rest : List ℕ) × (body ≡ decimal octet ++ 46 ∷ rest)) }
+{}
+
+/// A body of an octet matches no party whose address begins with another octet.
+pub fn other_octets_are_not_matched()
+    ensures { (body : List ℕ) (octet : ℕ) (party : Peer) (first second third fourth : ℕ) → bucket_of body ≡ Octet octet →
+        party.addr ≡ Some (first ∷ second ∷ third ∷ fourth ∷ []) → first < 256 → first ≢ octet
+        → body_matches body party ≡ false }
+{}
+
+/// A body of an octet matches no party without an address.
+pub fn octets_need_an_address()
+    ensures { (body : List ℕ) (octet : ℕ) (party : Peer) → bucket_of body ≡ Octet octet → party.addr ≡ None
+        → body_matches body party ≡ false }
+{}
+
+/// A list that matches a party with an address has a pattern that belongs to its first octet or to every one.
+pub fn lists_reach_the_octet()
+    ensures { (patterns : List Written) (party : Peer) (first second third fourth : ℕ) →
+        party.addr ≡ Some (first ∷ second ∷ third ∷ fourth ∷ []) → first < 256 → IsTrue (list_matches patterns party)
+        → IsTrue (list_reaches first patterns) }
 {}
 
 /// The first pattern whose body matches decides.

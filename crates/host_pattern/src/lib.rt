@@ -7,6 +7,7 @@
 //! of a pattern in `Steps`. `laws` says what these definitions come to.
 #![tactic(auto)]
 
+mod bucket;
 mod fault;
 pub mod laws;
 mod list;
@@ -16,6 +17,7 @@ mod steps;
 mod walk;
 mod word;
 
+pub use bucket::Bucket;
 pub use fault::{ListFault, PatternFault};
 pub use list::PatternList;
 pub use pattern::Pattern;

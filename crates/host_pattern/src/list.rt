@@ -1,8 +1,11 @@
-ghost use Rattle.std.specs.Prelude.{◌≡◌, ◌≢◌, ◌+◌, ◌<◌, ◌≤◌, List, [], ◌∷◌, ◌++◌, length, map, Ok, Err, OnOk, IfOk, IfErr, IsTrue, is_ok};
-ghost use Rattle.std.specs.List.{enumerate_from, filter_map};
-ghost use Rattle.host_pattern.specs.Pattern.{Written, begins_negated, parsed, read_as, written};
+ghost use Rattle.std.specs.Prelude.{◌≡◌, ◌≢◌, ◌+◌, ◌<◌, ◌≤◌, List, [], ◌∷◌, ◌++◌, length, map, Ok, Err, OnOk, IfOk, IfErr, IfSome, IfNone, IsTrue, is_ok};
+ghost use Rattle.std.specs.List.{enumerate_from, filter_map, list_any};
+ghost use Rattle.host_pattern.specs.Bucket.{bucket_of, buckets, is_every};
+ghost use Rattle.host_pattern.specs.declared.bucket.Bucket.TheVariants.{Octet};
+ghost use Rattle.host_pattern.specs.Pattern.{Written, begins_negated, body_of, parsed, read_as, written};
 ghost use Rattle.host_pattern.specs.PatternList.{bad, good, list_parsed, list_matches, matches, patterns_tested, unless_any_bad};
 
+use crate::bucket::{Bucket, bucket_of};
 use crate::fault::{ListFault, PatternFault};
 use crate::pattern::{Pattern, check_body, test_body, unmarked};
 use crate::steps::Steps;
@@ -53,6 +56,30 @@ fn is_negated(text: &Octets) -> bool
     ensures { result ≡ begins_negated text.now }
 {
     unmarked(text.bytes()).0
+}
+
+// The bucket of the pattern that a text is.
+fn bucket(text: &Octets) -> Bucket
+    ensures { result ≡ bucket_of (body_of text.now) }
+{
+    bucket_of(unmarked(text.bytes()).1)
+}
+
+// The octets to which the patterns belong that the texts are.
+#[tactic(auto, using(crate::proofs::BucketLemmas::octets_further, crate::proofs::BucketLemmas::every_at, crate::proofs::BucketLemmas::octets_all))]
+fn octets_of(texts: &[Octets]) -> Option<ArrayVec<u8, 64>>
+    requires { length texts.now ≤ 64 }
+    ensures some { IfSome result (λ octets. map Octet octets.items ≡ buckets (map read_as texts.now)) }
+    ensures none { IfNone result (IsTrue (list_any is_every (buckets (map read_as texts.now)))) }
+{
+    let mut octets = ArrayVec::new();
+    for text in texts {
+        match bucket(text) {
+            Bucket::Octet(octet) => octets.push(octet),
+            Bucket::Every => return None,
+        }
+    }
+    Some(octets)
 }
 
 // Adds a copy of a text.
@@ -161,6 +188,15 @@ impl PatternList {
         ensures few { length self.now ≤ 64 }
     {
         self.texts.as_slice()
+    }
+
+    /// The octets to whose buckets its patterns belong, one for each pattern, or nothing where one belongs to every
+    /// bucket. It takes no memory.
+    pub fn octets(&self) -> Option<ArrayVec<u8, 64>>
+        ensures some { IfSome result (λ octets. map Octet octets.items ≡ buckets self.now) }
+        ensures none { IfNone result (IsTrue (list_any is_every (buckets self.now))) }
+    {
+        octets_of(self.texts.as_slice())
     }
 
     /// Whether the list matches the party: the first pattern whose body matches decides, by having no `!`.

@@ -20,7 +20,7 @@ fn is_unknown(body: &[u8]) -> bool
     lower.as_slice() == UNKNOWN.as_slice()
 }
 
-fn is_for_addresses(body: &[u8]) -> bool
+pub(crate) fn is_for_addresses(body: &[u8]) -> bool
     ensures { result ≡ is_for_addresses body.now }
 {
     body.iter().all(|byte| byte.is_ascii_digit() || *byte == b'.' || *byte == b'*')

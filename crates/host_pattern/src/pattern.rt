@@ -1,7 +1,9 @@
 ghost use Rattle.std.specs.Prelude.{◌≡◌, ◌+◌, Bool, not, position, IsTrue, OnOk, IfErr};
 ghost use Rattle.host_pattern.specs.Pattern.{is_body_byte, is_body, with_body, parsed, read_as, written, begins_negated, body_of};
+ghost use Rattle.host_pattern.specs.Bucket.{bucket_of};
 ghost use Rattle.host_pattern.specs.Party.{body_matches};
 
+use crate::bucket::{Bucket, bucket_of};
 use crate::fault::PatternFault;
 use crate::party::body_matches;
 use crate::steps::Steps;
@@ -143,6 +145,13 @@ impl Pattern {
             negated: self.negated,
             body: copy_of(self.body.as_slice()),
         }
+    }
+
+    /// Whose addresses it can match, by their first octet. It takes no memory.
+    pub fn bucket(&self) -> Bucket
+        ensures { result ≡ bucket_of self.now.body }
+    {
+        bucket_of(self.body.as_slice())
     }
 
     /// Whether the body matches the party, whether or not the pattern begins with `!`. It is one step.

@@ -6,34 +6,29 @@ use crate::telling::{tell_deaf, tell_disks, tell_run};
 use fw_types::NoMemory;
 use lines_of_rows::{Rows, Told, add};
 use std::alloc::Global;
+use std::thread::Threads;
 
 /// Knows the kinds of row.
 #[derive(Drop)]
-pub(crate) struct Kinds {
-    rt: HostRuntime,
+pub(crate) struct Kinds<'a, H> {
+    pub(crate) threads: &'a H,
 }
 
-impl Kinds {
-    pub(crate) fn new(rt: HostRuntime) -> Kinds {
-        Kinds { rt }
-    }
-}
-
-impl Rows for Kinds {
+impl<'a, H: Threads + Sync> Rows for Kinds<'a, H> {
     fn tell(
         &mut self,
-        _alloc: Global,
+        alloc: Global,
         kind: &str,
         asked: &[u8],
         out: &mut Told,
     ) -> Result<(), NoMemory> {
         match kind {
-            "run" => tell_run(self.rt, asked, out)?,
-            "deaf" => tell_deaf(self.rt, asked, out)?,
-            "disks" => tell_disks(self.rt, asked, out)?,
-            "sweep" => tell_sweep(self.rt, asked, out)?,
-            "scan" => tell_scan(self.rt.alloc(), asked, out)?,
-            "same" => tell_same(self.rt, asked, out)?,
+            "run" => tell_run(self.threads, alloc, asked, out)?,
+            "deaf" => tell_deaf(self.threads, alloc, asked, out)?,
+            "disks" => tell_disks(self.threads, alloc, asked, out)?,
+            "sweep" => tell_sweep(self.threads, alloc, asked, out)?,
+            "scan" => tell_scan(alloc, asked, out)?,
+            "same" => tell_same(self.threads, alloc, asked, out)?,
             _ => add(out, b"no such kind"),
         }
         Ok(())

@@ -7,6 +7,7 @@ use fw_memory::{
 };
 use fw_types::{NoMemory, Octets};
 use std::alloc::Global;
+use std::thread::Threads;
 
 /// The kinds of device in memory.
 #[derive(Drop)]
@@ -50,14 +51,32 @@ fn words_of(alloc: Global, line: &[u8]) -> Result<Vec<Octets>, NoMemory> {
     Ok(words)
 }
 
-// The devices: no table, nobody who says anything, no records, no server.
+// A table that lets net 10 in to each service.
+const TABLE: &[u8] = b"\
+netacl-in.telnetd: permit-hosts 10.* -exec /usr/libexec/telnetd
+tn-gw: permit-hosts 10.*
+plug-gw: port 119 10.* -plug-to 198.6.73.6
+authsrv: permit-hosts 10.*
+";
+
+// The file that is read where no other is named.
+fn files_of(alloc: Global) -> Result<MemFiles, NoMemory> {
+    let name = Octets::copy(alloc, b"/usr/local/etc/netperm-table")?;
+    let table = Octets::copy(alloc, TABLE)?;
+    let mut files = Vec::new(alloc);
+    files.push((name, table))?;
+    Ok(MemFiles::new(alloc, files, 64, Calls::none(), Calls::none()))
+}
+
+// The devices: one table, nobody who says anything, no records, no server.
 fn world_of(alloc: Global, disks: Vec<MemDisk>, refuses: Calls) -> Result<World<Memory>, NoMemory> {
+    let files = files_of(alloc)?;
     let none = Octets::copy(alloc, b"")?;
     let output = MemSink::new(alloc, 1024, refuses)?;
     let logs = MemSink::new(alloc, 1024, Calls::none())?;
-    let dialer = MemDialer::new(alloc, Vec::new(alloc), 1, Calls::none())?;
+    let dialer = MemDialer::new(alloc, Vec::new(alloc), Vec::new(alloc), 1, Calls::none())?;
     Ok(World {
-        files: MemFiles::new(alloc, Vec::new(alloc), 1, Calls::none(), Calls::none()),
+        files,
         input: MemSource::new(none, 1, Calls::none(), Calls::none()),
         output,
         logs,
@@ -71,19 +90,19 @@ fn world_of(alloc: Global, disks: Vec<MemDisk>, refuses: Calls) -> Result<World<
 }
 
 /// Runs a command line over these disks. The output refuses these calls.
-pub(crate) fn run_over(
-    rt: HostRuntime,
+pub(crate) fn run_over<H: Threads + Sync>(
+    threads: &H,
+    alloc: Global,
     line: &[u8],
     disks: Vec<MemDisk>,
     refuses: Calls,
 ) -> Result<Ended, NoMemory> {
-    let alloc = rt.alloc();
     // A run has at most 64 disks.
     if disks.len() > 64 {
         return Err(NoMemory);
     }
     let words = words_of(alloc, line)?;
     let mut world = world_of(alloc, disks, refuses)?;
-    let status = run(&rt, alloc, &words, &mut world);
+    let status = run(threads, alloc, &words, &mut world);
     Ok(Ended { status, world })
 }

@@ -5,6 +5,7 @@ use fw_memory::Calls;
 use fw_types::NoMemory;
 use lines_of_rows::{Told, add, add_number, add_word, cut_word, number_of};
 use std::alloc::Global;
+use std::thread::Threads;
 
 /// A line: whether it permits, and the first two numbers of the addresses that it is about.
 #[derive(Clone, Copy)]
@@ -22,6 +23,7 @@ struct Counts {
 }
 
 /// The numbers that are drawn.
+#[derive(Drop)]
 struct Drawer {
     last: u64,
 }
@@ -104,18 +106,23 @@ pub(crate) fn tell_scan(alloc: Global, asked: &[u8], out: &mut Told) -> Result<(
 }
 
 /// `same START N => yes`: a run of `drill` prints what the scan does, and its counts add up to N.
-pub(crate) fn tell_same(rt: HostRuntime, asked: &[u8], out: &mut Told) -> Result<(), NoMemory> {
+pub(crate) fn tell_same<H: Threads + Sync>(
+    threads: &H,
+    alloc: Global,
+    asked: &[u8],
+    out: &mut Told,
+) -> Result<(), NoMemory> {
     let (first, second) = cut_word(asked);
     let (start, count) = (number_of(first), number_of(second));
-    let counts = scan(rt.alloc(), start, count)?;
+    let counts = scan(alloc, start, count)?;
     let mut text = Told::new();
     tell_counts(start, count, counts, &mut text);
     let mut line = Told::new();
     add(&mut line, b"drill");
     add_number(&mut line, start);
     add_number(&mut line, count);
-    let none = Vec::new(rt.alloc());
-    let ended = run_over(rt, line.as_slice(), none, Calls::none())?;
+    let none = Vec::new(alloc);
+    let ended = run_over(threads, alloc, line.as_slice(), none, Calls::none())?;
     let sum = counts
         .permit
         .saturating_add(counts.deny)

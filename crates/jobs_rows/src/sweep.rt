@@ -5,6 +5,7 @@ use fw_memory::{Calls, MemDisk};
 use fw_types::{NoMemory, Octets};
 use lines_of_rows::{Told, add_number, cut_word, number_of};
 use std::alloc::Global;
+use std::thread::Threads;
 
 /// So often a disk is called.
 const CALLS: u64 = 3;
@@ -63,28 +64,34 @@ fn is_told(alloc: Global, ended: &Ended, failing: u64) -> Result<bool, NoMemory>
     )
 }
 
-fn is_right(
-    rt: HostRuntime,
+fn is_right<H: Threads + Sync>(
+    threads: &H,
+    alloc: Global,
     count: u64,
     failing: u64,
     call: u64,
     words: &[u8],
 ) -> Result<bool, NoMemory> {
-    let disks = disks_with(rt.alloc(), count, failing, call)?;
-    let ended = run_over(rt, words, disks, Calls::none())?;
-    let told = is_told(rt.alloc(), &ended, failing)?;
+    let disks = disks_with(alloc, count, failing, call)?;
+    let ended = run_over(threads, alloc, words, disks, Calls::none())?;
+    let told = is_told(alloc, &ended, failing)?;
     Ok(told && are_as_told(&ended.world.disks, failing))
 }
 
 /// `sweep COUNT WORDS => RIGHT`: with so many disks, each fails at each of its calls in a run of its own. So many of these
 /// runs printed nothing, named the disk, and left the disks before it free and those behind it as they were.
-pub(crate) fn tell_sweep(rt: HostRuntime, asked: &[u8], out: &mut Told) -> Result<(), NoMemory> {
+pub(crate) fn tell_sweep<H: Threads + Sync>(
+    threads: &H,
+    alloc: Global,
+    asked: &[u8],
+    out: &mut Told,
+) -> Result<(), NoMemory> {
     let (count, words) = cut_word(asked);
     let count = number_of(count);
     let mut right = 0u64;
     for failing in 0..count {
         for call in 0..CALLS {
-            if is_right(rt, count, failing, call, words)? {
+            if is_right(threads, alloc, count, failing, call, words)? {
                 right = right.saturating_add(1);
             }
         }

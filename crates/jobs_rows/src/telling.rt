@@ -6,6 +6,7 @@ use fw_types::{NoMemory, Octets};
 use lines_of_rows::{Told, add_hex, add_number, add_word, cut, cut_word, from_hex, numbers_of};
 use std::alloc::Global;
 use std::str;
+use std::thread::Threads;
 
 fn tell_text(text: &[u8], out: &mut Told) {
     if !text.is_empty() {
@@ -21,16 +22,29 @@ fn tell_ended(ended: &Ended, out: &mut Told) {
 }
 
 /// `run WORDS => STATUS OUTPUT LOG`: a run without disks.
-pub(crate) fn tell_run(rt: HostRuntime, asked: &[u8], out: &mut Told) -> Result<(), NoMemory> {
-    let none = Vec::new(rt.alloc());
-    tell_ended(&run_over(rt, asked, none, Calls::none())?, out);
+pub(crate) fn tell_run<H: Threads + Sync>(
+    threads: &H,
+    alloc: Global,
+    asked: &[u8],
+    out: &mut Told,
+) -> Result<(), NoMemory> {
+    let none = Vec::new(alloc);
+    tell_ended(&run_over(threads, alloc, asked, none, Calls::none())?, out);
     Ok(())
 }
 
 /// `deaf WORDS => STATUS OUTPUT LOG`: the same, and the output fails.
-pub(crate) fn tell_deaf(rt: HostRuntime, asked: &[u8], out: &mut Told) -> Result<(), NoMemory> {
-    let none = Vec::new(rt.alloc());
-    tell_ended(&run_over(rt, asked, none, Calls::onward(0))?, out);
+pub(crate) fn tell_deaf<H: Threads + Sync>(
+    threads: &H,
+    alloc: Global,
+    asked: &[u8],
+    out: &mut Told,
+) -> Result<(), NoMemory> {
+    let none = Vec::new(alloc);
+    tell_ended(
+        &run_over(threads, alloc, asked, none, Calls::onward(0))?,
+        out,
+    );
     Ok(())
 }
 
@@ -52,10 +66,15 @@ fn disks_of(alloc: Global, text: &[u8]) -> Result<Vec<MemDisk>, NoMemory> {
 
 /// `disks DISK;DISK;... WORDS => STATUS OUTPUT LOG DIGITS DIGITS ...`: a run over these disks, and what they hold behind
 /// it.
-pub(crate) fn tell_disks(rt: HostRuntime, asked: &[u8], out: &mut Told) -> Result<(), NoMemory> {
+pub(crate) fn tell_disks<H: Threads + Sync>(
+    threads: &H,
+    alloc: Global,
+    asked: &[u8],
+    out: &mut Told,
+) -> Result<(), NoMemory> {
     let (disks, words) = cut_word(asked);
-    let disks = disks_of(rt.alloc(), disks)?;
-    let ended = run_over(rt, words, disks, Calls::none())?;
+    let disks = disks_of(alloc, disks)?;
+    let ended = run_over(threads, alloc, words, disks, Calls::none())?;
     tell_ended(&ended, out);
     for disk in &ended.world.disks {
         add_hex(out, disk.bytes());

@@ -1,7 +1,7 @@
 //! The kinds of row.
 
 use crate::launching::tell_program;
-use crate::linking::{tell_host, tell_link};
+use crate::linking::{tell_door, tell_host, tell_link};
 use fw_types::NoMemory;
 use lines_of_rows::{Rows, Told, add};
 use real_links::can_be_looked_up;
@@ -34,7 +34,8 @@ impl Rows for Kinds {
             "program" => return tell_program(self.rt, alloc, asked, out),
             "name" => tell_name(asked, out),
             "host" => tell_host(self.rt, asked, out),
-            "link" => tell_link(self.rt, asked, out),
+            "door" => tell_door(self.rt, asked, out),
+            "link" | "side" | "back" => tell_link(self.rt, kind, asked, out),
             _ => add(out, b"no such kind"),
         }
         Ok(())

@@ -3,8 +3,8 @@
 use fw_outside::{Dialed, Dialer, Failed, Got, Sink, Source};
 use fw_types::{Dest, Host};
 use lines_of_rows::{Told, add, add_word, cut, cut_word};
-use real_links::{LinkSink, LinkSource, TcpDialer};
-use std::io::{self, Read, Write};
+use real_links::{ClientHosts, LinkSink, LinkSource, TcpDialer};
+use std::io::{self, ErrorKind, Read, Write};
 use std::net::{Ipv4Addr, TcpListener, TcpStream};
 
 /// The two ends of a link, and the server's socket.
@@ -29,12 +29,17 @@ fn loopback(port: u16) -> Dest {
     }
 }
 
-// What a dialer that waits a second answers to a server of its own.
-fn call(rt: HostRuntime) -> io::Result<Option<Called>> {
+// What a dialer that waits a second answers to a server of its own, asked for a link of this kind.
+fn call(rt: HostRuntime, kind: &str) -> io::Result<Option<Called>> {
     let (door, port) = door(rt)?;
-    let mut dialer = TcpDialer::new(rt, rt.alloc());
+    let mut dialer = TcpDialer::new(rt, rt.alloc(), None);
     dialer.patience(1);
-    match dialer.dial(&loopback(port)) {
+    let dialed = match kind {
+        "side" => dialer.side(&loopback(port)),
+        "back" => dialer.back([127, 0, 0, 1], port),
+        _ => dialer.dial(&loopback(port)),
+    };
+    match dialed {
         Dialed::Up(from, to) => {
             let (server, _) = door.accept()?;
             let server = Some(server);
@@ -108,14 +113,69 @@ fn tell_step(called: &mut Called, step: &[u8], out: &mut Told) {
     }
 }
 
-/// `link STEP .. => TOLD ..`: over a link that waits a second. `take`, `give=TEXT`, `flood` and `end` are calls of the
-/// link; the server hears by `hear`, speaks by `say=TEXT`, and goes by `leave`.
-pub(crate) fn tell_link(rt: HostRuntime, asked: &[u8], out: &mut Told) {
-    let Ok(Some(mut called)) = call(rt) else {
-        return add(out, b"-refused");
+fn tell_steps(called: &mut Called, steps: &[u8], out: &mut Told) {
+    for step in steps.split(|byte| *byte == b' ') {
+        tell_step(called, step, out);
+    }
+}
+
+/// `link STEP .. => TOLD ..`: over a link that waits a second, or over a data link for `side` or `back`. `take`,
+/// `give=TEXT`, `flood` and `end` are calls of the link; the server hears by `hear`, speaks by `say=TEXT`, and goes by
+/// `leave`.
+pub(crate) fn tell_link(rt: HostRuntime, kind: &str, asked: &[u8], out: &mut Told) {
+    match call(rt, kind) {
+        Ok(Some(mut called)) => tell_steps(&mut called, asked, out),
+        _ => add(out, b"-refused"),
+    }
+}
+
+/// A dialer that waits a second, for the client of this address; for none if it is no address.
+pub(crate) fn dialer_for(rt: HostRuntime, client: &[u8]) -> TcpDialer<HostRuntime> {
+    let hosts = match Host::read(client) {
+        Some(Host::Addr(there)) => Some(ClientHosts {
+            here: [127, 0, 0, 1],
+            there,
+        }),
+        _ => None,
     };
-    for step in asked.split(|byte| *byte == b' ') {
-        tell_step(&mut called, step, out);
+    let mut dialer = TcpDialer::new(rt, rt.alloc(), hosts);
+    dialer.patience(1);
+    dialer
+}
+
+// Opens a door, at which somebody of 127.0.0.1 knocks, and waits there: the link, if it came up, and who knocked.
+fn knock(
+    rt: HostRuntime,
+    dialer: &mut TcpDialer<HostRuntime>,
+) -> io::Result<
+    (
+        Dialed<LinkSource<TcpStream>, LinkSink<TcpStream>>,
+        TcpStream,
+    ),
+> {
+    let Some((mut door, host, port)) = dialer.door() else {
+        return Err(io::Error::from(ErrorKind::NotFound));
+    };
+    let knocking = TcpStream::connect(&rt, (Ipv4Addr::from_octets(host), port))?;
+    Ok((dialer.accept(&mut door), knocking))
+}
+
+/// `door HOST STEP .. => TOLD ..`: over a data link that somebody of 127.0.0.1 makes at a door for the client HOST; the
+/// steps are as for a link. `-refused` if nobody came up in a second, and what was heard who knocked; `-none` if no door
+/// opened.
+pub(crate) fn tell_door(rt: HostRuntime, asked: &[u8], out: &mut Told) {
+    let (client, steps) = cut_word(asked);
+    let mut dialer = dialer_for(rt, client);
+    match knock(rt, &mut dialer) {
+        Ok((Dialed::Up(from, to), knocking)) => {
+            let server = Some(knocking);
+            tell_steps(&mut Called { from, to, server }, steps, out);
+        }
+        Ok((Dialed::Refused, knocking)) => {
+            add_word(out, b"-refused");
+            tell_heard(&mut Some(knocking), out);
+        }
+        Err(_) => add_word(out, b"-none"),
     }
 }
 
@@ -130,7 +190,7 @@ pub(crate) fn tell_host(rt: HostRuntime, asked: &[u8], out: &mut Told) {
     if word == b"gone".as_slice() {
         held = None;
     }
-    let mut dialer = TcpDialer::new(rt, rt.alloc());
+    let mut dialer = TcpDialer::new(rt, rt.alloc(), None);
     dialer.patience(5);
     match dialer.dial(&Dest { host, port }) {
         Dialed::Up(from, to) => {

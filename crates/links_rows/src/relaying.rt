@@ -45,7 +45,7 @@ pub(crate) fn relay<H: Threads + Sync>(
     ports: (&str, &str),
     seconds: &str,
 ) -> io::Result<(&'static str, &'static str)> {
-    let mut dialer = TcpDialer::new(rt, rt.alloc());
+    let mut dialer = TcpDialer::new(rt, rt.alloc(), None);
     dialer.patience(number_of(seconds.as_bytes()).min(3600) as u32);
     let (mut from, mut to) = dial(&mut dialer, ports.0)?;
     let (mut server_in, mut server_out) = dial(&mut dialer, ports.1)?;

@@ -1,4 +1,5 @@
 pub mod FindLemmas
+pub mod KeywordLemmas
 mod LawLemmas
 pub mod LineLemmas
 pub mod ProgressLemmas

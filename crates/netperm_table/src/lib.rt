@@ -18,6 +18,7 @@
 
 mod copying;
 mod cut;
+mod keywords;
 pub mod laws;
 mod line;
 mod part;
@@ -27,6 +28,7 @@ mod table;
 mod table_fault;
 mod words;
 
+pub use keywords::Keywords;
 pub use line::Line;
 pub use table::Table;
 pub use table_fault::TableFault;

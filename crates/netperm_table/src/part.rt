@@ -31,9 +31,14 @@ fn is_brace(byte: u8) -> bool
     byte == b'{' || byte == b'}'
 }
 
+// Most bytes are passed by the first test.
+#[tactic(auto, using(crate::proofs::KeywordLemmas::no_end_between))]
 fn ends_word(byte: u8) -> bool
     ensures { result ≡ ends_word byte }
 {
+    if b' ' < byte && byte < b'{' {
+        return false;
+    }
     is_blank(byte) || is_brace(byte)
 }
 

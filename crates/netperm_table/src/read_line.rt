@@ -5,12 +5,13 @@ ghost use Rattle.netperm_table.specs.Bytes.{is_blank, is_nul};
 ghost use Rattle.netperm_table.specs.Reading.{is_skipped, line_for, line_with, reading};
 ghost use Rattle.netperm_table.specs.Words.{keywords_of, with_word, word_of, words_of};
 
-use crate::copying::{read_keywords, read_words};
+use crate::copying::read_words;
 use crate::cut::cut_at;
+use crate::keywords::{Keywords, Recent};
 use crate::line::Line;
 use crate::part::{OpenQuote, Part, is_blank, next_part};
 use crate::table_fault::TableFault;
-use fw_types::{Octets, OctetsList};
+use fw_types::Octets;
 use std::alloc::Global;
 
 /// The greatest number of a line.
@@ -45,7 +46,7 @@ fn is_skipped(bytes: &[u8]) -> bool
 fn with_attribute(
     alloc: Global,
     number: u32,
-    keywords: OctetsList,
+    keywords: Keywords,
     part: &Part,
 ) -> Result<Option<Line>, TableFault>
     ensures ok { IfOk result (λ line. line_with number keywords (with_word (word_of part.now.text.now part.now.quoted)
@@ -71,7 +72,7 @@ fn with_attribute(
 fn with_words(
     alloc: Global,
     number: u32,
-    keywords: OctetsList,
+    keywords: Keywords,
     bytes: &[u8],
 ) -> Result<Option<Line>, TableFault>
     ensures ok { IfOk result (λ line. line_with number keywords (words_of bytes.now) ≡ Ok line) }
@@ -88,6 +89,7 @@ fn with_words(
 // The line with what stands before its colon, and what stands after it.
 fn read_sides(
     alloc: Global,
+    recent: &mut Recent,
     number: u32,
     front: &[u8],
     back: &[u8],
@@ -97,7 +99,7 @@ fn read_sides(
         line_for number (keywords_of front.now) (words_of back.now) ≡ Err e) }
     ensures own { IfErr result (λ e. e ≢ TableFault.ReadFault) }
 {
-    let keywords = read_keywords(alloc, front)?;
+    let keywords = recent.keywords(alloc, front)?;
     if keywords.is_empty() {
         return Err(TableFault::NoKeyword { line: number });
     }
@@ -108,6 +110,7 @@ fn read_sides(
 /// fault.
 pub(crate) fn read_line(
     alloc: Global,
+    recent: &mut Recent,
     number: u32,
     bytes: &[u8],
 ) -> Result<Option<Line>, TableFault>
@@ -129,6 +132,6 @@ pub(crate) fn read_line(
     }
     match cut_at(b':', bytes) {
         None => Err(TableFault::NoColon { line: number }),
-        Some((front, back)) => read_sides(alloc, number, front, back),
+        Some((front, back)) => read_sides(alloc, recent, number, front, back),
     }
 }

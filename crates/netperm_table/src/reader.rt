@@ -4,6 +4,7 @@ ghost use Rattle.netperm_table.specs.Progress.{AddsLine, Leads, MayGoOn, ShowsFa
 ghost use Rattle.netperm_table.specs.Reading.{reading};
 
 use crate::cut::{cut_at_line_end, without_return};
+use crate::keywords::Recent;
 use crate::line::Line;
 use crate::read_line::{LAST_LINE, LONGEST, read_line};
 use crate::table_fault::TableFault;
@@ -18,6 +19,7 @@ pub(crate) struct Reader {
     made: Vec<Line>,
     number: u32,
     line: ArrayVec<u8, 2049>,
+    recent: Recent,
 }
 
 impl Model for Reader {
@@ -46,6 +48,7 @@ fn keep(made: &mut Vec<Line>, line: Option<Line>) -> Result<(), TableFault>
 // Reads a line, and keeps it where it isn't skipped.
 fn read_and_keep(
     alloc: Global,
+    recent: &mut Recent,
     made: &mut Vec<Line>,
     number: u32,
     bytes: &[u8],
@@ -54,7 +57,7 @@ fn read_and_keep(
     ensures err { IfErr result (λ e. e ≢ TableFault.NoMemory → reading number bytes.now ≡ Err e) }
     ensures own { IfErr result (λ e. e ≢ TableFault.ReadFault) }
 {
-    let line = read_line(alloc, number, bytes)?;
+    let line = read_line(alloc, recent, number, bytes)?;
     keep(made, line)
 }
 
@@ -67,6 +70,7 @@ impl Reader {
             made: Vec::new(alloc),
             number: 1,
             line: ArrayVec::new(),
+            recent: Recent::none(),
         }
     }
 
@@ -103,7 +107,7 @@ impl Reader {
         ensures own { IfErr result (λ e. e ≢ TableFault.ReadFault) }
     {
         let line = without_return(self.line.as_slice());
-        read_and_keep(alloc, &mut self.made, self.number, line)?;
+        read_and_keep(alloc, &mut self.recent, &mut self.made, self.number, line)?;
         self.number += 1;
         self.line.clear();
         Ok(())
@@ -160,11 +164,12 @@ impl Reader {
             mut made,
             number,
             line,
+            mut recent,
         } = self;
         if line.is_empty() {
             return Ok(made);
         }
-        read_and_keep(alloc, &mut made, number, line.as_slice())?;
+        read_and_keep(alloc, &mut recent, &mut made, number, line.as_slice())?;
         Ok(made)
     }
 }

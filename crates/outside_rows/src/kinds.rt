@@ -1,7 +1,7 @@
 //! The kinds of row.
 
 use crate::devices::{tell_clock, tell_dice, tell_files, tell_sink, tell_source};
-use crate::dialing::tell_dialer;
+use crate::dialing::{tell_calls, tell_dialer};
 use crate::keeping::tell_keeper;
 use crate::launching::tell_launcher;
 use crate::lines::tell_lines;
@@ -50,6 +50,7 @@ impl Rows for Kinds {
             "sink" => tell_sink(alloc, asked, out),
             "files" => tell_files(alloc, asked, out),
             "dialer" => tell_dialer(alloc, asked, out),
+            "calls" => tell_calls(alloc, asked, out),
             "keeper" => tell_keeper(alloc, asked, out),
             "launcher" => tell_launcher(alloc, asked, out),
             "lines" => tell_lines(alloc, asked, out),

@@ -8,13 +8,15 @@ use Rattle.real_links.specs.Names.{can_be_looked_up, without_last_period}
 use Rattle.real_links.specs.declared.address.Address.{Address}
 
 -- a dialer that tells only counts, and how long links wait
-abbrev pub untold_dialer : ℕ → ℕ → ℕ → ℕ → DialerView
-untold_dialer refusals link_faults link_idles waits = record {
+abbrev pub untold_dialer : ℕ → ℕ → ℕ → ℕ → ℕ → ℕ → DialerView
+untold_dialer refusals link_faults link_idles data_faults data_idles waits = record {
   asked = None;
   ended = None;
   refusals = refusals;
   link_faults = link_faults;
   link_idles = link_idles;
+  data_faults = data_faults;
+  data_idles = data_idles;
   waits = waits;
 }
 

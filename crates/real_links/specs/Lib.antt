@@ -4,3 +4,4 @@ pub mod Links
 pub mod Names
 pub mod NewLinks
 pub mod Programs
+pub mod TcpDialerView

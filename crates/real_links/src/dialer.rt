@@ -1,22 +1,25 @@
-ghost use Rattle.std.specs.Prelude.{◌≡◌, true, IfSome, if◌then◌else◌};
+ghost use Rattle.std.specs.Prelude.{◌≡◌, true, IfNone, IfSome, None, Some, if◌then◌else◌};
 ghost use Rattle.fw_outside.specs.Counts.{Rose, counted};
-ghost use Rattle.fw_outside.specs.DialerView.{ComesUp, HangsUp, IfRefused, IfUp, Refuses, RoseIf, dialer_waiting, has_broken};
-ghost use Rattle.fw_outside.specs.declared.ask.Ask.TheVariants.{Main};
+ghost use Rattle.fw_outside.specs.DialerView.{Accepts, ComesUp, HangsUp, IfRefused, IfUp, LetsGo, Opens, Refuses, RoseIf, TurnsAway, dialer_waiting, has_broken};
+ghost use Rattle.fw_outside.specs.declared.ask.Ask.TheVariants.{Back, Door, Main, Side};
 ghost use Rattle.fw_types.specs.declared.host.Host.TheVariants.{Name};
 ghost use Rattle.real_links.specs.Dialing.{LeadsTo, LeadsToHost, untold_dialer};
 ghost use Rattle.real_links.specs.Links.{ReadsAhead, untold_sink, untold_source};
 ghost use Rattle.real_links.specs.Names.{can_be_looked_up};
 ghost use Rattle.real_links.specs.NewLinks.{IsNewLink};
+ghost use Rattle.real_links.specs.TcpDialerView.{tcp_dialer_view};
 
-use crate::link::{Link, open};
+use crate::door::{Opened, open_door, wait_at};
+use crate::link::{Link, link_over, open};
 use crate::names::{can_be_looked_up, without_last_period};
-use crate::{Address, LinkSink, LinkSource};
+use crate::{Address, ClientHosts, LinkSink, LinkSource, TcpDoor};
 use fw_outside::{Dialed, Dialer};
 use fw_types::{Dest, Host, HostName};
 use std::alloc::Global;
 use std::io::{self, ErrorKind};
 use std::net::{HostAddrs, Net, SocketAddr, ToSocketAddrs};
 use std::str;
+use std::time::Clock;
 
 // The addresses of a name. That they are the name's is the system's word.
 fn look_up<R: Net>(net: &R, name: &[u8], port: u16) -> io::Result<HostAddrs>
@@ -37,34 +40,39 @@ fn has_broken<S>(from: &LinkSource<S>, to: &LinkSink<S>) -> bool
     from.faults() > 0 || to.faults() > 0
 }
 
-/// Makes links over TCP to addresses of IPv4, and looks names up. It counts the links that were refused, and of those
-/// that it hung up the ones that had failed and those that had been idle.
+/// Makes links over TCP to addresses of IPv4, looks names up, and opens doors for one client. It counts the links and doors
+/// that were refused, and of the main links and of the data links that it hung up the ones that had failed and those that had
+/// been idle.
 #[derive(Drop)]
 pub struct TcpDialer<R> {
     net: R,
     alloc: Global,
+    hosts: Option<ClientHosts>,
     waits: u32,
     refusals: u64,
     link_faults: u64,
     link_idles: u64,
+    data_faults: u64,
+    data_idles: u64,
 }
 
 impl<R> TcpDialer<R> {
-    /// A dialer over this net. Nothing is counted yet, and its links wait an hour. Each takes 65,536 bytes, by which it reads
-    /// ahead, and is refused if there is no memory for them.
-    pub fn new(net: R, alloc: Global) -> TcpDialer<R>
-        ensures waits { result.waits ≡ 3600 }
-        ensures refusals { result.refusals ≡ 0 }
-        ensures link_faults { result.link_faults ≡ 0 }
-        ensures link_idles { result.link_idles ≡ 0 }
+    /// A dialer over this net, whose doors are for this client; without one it opens none. Nothing is counted yet, and its
+    /// links wait an hour. Each takes 65,536 bytes, by which it reads ahead, and is refused if there is no memory for them.
+    pub fn new(net: R, alloc: Global, hosts: Option<ClientHosts>) -> TcpDialer<R>
+        ensures view { tcp_dialer_view result ≡ untold_dialer 0 0 0 0 0 3600 }
+        ensures hosts { result.hosts ≡ hosts }
     {
         TcpDialer {
             net,
             alloc,
+            hosts,
             waits: 3600,
             refusals: 0,
             link_faults: 0,
             link_idles: 0,
+            data_faults: 0,
+            data_idles: 0,
         }
     }
 
@@ -75,7 +83,7 @@ impl<R> TcpDialer<R> {
         self.refusals = self.refusals.saturating_add(1);
     }
 
-    // Counts a link that failed.
+    // Counts a main link that failed.
     fn count_fault(&mut self, broken: bool)
         ensures rose { RoseIf broken self.old.link_faults self.new.link_faults }
         ensures is { self.new ≡ record self.old {
@@ -87,7 +95,7 @@ impl<R> TcpDialer<R> {
         }
     }
 
-    // Counts a link that was idle.
+    // Counts a main link that was idle.
     fn count_idle(&mut self, idle: bool)
         ensures rose { RoseIf idle self.old.link_idles self.new.link_idles }
         ensures is { self.new ≡ record self.old {
@@ -96,6 +104,30 @@ impl<R> TcpDialer<R> {
     {
         if idle {
             self.link_idles = self.link_idles.saturating_add(1);
+        }
+    }
+
+    // Counts a data link that failed.
+    fn count_data_fault(&mut self, broken: bool)
+        ensures rose { RoseIf broken self.old.data_faults self.new.data_faults }
+        ensures is { self.new ≡ record self.old {
+          data_faults = (if broken then counted self.old.data_faults else self.old.data_faults);
+        } }
+    {
+        if broken {
+            self.data_faults = self.data_faults.saturating_add(1);
+        }
+    }
+
+    // Counts a data link that was idle.
+    fn count_data_idle(&mut self, idle: bool)
+        ensures rose { RoseIf idle self.old.data_idles self.new.data_idles }
+        ensures is { self.new ≡ record self.old {
+          data_idles = (if idle then counted self.old.data_idles else self.old.data_idles);
+        } }
+    {
+        if idle {
+            self.data_idles = self.data_idles.saturating_add(1);
         }
     }
 }
@@ -147,9 +179,45 @@ impl<R: Net> TcpDialer<R> {
             Host::Name(name) => self.reach_name(name, port),
         }
     }
+
+    fn reach_back(&self, host: [u8; 4], port: u16) -> Option<Link<R::Stream>>
+        ensures leads { IfSome result (λ link. link.from.to ≡ record { host = host; port = port }) }
+        ensures new { IfSome result (IsNewLink self.now.waits) }
+    {
+        open(&self.net, self.alloc, Address { host, port }, self.waits).ok()
+    }
+
+    // A door for the client, at our end's address.
+    fn open_at(&self, hosts: ClientHosts) -> Option<(TcpDoor<R::Listener>, [u8; 4], u16)>
+        ensures { IfSome result (λ opened. hosts ≡ record { here = opened.1; there = opened.0.client }) }
+    {
+        let Opened { door, port } = open_door(&self.net, hosts).ok()?;
+        let here = hosts.here;
+        Some((door, here, port))
+    }
+
+    fn open_for_client(&self) -> Option<(TcpDoor<R::Listener>, [u8; 4], u16)>
+        ensures { IfSome result (λ opened. self.now.hosts ≡ Some (record { here = opened.1; there = opened.0.client })) }
+    {
+        match self.hosts {
+            Some(hosts) => self.open_at(hosts),
+            None => None,
+        }
+    }
 }
 
-impl<R: Net + Drop> Dialer for TcpDialer<R>
+impl<R: Net + Clock> TcpDialer<R> {
+    // A link over the connection of the door's client.
+    fn reach_at(&self, door: &TcpDoor<R::Listener>) -> Option<Link<R::Stream>>
+        ensures client { IfSome result (λ link. link.from.to.host ≡ door.now.client) }
+        ensures new { IfSome result (IsNewLink self.now.waits) }
+    {
+        let connected = wait_at(&self.net, door, self.waits)?;
+        link_over(self.alloc, connected, self.waits).ok()
+    }
+}
+
+impl<R: Net + Clock + Drop> Dialer for TcpDialer<R>
 where
     R::Stream: Send,
 {
@@ -157,16 +225,19 @@ where
 
     type Out = LinkSink<R::Stream>;
 
-    ghost dialer_view = { λ d. untold_dialer d.refusals d.link_faults d.link_idles d.waits };
+    type DataIn = LinkSource<R::Stream>;
+
+    type DataOut = LinkSink<R::Stream>;
+
+    type Door = TcpDoor<R::Listener>;
+
+    ghost dialer_view = { tcp_dialer_view };
 
     fn dial(&mut self, dest: &Dest) -> Dialed<LinkSource<R::Stream>, LinkSink<R::Stream>>
         ensures up { IfUp result (λ from to. ComesUp (Main dest.now)
             (untold_source from.amount from.faults from.idles from.waits from.waited) (untold_sink to.faults)
-            (untold_dialer self.old.refusals self.old.link_faults self.old.link_idles self.old.waits)
-            (untold_dialer self.new.refusals self.new.link_faults self.new.link_idles self.new.waits)) }
-        ensures refused { IfRefused result (Refuses (Main dest.now)
-            (untold_dialer self.old.refusals self.old.link_faults self.old.link_idles self.old.waits)
-            (untold_dialer self.new.refusals self.new.link_faults self.new.link_idles self.new.waits)) }
+            (tcp_dialer_view self.old) (tcp_dialer_view self.new)) }
+        ensures refused { IfRefused result (Refuses (Main dest.now) (tcp_dialer_view self.old) (tcp_dialer_view self.new)) }
         ensures leads { IfUp result (λ from to. LeadsTo dest.now from.to) }
         ensures ahead { IfUp result (λ from to. ReadsAhead from.socket) }
     {
@@ -179,14 +250,99 @@ where
         }
     }
 
+    fn side(&mut self, dest: &Dest) -> Dialed<LinkSource<R::Stream>, LinkSink<R::Stream>>
+        ensures up { IfUp result (λ from to. ComesUp (Side dest.now)
+            (untold_source from.amount from.faults from.idles from.waits from.waited) (untold_sink to.faults)
+            (tcp_dialer_view self.old) (tcp_dialer_view self.new)) }
+        ensures refused { IfRefused result (Refuses (Side dest.now) (tcp_dialer_view self.old) (tcp_dialer_view self.new)) }
+        ensures leads { IfUp result (λ from to. LeadsTo dest.now from.to) }
+        ensures ahead { IfUp result (λ from to. ReadsAhead from.socket) }
+    {
+        match self.reach(dest) {
+            Some(Link { from, to }) => Dialed::Up(from, to),
+            None => {
+                self.refuse();
+                Dialed::Refused
+            }
+        }
+    }
+
+    fn back(
+        &mut self,
+        addr: [u8; 4],
+        port: u16,
+    ) -> Dialed<LinkSource<R::Stream>, LinkSink<R::Stream>>
+        ensures up { IfUp result (λ from to. ComesUp (Back addr port)
+            (untold_source from.amount from.faults from.idles from.waits from.waited) (untold_sink to.faults)
+            (tcp_dialer_view self.old) (tcp_dialer_view self.new)) }
+        ensures refused { IfRefused result (Refuses (Back addr port) (tcp_dialer_view self.old) (tcp_dialer_view self.new)) }
+        ensures leads { IfUp result (λ from to. from.to ≡ record { host = addr; port = port }) }
+        ensures ahead { IfUp result (λ from to. ReadsAhead from.socket) }
+    {
+        match self.reach_back(addr, port) {
+            Some(Link { from, to }) => Dialed::Up(from, to),
+            None => {
+                self.refuse();
+                Dialed::Refused
+            }
+        }
+    }
+
+    /// The door is at the address at which the client came in, and for that client alone.
+    fn door(&mut self) -> Option<(TcpDoor<R::Listener>, [u8; 4], u16)>
+        ensures opens { IfSome result (λ opened. Opens opened.1 opened.2 (tcp_dialer_view self.old) (tcp_dialer_view self.new)) }
+        ensures refused { IfNone result (Refuses (Door None) (tcp_dialer_view self.old) (tcp_dialer_view self.new)) }
+        ensures client { IfSome result (λ opened. self.old.hosts ≡
+            Some (record { here = opened.1; there = opened.0.client })) }
+        ensures hosts { self.new.hosts ≡ self.old.hosts }
+    {
+        match self.open_for_client() {
+            Some(opened) => Some(opened),
+            None => {
+                self.refuse();
+                None
+            }
+        }
+    }
+
+    /// Waits as long as a link waits, at most. A connection from any address but the client's is closed.
+    fn accept(
+        &mut self,
+        door: &mut TcpDoor<R::Listener>,
+    ) -> Dialed<LinkSource<R::Stream>, LinkSink<R::Stream>>
+        ensures up { IfUp result (λ from to. Accepts
+            (untold_source from.amount from.faults from.idles from.waits from.waited) (untold_sink to.faults)
+            (tcp_dialer_view self.old) (tcp_dialer_view self.new)) }
+        ensures refused { IfRefused result (TurnsAway (tcp_dialer_view self.old) (tcp_dialer_view self.new)) }
+        ensures client { IfUp result (λ from to. from.to.host ≡ door.old.client) }
+        ensures ahead { IfUp result (λ from to. ReadsAhead from.socket) }
+        ensures door { door.new ≡ door.old }
+    {
+        match self.reach_at(door) {
+            Some(Link { from, to }) => Dialed::Up(from, to),
+            None => {
+                self.refuse();
+                Dialed::Refused
+            }
+        }
+    }
+
     fn hang_up(&mut self, from: LinkSource<R::Stream>, to: LinkSink<R::Stream>)
         ensures { HangsUp
             (untold_source from.amount from.faults from.idles from.waits from.waited) (untold_sink to.faults)
-            (untold_dialer self.old.refusals self.old.link_faults self.old.link_idles self.old.waits)
-            (untold_dialer self.new.refusals self.new.link_faults self.new.link_idles self.new.waits) }
+            (tcp_dialer_view self.old) (tcp_dialer_view self.new) }
     {
         self.count_fault(has_broken(&from, &to));
         self.count_idle(from.idles() > 0);
+    }
+
+    fn let_go(&mut self, from: LinkSource<R::Stream>, to: LinkSink<R::Stream>)
+        ensures { LetsGo
+            (untold_source from.amount from.faults from.idles from.waits from.waited) (untold_sink to.faults)
+            (tcp_dialer_view self.old) (tcp_dialer_view self.new) }
+    {
+        self.count_data_fault(has_broken(&from, &to));
+        self.count_data_idle(from.idles() > 0);
     }
 
     /// A link takes as long to come up at most, for each address that is tried.

@@ -1,7 +1,8 @@
 //! Links to other hosts over TCP, and programs of the system.
 //!
-//! [`TcpDialer`] makes links, each a [`LinkSource`] and a [`LinkSink`] with a handle of its own of one socket, and
-//! [`Programs`] runs programs with the streams of this process. They are the dialer and the launcher of `fw_outside`
+//! [`TcpDialer`] makes links, each a [`LinkSource`] and a [`LinkSink`] with a handle of its own of one socket, and opens
+//! doors, at each of which a [`TcpDoor`] waits for one client alone; and [`Programs`] runs programs with the streams of
+//! this process. They are the dialer and the launcher of `fw_outside`
 //! over the real thing: none tells what it holds, and each counts its failures in counts of 64 bits that stand still at
 //! their last value.
 //!
@@ -12,8 +13,10 @@
 #![tactic(auto)]
 
 mod address;
+mod client_hosts;
 mod command;
 mod dialer;
+mod door;
 mod link;
 mod link_sink;
 mod link_source;
@@ -24,7 +27,9 @@ mod standard_output;
 mod wait;
 
 pub use address::Address;
+pub use client_hosts::ClientHosts;
 pub use dialer::TcpDialer;
+pub use door::TcpDoor;
 pub use link_sink::LinkSink;
 pub use link_source::LinkSource;
 pub use names::can_be_looked_up;

@@ -17,11 +17,11 @@ pub(crate) struct Link<S> {
     pub(crate) to: LinkSink<S>,
 }
 
-// A socket that was connected, and to where.
+/// A socket that was connected, and to where.
 #[derive(Drop)]
-struct Connected<S> {
-    socket: S,
-    to: Address,
+pub(crate) struct Connected<S> {
+    pub(crate) socket: S,
+    pub(crate) to: Address,
 }
 
 // Connects to an address of IPv4, within so many seconds. That this leads to the host there is the system's word.
@@ -33,8 +33,8 @@ fn connect<R: Net>(net: &R, to: Address, seconds: u32) -> io::Result<Connected<R
     Ok(Connected { socket, to })
 }
 
-// The two ends of a link over the socket, each with a handle of its own, which wait so many seconds.
-fn link_over<S: Read + Write + OpenStream + Drop>(
+/// The two ends of a link over the socket, each with a handle of its own, which wait so many seconds.
+pub(crate) fn link_over<S: Read + Write + OpenStream + Drop>(
     alloc: Global,
     connected: Connected<S>,
     seconds: u32,

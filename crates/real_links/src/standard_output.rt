@@ -1,5 +1,6 @@
+use crate::ClientHosts;
 use std::io::{self, Stdout, Write};
-use std::net::{OpenStream, Shutdown, TcpStream};
+use std::net::{Ipv4Addr, OpenStream, Shutdown, SocketAddr, TcpStream};
 use std::os::fd::AsFd;
 
 /// What a process writes as its standard output. If it is a socket, as inetd and systemd hand one over, the other side can
@@ -18,12 +19,35 @@ fn socket_of(stdout: &Stdout) -> io::Result<TcpStream> {
     Ok(socket)
 }
 
+// The IPv4 address of one end, which one of IPv6 may stand for.
+fn host_of(end: SocketAddr) -> Option<Ipv4Addr> {
+    match end {
+        SocketAddr::V4(at) => Some(*at.ip()),
+        SocketAddr::V6(at) => at.ip().to_ipv4_mapped(),
+    }
+}
+
+// The addresses of both ends of a client's socket.
+fn hosts_of(socket: &TcpStream) -> Option<ClientHosts> {
+    let here = host_of(socket.local_addr().ok()?)?.octets();
+    let there = host_of(socket.peer_addr().ok()?)?.octets();
+    Some(ClientHosts { here, there })
+}
+
 impl StandardOutput {
     /// The standard output of this process.
     pub fn of(stdout: Stdout) -> StandardOutput {
         match socket_of(&stdout) {
             Ok(socket) => StandardOutput::Socket(socket),
             Err(_) => StandardOutput::Other(stdout),
+        }
+    }
+
+    /// The addresses of both ends of a client's socket; nothing if standard output is no socket of IPv4.
+    pub fn hosts(&self) -> Option<ClientHosts> {
+        match self {
+            StandardOutput::Socket(socket) => hosts_of(socket),
+            StandardOutput::Other(_) => None,
         }
     }
 }

@@ -177,7 +177,7 @@ fn links_of(plan: &Plan) -> Result<Vec<(MemSource, MemSink)>, NoMemory>
 fn dialer_of(plan: &Plan) -> Result<MemDialer, NoMemory> {
     let fails = calls_of(plan, Part::Dialer)?;
     let links = links_of(plan)?;
-    MemDialer::new(plan.alloc, links, MOST_ASKED, fails)
+    MemDialer::new(plan.alloc, links, Vec::new(plan.alloc), MOST_ASKED, fails)
 }
 
 fn talk_of(plan: &Plan) -> Result<Talk, NoMemory> {

@@ -64,11 +64,11 @@ fn add_dest(out: &mut Text, dest: &Dest) {
     add(out, b"\n");
 }
 
-/// Adds the destinations that were asked for, each in a line.
+/// Adds the destinations for which main links were asked, each in a line.
 pub(crate) fn add_asked(out: &mut Text, dialer: &MemDialer) {
     for ask in dialer.asked() {
-        match ask {
-            Ask::Main(dest) => add_dest(out, dest),
+        if let Ask::Main(dest) = ask {
+            add_dest(out, dest);
         }
     }
 }

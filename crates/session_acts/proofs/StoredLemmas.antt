@@ -136,21 +136,21 @@ full_lent : (queues : Option Queues) → option_map (λ (q : Queues). q.full) (o
 full_lent None = refl
 full_lent (Some q) = refl
 
-full_back : (slot : SlotView) (one : KeptMail) (put : FullView) (old : StoreView) → put.number ≡ slot.number → put.number ≡ one.number → Keeps one.mail put → Grows (one ∷ []) [] [] old (put_full put (lent_of slot old))
-full_back slot one put old number named keeps =
+full_back : (slot : SlotView) (one : KeptMail) (put : FullView) (old : StoreView) → put.number ≡ slot.number → put.number ≡ one.number → length one.mail.body ≡ one.bytes → Keeps one.mail put → Grows (one ∷ []) [] [] old (put_full put (lent_of slot old))
+full_back slot one put old number named long keeps =
     let grew = put_grew put (lent_of slot old) (was_free put.number slot.number old.out number) in
     record {
       slots = put ∷ [];
       grew = record { queued = grew.queued ∙ ap (option_map (λ (full : List FullView). full ++ put ∷ [])) (full_lent old.queues); listed = grew.listed };
-      are = (named, keeps, tt);
+      are = (named, keeps, tt, long);
       out = struck_here put.number slot.number old.out number;
       no_free = omega arith;
       broken = omega arith;
     }
 
-grows_full : (slot : SlotView) (one : KeptMail) (put : FullView) (old lent new : StoreView) → HasTakenFree slot old lent → put.number ≡ slot.number → put.number ≡ one.number → Keeps one.mail put → new ≡ put_full put lent → Grows (one ∷ []) [] [] old new
-grows_full slot one put old lent new takes number named keeps is =
-    subst (λ (s : StoreView). Grows (one ∷ []) [] [] old s) (sym (is ∙ ap (put_full put) takes.is)) (full_back slot one put old number named keeps)
+grows_full : (slot : SlotView) (one : KeptMail) (put : FullView) (old lent new : StoreView) → HasTakenFree slot old lent → put.number ≡ slot.number → put.number ≡ one.number → length one.mail.body ≡ one.bytes → Keeps one.mail put → new ≡ put_full put lent → Grows (one ∷ []) [] [] old new
+grows_full slot one put old lent new takes number named long keeps is =
+    subst (λ (s : StoreView). Grows (one ∷ []) [] [] old s) (sym (is ∙ ap (put_full put) takes.is)) (full_back slot one put old number named long keeps)
 
 -- ---- one act
 
@@ -174,13 +174,16 @@ grows_back sender rcpts added old new (inr h) = grows_failed [] sender rcpts add
 kept_mail : (sender : List ℕ) (rcpts : List (List ℕ)) (body data_heard : List ℕ) (number : ℕ) (full : FullView) → AreOfBody data_heard body → Keeps (mail_of sender rcpts body) full → Keeps (mail_of sender rcpts (body_of data_heard)) full
 kept_mail sender rcpts body data_heard number full are keeps = subst (λ (b : List ℕ). Keeps (mail_of sender rcpts b) full) (sym (ap bytes_in are)) keeps
 
+kept_length : (body data_heard : List ℕ) (bytes : ℕ) → AreOfBody data_heard body → length body ≡ bytes → length (body_of data_heard) ≡ bytes
+kept_length body data_heard bytes are is_long = ap (λ (b : Option Body). length (bytes_in b)) are ∙ is_long
+
 deposited_grows : (sender : List ℕ) (rcpts : List (List ℕ)) (most : ℕ) (deposited : Deposited) (data_heard : List ℕ) (old new : StoreView) → StoreDeposits sender rcpts most deposited data_heard old new
     → Grows (kept_as sender rcpts deposited data_heard) (unslotted_as sender deposited) (faulted_as sender deposited) old new
 deposited_grows sender rcpts most NoSlot data_heard old new h = grows_none sender old new h
 deposited_grows sender rcpts most NotBegun data_heard old new h = grows_failed (sender ∷ []) sender rcpts [] old new (omega arith) h
 deposited_grows sender rcpts most (Kept number bytes) data_heard old new h =
     let l = h.lends in
-    grows_full l.slot (record { number = number; mail = mail_of sender rcpts (body_of data_heard) }) l.does.full old l.lent new l.takes l.does.kept.onward.number_is l.does.number_is (kept_mail sender rcpts h.body data_heard number l.does.full h.are l.does.kept.keeps) l.does.is
+    grows_full l.slot (record { number = number; bytes = bytes; mail = mail_of sender rcpts (body_of data_heard) }) l.does.full old l.lent new l.takes l.does.kept.onward.number_is l.does.number_is (kept_length h.body data_heard bytes h.are h.is_long) (kept_mail sender rcpts h.body data_heard number l.does.full h.are l.does.kept.keeps) l.does.is
 deposited_grows sender rcpts most TooLarge data_heard old new h = grows_filled sender rcpts h.added old new h.lends
 deposited_grows sender rcpts most Faulted data_heard old new h = grows_lost (sender ∷ []) sender rcpts h.added h.rest old new (omega arith) h.lends
 deposited_grows sender rcpts most Ended data_heard old new h = grows_back sender rcpts h.added old new h.lends
@@ -219,7 +222,7 @@ kept_both : (first more : List KeptMail) (a b : List FullView) → AreKept first
 kept_both [] more [] b x y = y
 kept_both [] more (slot ∷ a) b x y = absurd x
 kept_both (one ∷ first) more [] b x y = absurd x
-kept_both (one ∷ first) more (slot ∷ a) b x y = (x.0, x.1, kept_both first more a b x.2 y)
+kept_both (one ∷ first) more (slot ∷ a) b x y = (x.0, x.1, kept_both first more a b x.2 y, x.3)
 
 least_both : (first more : List (List ℕ)) (a b c : ℕ) → min (a + length first) (2 ^ 64 - 1) ≤ b → min (b + length more) (2 ^ 64 - 1) ≤ c → min (a + length (first ++ more)) (2 ^ 64 - 1) ≤ c
 least_both first more a b c before after = let lengths = length-append first more in omega (arith, before, after, lengths)

@@ -10,7 +10,16 @@ silent = record { given = None; shut = None; faults = 0 }
 
 -- a dialer that tells nothing of what it was asked, and has refused so often
 abbrev pub refusing : (refusals waits : ℕ) → DialerView
-refusing refusals waits = record { asked = None; ended = None; refusals = refusals; link_faults = 0; link_idles = 0; waits = waits }
+refusing refusals waits = record {
+  asked = None;
+  ended = None;
+  refusals = refusals;
+  link_faults = 0;
+  link_idles = 0;
+  data_faults = 0;
+  data_idles = 0;
+  waits = waits;
+}
 
 -- and that was asked for none yet
 abbrev pub nowhere : DialerView

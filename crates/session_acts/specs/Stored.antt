@@ -11,9 +11,10 @@ use Rattle.smap_lines.specs.Body.{Body, mail_body_of}
 use Rattle.spool_rack.specs.Store.{PutGrew}
 use Rattle.spool_slots.specs.States.{FullView, Keeps}
 
--- a message that was kept, and the number of its slot
+-- a message that was kept, the number of its slot, and how many bytes its body was said to have
 pub record KeptMail : Type 0 where
   pub number : ℕ
+  pub bytes : ℕ
   pub mail : Mail
 
 abbrev pub bytes_in : Option Body → List ℕ
@@ -25,7 +26,7 @@ abbrev pub body_of : List ℕ → List ℕ
 body_of data_heard = bytes_in (mail_body_of data_heard)
 
 abbrev pub kept_as : List ℕ → List (List ℕ) → Deposited → List ℕ → List KeptMail
-kept_as sender rcpts (Kept number bytes) data_heard = record { number = number; mail = mail_of sender rcpts (body_of data_heard) } ∷ []
+kept_as sender rcpts (Kept number bytes) data_heard = record { number = number; bytes = bytes; mail = mail_of sender rcpts (body_of data_heard) } ∷ []
 kept_as sender rcpts _ data_heard = []
 
 abbrev pub kept_by : {words : List ℕ} → List ℕ → List (List ℕ) → Result (Deposited × List ℕ) (Undeposited words) → List KeptMail
@@ -37,10 +38,10 @@ abbrev pub kept : (act : Act) → Outcome act → List KeptMail
 kept (Deposit sender rcpts words most) outcome = kept_by sender rcpts outcome
 kept act outcome = []
 
--- these are the messages in these slots, one by one
+-- these are the messages in these slots, one by one, each with as many bytes of body as was said
 abbrev pub AreKept : List KeptMail → List FullView → Type 0
 AreKept [] [] = Unit {0}
-AreKept (one ∷ more) (slot ∷ slots) = (slot.number ≡ one.number) × Keeps one.mail slot × AreKept more slots
+AreKept (one ∷ more) (slot ∷ slots) = (slot.number ≡ one.number) × Keeps one.mail slot × AreKept more slots × (length one.mail.body ≡ one.bytes)
 AreKept _ _ = ⊥
 
 -- slots with these messages were put full, in this order, and no other

@@ -1,5 +1,6 @@
 //! Devices that stand in for those which a kind of session doesn't have.
 ghost use Rattle.std.specs.Prelude.{◌≡◌, None, refl};
+ghost use Rattle.fw_outside.specs.Counts.{Rose};
 ghost use Rattle.fw_outside.specs.SourceView.{fresh, waiting};
 ghost use Rattle.session_acts.specs.Dummies.{failing, nowhere, silent};
 ghost use Rattle.session_acts.specs.World.{no_store};
@@ -44,6 +45,10 @@ impl Source for NoSource {
     }
 }
 
+/// A door that never opens.
+#[derive(Drop)]
+pub struct NoDoor;
+
 /// A dialer that refuses all: that of a session which has no server.
 #[derive(Drop)]
 pub struct Nowhere {
@@ -70,6 +75,13 @@ impl Nowhere {
             waits: 3600,
         }
     }
+
+    fn refuse(&mut self)
+        ensures rose { Rose self.old.refusals self.new.refusals }
+        ensures is { self.new ≡ record self.old { refusals = self.new.refusals } }
+    {
+        self.refusals = self.refusals.saturating_add(1);
+    }
 }
 
 impl Dialer for Nowhere {
@@ -77,15 +89,45 @@ impl Dialer for Nowhere {
 
     type Out = Silent;
 
+    type DataIn = NoSource;
+
+    type DataOut = Silent;
+
+    type Door = NoDoor;
+
     ghost dialer_view = { λ dialer. dialer };
 
     fn dial(&mut self, _dest: &Dest) -> Dialed<NoSource, Silent> {
-        self.refusals = self.refusals.saturating_add(1);
+        self.refuse();
+        Dialed::Refused
+    }
+
+    fn side(&mut self, _dest: &Dest) -> Dialed<NoSource, Silent> {
+        self.refuse();
+        Dialed::Refused
+    }
+
+    fn back(&mut self, _addr: [u8; 4], _port: u16) -> Dialed<NoSource, Silent> {
+        self.refuse();
+        Dialed::Refused
+    }
+
+    fn door(&mut self) -> Option<(NoDoor, [u8; 4], u16)> {
+        self.refuse();
+        None
+    }
+
+    fn accept(&mut self, _door: &mut NoDoor) -> Dialed<NoSource, Silent> {
+        self.refuse();
         Dialed::Refused
     }
 
     // Read so that the check sees which dialer this is.
     fn hang_up(&mut self, _from: NoSource, _to: Silent) {
+        let _ = &self.waits;
+    }
+
+    fn let_go(&mut self, _from: NoSource, _to: Silent) {
         let _ = &self.waits;
     }
 

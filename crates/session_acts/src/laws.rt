@@ -42,8 +42,9 @@ pub fn the_client_is_told<Origin, P>()
 {}
 
 /// What a session took of a client of which nothing was pending is what its deeds heard, one piece after another: each line
-/// with its end, and what was read for nothing where no line was heard. Behind that at most 4,096 bytes were taken, which
-/// are pending. So a session that stops has taken no more beyond the line, or the end, to which the act belongs.
+/// with its end, what was read for nothing where no line was heard, the data of each message as they came, and what a relay
+/// took. Behind that at most 4,096 bytes were taken, which are pending. So a session that stops has taken no more beyond the
+/// line, or the end, to which the act belongs.
 pub fn the_client_is_heard<Origin, P>()
     ensures { (rows : PlaceTable (acts Origin) P) (first : Row (acts Origin) P) (old new : World Origin) (ending : Ending)
         (held : Held rows first old new ending) → old.client.reader.pending ≡ [] →
@@ -209,7 +210,7 @@ pub fn a_line_is_logged_first<Origin, P>()
 {}
 
 /// In a session that ends for want of memory some request got no answer for that, be it one of the script's or the close that
-/// was owed.
+/// was owed; or there was no memory to begin a message, or for what the script allots.
 pub fn the_memory_was_lacking<Origin, P>()
     ensures { (rows : PlaceTable (acts Origin) P) (first : Row (acts Origin) P) (old new : World Origin) (ending : Ending)
         (held : Held rows first old new ending) → ending ≡ NoMemory → one_lacked_memory (deeds_of held) ≡ true }
@@ -284,7 +285,8 @@ pub fn a_used_up_link_ends_it<Origin, P>()
 
 /// The messages that a session kept stand in slots that were put full, in the order in which it kept them: at the back of the
 /// full queue, where the store tells its queues, and at the end of the list of those put, where it keeps that list. Nothing
-/// else was put full. Each has the message's sender and recipients and, as its body, that of the data that were heard.
+/// else was put full. Each has the message's sender and recipients and, as its body, that of the data that were heard, which
+/// has as many bytes as the answer said.
 pub fn the_messages_are_put<Origin, P>()
     ensures { (rows : PlaceTable (acts Origin) P) (first : Row (acts Origin) P) (old new : World Origin) (ending : Ending)
         (held : Held rows first old new ending) → PutsMails (gives kept (deeds_of held)) old new }

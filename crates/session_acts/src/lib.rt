@@ -32,7 +32,7 @@ mod telling;
 pub use cause::Cause;
 pub use denying::{Denying, NoPlace};
 pub use deposited::Deposited;
-pub use dummies::{NoDisk, NoSource, NoStore, Nowhere, Silent};
+pub use dummies::{NoDisk, NoDoor, NoSource, NoStore, Nowhere, Silent};
 pub use form::Form;
 pub use logged::Logged;
 pub use mailing::mail_session_over;

@@ -117,7 +117,13 @@ fn new_devices(alloc: Global, scene: Scene) -> Result<Devices, NoMemory> {
         from: MemSource::new(scene.client, 3, Calls::none(), Calls::none()),
         to: MemSink::new(alloc, 1000, scene.client_fails)?,
         logs: MemSink::new(alloc, 1000, scene.log_fails)?,
-        dialer: MemDialer::new(alloc, alone(alloc, link)?, 5, scene.dial_fails)?,
+        dialer: MemDialer::new(
+            alloc,
+            alone(alloc, link)?,
+            Vec::new(alloc),
+            5,
+            scene.dial_fails,
+        )?,
     })
 }
 

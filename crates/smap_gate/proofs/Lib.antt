@@ -1,4 +1,7 @@
+mod AskedLemmas
 mod DraftLemmas
+pub mod LastHeardLemmas
+pub mod LoggingLemmas
 pub mod MessageLemmas
 mod PathLemmas
 pub mod ReplyLemmas
@@ -6,3 +9,4 @@ mod RowLemmas
 pub mod ServerlessLemmas
 pub mod SessionLemmas
 mod TurnLemmas
+pub mod WantedLemmas

@@ -1,17 +1,17 @@
 -- Each message is of the sender and to the recipients that stood.
-use Rattle.std.proofs.Common.{◌≡◌, refl, sym, ap, subst, ◌∙◌, ℕ, List, [], ◌∷◌, ◌++◌, map, length, Option, Some, None, Result, Ok, Err, append_assoc, append-nil}
+use Rattle.std.proofs.Common.{◌≡◌, refl, sym, ap, subst, ◌∙◌, ℕ, List, [], ◌∷◌, ◌++◌, map, length, Option, Some, None, Result, Ok, Err, append-nil}
 use Rattle.std.proofs.lemmas.List.Concat.{flat_map-append}
 use Rattle.auth_events.specs.declared.port.PortFault.{PortFault}
 use Rattle.auth_events.specs.declared.reply.Reply as answers
 use Rattle.fw_acts.specs.Acts.{Row, Step}
 use Rattle.fw_acts.specs.Acts.Row.{Do, At, Over}
-use Rattle.fw_acts.specs.Histories.{AllMay, history}
+use Rattle.fw_acts.specs.Histories.{AllMay}
 use Rattle.fw_acts.specs.Ran.{Comes}
 use Rattle.fw_acts.proofs.HistoryLemmas.{run_may}
 use Rattle.fw_types.specs.declared.ending.Ending.{Ending}
 use Rattle.session_acts.specs.Acts.{Act, Answer, Halt}
 use Rattle.session_acts.specs.Acts.Act.{Hear, Say, Try, Log, Note, Ask, Renew, Dial, Reach, Take, Pass, HangUp, Relay, Deposit, Allot}
-use Rattle.session_acts.specs.Deeds.{Deed, deed_last, deeds_ran, done, gives}
+use Rattle.session_acts.specs.Deeds.{Deed, deed_last, done, gives}
 use Rattle.session_acts.specs.Met.{acts}
 use Rattle.session_acts.specs.Session.{Held, closing, deeds_of, freeing, owed}
 use Rattle.session_acts.specs.Stored.{KeptMail, PutsMails, kept}
@@ -25,21 +25,22 @@ use Rattle.smap_gate.specs.Dialogue.{smap_row, smap_rows}
 use Rattle.smap_gate.specs.Gate.{Gate}
 use Rattle.smap_gate.specs.Messages.{KeepsMessages, Standing, mail_asked, mail_then, mails, stands_then, unasked}
 use Rattle.smap_gate.specs.Replies.{Reply, Want, says, to_heard}
-use Rattle.smap_gate.specs.Replies.Want.{Nothing, Memory, Message, Logging}
+use Rattle.smap_gate.specs.Replies.Want.{Nothing, Message}
 use Rattle.smap_gate.specs.Texts as texts
 use Rattle.smap_gate.specs.declared.place.Place.{Place}
 use Rattle.smap_gate.specs.declared.place.Place.TheVariants.{Waiting}
-use Rattle.smap_gate.proofs.ReplyLemmas.{MayCome, first_tells, noted, own_rows, rows_tell, want_behind, watch}
+use Rattle.smap_gate.specs.Wanted.{IsWanted, owing_behind, want_behind}
+use Rattle.smap_gate.proofs.ReplyLemmas.{first_tells, own_rows, rows_tell, watch}
 
 -- what is owed to the client goes with what stands
 record Fits (owing : Reply) (standing : Standing) : Type 0 where
   place : owing.place ≡ standing.place
   asks : (sender : List ℕ) (rcpts : List (List ℕ)) → owing.want ≡ Message sender rcpts → standing.asks ≡ Message sender rcpts
 
-no_message : (sender : List ℕ) (rcpts : List (List ℕ)) → Nothing ≡ Message sender rcpts → ⊥
+pub no_message : (sender : List ℕ) (rcpts : List (List ℕ)) → Nothing ≡ Message sender rcpts → ⊥
 no_message sender rcpts is = cc
 
-no_more : (gate : Gate) (count : ℕ) (deposited : Deposited) (sender : List ℕ) (rcpts : List (List ℕ)) → want_behind gate count deposited ≡ Message sender rcpts → ⊥
+pub no_more : (gate : Gate) (count : ℕ) (deposited : Deposited) (sender : List ℕ) (rcpts : List (List ℕ)) → want_behind gate count deposited ≡ Message sender rcpts → ⊥
 no_more gate count ends.NoSlot sender rcpts is = cc
 no_more gate count ends.NotBegun sender rcpts is = cc
 no_more gate count (ends.Kept slot bytes) sender rcpts is = cc
@@ -47,7 +48,7 @@ no_more gate count ends.TooLarge sender rcpts is = cc
 no_more gate count ends.Faulted sender rcpts is = cc
 no_more gate count ends.Ended sender rcpts is = cc
 
-step_fits : (gate : Gate) (owing : Reply) (standing : Standing) (act : Act) (answer : Answer act) → MayCome gate owing act → Fits owing standing → Fits (noted gate owing act answer) (stands_then gate standing act (Ok answer))
+step_fits : (gate : Gate) (owing : Reply) (standing : Standing) (act : Act) (answer : Answer act) → IsWanted gate owing act → Fits owing standing → Fits (owing_behind gate owing act answer) (stands_then gate standing act (Ok answer))
 step_fits gate owing standing (Say text) answer may fits = record { place = fits.place; asks = λ sender rcpts is. absurd (no_message sender rcpts is) }
 step_fits gate owing standing (Hear form) answer may fits = record {
   place = ap (λ (p : Place). (to_heard gate p answer).place) fits.place;
@@ -68,7 +69,7 @@ step_fits gate owing standing HangUp answer may fits = absurd may
 step_fits gate owing standing Relay answer may fits = absurd may
 
 -- what an act keeps is what the lines before it asked for
-step_keeps : (gate : Gate) (owing : Reply) (standing : Standing) (act : Act) (answer : Answer act) → MayCome gate owing act → Fits owing standing → kept act (Ok answer) ≡ mail_then standing act (Ok answer)
+step_keeps : (gate : Gate) (owing : Reply) (standing : Standing) (act : Act) (answer : Answer act) → IsWanted gate owing act → Fits owing standing → kept act (Ok answer) ≡ mail_then standing act (Ok answer)
 step_keeps gate owing standing (Deposit sender rcpts words most) answer may fits = sym (ap (λ (w : Want). mail_asked w answer.0 answer.1) (fits.asks sender rcpts may.0))
 step_keeps gate owing standing (Say text) answer may fits = refl
 step_keeps gate owing standing (Hear form) answer may fits = refl
@@ -127,7 +128,7 @@ module _ {Origin : Type 0} (gate : Gate) where
       → gives kept (map done steps ++ last) ≡ mails gate standing (map done steps ++ last)
   steps_keep owing standing [] last all fits ends = ends standing
   steps_keep owing standing (step ∷ steps) last all fits ends =
-      let later = steps_keep (noted gate owing step.act step.answer) (stands_then gate standing step.act (Ok step.answer)) steps last all.1 (step_fits gate owing standing step.act step.answer all.0 fits) ends in
+      let later = steps_keep (owing_behind gate owing step.act step.answer) (stands_then gate standing step.act (Ok step.answer)) steps last all.1 (step_fits gate owing standing step.act step.answer all.0 fits) ends in
       ap (λ (z : List KeptMail). z ++ gives kept (map done steps ++ last)) (step_keeps gate owing standing step.act step.answer all.0 fits)
       ∙ ap (λ (z : List KeptMail). mail_then standing step.act (Ok step.answer) ++ z) later
 

@@ -1,11 +1,11 @@
 -- A path fits into a slot.
-use Rattle.std.proofs.Common.{rules, arith, ◌≡◌, refl, sym, ap, ℕ, ◌<◌, ◌≤◌, Bool, true, false, ◌&&◌, not, nat_le, List, [], ◌∷◌, length, IsTrue, Option, Some, None, Result, Ok, Err, IfOk}
-use Rattle.std.specs.List.{AllByRecursion, list_all}
-use Rattle.std.proofs.lemmas.Bool.{and_parts, leb-true}
+use Rattle.std.proofs.Common.{rules, arith, ◌≡◌, refl, sym, ℕ, ◌<◌, ◌≤◌, Bool, true, false, List, [], ◌∷◌, length, IsTrue, Result, Ok, Err, IfOk}
+use Rattle.std.specs.List.{list_all}
+use Rattle.std.proofs.lemmas.Bool.{and_parts}
 use Rattle.byte_reader.specs.Reading.{IsBytes}
 use Rattle.slot_bytes.specs.Layout.{IsTextFrom}
-use Rattle.smap_gate.specs.Paths.{least_of, path_behind}
-use Rattle.smap_lines.specs.Path.{is_allowed, is_path_byte, is_special, path_of}
+use Rattle.smap_gate.specs.Paths.{least_of}
+use Rattle.smap_lines.specs.Path.{is_allowed, is_path_byte, path_of}
 use Rattle.smap_lines.specs.declared.path.PathFault.{PathFault}
 use Rattle.smap_lines.proofs.PathLemmas.{ok_is}
 

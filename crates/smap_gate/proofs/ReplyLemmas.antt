@@ -22,13 +22,13 @@ use Rattle.session_acts.specs.World.{Speaker, World}
 use Rattle.session_acts.specs.declared.cause.Cause.{Cause}
 use Rattle.session_acts.specs.declared.deposited.Deposited.{Deposited}
 use Rattle.session_acts.specs.declared.deposited.Deposited.TheVariants as ends
-use Rattle.smap_gate.specs.Dialogue.{command_row, bare_row, data_if, data_row, deposited_row, fault_text, heard_row, helo_if, mail_row, rcpt_row, recipient_if, recipient_row, sender_row, smap_row, smap_rows}
+use Rattle.smap_gate.specs.Dialogue.{command_row, bare_row, data_if, data_row, deposited_row, heard_row, helo_if, mail_row, rcpt_row, recipient_if, recipient_row, sender_row, smap_row, smap_rows}
 use Rattle.smap_gate.specs.Gate.{Gate}
-use Rattle.smap_gate.specs.LogLines.{mail_line}
 use Rattle.smap_gate.specs.Paths.{path_behind}
-use Rattle.smap_gate.specs.Replies.{Reply, ToldInOrder, Want, due, end_text, place_then, says, to_command, to_data, to_data_if, to_heard, to_helo, to_mail, to_rcpt, to_recipient, to_recipient_if, to_sender, to_verb, words}
-use Rattle.smap_gate.specs.Replies.Want.{Nothing, Memory, Message, Logging}
+use Rattle.smap_gate.specs.Replies.{Reply, ToldInOrder, all_due, due, end_text, place_then, says, to_command, to_data, to_data_if, to_heard, to_helo, to_mail, to_rcpt, to_recipient, to_recipient_if, to_sender, to_verb}
+use Rattle.smap_gate.specs.Replies.Want.{Nothing}
 use Rattle.smap_gate.specs.Texts as texts
+use Rattle.smap_gate.specs.Wanted.{IsWanted, owing_behind, want_behind}
 use Rattle.smap_gate.specs.declared.place.Place.{Place}
 use Rattle.smap_gate.specs.declared.place.Place.TheVariants.{Waiting, Mailing}
 use Rattle.smap_lines.specs.Command.{Command, mail_command_of}
@@ -39,33 +39,8 @@ use Rattle.smap_lines.specs.declared.verb.Verb.TheVariants as verbs
 
 -- ---- what may come
 
--- a message that is kept is logged, before it is told
-abbrev pub want_behind : Gate → (rcpts : ℕ) → Deposited → Want
-want_behind gate rcpts ends.NoSlot = Nothing
-want_behind gate rcpts ends.NotBegun = Nothing
-want_behind gate rcpts (ends.Kept slot bytes) = Logging (mail_line gate.peer slot rcpts bytes)
-want_behind gate rcpts ends.TooLarge = Nothing
-want_behind gate rcpts ends.Faulted = Nothing
-want_behind gate rcpts ends.Ended = Nothing
-
-abbrev pub MayCome : Gate → Reply → Act → Type 0
-MayCome gate owing (Say text) = (owing.want ≡ Nothing) × (text ≡ owing.text)
-MayCome gate owing (Hear form) = (owing.want ≡ Nothing) × (owing.text ≡ [])
-MayCome gate owing (Log text) = owing.want ≡ Logging text
-MayCome gate owing Allot = owing.want ≡ Memory
-MayCome gate owing (Deposit sender rcpts words most) = (owing.want ≡ Message sender rcpts) × (owing.text ≡ []) × (words ≡ texts.go_ahead) × (most ≡ gate.most_bytes)
-MayCome gate owing act = ⊥
-
-abbrev pub noted : Gate → Reply → (act : Act) → Answer act → Reply
-noted gate owing (Say text) answer = says [] owing.place
-noted gate owing (Hear form) answer = to_heard gate owing.place answer
-noted gate owing (Log text) answer = says owing.text owing.place
-noted gate owing Allot answer = says owing.text owing.place
-noted gate owing (Deposit sender rcpts words most) answer = record { place = owing.place; want = want_behind gate (length rcpts) answer.0; text = end_text answer.0 }
-noted gate owing act answer = owing
-
 abbrev pub watch : (Origin : Type 0) → Gate → Watch (acts Origin) Place
-watch Origin gate = record { Noted = Reply; note = noted gate; may = MayCome gate; holds = λ owing place. owing ≡ says [] place; over = λ owing. owing.text ≡ [] }
+watch Origin gate = record { Noted = Reply; note = owing_behind gate; may = IsWanted gate; holds = λ owing place. owing ≡ says [] place; over = λ owing. (owing.want ≡ Nothing) × (owing.text ≡ []) }
 
 -- ---- the rows
 
@@ -106,7 +81,7 @@ module _ (Origin : Type 0) (gate : Gate) where
   deposited_tells rcpts (ends.Kept slot bytes) = (refl, λ logged. ((refl, refl), λ done. refl))
   deposited_tells rcpts ends.TooLarge = ((refl, refl), λ done. refl)
   deposited_tells rcpts ends.Faulted = ((refl, refl), λ done. refl)
-  deposited_tells rcpts ends.Ended = refl
+  deposited_tells rcpts ends.Ended = (refl, refl)
 
   data_if_tells : (none : Bool) (sender : List ℕ) (rcpts : List (List ℕ)) → Tells (data_if none gate sender rcpts) (to_data_if none sender rcpts)
   data_if_tells true sender rcpts = ((refl, refl), λ done. refl)
@@ -120,7 +95,7 @@ module _ (Origin : Type 0) (gate : Gate) where
   verb_tells place verbs.Data = data_tells place
   verb_tells place verbs.Rset = ((refl, refl), λ done. refl)
   verb_tells place verbs.Noop = ((refl, refl), λ done. refl)
-  verb_tells place verbs.Quit = ((refl, refl), λ done. refl)
+  verb_tells place verbs.Quit = ((refl, refl), λ done. (refl, refl))
   verb_tells place verbs.Help = ((refl, refl), λ done. refl)
   verb_tells place verbs.NotImplemented = ((refl, refl), λ done. refl)
   verb_tells place verbs.Unknown = ((refl, refl), λ done. refl)
@@ -137,11 +112,11 @@ module _ (Origin : Type 0) (gate : Gate) where
   heard_tells : (place : Place) (heard : Heard) → Tells (heard_row gate place heard) (to_heard gate place heard)
   heard_tells place (Line line) = command_tells place (mail_command_of line.items)
   heard_tells place TooLong = ((refl, refl), λ done. refl)
-  heard_tells place (Stopped stop) = refl
+  heard_tells place (Stopped stop) = (refl, refl)
 
   pub rows_tell : Keeps own_rows (watch Origin gate)
   rows_tell place owing stands =
-      subst (λ (o : Reply). Leaves (watch Origin gate) (Do (own_rows.act place) (own_rows.go place)) o) (sym stands) ((refl, refl), λ heard. heard_tells place heard)
+      subst (λ (o : Reply). Leaves (watch Origin gate) (Do (own_rows.act place) (own_rows.go place)) o) (sym stands) ((refl, refl, refl), λ heard. heard_tells place heard)
 
   pub first_tells : Tells smap_row (says texts.ready Waiting)
   first_tells = ((refl, refl), λ done. refl)
@@ -165,7 +140,7 @@ sent_then owing go_ahead words end_of words_left told_left end none same later =
     ∙ sym (append_assoc words told_left end)
 
 -- one act more
-step_tells : (gate : Gate) (owing : Reply) (act : Act) (answer : Answer act) (words_left told_left end : List ℕ) → MayCome gate owing act → (noted gate owing act answer).text ++ words_left ≡ told_left ++ end
+step_tells : (gate : Gate) (owing : Reply) (act : Act) (answer : Answer act) (words_left told_left end : List ℕ) → IsWanted gate owing act → (owing_behind gate owing act answer).text ++ words_left ≡ told_left ++ end
     → owing.text ++ (due gate owing.place act (Ok answer) ++ words_left) ≡ (told act (Ok answer) ++ told_left) ++ end
 step_tells gate owing (Say text) answer words_left told_left end may later = said_then text owing.text words_left told_left end may.1 later
 step_tells gate owing (Hear form) answer words_left told_left end may later = quiet_then owing.text ((to_heard gate owing.place answer).text ++ words_left) told_left end may.1 later
@@ -184,8 +159,8 @@ step_tells gate owing (Pass text) answer words_left told_left end may later = ab
 step_tells gate owing HangUp answer words_left told_left end may later = absurd may
 step_tells gate owing Relay answer words_left told_left end may later = absurd may
 
--- the place behind an act is that of what is noted
-step_place : (gate : Gate) (owing : Reply) (act : Act) (answer : Answer act) → place_then gate owing.place act (Ok answer) ≡ (noted gate owing act answer).place
+-- the place behind an act is that of what is owing_behind
+pub step_place : (gate : Gate) (owing : Reply) (act : Act) (answer : Answer act) → place_then gate owing.place act (Ok answer) ≡ (owing_behind gate owing act answer).place
 step_place gate owing (Say text) answer = refl
 step_place gate owing (Hear form) answer = refl
 step_place gate owing (Log text) answer = refl
@@ -205,25 +180,25 @@ step_place gate owing Relay answer = refl
 module _ {Origin : Type 0} (gate : Gate) where
   -- these acts, and what the client is to be told at their end
   steps_tell : (owing : Reply) (steps : List (Step (acts Origin))) → AllMay (watch Origin gate) owing steps
-      → owing.text ++ words gate owing.place (map done steps) ≡ gives told (map done steps) ++ (history (watch Origin gate) owing steps).text
+      → owing.text ++ all_due gate owing.place (map done steps) ≡ gives told (map done steps) ++ (history (watch Origin gate) owing steps).text
   steps_tell owing [] all = append-nil owing.text
   steps_tell owing (step ∷ steps) all =
-      let next = noted gate owing step.act step.answer in
+      let next = owing_behind gate owing step.act step.answer in
       let here = due gate owing.place step.act (Ok step.answer) in
-      ap (λ (p : Place). owing.text ++ (here ++ words gate p (map done steps))) (step_place gate owing step.act step.answer)
-      ∙ step_tells gate owing step.act step.answer (words gate next.place (map done steps)) (gives told (map done steps)) (history (watch Origin gate) next steps).text all.0 (steps_tell next steps all.1)
+      ap (λ (p : Place). owing.text ++ (here ++ all_due gate p (map done steps))) (step_place gate owing step.act step.answer)
+      ∙ step_tells gate owing step.act step.answer (all_due gate next.place (map done steps)) (gives told (map done steps)) (history (watch Origin gate) next steps).text all.0 (steps_tell next steps all.1)
 
   words_both : (owing : Reply) (steps : List (Step (acts Origin))) (more : List Deed)
-      → words gate owing.place (map done steps ++ more) ≡ words gate owing.place (map done steps) ++ words gate (history (watch Origin gate) owing steps).place more
+      → all_due gate owing.place (map done steps ++ more) ≡ all_due gate owing.place (map done steps) ++ all_due gate (history (watch Origin gate) owing steps).place more
   words_both owing [] more = refl
   words_both owing (step ∷ steps) more =
-      let next = noted gate owing step.act step.answer in
+      let next = owing_behind gate owing step.act step.answer in
       let here = due gate owing.place step.act (Ok step.answer) in
       let place = step_place gate owing step.act step.answer in
-      ap (λ (p : Place). here ++ words gate p (map done steps ++ more)) place
+      ap (λ (p : Place). here ++ all_due gate p (map done steps ++ more)) place
       ∙ ap (λ (z : List ℕ). here ++ z) (words_both next steps more)
-      ∙ sym (append_assoc here (words gate next.place (map done steps)) (words gate (history (watch Origin gate) next steps).place more))
-      ∙ ap (λ (p : Place). (here ++ words gate p (map done steps)) ++ words gate (history (watch Origin gate) next steps).place more) (sym place)
+      ∙ sym (append_assoc here (all_due gate next.place (map done steps)) (all_due gate (history (watch Origin gate) next steps).place more))
+      ∙ ap (λ (p : Place). (here ++ all_due gate p (map done steps)) ++ all_due gate (history (watch Origin gate) next steps).place more) (sym place)
 
 told_both : (first more : List Deed) → gives told (first ++ more) ≡ gives told first ++ gives told more
 told_both first more = flat_map-append (λ (deed : Deed). told deed.act deed.outcome) first more
@@ -253,7 +228,7 @@ message_breaks (Unsaid front) is = record { rest = front.rest; is = append-nil t
 message_breaks {words} (Unheard silence data_heard) is =
     record { rest = []; is = ap (λ (z : List ℕ). z ++ []) (sym is) ∙ sym (append-nil (words ++ [])) }
 
-stop_breaks : (gate : Gate) (owing : Reply) (act : Act) (halt : Halt act) → MayCome gate owing act → Breaks owing.text (due gate owing.place act (Err halt)) (told act (Err halt))
+stop_breaks : (gate : Gate) (owing : Reply) (act : Act) (halt : Halt act) → IsWanted gate owing act → Breaks owing.text (due gate owing.place act (Err halt)) (told act (Err halt))
 stop_breaks gate owing (Say text) halt may = record {
   rest = halt.rest;
   is = append-nil owing.text ∙ sym may.1 ∙ halt.cut ∙ ap (λ (z : List ℕ). z ++ halt.rest) (sym (append-nil halt.part));
@@ -279,10 +254,10 @@ stop_breaks gate owing Relay halt may = absurd may
 -- after the acts that were done, what was told and what was still to be told
 record Ends (gate : Gate) (owing : Reply) (dialogue : Result (Unit {0}) Cause) (last : List Deed) : Type 0 where
   rest : List ℕ
-  is : owing.text ++ words gate owing.place last ≡ gives told last ++ rest
+  is : owing.text ++ all_due gate owing.place last ≡ gives told last ++ rest
   whole : dialogue ≡ Ok tt → rest ≡ []
 
-stopped_ends : (gate : Gate) (owing : Reply) (cause : Cause) (act : Act) (halt : Halt act) → MayCome gate owing act → Ends gate owing (Err cause) (record { act = act; outcome = Err halt } ∷ [])
+stopped_ends : (gate : Gate) (owing : Reply) (cause : Cause) (act : Act) (halt : Halt act) → IsWanted gate owing act → Ends gate owing (Err cause) (record { act = act; outcome = Err halt } ∷ [])
 stopped_ends gate owing cause act halt may =
     let broken = stop_breaks gate owing act halt may in
     record { rest = broken.rest; is = broken.is; whole = λ clash. absurd (cc) }
@@ -291,8 +266,8 @@ module _ {Origin : Type 0} (gate : Gate) where
   last_ends : (owing : Reply) (dialogue : Result (Unit {0}) Cause) (new mid : World Origin) (left : Row (acts Origin) Place) (comes : Comes (smap_rows gate) (λ (over : Unit {0}). Over) dialogue new left mid) → Leaves (watch Origin gate) left owing
       → Ends gate owing dialogue (deed_last (smap_rows gate) (λ (over : Unit {0}). Over) dialogue new left mid comes)
   last_ends owing (Ok over) new mid left comes leaves =
-      let none : owing.text ≡ [] = subst (λ (row : Row (acts Origin) Place). Leaves (watch Origin gate) row owing) comes.0 leaves in
-      record { rest = []; is = ap (λ (z : List ℕ). z ++ []) none; whole = λ is. refl }
+      let settled : (owing.want ≡ Nothing) × (owing.text ≡ []) = subst (λ (row : Row (acts Origin) Place). Leaves (watch Origin gate) row owing) comes.0 leaves in
+      record { rest = []; is = ap (λ (z : List ℕ). z ++ []) settled.1; whole = λ is. refl }
   last_ends owing (Err cause) new mid (Do act go) comes leaves = stopped_ends gate owing cause act comes.halt leaves.0
   last_ends owing (Err cause) new mid (At place) comes leaves = stopped_ends gate owing cause ((own_rows Origin gate).act place) comes.halt (rows_tell Origin gate place owing leaves).0
   last_ends owing (Err cause) new mid Over comes leaves = absurd comes
@@ -307,7 +282,7 @@ module _ {Origin : Type 0} (gate : Gate) where
       let last = deed_last (smap_rows gate) (λ (over : Unit {0}). Over) held.dialogue held.mid ran.left ran.mid ran.comes in
       let ends = last_ends here held.dialogue held.mid ran.mid ran.left ran.comes leaves in
       let steps = map done ran.steps in
-      let before : texts.ready ++ words gate Waiting steps ≡ gives told steps ++ here.text = steps_tell gate start ran.steps all in
+      let before : texts.ready ++ all_due gate Waiting steps ≡ gives told steps ++ here.text = steps_tell gate start ran.steps all in
       let silent : gives told (owed held.mid held.answer) ≡ [] = freeing_tells held.mid.server.link (closing held.mid.office.opened held.answer) ∙ closing_tells held.mid.office.opened held.answer in
       let all_told : gives told (deeds_of held) ≡ gives told steps ++ gives told last =
       told_both (steps ++ last) (owed held.mid held.answer) ∙ ap (λ (z : List ℕ). gives told (steps ++ last) ++ z) silent ∙ append-nil (gives told (steps ++ last)) ∙ told_both steps last in
@@ -315,8 +290,8 @@ module _ {Origin : Type 0} (gate : Gate) where
         rest = ends.rest;
         is =
             ap (λ (z : List ℕ). texts.ready ++ z) (words_both gate start ran.steps last)
-            ∙ sym (append_assoc texts.ready (words gate Waiting steps) (words gate here.place last))
-            ∙ ap (λ (z : List ℕ). z ++ words gate here.place last) before ∙ append_assoc (gives told steps) here.text (words gate here.place last) ∙ ap (λ (z : List ℕ). gives told steps ++ z) ends.is
+            ∙ sym (append_assoc texts.ready (all_due gate Waiting steps) (all_due gate here.place last))
+            ∙ ap (λ (z : List ℕ). z ++ all_due gate here.place last) before ∙ append_assoc (gives told steps) here.text (all_due gate here.place last) ∙ ap (λ (z : List ℕ). gives told steps ++ z) ends.is
             ∙ sym (append_assoc (gives told steps) (gives told last) ends.rest) ∙ ap (λ (z : List ℕ). z ++ ends.rest) (sym all_told);
         whole = ends.whole;
       }

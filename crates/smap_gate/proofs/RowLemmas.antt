@@ -1,5 +1,5 @@
 -- Rows whose text is written in a buffer, and the places that they lead to.
-use Rattle.std.proofs.Common.{arith, ◌≡◌, refl, sym, subst, List, [], ◌∷◌, ◌++◌, ℕ, ◌==◌, ◌<◌, ◌≤◌, length, Bool, true, false, not, Option, Some, IfSome, IfOk, Result, Ok, Err, IsErrAnd}
+use Rattle.std.proofs.Common.{◌≡◌, refl, sym, subst, List, ℕ, Bool, true, false, not, Option, Some, IfSome, IfOk, Result, Ok, Err, IsErrAnd}
 use Rattle.fw_acts.specs.Acts.{Row, PlaceTable}
 use Rattle.fw_acts.specs.Acts.Row.{At, Do}
 use Rattle.fw_acts.specs.Ran.{Ran}

@@ -1,5 +1,5 @@
 -- The rows speak with no server.
-use Rattle.std.proofs.Common.{refl, ℕ, ◌==◌, Bool, true, false, nat_lt, List, length, Option, Some, None, Result, Ok, Err}
+use Rattle.std.proofs.Common.{refl, ℕ, ◌==◌, Bool, true, false, nat_lt, List, length, Option, Result, Ok, Err}
 use Rattle.fw_acts.specs.Acts.{Row}
 use Rattle.fw_acts.specs.Histories.{Keeps, Leaves, Watch}
 use Rattle.fw_outside.specs.declared.heard.Heard.{Heard}

@@ -1,5 +1,5 @@
 -- A session over a dialer that reaches nobody, and a port at which nobody can be asked.
-use Rattle.std.proofs.Common.{arith, ◌≡◌, refl, subst, ◌∙◌, ◌⊎◌, inl, inr, Bool, true}
+use Rattle.std.proofs.Common.{arith, ◌≡◌, refl, subst, ◌∙◌, ◌⊎◌, inl, inr, true}
 use Rattle.fw_outside.specs.Counts.{Rose}
 use Rattle.fw_outside.specs.DialerView.{DialerView}
 use Rattle.fw_types.specs.declared.ending.Ending.{Ending}

@@ -1,5 +1,5 @@
 -- Each turn comes nearer to the end.
-use Rattle.std.proofs.Common.{arith, ◌≡◌, ◌<◌, ◌≤◌, Option, Some, None, IfSome, Ok}
+use Rattle.std.proofs.Common.{arith, ◌<◌, ◌≤◌, Option, Some, None, IfSome, Ok}
 use Rattle.fw_outside.specs.declared.heard.Heard.{Heard}
 use Rattle.fw_outside.specs.declared.heard.Heard.TheVariants.{Line, TooLong, Stopped}
 use Rattle.session_acts.specs.Acts.Act.{Hear}

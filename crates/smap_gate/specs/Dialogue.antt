@@ -1,5 +1,5 @@
 -- The dialogue of `smap`, row by row.
-use Rattle.std.specs.Prelude.{ℕ, ◌==◌, Bool, true, false, nat_lt, List, [], ◌∷◌, ◌++◌, length, Option, Some, None, Result, Ok, Err}
+use Rattle.std.specs.Prelude.{ℕ, ◌==◌, Bool, true, false, nat_lt, List, [], ◌∷◌, ◌++◌, length, Option, Result, Ok, Err}
 use Rattle.fw_acts.specs.Acts.{Row, PlaceTable}
 use Rattle.fw_acts.specs.Acts.Row.{Do, At, Over}
 use Rattle.fw_outside.specs.declared.heard.Heard.{Heard}

@@ -3,8 +3,11 @@ pub mod Draft
 pub mod Dummies
 pub mod Ends
 pub mod Gate
+pub mod LastHeard
+pub mod Logging
 pub mod LogLines
 pub mod Messages
 pub mod Paths
 pub mod Replies
 pub mod Texts
+pub mod Wanted

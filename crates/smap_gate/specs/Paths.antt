@@ -1,5 +1,5 @@
 -- The paths of senders and recipients.
-use Rattle.std.specs.Prelude.{ℕ, Bool, true, false, List, Option, Some, None, Result, Ok, Err}
+use Rattle.std.specs.Prelude.{ℕ, Bool, true, false, List, Option, Some, None, Result, Err}
 use Rattle.smap_lines.specs.Path.{path_of}
 use Rattle.smap_lines.specs.declared.path.PathFault.{PathFault}
 use Rattle.smap_lines.specs.declared.path.PathFault.TheVariants.{Syntax}

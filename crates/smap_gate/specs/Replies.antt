@@ -134,12 +134,12 @@ place_then gate place (Hear form) outcome = (hearing_so gate place outcome).plac
 place_then gate place act outcome = place
 
 -- what the client is to be told for these deeds
-abbrev pub words : Gate → Place → List Deed → List ℕ
-words gate place [] = []
-words gate place (deed ∷ deeds) = due gate place deed.act deed.outcome ++ words gate (place_then gate place deed.act deed.outcome) deeds
+abbrev pub all_due : Gate → Place → List Deed → List ℕ
+all_due gate place [] = []
+all_due gate place (deed ∷ deeds) = due gate place deed.act deed.outcome ++ all_due gate (place_then gate place deed.act deed.outcome) deeds
 
 -- it was told a front of that behind the greeting, and all of it where the dialogue came to its end
 pub record ToldInOrder {Origin : Type 0} (gate : Gate) {old new : World Origin} {ending : Ending} (held : Held (smap_rows gate) smap_row old new ending) : Type 0 where
   pub rest : List ℕ
-  pub is : texts.ready ++ words gate Waiting (deeds_ran held.ran) ≡ gives told (deeds_of held) ++ rest
+  pub is : texts.ready ++ all_due gate Waiting (deeds_ran held.ran) ≡ gives told (deeds_of held) ++ rest
   pub whole : held.dialogue ≡ Ok tt → rest ≡ []

@@ -2,7 +2,8 @@
 //!
 //! Its rows stand in `specs/Dialogue.antt`. [`smap_session`] holds a session over the devices that it needs, as
 //! `session_acts` says it of all sessions; [`SmapScript`] has the rows, for whoever runs them over other devices. [`laws`]
-//! says what a session comes to in the subject's words.
+//! says what a session comes to in the subject's words. How paths and bodies are read stands in `smap_lines`, and is handed
+//! on here.
 #![tactic(auto)]
 
 mod dummies;
@@ -20,3 +21,4 @@ pub use dummies::{NoClock, NoDice, NoPort};
 pub use place::Place;
 pub use script::SmapScript;
 pub use session::smap_session;
+pub use smap_lines::{BodyStep, MailBody, Path, PathFault, read_path};

@@ -32,7 +32,7 @@ fn allows_by<L: Ledger>(options: &Options, dest: &Dest, blank: Blank) -> bool
     destination(options, dest, &mut steps)
 }
 
-fn verdict(rules: &Rules, peer: &Peer) -> Verdict {
+pub(crate) fn verdict(rules: &Rules, peer: &Peer) -> Verdict {
     verdict_by::<Brand>(rules, peer, Blank::new(1))
 }
 
@@ -41,7 +41,12 @@ fn allows(options: &Options, dest: &Dest) -> bool {
 }
 
 // The rules of the service in the table, or nothing, and then why is told.
-fn rules_of(alloc: Global, service: &[u8], text: &[u8], out: &mut Told) -> Option<Rules> {
+pub(crate) fn rules_of(
+    alloc: Global,
+    service: &[u8],
+    text: &[u8],
+    out: &mut Told,
+) -> Option<Rules> {
     let Some(service) = Service::read(service) else {
         add(out, b"no service");
         return None;

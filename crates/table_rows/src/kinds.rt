@@ -1,7 +1,8 @@
 //! The kinds of row.
 
 use crate::decisions::{tell_decision, tell_destination, tell_rules, tell_service};
-use crate::patterns::{tell_list, tell_pattern, tell_single, tell_text, tell_words};
+use crate::patterns::{tell_bucket, tell_list, tell_pattern, tell_single, tell_text, tell_words};
+use crate::sweeps::tell_sweep;
 use crate::tables::{tell_broken, tell_fault, tell_idle, tell_table};
 use fw_types::NoMemory;
 use lines_of_rows::{Rows, Told, add};
@@ -16,6 +17,7 @@ fn tell_plain(kind: &str, asked: &[u8], out: &mut Told) {
     match kind {
         "pattern" => tell_pattern(asked, out),
         "parse" => tell_text(asked, out),
+        "bucket" => tell_bucket(asked, out),
         "service" => tell_service(asked, out),
         "fault" => tell_fault(asked, out),
         _ => add(out, b"no such kind"),
@@ -40,6 +42,7 @@ impl Rows for Kinds {
             "rules" => tell_rules(alloc, asked, out),
             "decide" => tell_decision(alloc, asked, out),
             "goes" => tell_destination(alloc, asked, out),
+            "sweep" => tell_sweep(alloc, asked, out),
             _ => {
                 tell_plain(kind, asked, out);
                 Ok(())

@@ -6,6 +6,7 @@ mod decisions;
 mod kinds;
 mod options;
 mod patterns;
+mod sweeps;
 mod tables;
 
 use kinds::Kinds;

@@ -3,7 +3,7 @@ ghost use Rattle.std.specs.Prelude.{◌≡◌, ◌<◌};
 
 use arrayvec::ArrayVec;
 use fw_types::{HostName, NoMemory, Octets, Peer, read_quad};
-use host_pattern::{ListFault, Pattern, PatternFault, PatternList, Steps, Word};
+use host_pattern::{Bucket, ListFault, Pattern, PatternFault, PatternList, Steps, Word};
 use lines_of_rows::{Told, add, add_number, add_word, cut_word};
 use std::alloc::Global;
 use std::marker::Brand;
@@ -31,7 +31,7 @@ fn pattern_says(pattern: &Pattern, party: &Peer) -> bool {
     pattern_matches::<Brand>(pattern, party, Blank::new(1))
 }
 
-fn list_says(list: &PatternList, party: &Peer) -> bool {
+pub(crate) fn list_says(list: &PatternList, party: &Peer) -> bool {
     list_matches::<Brand>(list, party, Blank::new(1))
 }
 
@@ -108,6 +108,20 @@ pub(crate) fn tell_text(asked: &[u8], out: &mut Told) {
     pattern.write(&mut text);
     add_word(out, b"as");
     add_word(out, text.as_slice());
+}
+
+/// `bucket TEXT => octet 10`, or `every`, or what is wrong.
+pub(crate) fn tell_bucket(asked: &[u8], out: &mut Told) {
+    match Pattern::parse(asked) {
+        Ok(pattern) => match pattern.bucket() {
+            Bucket::Octet(octet) => {
+                add_word(out, b"octet");
+                add_number(out, u64::from(octet));
+            }
+            Bucket::Every => add_word(out, b"every"),
+        },
+        Err(fault) => tell_pattern_fault(fault, out),
+    }
 }
 
 // The words of the texts between such bytes. A word that begins with a quote was quoted.

@@ -1,5 +1,5 @@
-use Rattle.std.proofs.Common.{◌≡◌, ◌+◌, ◌||◌, drop, sym, ◌∙◌, ap}
-use Rattle.std.specs.Prelude.{Result, Ok, Err}
+use Rattle.std.proofs.Common.{◌≡◌, ◌+◌, drop, sym, ◌∙◌, ap}
+use Rattle.std.specs.Prelude.{Ok, Err}
 use Rattle.gate_rules.specs.Faults.{is_target}
 use Rattle.gate_rules.specs.Lists.{mapped}
 use Rattle.gate_rules.specs.Options.{option_at}
