@@ -160,6 +160,8 @@ module _ (peer : Peer) (inputs : Inputs) (out : Outcome) (old mid new : WorldVie
       ending = h.ending;
       session = let_in.behind.session;
       replies = let_in.behind.replies;
+      asked = let_in.behind.asked;
+      due = let_in.behind.due;
       told = session_gave let_in.behind.session;
       logged_so = let_logged;
       stand = (stand_behind (gives kept deeds) peer inputs out old mid h (session_leaves text peer inputs.rules h.ending begun ended let_in.behind)).stand;

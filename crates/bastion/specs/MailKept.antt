@@ -1,5 +1,5 @@
 -- A client of `smap`: what it is told, and what stands in the slots behind that.
-use Rattle.std.specs.Prelude.{◌≡◌, ◌≢◌, ℕ, ◌⊎◌, false, List, ◌++◌, Result, Ok}
+use Rattle.std.specs.Prelude.{◌≡◌, ◌≢◌, ℕ, ◌⊎◌, false, List, ◌++◌, None, Result, Ok}
 use Rattle.client_service.specs.Decision.{decision_text}
 use Rattle.client_service.specs.Endings.{mail_refusal}
 use Rattle.client_service.specs.MailService.{mail_devices, mail_gate_of}
@@ -12,7 +12,7 @@ use Rattle.gate_rules.specs.declared.service.Service.TheVariants as services
 use Rattle.gate_rules.specs.declared.verdict.Verdict.TheVariants.{Permit, Deny}
 use Rattle.session_acts.specs.Acts.{Front}
 use Rattle.session_acts.specs.Client.{with_line}
-use Rattle.session_acts.specs.Deeds.{gives}
+use Rattle.session_acts.specs.Deeds.{deeds_ran, gives}
 use Rattle.session_acts.specs.Dummies.{nowhere}
 use Rattle.session_acts.specs.Laws.{logged, told}
 use Rattle.session_acts.specs.Met.{Gets}
@@ -20,6 +20,8 @@ use Rattle.session_acts.specs.Session.{Session, deeds_of}
 use Rattle.session_acts.specs.Stored.{kept}
 use Rattle.session_acts.specs.World.{Devices}
 use Rattle.smap_gate.specs.Dialogue.{smap_row, smap_rows}
+use Rattle.smap_gate.specs.Logging.{LogsDue}
+use Rattle.smap_gate.specs.Messages.{KeepsMessages}
 use Rattle.smap_gate.specs.Replies.{ToldInOrder}
 use Rattle.spool_rack.specs.Opening.{IsRackOf}
 use Rattle.spool_rack.specs.Store.{StoreView}
@@ -54,6 +56,10 @@ pub record OfMail (peer : Peer) (inputs : Inputs) (status : ℕ) (old new : Worl
   pub ending : Ending
   pub session : Session (smap_rows (mail_gate_of inputs.rules peer)) smap_row (admitted inputs peer line old first) (record (mail_part new store) { logs = logs }) ending
   pub replies : ToldInOrder (mail_gate_of inputs.rules peer) session.held
+  -- each message is of the sender and to the recipients that stood at the line that asked for its data, and behind each its line
+  -- is logged
+  pub asked : KeepsMessages (mail_gate_of inputs.rules peer) session.held
+  pub due : LogsDue peer None (deeds_ran session.held.ran)
   pub told : new.output.given ≡ grown old.output.given (gives told (deeds_of session.held))
   pub logged_so : logs.given ≡ grown old.logs.given (decision_text (Permit line) services.Smap peer ++ gives logged (deeds_of session.held))
   pub stand : StandAtPlaces (gives kept (deeds_of session.held)) new.inputs.disks
