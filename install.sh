@@ -45,8 +45,10 @@ put() {
 
 umask 022
 put 755 "$program" "$under/sbin/fwtk"
-put 644 "$top/docs/man/netperm-table.5" "$under/share/man/man5/netperm-table.5"
-for page in authsrv fwtk netacl plug-gw tn-gw; do
+for page in netperm-table spool; do
+  put 644 "$top/docs/man/$page.5" "$under/share/man/man5/$page.5"
+done
+for page in authsrv fwtk netacl plug-gw smap tn-gw; do
   put 644 "$top/docs/man/$page.8" "$under/share/man/man8/$page.8"
 done
 put 644 "$crate/data/site-table" "$under/etc/netperm-table.example"

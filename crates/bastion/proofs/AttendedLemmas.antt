@@ -1,6 +1,6 @@
 -- What a session of the authentication server comes to, by its ending.
 use Rattle.std.proofs.Common.{◌≡◌, ◌<◌, ℕ, [], length, refl, sym, ◌∙◌, ap, subst, inl, inr, arith, ◌⊎◌, ◌==◌, Bool, true, false}
-use Rattle.std.specs.Prelude.{Some, if◌then◌else◌}
+use Rattle.std.specs.Prelude.{if◌then◌else◌}
 use Rattle.auth_machine.specs.Book.{BookView}
 use Rattle.auth_machine.specs.Port.{BookOrigin}
 use Rattle.fw_outside.proofs.CountLemmas.{grew_none}

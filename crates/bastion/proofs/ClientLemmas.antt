@@ -1,6 +1,5 @@
 -- From the book that was opened to what a session over it comes to and leaves.
-use Rattle.std.proofs.Common.{◌≡◌, sym, ◌∙◌, ap, subst, refl, inr, ℕ, List, Bool, true, false, length}
-use Rattle.std.specs.Prelude.{Option}
+use Rattle.std.proofs.Common.{◌≡◌, sym, ◌∙◌, ap, subst, refl, inr, ℕ, List, Bool, true, false}
 use Rattle.auth_machine.specs.Book.{BookView}
 use Rattle.auth_machine.specs.History.{CountsCalls, CountsUnkept, HasRecords, IsLegal, IsSound, Origin}
 use Rattle.auth_machine.specs.Port.{BookOrigin, book_origin}
@@ -8,7 +7,6 @@ use Rattle.client_service.proofs.ConnLemmas.{conn_origin, console_origin}
 use Rattle.client_service.specs.Conn.{Conn, Untouched}
 use Rattle.client_service.specs.Meeting.{dialer_then}
 use Rattle.fw_outside.specs.DialerView.{DialerView}
-use Rattle.fw_outside.specs.KeeperView.{KeeperView}
 use Rattle.fw_types.specs.declared.ending.Ending.{Ending}
 use Rattle.fw_types.specs.declared.peer.Peer.{Peer}
 use Rattle.gate_rules.specs.Reading.{RuleBook}
@@ -19,7 +17,6 @@ use Rattle.gate_rules.specs.declared.verdict.Verdict.{Verdict}
 use Rattle.gate_rules.specs.declared.verdict.Verdict.TheVariants.{Permit, Deny}
 use Rattle.session_acts.specs.Dummies.{nowhere}
 use Rattle.bastion.specs.Gating.{Gated, devices_over}
-use Rattle.bastion.specs.Inputs.{Inputs}
 use Rattle.bastion.specs.Run.{DoesFor}
 use Rattle.bastion.specs.Serving.{Attended, OverBook, Serves, UntouchedAt, book_at_first, devices_at, most_entries, origin_of}
 use Rattle.bastion.specs.SessionSteps.{EndsOver, HoldsOver, IsUndialed, Opens, PassesOver}

@@ -16,9 +16,13 @@ use Rattle.fw_types.specs.declared.peer.Peer.{Peer}
 use Rattle.gate_rules.specs.Verdict.{verdict_of}
 use Rattle.gate_rules.specs.declared.verdict.Verdict.{Verdict}
 use Rattle.session_acts.proofs.ToldLemmas.{by_both, by_nothing}
-use Rattle.bastion.specs.Complete.{AllDone, IsComplete, IsDrilledWhole, IsFormattedWhole, IsJobComplete, IsLaunchedWhole, IsLinkedWhole, IsOrderComplete, IsStartedWhole, IsWhole}
+use Rattle.spool_rack.specs.Opening.{CameBack, IsRackFault}
+use Rattle.spool_slots.specs.declared.slot_why.SlotWhy.{SlotWhy}
+use Rattle.spool_slots.specs.declared.slot_why.SlotWhy.TheVariants as whys
+use Rattle.bastion.specs.Complete.{AllDone, IsComplete, IsDrilledWhole, IsFormattedWhole, IsJobComplete, IsLaunchedWhole, IsLinkedWhole, IsOrderComplete, IsStartedWhole, IsTakenWhole, IsWhole}
 use Rattle.bastion.specs.Inputs.{HasInputs, Inputs}
 use Rattle.bastion.specs.Jobs.{AreFormatted, DoesJob, DrillsBy, Formats, TellsFormatted, drill_refused, formatted_text, printed}
+use Rattle.bastion.specs.Mailing.{Mailed, slot_fault}
 use Rattle.bastion.specs.Outcome.{DiskRose, fault_line_of, refusal_text, status_of, verdict_status}
 use Rattle.bastion.specs.Run.{DoesLine, DoesOrder, Run, Stops, TellsIf, Worked, verdict_for}
 use Rattle.bastion.specs.Status.{IsPassed, IsServed, RoseBy, RoseInJob, RoseInOrder, RoseOf, SomeRose}
@@ -30,8 +34,9 @@ use Rattle.bastion.specs.WorldView.{SessionInputs, WorldView}
 use Rattle.bastion.specs.declared.outcome.Device.TheVariants as device
 use Rattle.bastion.specs.declared.outcome.Outcome.{Outcome}
 use Rattle.bastion.specs.declared.outcome.Outcome.TheVariants.{Usage, Unread, Failed, NoMemory, Done, Decided, Ended}
+use Rattle.bastion.specs.declared.outcome.Refusal.TheVariants.{Slot}
 use Rattle.bastion.specs.declared.words.Command.{Command}
-use Rattle.bastion.specs.declared.words.Command.TheVariants.{Netacl, NetaclRun, Table, Authsrv, PlugGw, TnGw}
+use Rattle.bastion.specs.declared.words.Command.TheVariants.{Netacl, NetaclRun, Table, Authsrv, PlugGw, TnGw, Smap}
 use Rattle.bastion.specs.declared.words.Job.{Job}
 use Rattle.bastion.specs.declared.words.Job.TheVariants.{Drill, SpoolInit}
 use Rattle.bastion.specs.declared.words.Order.{Order}
@@ -48,6 +53,7 @@ use Rattle.bastion.proofs.LeftLemmas.{calls_launcher, only_left, stops_left, tel
 use Rattle.bastion.proofs.RoseLemmas.{by_later, count_some, rose_some, some_by, some_later, stops_rose, worked_rose}
 use Rattle.bastion.proofs.RunLemmas.{passed_then, served_then}
 use Rattle.bastion.proofs.LinkedLemmas.{linked_whole}
+use Rattle.bastion.proofs.MailKeptLemmas as kept
 use Rattle.bastion.proofs.QuietLemmas.{Quiet, gave_whole, quiet, same_from, same_to}
 use Rattle.bastion.proofs.ServedLemmas.{attended_whole}
 use Rattle.client_service.proofs.SinkLemmas.{cut_rose, gives_most, same_low}
@@ -252,6 +258,38 @@ gated_done name peer outcome old mid new none h tells (inr passed) =
           (passed_then (verdict_of h.inputs.rules peer) (status_of outcome) h.middle.inputs mid.inputs old.inputs new.inputs left.input left.clock later.inputs passed);
     })
 
+-- a slot has no reading, or there was no memory
+bad_done : (name : List ℕ) (peer : Peer) (outcome : Outcome) (old mid new : WorldView) → Quiet old new → (status_of outcome ≡ 4 → ⊥) → (h : Worked name (Smap peer) outcome old mid) → TellsIf (fault_line_of outcome) mid new → (slot : ℕ) (why : SlotWhy)
+    → IsRackFault h.middle.inputs.disks slot why mid.inputs.disks → outcome ≡ slot_fault slot why → mid.logs ≡ h.middle.logs → mid.output ≡ h.middle.output → (status_of outcome ≡ 5) ⊎ AllDone name (Smap peer) (status_of outcome) old new
+bad_done name peer outcome old mid new q never h tells slot whys.DiskFault fault comes logs output = absurd (never (ap status_of comes))
+bad_done name peer outcome old mid new q never h tells slot whys.NoMemory fault comes logs output = inl (ap status_of comes)
+bad_done name peer outcome old mid new q never h tells slot (whys.BadSlot at) (inl none) comes logs output = let clash : whys.BadSlot at ≡ whys.NoMemory = none.1 in absurd (cc)
+bad_done name peer outcome old mid new q never h tells slot (whys.BadSlot at) (inr came) comes logs output =
+    let told : TellsIf (Some (codes "fault " ++ refusal_text (Slot slot at) ++ codes "\n")) mid new = subst (λ (o : Outcome). TellsIf (fault_line_of o) mid new) comes tells in
+    let whole = told_whole (codes "fault " ++ refusal_text (Slot slot at) ++ codes "\n") old mid new q (logs ∙ h.only.logs) (output ∙ h.only.output) told in
+    let Came : SessionInputs → SessionInputs → Type 0 = λ a b. CameBack slot (whys.BadSlot at) a.disks b.disks in
+    inr (record {
+      read = Ok h.inputs;
+      inputs = h.read;
+      does = inl (record {
+        slot = slot;
+        at = at;
+        bad = record { came = subst (λ (i : SessionInputs). Came i new.inputs) h.only.inputs (subst (λ (i : SessionInputs). Came h.middle.inputs i) (sym (tells_later (fault_line_of outcome) mid new tells).inputs) came) };
+        whole = record { logs = whole.0; output = whole.1; status_is = ap status_of comes };
+      });
+    })
+
+taken_done : (name : List ℕ) (peer : Peer) (inputs : Inputs) (outcome : Outcome) (old new : WorldView) → HasInputs name (Smap peer) (Ok inputs) old
+    → (status_of outcome ≡ 5) ⊎ IsTakenWhole (verdict_for (Smap peer) inputs) name peer inputs (status_of outcome) old new → (status_of outcome ≡ 5) ⊎ AllDone name (Smap peer) (status_of outcome) old new
+taken_done name peer inputs outcome old new read (inl five) = inl five
+taken_done name peer inputs outcome old new read (inr whole) = inr (record { read = Ok inputs; inputs = read; does = inr whole })
+
+mailed_done : (name : List ℕ) (peer : Peer) (outcome : Outcome) (old mid new : WorldView) → Quiet old new → (status_of outcome ≡ 4 → ⊥) → (h : Worked name (Smap peer) outcome old mid) → TellsIf (fault_line_of outcome) mid new
+    → Mailed peer h.inputs outcome h.middle mid → (status_of outcome ≡ 5) ⊎ AllDone name (Smap peer) (status_of outcome) old new
+mailed_done name peer outcome old mid new q never h tells (inl u) =
+    bad_done name peer outcome old mid new q never h tells u.slot u.why u.fault u.comes (ap (λ (w : WorldView). w.logs) u.is) (ap (λ (w : WorldView). w.output) u.is)
+mailed_done name peer outcome old mid new q never h tells (inr s) = taken_done name peer h.inputs outcome old new h.read (kept.served_whole name peer h.inputs outcome old h.middle mid new q never h.only s tells)
+
 worked_complete : (name : List ℕ) (command : Command) (outcome : Outcome) (old mid new : WorldView) → (RoseBy command old new → ⊥) → Worked name command outcome old mid → TellsIf (fault_line_of outcome) mid new
     → (status_of outcome ≡ 5) ⊎ AllDone name command (status_of outcome) old new
 worked_complete name (Netacl query) outcome old mid new none h tells =
@@ -283,6 +321,10 @@ worked_complete name (PlugGw caller) outcome old mid new none h tells =
     let later = tells_later (fault_line_of outcome) mid new tells in
     let never : status_of outcome ≡ 4 → ⊥ = λ four. none (by_later (PlugGw caller) old mid new later (rose_some (PlugGw caller) outcome old mid (worked_rose name (PlugGw caller) outcome old mid h) four)) in
     linked_done name caller h.inputs outcome old new h.read (linked_whole name caller h.inputs outcome old h.middle mid new (quiet old new (λ some. none (inl some))) never h.only h.works tells)
+worked_complete name (Smap peer) outcome old mid new none h tells =
+    let later = tells_later (fault_line_of outcome) mid new tells in
+    let never : status_of outcome ≡ 4 → ⊥ = λ four. none (by_later (Smap peer) old mid new later (rose_some (Smap peer) outcome old mid (worked_rose name (Smap peer) outcome old mid h) four)) in
+    mailed_done name peer outcome old mid new (quiet old new (λ some. none (inl some))) never h tells h.works
 worked_complete name (TnGw peer) outcome old mid new none h tells = gated_done name peer outcome old mid new none h tells (gated_status peer h.inputs outcome h.middle mid h.works)
 
 -- ---- without a table

@@ -1,7 +1,7 @@
 -- What becomes of a client whom the rules deny, over a book: the line of the denial is logged, and then it is tried to tell the
 -- client.
-use Rattle.std.proofs.Common.{◌≡◌, ◌≢◌, ◌≤◌, ℕ, List, [], ◌∷◌, ◌++◌, map, refl, sym, ◌∙◌, ap, subst, inl, inr, arith, ◌⊎◌, Bool, false}
-use Rattle.std.specs.Prelude.{Option, Some, None, Result, Ok, Err}
+use Rattle.std.proofs.Common.{◌≡◌, ◌≢◌, ◌≤◌, ℕ, List, [], ◌∷◌, ◌++◌, map, refl, sym, ◌∙◌, ap, subst, inl, inr, ◌⊎◌, Bool, false}
+use Rattle.std.specs.Prelude.{Option, Some, Result, Ok, Err}
 use Rattle.auth_events.specs.declared.port.PortFault.{PortFault}
 use Rattle.auth_events.specs.declared.reply.Reply.{Reply}
 use Rattle.auth_machine.specs.Book.{BookView}
@@ -235,7 +235,7 @@ module _ (command : Command) (service : Service) (words : ℕ → List ℕ) (pee
 
 -- ---- a run in which no count rose
 
-got_whole : (words : List ℕ) (tried : Result (Unit {0}) (Front words)) (old new : SinkView) → (Rose old.faults new.faults → ⊥) → Gets words tried old new → new.given ≡ grown old.given words
+pub got_whole : (words : List ℕ) (tried : Result (Unit {0}) (Front words)) (old new : SinkView) → (Rose old.faults new.faults → ⊥) → Gets words tried old new → new.given ≡ grown old.given words
 got_whole words (Ok done) old new never gets = ap (λ (s : SinkView). s.given) gets
 got_whole words (Err front) old new never gets = absurd (never (subst (λ (s : SinkView). Rose old.faults s.faults) (sym gets.is) gets.rose))
 

@@ -6,6 +6,7 @@ use Rattle.auth_machine.specs.History.{Origin}
 use Rattle.auth_machine.specs.Policy.{PolicyView}
 use Rattle.fw_outside.specs.FilesView.{FilesView}
 use Rattle.fw_outside.specs.KeeperView.{IsCalled, KeeperView}
+use Rattle.fw_types.specs.declared.peer.Peer.{Peer}
 use Rattle.gate_rules.specs.Reading.{RuleBook, rules_of}
 use Rattle.gate_rules.specs.Verdict.{verdict_of}
 use Rattle.gate_rules.specs.declared.service.Service.{Service}
@@ -16,6 +17,7 @@ use Rattle.bastion.specs.Deciding.{Decides, DecidesRun, Reports, RunsBy}
 use Rattle.bastion.specs.Inputs.{HasInputs, Inputs, book_needs, needs, needs_records, no_inputs}
 use Rattle.bastion.specs.Outcome.{verdict_status}
 use Rattle.bastion.specs.Linking.{Linked}
+use Rattle.bastion.specs.Mailing.{Mailed}
 use Rattle.bastion.specs.Reading.{Unfound, Finds, is_early, ruling_in, server_rules_of}
 use Rattle.bastion.specs.Run.{AsksTable, DoesFor, Lacks, ReadsOnly, Stops, verdict_for}
 use Rattle.bastion.specs.Serving.{book_at_first, most_entries, origin_of}
@@ -55,6 +57,7 @@ lacks_early name command steps.Table old new early is = is
 lacks_early name command steps.Rules old new early is = is
 lacks_early name command steps.Policy old new early is = is
 lacks_early name command steps.Drill old new early is = absurd (cc)
+lacks_early name command steps.Slots old new early is = absurd (cc)
 
 -- what can't be found stops the command
 stops_by : {A : Type 0} (said : List ℕ → Result A Refusal) (name : List ℕ) (command : Command) (outcome : Outcome) (old new : WorldView) → Unfound said name outcome old.files new.files → AskedFiles old new
@@ -124,6 +127,20 @@ needs_table query = record { only = refl; no_records = refl }
 
 pub needs_plug : (caller : Caller) → NeedsRules (commands.PlugGw caller) (services.PlugGw caller.port)
 needs_plug caller = record { only = refl; no_records = refl }
+
+pub needs_smap : (peer : Peer) → NeedsRules (commands.Smap peer) services.Smap
+needs_smap peer = record { only = refl; no_records = refl }
+
+pub mailed_does : (name : List ℕ) (peer : Peer) (rules : RuleBook) (outcome : Outcome) (old mid new : WorldView) → Finds (ruling_in (rules_of services.Smap)) name (Ok rules) old.files mid.files → AskedFiles old mid
+    → Mailed peer (record no_inputs { rules = rules }) outcome mid new → DoesFor name (commands.Smap peer) outcome old new
+mailed_does name peer rules outcome old mid new found asked mailed =
+    inr (record {
+      inputs = record no_inputs { rules = rules };
+      read = inputs_rules (commands.Smap peer) services.Smap (needs_smap peer) name rules old found.of_text;
+      middle = mid;
+      only = only_files name old mid found.asks asked;
+      works = mailed;
+    })
 
 pub linked_does : (name : List ℕ) (caller : Caller) (rules : RuleBook) (outcome : Outcome) (old mid new : WorldView) → Finds (ruling_in (rules_of (services.PlugGw caller.port))) name (Ok rules) old.files mid.files → AskedFiles old mid
     → Linked caller (record no_inputs { rules = rules }) outcome mid new → DoesFor name (commands.PlugGw caller) outcome old new

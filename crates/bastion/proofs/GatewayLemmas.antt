@@ -1,25 +1,19 @@
 -- From what a client of the gateway did to the headline, and to a run in which no count rose.
-use Rattle.std.proofs.Common.{◌≡◌, ◌≢◌, ◌≤◌, ◌∙◌, ℕ, List, [], ◌∷◌, ◌++◌, length, refl, sym, ap, subst, inl, inr, arith, ◌⊎◌, Bool, true, false}
-use Rattle.std.specs.Prelude.{Option, Some, Ok, Err}
+use Rattle.std.proofs.Common.{◌≡◌, ◌≢◌, ◌≤◌, ◌∙◌, ℕ, List, [], ◌++◌, length, refl, sym, ap, subst, inl, inr, arith, ◌⊎◌, Bool, true, false}
+use Rattle.std.specs.Prelude.{Option, Ok, Err}
 use Rattle.auth_events.specs.Port.{Port, places}
-use Rattle.auth_events.specs.declared.entry.Entry.{Entry}
 use Rattle.auth_machine.specs.Port.{BookOrigin, book_port}
-use Rattle.client_service.proofs.SinkLemmas.{same_low}
 use Rattle.client_service.specs.Conn.{NotedIf, Untouched}
 use Rattle.client_service.specs.Decision.{decision_text}
 use Rattle.client_service.specs.Endings.{ending_line}
-use Rattle.client_service.specs.GateService.{HeldBehind, gate_devices}
+use Rattle.client_service.specs.GateService.{HeldBehind}
 use Rattle.client_service.specs.Meeting.{patient, timeout_of}
-use Rattle.fw_outside.specs.Counts.{Rose}
-use Rattle.fw_outside.specs.DialerView.{DialerView}
 use Rattle.fw_outside.specs.KeeperView.{KeeperView}
 use Rattle.fw_outside.specs.SinkView.{SinkView}
 use Rattle.fw_outside.specs.ToldList.{grown}
-use Rattle.fw_outside.specs.declared.ask.Ask as ask
 use Rattle.fw_types.specs.declared.ending.Ending.{Ending}
 use Rattle.fw_types.specs.declared.ending.Ending.TheVariants as endings
 use Rattle.fw_types.specs.declared.peer.Peer.{Peer}
-use Rattle.gate_rules.specs.Verdict.{verdict_of}
 use Rattle.gate_rules.specs.declared.service.Service.TheVariants as services
 use Rattle.gate_rules.specs.declared.verdict.Verdict.{Verdict}
 use Rattle.gate_rules.specs.declared.verdict.Verdict.TheVariants.{Permit, Deny}
@@ -54,7 +48,7 @@ use Rattle.tn_gate.specs.Laws.{AsksExactly}
 use Rattle.tn_gate.specs.Login.{LoginStandsIn, number_opened}
 use Rattle.tn_gate.specs.Texts.{refusal}
 use Rattle.bastion.specs.Asking.{FailsWithin}
-use Rattle.bastion.specs.Complete.{IsPassedWhole, IsServedAtGate, IsWhole, closing_text}
+use Rattle.bastion.specs.Complete.{IsPassedWhole, IsServedAtGate, closing_text}
 use Rattle.bastion.specs.Gateway.{IsBarred, IsCutOff, IsGuarded, OfTelnet, gated_devices, let_in}
 use Rattle.bastion.specs.Gating.{Gated, devices_over}
 use Rattle.bastion.specs.Headline.{IsDenied, IsPermitted}
@@ -69,12 +63,12 @@ use Rattle.bastion.specs.declared.outcome.Outcome.{Outcome}
 use Rattle.bastion.specs.declared.outcome.Outcome.TheVariants.{Ended}
 use Rattle.bastion.specs.declared.words.Command.TheVariants.{TnGw}
 use Rattle.bastion.proofs.ClientLemmas.{same_undialed}
-use Rattle.bastion.proofs.DenialLemmas.{DeniesWhole, OfDenial, decision_some, denial_same, denial_so, denial_whole, done_only, fails_last, fails_within, session_gave, told_denied, told_off}
-use Rattle.bastion.proofs.GatedLemmas.{IsLetIn, OfCaller, begun_for, gated_so, gated_status}
+use Rattle.bastion.proofs.DenialLemmas.{DeniesWhole, decision_some, denial_same, denial_so, denial_whole, done_only, fails_last, fails_within, session_gave, told_denied, told_off}
+use Rattle.bastion.proofs.GatedLemmas.{OfCaller, begun_for, gated_so, gated_status}
 use Rattle.bastion.proofs.LinkedLemmas.{waits_only}
 use Rattle.bastion.proofs.QuietLemmas.{Quiet, same_from}
 use Rattle.bastion.proofs.LeftLemmas.{tells_later}
-use Rattle.bastion.proofs.TalkLemmas.{concluded, concluded_later, concluded_whole, ends_by, legal_talk, no_talk, was}
+use Rattle.bastion.proofs.TalkLemmas.{concluded, concluded_whole, ends_by, legal_talk, no_talk, was}
 
 -- ---- what holds of a session
 

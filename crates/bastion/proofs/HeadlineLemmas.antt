@@ -45,7 +45,7 @@ use Rattle.bastion.specs.declared.outcome.Outcome.TheVariants.{Usage, Unread, Fa
 use Rattle.bastion.specs.declared.words.Caller.{Caller}
 use Rattle.bastion.specs.declared.words.Client.{Client}
 use Rattle.bastion.specs.declared.words.Command.{Command}
-use Rattle.bastion.specs.declared.words.Command.TheVariants.{Netacl, NetaclRun, Table, Authsrv, PlugGw, TnGw}
+use Rattle.bastion.specs.declared.words.Command.TheVariants.{Netacl, NetaclRun, Table, Authsrv, PlugGw, TnGw, Smap}
 use Rattle.bastion.specs.declared.words.Order.{Order}
 use Rattle.bastion.specs.declared.words.Order.TheVariants.{ByTable, Alone}
 use Rattle.bastion.specs.declared.words.Query.{Query}
@@ -56,6 +56,7 @@ use Rattle.bastion.proofs.GatewayLemmas.{gated_headline}
 use Rattle.bastion.proofs.JobLemmas.{job_left}
 use Rattle.bastion.proofs.LaunchLemmas.{Launching, launched, run_status_by}
 use Rattle.bastion.proofs.LinkedLemmas.{linked_headline}
+use Rattle.bastion.proofs.MailKeptLemmas.{MailHeadline, mail_headline}
 use Rattle.bastion.proofs.SessionLemmas.{OfClient, OfSession, lent_outlet, lent_port, serves_so}
 use Rattle.bastion.proofs.TalkLemmas.{concluded, legal_talk, tells_noted, was}
 use Rattle.bastion.proofs.LeftLemmas.{Later, only_left, stops_left, tells_later}
@@ -76,13 +77,15 @@ stops_silent : (name : List ℕ) (command : Command) (outcome : Outcome) (old mi
 stops_silent name command outcome old mid new h later = record { output = later.output ∙ (stops_left name command outcome old mid h).output; undenied = stops_undenied name command outcome old mid h }
 
 silent_headline : (name : List ℕ) (command : Command) (status : ℕ) (old new : WorldView) → IsUnserved status old new → IsUndecided status old new → HeadlineFor name command status old new
-silent_headline name (Netacl query) status old new h none = record { replies_legal = tt; asks_permitted = none.dialer; denials_logged = inl h.silent }
-silent_headline name (NetaclRun query) status old new h none = record { replies_legal = tt; asks_permitted = none.dialer; denials_logged = inl h.silent }
-silent_headline name (Table query) status old new h none = record { replies_legal = tt; asks_permitted = none.dialer; denials_logged = tt }
-silent_headline name (Authsrv client) status old new h none = record { replies_legal = inl h; asks_permitted = none.dialer; denials_logged = inl h.silent }
+silent_headline name (Netacl query) status old new h none = record { replies_legal = tt; asks_permitted = none.dialer; denials_logged = inl h.silent; answered_stands = tt }
+silent_headline name (NetaclRun query) status old new h none = record { replies_legal = tt; asks_permitted = none.dialer; denials_logged = inl h.silent; answered_stands = tt }
+silent_headline name (Table query) status old new h none = record { replies_legal = tt; asks_permitted = none.dialer; denials_logged = tt; answered_stands = tt }
+silent_headline name (Authsrv client) status old new h none = record { replies_legal = inl h; asks_permitted = none.dialer; denials_logged = inl h.silent; answered_stands = tt }
+silent_headline name (Smap peer) status old new h none =
+    record { replies_legal = tt; asks_permitted = none.dialer; denials_logged = inl h.silent; answered_stands = inl (record { silent = h.silent; unheld = h.unheld }) }
 silent_headline name (TnGw peer) status old new h none =
-    let unmet : IsUnmet status old new = record { undecided = none; unserved = h } in record { replies_legal = inl unmet; asks_permitted = inl unmet; denials_logged = inl h.silent }
-silent_headline name (PlugGw caller) status old new h none = record { replies_legal = tt; asks_permitted = inl none; denials_logged = (inl h.silent, λ denied. none.output) }
+    let unmet : IsUnmet status old new = record { undecided = none; unserved = h } in record { replies_legal = inl unmet; asks_permitted = inl unmet; denials_logged = inl h.silent; answered_stands = tt }
+silent_headline name (PlugGw caller) status old new h none = record { replies_legal = tt; asks_permitted = inl none; denials_logged = (inl h.silent, λ denied. none.output); answered_stands = tt }
 
 -- ---- what such a run comes to
 
@@ -308,21 +311,22 @@ unserved_from name status old mid new only h = record { silent = silent_from sta
 
 netacl_headline : (name : List ℕ) (query : Query) (outcome : Outcome) (status : ℕ) (old mid new : WorldView) (h : Worked name (Netacl query) outcome old mid) → new.inputs.dialer ≡ old.inputs.dialer
     → IsSilent status h.middle new ⊎ (IsPermitted (Netacl query) h.inputs status ⊎ IsDenied (Netacl query) query.service query.peer h.inputs status h.middle new) → HeadlineFor name (Netacl query) status old new
-netacl_headline name query outcome status old mid new h same (inl silent) = record { replies_legal = tt; asks_permitted = same; denials_logged = inl (silent_from status old h.middle new h.only.output silent) }
-netacl_headline name query outcome status old mid new h same (inr so) = record { replies_legal = tt; asks_permitted = same; denials_logged = inr (record { inputs = h.inputs; read = h.read; middle = h.middle; only = h.only; so = so }) }
+netacl_headline name query outcome status old mid new h same (inl silent) = record { replies_legal = tt; asks_permitted = same; denials_logged = inl (silent_from status old h.middle new h.only.output silent); answered_stands = tt }
+netacl_headline name query outcome status old mid new h same (inr so) = record { replies_legal = tt; asks_permitted = same; denials_logged = inr (record { inputs = h.inputs; read = h.read; middle = h.middle; only = h.only; so = so }); answered_stands = tt }
 
 netacl_run_headline : (name : List ℕ) (query : Query) (outcome : Outcome) (status : ℕ) (old mid new : WorldView) (h : Worked name (NetaclRun query) outcome old mid) → new.inputs.dialer ≡ old.inputs.dialer
     → IsSilent status h.middle new ⊎ (IsPermitted (NetaclRun query) h.inputs status ⊎ IsDenied (NetaclRun query) query.service query.peer h.inputs status h.middle new) → HeadlineFor name (NetaclRun query) status old new
-netacl_run_headline name query outcome status old mid new h same (inl silent) = record { replies_legal = tt; asks_permitted = same; denials_logged = inl (silent_from status old h.middle new h.only.output silent) }
-netacl_run_headline name query outcome status old mid new h same (inr so) = record { replies_legal = tt; asks_permitted = same; denials_logged = inr (record { inputs = h.inputs; read = h.read; middle = h.middle; only = h.only; so = so }) }
+netacl_run_headline name query outcome status old mid new h same (inl silent) = record { replies_legal = tt; asks_permitted = same; denials_logged = inl (silent_from status old h.middle new h.only.output silent); answered_stands = tt }
+netacl_run_headline name query outcome status old mid new h same (inr so) = record { replies_legal = tt; asks_permitted = same; denials_logged = inr (record { inputs = h.inputs; read = h.read; middle = h.middle; only = h.only; so = so }); answered_stands = tt }
 
 client_headline : (name : List ℕ) (client : Client) (outcome : Outcome) (status : ℕ) (old mid new : WorldView) (h : Worked name (Authsrv client) outcome old mid) → new.inputs.dialer ≡ old.inputs.dialer → ClientHeadline client h.inputs status h.middle new → HeadlineFor name (Authsrv client) status old new
 client_headline name client outcome status old mid new h same (inl unserved) =
-    let so = unserved_from name status old h.middle new h.only unserved in record { replies_legal = inl so; asks_permitted = same; denials_logged = inl so.silent }
+    let so = unserved_from name status old h.middle new h.only unserved in record { replies_legal = inl so; asks_permitted = same; denials_logged = inl so.silent; answered_stands = tt }
 client_headline name client outcome status old mid new h same (inr so) = record {
   asks_permitted = same;
   replies_legal = inr (record { inputs = h.inputs; read = h.read; middle = h.middle; only = h.only; so = so.0 });
   denials_logged = inr (record { inputs = h.inputs; read = h.read; middle = h.middle; only = h.only; so = so.1 });
+  answered_stands = tt;
 }
 
 caller_denials : (name : List ℕ) (caller : Caller) (outcome : Outcome) (status : ℕ) (old mid new : WorldView) (h : Worked name (PlugGw caller) outcome old mid)
@@ -336,6 +340,17 @@ gate_denials : (name : List ℕ) (peer : Peer) (outcome : Outcome) (status : ℕ
 gate_denials name peer outcome status old mid new h (inl silent) = inl (silent_from status old h.middle new h.only.output silent)
 gate_denials name peer outcome status old mid new h (inr so) = inr (record { inputs = h.inputs; read = h.read; middle = h.middle; only = h.only; so = so })
 
+mail_denials : (name : List ℕ) (peer : Peer) (outcome : Outcome) (status : ℕ) (old mid new : WorldView) (h : Worked name (Smap peer) outcome old mid) → new.inputs.dialer ≡ old.inputs.dialer → MailHeadline peer h.inputs status h.middle new → HeadlineFor name (Smap peer) status old new
+mail_denials name peer outcome status old mid new h same (inl unheard) =
+    let silent = silent_from status old h.middle new h.only.output unheard.silent in
+    record { replies_legal = tt; asks_permitted = same; denials_logged = inl silent; answered_stands = inl (record { silent = silent; unheld = unheard.unheld }) }
+mail_denials name peer outcome status old mid new h same (inr so) = record {
+  replies_legal = tt;
+  asks_permitted = same;
+  denials_logged = inr (record { inputs = h.inputs; read = h.read; middle = h.middle; only = h.only; so = so.1 });
+  answered_stands = inr (record { inputs = h.inputs; read = h.read; middle = h.middle; only = h.only; so = so.0 });
+}
+
 worked_headline : (name : List ℕ) (command : Command) (outcome : Outcome) (old mid new : WorldView) → Worked name command outcome old mid → TellsIf (fault_line_of outcome) mid new → HeadlineFor name command (status_of outcome) old new
 worked_headline name (Netacl query) outcome old mid new h tells =
     netacl_headline name query outcome (status_of outcome) old mid new h (worked_unasked name (Netacl query) outcome old mid new h (tells_later (fault_line_of outcome) mid new tells))
@@ -344,7 +359,7 @@ worked_headline name (NetaclRun query) outcome old mid new h tells =
     netacl_run_headline name query outcome (status_of outcome) old mid new h (worked_unasked name (NetaclRun query) outcome old mid new h (tells_later (fault_line_of outcome) mid new tells))
     (netacl_run_by query h.inputs outcome h.middle mid new h.works tells)
 worked_headline name (Table query) outcome old mid new h tells =
-    record { replies_legal = tt; asks_permitted = worked_unasked name (Table query) outcome old mid new h (tells_later (fault_line_of outcome) mid new tells); denials_logged = tt }
+    record { replies_legal = tt; asks_permitted = worked_unasked name (Table query) outcome old mid new h (tells_later (fault_line_of outcome) mid new tells); denials_logged = tt; answered_stands = tt }
 worked_headline name (Authsrv client) outcome old mid new h tells =
     client_headline name client outcome (status_of outcome) old mid new h (worked_unasked name (Authsrv client) outcome old mid new h (tells_later (fault_line_of outcome) mid new tells))
     (attended_headline client h.inputs outcome h.middle mid new h.works tells)
@@ -354,11 +369,14 @@ worked_headline name (PlugGw caller) outcome old mid new h tells =
       replies_legal = tt;
       asks_permitted = inr (record { inputs = h.inputs; read = h.read; middle = h.middle; only = h.only; so = so.asks });
       denials_logged = (caller_denials name caller outcome (status_of outcome) old mid new h so.denials, λ denied. so.untold denied ∙ h.only.output);
+      answered_stands = tt;
     }
+worked_headline name (Smap peer) outcome old mid new h tells =
+    mail_denials name peer outcome (status_of outcome) old mid new h (worked_unasked name (Smap peer) outcome old mid new h (tells_later (fault_line_of outcome) mid new tells)) (mail_headline peer h.inputs outcome h.middle mid new h.works tells)
 worked_headline name (TnGw peer) outcome old mid new h tells =
     let so = gated_headline peer h.inputs outcome h.middle mid new h.works tells in
     let gated : IsGated name peer (status_of outcome) old new = inr (record { inputs = h.inputs; read = h.read; middle = h.middle; only = h.only; so = so.0 }) in
-    record { replies_legal = gated; asks_permitted = gated; denials_logged = gate_denials name peer outcome (status_of outcome) old mid new h so.1 }
+    record { replies_legal = gated; asks_permitted = gated; denials_logged = gate_denials name peer outcome (status_of outcome) old mid new h so.1; answered_stands = tt }
 
 order_headline : (name : List ℕ) (order : Order) (outcome : Outcome) (old mid new : WorldView) → DoesOrder name order outcome old mid → TellsIf (fault_line_of outcome) mid new → HeadlineOf name order (status_of outcome) old new
 order_headline name (ByTable command) outcome old mid new (inl h) tells =

@@ -1,14 +1,14 @@
 -- From what a job without a table did to its status and to what it leaves.
-use Rattle.std.proofs.Common.{◌≡◌, ◌≤◌, ℕ, List, refl, sym, ◌∙◌, ap, subst, inl, inr, ◌⊎◌, arith}
+use Rattle.std.proofs.Common.{◌≡◌, ℕ, List, refl, sym, ap, subst, inl, inr, ◌⊎◌, arith}
 use Rattle.std.specs.Prelude.{Result, Ok, Err, length}
 use Rattle.drill_lines.specs.Drill.{drilled}
 use Rattle.drill_lines.specs.declared.plan.Drill as drills
 use Rattle.drill_lines.specs.declared.drill_fault.DrillFault.{DrillFault}
 use Rattle.drill_lines.specs.declared.drill_fault.DrillFault.TheVariants as faults
 use Rattle.drill_lines.specs.declared.tally.Tally.{Tally}
-use Rattle.fw_outside.specs.SinkView.{Gives, SinkView}
+use Rattle.fw_outside.specs.SinkView.{Gives}
 use Rattle.fw_outside.specs.declared.failed.Failed as sink
-use Rattle.bastion.specs.Jobs.{AreFormatted, DoesJob, DrillsBy, FailsAt, Formats, TellsFormatted, drill_refused, printed}
+use Rattle.bastion.specs.Jobs.{AreFormatted, DoesJob, DrillsBy, Formats, TellsFormatted, drill_refused, printed}
 use Rattle.bastion.specs.Outcome.{DiskRose, status_of}
 use Rattle.bastion.specs.Status.{DisksRose, IsStatusOfJob, JobLeavesDisks, SomeRose, drill_status}
 use Rattle.bastion.specs.Works.{Prints}

@@ -1,5 +1,5 @@
 -- Whose count rose in a job that needs no table.
-use Rattle.std.proofs.Common.{◌≡◌, ◌≤◌, ℕ, zero, suc, List, [], ◌∷◌, refl, sym, ap, subst, inl, inr, ◌⊎◌}
+use Rattle.std.proofs.Common.{ℕ, zero, suc, List, [], ◌∷◌, sym, subst, inl, inr}
 use Rattle.std.specs.Prelude.{Result, Ok, Err}
 use Rattle.drill_lines.specs.Drill.{drilled}
 use Rattle.drill_lines.specs.declared.plan.Drill as drills
@@ -10,7 +10,7 @@ use Rattle.fw_disk.specs.DiskView.{DiskView}
 use Rattle.fw_outside.specs.SinkView.{Gives}
 use Rattle.fw_outside.specs.declared.failed.Failed as sink
 use Rattle.bastion.specs.Jobs.{DoesJob, DrillsBy, FailsAt, Formats, TellsFormatted, drill_refused, printed}
-use Rattle.bastion.specs.Outcome.{DiskRose, JobRose}
+use Rattle.bastion.specs.Outcome.{DiskRose, SlotsRose}
 use Rattle.bastion.specs.Works.{Prints}
 use Rattle.bastion.specs.WorldView.{WorldView}
 use Rattle.bastion.specs.declared.outcome.Outcome.{Outcome}
@@ -18,21 +18,21 @@ use Rattle.bastion.specs.declared.words.Job.{Job}
 use Rattle.bastion.specs.declared.words.Job.TheVariants.{Drill, SpoolInit}
 use Rattle.client_service.proofs.SinkLemmas.{cut_rose}
 
-printed_rose : (printing : Result (Unit {0}) sink.Failed) (text : List ℕ) (old new : WorldView) → Gives printing text old.output new.output → JobRose (printed printing) old new
+printed_rose : (printing : Result (Unit {0}) sink.Failed) (text : List ℕ) (old new : WorldView) → Gives printing text old.output new.output → SlotsRose (printed printing) old new
 printed_rose (Ok done) text old new gives = tt
 printed_rose (Err failed) text old new gives = cut_rose text old.output new.output gives
 
-prints_rose : (text : List ℕ) (outcome : Outcome) (old new : WorldView) → Prints printed text outcome old.output new.output → JobRose outcome old new
-prints_rose text outcome old new h = subst (λ (o : Outcome). JobRose o old new) (sym h.is) (printed_rose h.printing text old new h.gives)
+prints_rose : (text : List ℕ) (outcome : Outcome) (old new : WorldView) → Prints printed text outcome old.output new.output → SlotsRose outcome old new
+prints_rose text outcome old new h = subst (λ (o : Outcome). SlotsRose o old new) (sym h.is) (printed_rose h.printing text old new h.gives)
 
-refused_rose : (fault : DrillFault) (old new : WorldView) → JobRose (drill_refused fault) old new
+refused_rose : (fault : DrillFault) (old new : WorldView) → SlotsRose (drill_refused fault) old new
 refused_rose (faults.Table fault) old new = tt
 refused_rose (faults.Rule fault) old new = tt
 refused_rose faults.NoMemory old new = tt
 
-drill_rose : (drill : drills.Drill) (read : Result Tally DrillFault) (outcome : Outcome) (old new : WorldView) → DrillsBy drill read outcome old new → JobRose outcome old new
+drill_rose : (drill : drills.Drill) (read : Result Tally DrillFault) (outcome : Outcome) (old new : WorldView) → DrillsBy drill read outcome old new → SlotsRose outcome old new
 drill_rose drill (Ok tally) outcome old new h = prints_rose _ outcome old new h.prints
-drill_rose drill (Err fault) outcome old new h = subst (λ (o : Outcome). JobRose o old new) (sym h.is) (refused_rose fault old new)
+drill_rose drill (Err fault) outcome old new h = subst (λ (o : Outcome). SlotsRose o old new) (sym h.is) (refused_rose fault old new)
 
 pub fails_rose : (slot : ℕ) (olds news : List DiskView) → FailsAt slot olds news → DiskRose slot olds news
 fails_rose zero (old ∷ olds) (new ∷ news) h = h.0.rose
@@ -42,11 +42,11 @@ fails_rose zero (old ∷ olds) [] h = absurd h
 fails_rose (suc slot) [] news h = absurd h
 fails_rose (suc slot) (old ∷ olds) [] h = absurd h
 
-init_rose : (answer : Result (Unit {0}) ℕ) (count : ℕ) (outcome : Outcome) (old new : WorldView) → Formats answer old.inputs.disks new.inputs.disks → TellsFormatted answer count outcome old.output new.output → JobRose outcome old new
+init_rose : (answer : Result (Unit {0}) ℕ) (count : ℕ) (outcome : Outcome) (old new : WorldView) → Formats answer old.inputs.disks new.inputs.disks → TellsFormatted answer count outcome old.output new.output → SlotsRose outcome old new
 init_rose (Ok done) count outcome old new formats h = prints_rose _ outcome old new h
-init_rose (Err slot) count outcome old new formats h = subst (λ (o : Outcome). JobRose o old new) (sym h.0) (fails_rose slot old.inputs.disks new.inputs.disks formats)
+init_rose (Err slot) count outcome old new formats h = subst (λ (o : Outcome). SlotsRose o old new) (sym h.0) (fails_rose slot old.inputs.disks new.inputs.disks formats)
 
-pub job_rose : (job : Job) (outcome : Outcome) (old new : WorldView) → DoesJob job outcome old new → JobRose outcome old new
-job_rose (Drill drill) outcome old new (inl h) = subst (λ (o : Outcome). JobRose o old new) (sym h.is) tt
+pub job_rose : (job : Job) (outcome : Outcome) (old new : WorldView) → DoesJob job outcome old new → SlotsRose outcome old new
+job_rose (Drill drill) outcome old new (inl h) = subst (λ (o : Outcome). SlotsRose o old new) (sym h.is) tt
 job_rose (Drill drill) outcome old new (inr h) = drill_rose drill (drilled drill) outcome old new h
 job_rose SpoolInit outcome old new h = init_rose h.answer _ outcome old new h.formats h.tells

@@ -1,27 +1,22 @@
 -- What starting the program of a permission comes to.
 use Rattle.std.proofs.Common.{◌≡◌, ◌≤◌, ◌∙◌, ℕ, List, [], ◌∷◌, refl, sym, ap, subst, inl, inr, ◌⊎◌}
-use Rattle.std.specs.Prelude.{Option, Result, Ok, Err}
-use Rattle.fw_outside.specs.ClockView.{ClockView}
+use Rattle.std.specs.Prelude.{Result, Ok, Err}
 use Rattle.fw_outside.specs.Counts.{Rose}
-use Rattle.fw_outside.specs.FilesView.{FilesView}
-use Rattle.fw_outside.specs.KeeperView.{KeeperView}
 use Rattle.fw_outside.specs.LauncherView.{LauncherView, Starts}
-use Rattle.fw_outside.specs.SinkView.{Gives, SinkView}
-use Rattle.fw_outside.specs.SourceView.{SourceView}
+use Rattle.fw_outside.specs.SinkView.{SinkView}
 use Rattle.fw_outside.specs.declared.failed.Failed as sink
 use Rattle.fw_outside.specs.declared.started.Started.{Started}
 use Rattle.fw_outside.specs.declared.started.Started.TheVariants as program
 use Rattle.gate_rules.specs.declared.verdict.Verdict.{Verdict}
 use Rattle.session_acts.proofs.DeviceLemmas.{rose_within}
-use Rattle.bastion.specs.Outcome.{CountRose, status_of, verdict_status}
-use Rattle.bastion.specs.Works.{Announced, AnnouncedRun, Launches, LaunchesIf, PrintsAfter, PrintsEnd, StaysSo, announced, shown}
+use Rattle.bastion.specs.Outcome.{CountRose, status_of}
+use Rattle.bastion.specs.Works.{Announced, AnnouncedRun, Launches, LaunchesIf, PrintsAfter, PrintsEnd, StaysSo, shown}
 use Rattle.bastion.specs.WorldView.{SessionInputs, WorldView}
-use Rattle.bastion.specs.declared.outcome.Device.TheVariants as device
 use Rattle.bastion.specs.declared.outcome.Outcome.{Outcome}
-use Rattle.bastion.specs.declared.outcome.Outcome.TheVariants.{Usage, Unread, Failed, NoMemory, Decided, Ended}
+use Rattle.bastion.specs.declared.outcome.Outcome.TheVariants.{Decided}
 use Rattle.bastion.specs.declared.words.Query.{Query}
 use Rattle.bastion.proofs.DecidedLemmas.{ByVerdict, after_rose, after_status, shown_rose, shown_status}
-use Rattle.client_service.proofs.SinkLemmas.{cut_rose, gives_most, same_low}
+use Rattle.client_service.proofs.SinkLemmas.{gives_most, same_low}
 
 -- ---- a program was started, or not
 

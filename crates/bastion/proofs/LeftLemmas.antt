@@ -1,34 +1,20 @@
 -- What is left as it was before the work, and behind it.
-use Rattle.std.proofs.Common.{◌≡◌, ◌≤◌, ℕ, List, refl, sym, ◌∙◌, ap, subst, inl, inr, arith, ◌⊎◌, Bool, true, false}
+use Rattle.std.proofs.Common.{◌≡◌, ◌≤◌, ℕ, List, refl, sym, ◌∙◌, ap, subst, inl, inr, Bool, true, false}
 use Rattle.std.specs.Option.{option_map}
-use Rattle.std.specs.Prelude.{Option, Some, None, Result, Ok, Err, IsSome, not}
-use Rattle.fw_outside.specs.Counts.{Rose}
+use Rattle.std.specs.Prelude.{Option, Some, None, IsSome, not}
 use Rattle.fw_outside.specs.FilesView.{FilesView}
-use Rattle.fw_outside.specs.KeeperView.{KeeperFailed, KeeperView, NamedBytes}
-use Rattle.fw_outside.specs.LauncherView.{LauncherView}
-use Rattle.fw_outside.specs.SinkView.{Gives, SinkView}
-use Rattle.fw_outside.specs.SourceView.{SourceView}
-use Rattle.fw_outside.specs.declared.failed.Failed as sink
-use Rattle.fw_types.specs.declared.ending.Ending.{Ending}
-use Rattle.fw_types.specs.declared.ending.Ending.TheVariants as endings
-use Rattle.gate_rules.specs.Verdict.{verdict_of}
-use Rattle.gate_rules.specs.declared.verdict.Verdict.{Verdict}
-use Rattle.gate_rules.specs.declared.verdict.Verdict.TheVariants.{Permit, Deny}
+use Rattle.fw_outside.specs.KeeperView.{KeeperView, NamedBytes}
 use Rattle.bastion.specs.Talk.{table_kept}
-use Rattle.bastion.specs.Inputs.{Inputs, is_of_line, needs_records}
-use Rattle.bastion.specs.Outcome.{CountRose, DeviceRose, EndingRose, GateRose, KeeperRose, LinkRose, RoseFor, RoseIn, fault_line_of, status_of, verdict_status}
-use Rattle.bastion.specs.Run.{CallsIf, DoesLine, FilesFailed, ReadsOnly, Run, Stops, TellsIf, Worked}
-use Rattle.bastion.specs.Words.{LineView}
+use Rattle.bastion.specs.Inputs.{is_of_line, needs_records}
+use Rattle.bastion.specs.Run.{CallsIf, FilesFailed, ReadsOnly, Stops, TellsIf}
 use Rattle.bastion.specs.WorldView.{SessionInputs, WorldView}
-use Rattle.bastion.specs.declared.outcome.Device.{Device}
 use Rattle.bastion.specs.declared.outcome.Device.TheVariants as device
 use Rattle.bastion.specs.declared.outcome.Outcome.{Outcome}
-use Rattle.bastion.specs.declared.outcome.Outcome.TheVariants.{Usage, Unread, Failed, NoMemory, Decided, Ended}
+use Rattle.bastion.specs.declared.outcome.Outcome.TheVariants.{Unread, Failed, NoMemory}
 use Rattle.bastion.specs.declared.outcome.Step.{Step}
 use Rattle.bastion.specs.declared.outcome.Step.TheVariants as steps
 use Rattle.bastion.specs.declared.words.Command.{Command}
-use Rattle.bastion.specs.declared.words.Command.TheVariants.{Netacl, NetaclRun, Table, Authsrv, PlugGw, TnGw}
-use Rattle.client_service.proofs.SinkLemmas.{cut_rose, gives_most, rose_later, same_low}
+use Rattle.client_service.proofs.SinkLemmas.{gives_most, same_low}
 
 -- ---- what reading leaves
 
@@ -100,6 +86,7 @@ lacks_left name command steps.Table old new h = only_left name false old new h
 lacks_left name command steps.Rules old new h = only_left name false old new h
 lacks_left name command steps.Policy old new h = only_left name false old new h
 lacks_left name command steps.Drill old new h = absurd h
+lacks_left name command steps.Slots old new h = absurd h
 lacks_left name command steps.Records old new h = only_left name (needs_records command) old new h
 
 pub stops_left : (name : List ℕ) (command : Command) (outcome : Outcome) (old new : WorldView) → Stops name command outcome old new → Left old new

@@ -16,10 +16,14 @@ pub mod LeftLemmas
 pub mod LinkedLemmas
 pub mod LinkingLemmas
 pub mod LoglessLemmas
+pub mod MailKeptLemmas
+pub mod MailedLemmas
 pub mod QuietLemmas
 pub mod ReadingLemmas
 pub mod RoseLemmas
 pub mod RunLemmas
 pub mod ServedLemmas
 pub mod SessionLemmas
+pub mod SpoolLemmas
+pub mod StoreLemmas
 pub mod TalkLemmas

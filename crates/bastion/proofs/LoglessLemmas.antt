@@ -17,7 +17,6 @@ use Rattle.fw_acts.specs.Histories.{AllMay, Keeps, Leaves, Watch}
 use Rattle.fw_acts.specs.Ran.{Comes}
 use Rattle.fw_acts.specs.Runs.{DoesAll}
 use Rattle.fw_acts.proofs.HistoryLemmas.{run_leaves, run_may}
-use Rattle.fw_outside.specs.SinkView.{SinkView}
 use Rattle.fw_outside.specs.declared.heard.Heard.{Heard}
 use Rattle.fw_outside.specs.declared.heard.Heard.TheVariants.{Line, TooLong, Stopped}
 use Rattle.fw_types.specs.declared.ending.Ending.{Ending}

@@ -1,24 +1,21 @@
 -- Whose count has risen.
-use Rattle.std.proofs.Common.{◌≡◌, ◌≤◌, ℕ, List, refl, sym, ◌∙◌, ap, subst, inl, inr, arith, ◌⊎◌, Bool, true, false}
-use Rattle.std.specs.Option.{option_map}
-use Rattle.std.specs.Prelude.{Option, Some, None, Result, Ok, Err, IsSome, not}
+use Rattle.std.proofs.Common.{◌≡◌, ℕ, List, sym, ap, subst, inl, inr, arith, ◌⊎◌, Bool, true, false}
+use Rattle.std.specs.Prelude.{Option, Some, None}
 use Rattle.fw_outside.specs.Counts.{Rose}
 use Rattle.fw_outside.specs.DialerView.{DialerView}
 use Rattle.fw_outside.specs.FilesView.{FilesView}
-use Rattle.fw_outside.specs.KeeperView.{KeeperFailed, KeeperView, NamedBytes}
+use Rattle.fw_outside.specs.KeeperView.{KeeperFailed, KeeperView}
 use Rattle.fw_outside.specs.LauncherView.{LauncherView}
-use Rattle.fw_outside.specs.SinkView.{Gives, SinkView}
+use Rattle.fw_outside.specs.SinkView.{SinkView}
 use Rattle.fw_outside.specs.SourceView.{SourceView}
-use Rattle.fw_outside.specs.declared.failed.Failed as sink
 use Rattle.fw_types.specs.declared.ending.Ending.{Ending}
 use Rattle.fw_types.specs.declared.ending.Ending.TheVariants as endings
 use Rattle.gate_rules.specs.Verdict.{verdict_of}
 use Rattle.gate_rules.specs.declared.verdict.Verdict.{Verdict}
 use Rattle.gate_rules.specs.declared.verdict.Verdict.TheVariants.{Permit, Deny}
-use Rattle.bastion.specs.Talk.{table_kept}
-use Rattle.bastion.specs.Inputs.{Inputs, is_of_line, needs_records}
-use Rattle.bastion.specs.Outcome.{CountRose, DeviceRose, EndingRose, GateRose, KeeperRose, LinkRose, OrderRose, RoseFor, RoseIn, fault_line_of, status_of, verdict_status}
-use Rattle.bastion.specs.Run.{CallsIf, DoesLine, DoesOrder, FilesFailed, ReadsOnly, Run, Stops, TellsIf, Worked}
+use Rattle.bastion.specs.Inputs.{Inputs, needs_records}
+use Rattle.bastion.specs.Outcome.{CountRose, DeviceRose, DiskRose, EndingRose, GateRose, KeeperRose, LinkRose, OrderRose, RoseFor, RoseIn, SlotsRose, status_of, verdict_status}
+use Rattle.bastion.specs.Run.{CallsIf, DoesLine, DoesOrder, FilesFailed, ReadsOnly, Stops, Worked}
 use Rattle.bastion.specs.Words.{LineView}
 use Rattle.bastion.specs.Works.{Works}
 use Rattle.bastion.specs.WorldView.{SessionInputs, WorldView}
@@ -26,10 +23,8 @@ use Rattle.bastion.specs.declared.outcome.Device.{Device}
 use Rattle.bastion.specs.declared.outcome.Device.TheVariants as device
 use Rattle.bastion.specs.declared.outcome.Outcome.{Outcome}
 use Rattle.bastion.specs.declared.outcome.Outcome.TheVariants.{Usage, Unread, Failed, NoMemory, Done, Decided, Ended}
-use Rattle.bastion.specs.declared.outcome.Step.{Step}
-use Rattle.bastion.specs.declared.outcome.Step.TheVariants as steps
 use Rattle.bastion.specs.declared.words.Command.{Command}
-use Rattle.bastion.specs.declared.words.Command.TheVariants.{Netacl, NetaclRun, Table, Authsrv, PlugGw, TnGw}
+use Rattle.bastion.specs.declared.words.Command.TheVariants.{Netacl, NetaclRun, Table, Authsrv, PlugGw, TnGw, Smap}
 use Rattle.bastion.specs.declared.words.Order.{Order}
 use Rattle.bastion.specs.declared.words.Order.TheVariants.{ByTable, Alone}
 use Rattle.bastion.proofs.AttendedLemmas.{attended_rose}
@@ -38,8 +33,9 @@ use Rattle.bastion.proofs.JobRoseLemmas.{job_rose}
 use Rattle.bastion.proofs.LaunchLemmas.{run_rose}
 use Rattle.bastion.proofs.GatedLemmas.{gated_rose}
 use Rattle.bastion.proofs.LinkingLemmas.{linked_rose}
-use Rattle.client_service.proofs.SinkLemmas.{cut_rose, gives_most, rose_later, same_low}
-use Rattle.bastion.specs.Status.{LinksFailed, LinksRose, RoseBy, SomeRose}
+use Rattle.bastion.proofs.MailedLemmas.{mailed_rose}
+use Rattle.client_service.proofs.SinkLemmas.{rose_later}
+use Rattle.bastion.specs.Status.{DisksRose, LinksFailed, LinksRose, RoseBy, SomeRose}
 use Rattle.bastion.proofs.LeftLemmas.{Later, calls_launcher, only_left}
 
 -- ---- whose count has risen
@@ -98,6 +94,18 @@ rose_for (TnGw peer) (Failed which) old new h = h
 rose_for (TnGw peer) (NoMemory step) old new h = h
 rose_for (TnGw peer) Done old new h = h
 rose_for (TnGw peer) (Decided verdict) old new h = h
+rose_for (Smap peer) Usage old new h = h
+rose_for (Smap peer) (Unread refusal) old new h = h
+rose_for (Smap peer) (Failed device.Table) old new h = h
+rose_for (Smap peer) (Failed device.Output) old new h = h
+rose_for (Smap peer) (Failed device.Log) old new h = h
+rose_for (Smap peer) (Failed device.Records) old new h = h
+rose_for (Smap peer) (Failed device.Program) old new h = h
+rose_for (Smap peer) (Failed (device.Disk slot)) old new h = absurd h
+rose_for (Smap peer) (NoMemory step) old new h = h
+rose_for (Smap peer) Done old new h = h
+rose_for (Smap peer) (Decided verdict) old new h = h
+rose_for (Smap peer) (Ended ending refused) old new h = h
 rose_for (Netacl query) outcome old new h = h
 rose_for (NetaclRun query) outcome old new h = h
 rose_for (Table query) outcome old new h = h
@@ -111,6 +119,7 @@ works_rose (Table query) inputs outcome old new h =
 works_rose (Authsrv client) inputs outcome old new h = attended_rose client inputs outcome old new h
 works_rose (PlugGw caller) inputs outcome old new h = linked_rose caller inputs outcome old new h
 works_rose (TnGw peer) inputs outcome old new h = gated_rose peer inputs outcome old new h
+works_rose (Smap peer) inputs outcome old new h = mailed_rose peer inputs outcome old new h
 
 -- ---- from where the work began to where the run did
 
@@ -179,6 +188,21 @@ count_from name records (Failed which) old mid new only h = device_from name rec
 count_from name records (Ended ending refused) old mid new only h = ending_from ending old mid new (only_left name records old mid only).input only.output only.logs h
 count_from name records outcome old mid new only h = tt
 
+-- the disks are called behind the reading
+slots_from : (name : List ℕ) (outcome : Outcome) (old mid new : WorldView) → ReadsOnly name false old mid → SlotsRose outcome mid new → SlotsRose outcome old new
+slots_from name (Failed device.Table) old mid new only h = device_from name false device.Table old mid new only h
+slots_from name (Failed device.Output) old mid new only h = device_from name false device.Output old mid new only h
+slots_from name (Failed device.Log) old mid new only h = device_from name false device.Log old mid new only h
+slots_from name (Failed device.Records) old mid new only h = device_from name false device.Records old mid new only h
+slots_from name (Failed device.Program) old mid new only h = device_from name false device.Program old mid new only h
+slots_from name (Failed (device.Disk slot)) old mid new only h = subst (λ (i : SessionInputs). DiskRose slot i.disks new.inputs.disks) only.inputs h
+slots_from name Usage old mid new only h = tt
+slots_from name (Unread refusal) old mid new only h = tt
+slots_from name (NoMemory step) old mid new only h = tt
+slots_from name Done old mid new only h = tt
+slots_from name (Decided verdict) old mid new only h = tt
+slots_from name (Ended ending refused) old mid new only h = count_from name false (Ended ending refused) old mid new only h
+
 rose_from : (name : List ℕ) (command : Command) (outcome : Outcome) (old mid new : WorldView) → ReadsOnly name (needs_records command) old mid → RoseFor command outcome mid new → RoseFor command outcome old new
 rose_from name (PlugGw caller) (Ended ending refused) old mid new only h = link_only name false ending old mid new only h
 rose_from name (TnGw peer) (Ended ending refused) old mid new only h = gate_only name true ending old mid new only h
@@ -194,6 +218,7 @@ rose_from name (TnGw peer) (Failed which) old mid new only h = device_from name 
 rose_from name (TnGw peer) (NoMemory step) old mid new only h = tt
 rose_from name (TnGw peer) Done old mid new only h = tt
 rose_from name (TnGw peer) (Decided verdict) old mid new only h = tt
+rose_from name (Smap peer) outcome old mid new only h = slots_from name outcome old mid new only h
 rose_from name (Netacl query) outcome old mid new only h = count_from name false outcome old mid new only h
 rose_from name (NetaclRun query) outcome old mid new only h = count_from name false outcome old mid new only h
 rose_from name (Table query) outcome old mid new only h = count_from name false outcome old mid new only h
@@ -234,9 +259,18 @@ failed_later : (old mid new : WorldView) → Later mid new → SomeOrFailed old 
 failed_later old mid new later (inl some) = inl (some_later old mid new later some)
 failed_later old mid new later (inr links) = inr (subst (λ (i : SessionInputs). LinksFailed old.inputs.dialer i.dialer) (sym later.inputs) links)
 
+-- or that of a disk
+abbrev SomeOrDisks : WorldView → WorldView → Type 0
+SomeOrDisks old new = SomeRose old new ⊎ DisksRose old.inputs.disks new.inputs.disks
+
+disks_later : (old mid new : WorldView) → Later mid new → SomeOrDisks old mid → SomeOrDisks old new
+disks_later old mid new later (inl some) = inl (some_later old mid new later some)
+disks_later old mid new later (inr disks) = inr (subst (λ (i : SessionInputs). DisksRose old.inputs.disks i.disks) (sym later.inputs) disks)
+
 pub by_later : (command : Command) (old mid new : WorldView) → Later mid new → RoseBy command old mid → RoseBy command old new
 by_later (PlugGw caller) old mid new later h = links_later old mid new later h
 by_later (TnGw peer) old mid new later h = failed_later old mid new later h
+by_later (Smap peer) old mid new later h = disks_later old mid new later h
 by_later (Netacl query) old mid new later h = some_later old mid new later h
 by_later (NetaclRun query) old mid new later h = some_later old mid new later h
 by_later (Table query) old mid new later h = some_later old mid new later h
@@ -247,6 +281,7 @@ by_later (Authsrv client) old mid new later h = some_later old mid new later h
 pub some_by : (command : Command) (old new : WorldView) → SomeRose old new → RoseBy command old new
 some_by (PlugGw caller) old new h = inl h
 some_by (TnGw peer) old new h = inl h
+some_by (Smap peer) old new h = inl h
 some_by (Netacl query) old new h = h
 some_by (NetaclRun query) old new h = h
 some_by (Table query) old new h = h
@@ -313,6 +348,20 @@ gate_some endings.Idle refused old new (inr link) is = inr (inr link)
 gate_some endings.NoRoute refused old new h is = absurd h
 gate_some ending refused old new h is = inl (ending_some ending refused old new h is)
 
+slots_some : (outcome : Outcome) (old new : WorldView) → SlotsRose outcome old new → status_of outcome ≡ 4 → SomeOrDisks old new
+slots_some (Failed device.Table) old new h is = inl (device_some device.Table old new h)
+slots_some (Failed device.Output) old new h is = inl (device_some device.Output old new h)
+slots_some (Failed device.Log) old new h is = inl (device_some device.Log old new h)
+slots_some (Failed device.Records) old new h is = inl (device_some device.Records old new h)
+slots_some (Failed device.Program) old new h is = inl (device_some device.Program old new h)
+slots_some (Failed (device.Disk slot)) old new h is = inr (slot, h)
+slots_some Usage old new h is = inl (count_some Usage old new h is)
+slots_some (Unread refusal) old new h is = inl (count_some (Unread refusal) old new h is)
+slots_some (NoMemory step) old new h is = inl (count_some (NoMemory step) old new h is)
+slots_some Done old new h is = inl (count_some Done old new h is)
+slots_some (Decided verdict) old new h is = inl (count_some (Decided verdict) old new h is)
+slots_some (Ended ending refused) old new h is = inl (count_some (Ended ending refused) old new h is)
+
 pub rose_some : (command : Command) (outcome : Outcome) (old new : WorldView) → RoseFor command outcome old new → status_of outcome ≡ 4 → RoseBy command old new
 rose_some (PlugGw caller) (Ended ending refused) old new h is = link_some ending refused old new h is
 rose_some (PlugGw caller) Usage old new h is = inl (count_some Usage old new h is)
@@ -328,6 +377,7 @@ rose_some (TnGw peer) (Failed which) old new h is = inl (count_some (Failed whic
 rose_some (TnGw peer) (NoMemory step) old new h is = inl (count_some (NoMemory step) old new h is)
 rose_some (TnGw peer) Done old new h is = inl (count_some Done old new h is)
 rose_some (TnGw peer) (Decided verdict) old new h is = inl (count_some (Decided verdict) old new h is)
+rose_some (Smap peer) outcome old new h is = slots_some outcome old new h is
 rose_some (Netacl query) outcome old new h is = count_some outcome old new h is
 rose_some (NetaclRun query) outcome old new h is = count_some outcome old new h is
 rose_some (Table query) outcome old new h is = count_some outcome old new h is

@@ -1,40 +1,27 @@
 -- From what a run did to its status, to what it leaves, and to the bytes that it takes.
-use Rattle.std.proofs.Common.{◌≡◌, ◌≤◌, ℕ, List, refl, sym, ◌∙◌, ap, subst, inl, inr, arith, ◌⊎◌, Bool, true, false}
-use Rattle.std.specs.Option.{option_map}
-use Rattle.std.specs.Prelude.{Option, Some, None, Result, Ok, Err, IsSome, not}
+use Rattle.std.proofs.Common.{◌≡◌, ℕ, List, refl, sym, ◌∙◌, ap, subst, inl, inr, ◌⊎◌, Bool, true, false}
+use Rattle.std.specs.Prelude.{Option, Some, None, Ok, Err, IsSome}
 use Rattle.fw_disk.specs.DiskView.{DiskView}
 use Rattle.fw_outside.specs.ClockView.{ClockView}
-use Rattle.fw_outside.specs.Counts.{Rose}
-use Rattle.fw_outside.specs.DialerView.{DialerView}
 use Rattle.fw_outside.specs.FilesView.{FilesView}
-use Rattle.fw_outside.specs.KeeperView.{KeeperFailed, KeeperView, NamedBytes}
-use Rattle.fw_outside.specs.LauncherView.{LauncherView}
-use Rattle.fw_outside.specs.SinkView.{Gives, SinkView}
+use Rattle.fw_outside.specs.KeeperView.{KeeperView}
 use Rattle.fw_outside.specs.SourceView.{SourceView}
 use Rattle.session_acts.specs.Causes.{TookMost}
 use Rattle.session_acts.specs.Laws.{Adds}
-use Rattle.fw_outside.specs.declared.failed.Failed as sink
-use Rattle.fw_types.specs.declared.ending.Ending.{Ending}
-use Rattle.fw_types.specs.declared.ending.Ending.TheVariants as endings
 use Rattle.gate_rules.specs.Verdict.{verdict_of}
 use Rattle.gate_rules.specs.declared.verdict.Verdict.{Verdict}
 use Rattle.gate_rules.specs.declared.verdict.Verdict.TheVariants.{Permit, Deny}
-use Rattle.bastion.specs.Talk.{table_kept}
-use Rattle.bastion.specs.Inputs.{Inputs, is_of_line, needs_records}
-use Rattle.bastion.specs.Outcome.{CountRose, DeviceRose, EndingRose, GateRose, KeeperRose, LinkRose, RoseFor, RoseIn, fault_line_of, status_of, verdict_status}
-use Rattle.bastion.specs.Run.{CallsIf, DoesLine, DoesOrder, FilesFailed, ReadsOnly, Run, Stops, TellsIf, Worked}
-use Rattle.bastion.specs.Status.{IsAtLimit, IsFull, IsHeld, IsLinked, IsPassed, IsServed, IsStatus, IsStatusFor, IsStatusOf, LeavesDisks, LinkSpent, LinksFailed, LinksRose, OrderLeavesDisks, RoseBy, SomeRose, TakesBy, TakesFor, TakesIn, TakesOf}
+use Rattle.bastion.specs.Inputs.{Inputs, needs_records}
+use Rattle.bastion.specs.Outcome.{RoseFor, fault_line_of, status_of, verdict_status}
+use Rattle.bastion.specs.Run.{DoesLine, DoesOrder, Run, Stops, Worked}
+use Rattle.bastion.specs.Status.{CommandLeavesDisks, IsAtLimit, IsFull, IsHeld, IsLinked, IsMailed, IsPassed, IsServed, IsStatus, IsStatusFor, IsStatusOf, LeavesDisks, LinkSpent, OrderLeavesDisks, TakesBy, TakesFor, TakesIn, TakesOf}
 use Rattle.bastion.specs.Words.{LineView}
 use Rattle.bastion.specs.Works.{Works}
 use Rattle.bastion.specs.WorldView.{SessionInputs, WorldView}
-use Rattle.bastion.specs.declared.outcome.Device.{Device}
-use Rattle.bastion.specs.declared.outcome.Device.TheVariants as device
 use Rattle.bastion.specs.declared.outcome.Outcome.{Outcome}
 use Rattle.bastion.specs.declared.outcome.Outcome.TheVariants.{Usage, Unread, Failed, NoMemory, Done, Decided, Ended}
-use Rattle.bastion.specs.declared.outcome.Step.{Step}
-use Rattle.bastion.specs.declared.outcome.Step.TheVariants as steps
 use Rattle.bastion.specs.declared.words.Command.{Command}
-use Rattle.bastion.specs.declared.words.Command.TheVariants.{Netacl, NetaclRun, Table, Authsrv, PlugGw, TnGw}
+use Rattle.bastion.specs.declared.words.Command.TheVariants.{Netacl, NetaclRun, Table, Authsrv, PlugGw, TnGw, Smap}
 use Rattle.bastion.specs.declared.words.Order.{Order}
 use Rattle.bastion.specs.declared.words.Order.TheVariants.{ByTable, Alone}
 use Rattle.bastion.proofs.AttendedLemmas.{attended_status, attended_takes, takes_same}
@@ -43,7 +30,7 @@ use Rattle.bastion.proofs.JobLemmas.{job_disks, job_left, job_status}
 use Rattle.bastion.proofs.LaunchLemmas.{run_left, run_status_by}
 use Rattle.bastion.proofs.GatedLemmas.{gated_status, gated_takes}
 use Rattle.bastion.proofs.LinkingLemmas.{linked_status, linked_takes}
-use Rattle.client_service.proofs.SinkLemmas.{cut_rose, gives_most, rose_later, same_low}
+use Rattle.bastion.proofs.MailedLemmas.{mailed_left, mailed_slots, mailed_status, mailed_takes, mailed_unasked}
 use Rattle.bastion.proofs.LeftLemmas.{Later, only_left, some_there, stops_left, tells_later}
 use Rattle.bastion.proofs.RoseLemmas.{by_later, rose_for, rose_some, stops_rose, worked_rose}
 
@@ -132,6 +119,12 @@ worked_status name (TnGw peer) outcome old mid new h later =
     served_so name (TnGw peer) outcome old mid new (IsPassed verdict (status_of outcome) h.middle.inputs mid.inputs) (worked_rose name (TnGw peer) outcome old mid h) later
     (λ passed. inr (record { read = Ok h.inputs; inputs = h.read; is = passed_then verdict (status_of outcome) h.middle.inputs mid.inputs old.inputs new.inputs left.input left.clock later.inputs passed }))
     (gated_status peer h.inputs outcome h.middle mid h.works)
+worked_status name (Smap peer) outcome old mid new h later =
+    let verdict : Verdict = verdict_of h.inputs.rules peer in
+    let Mails : SessionInputs → SessionInputs → Type 0 = λ a b. IsMailed verdict (status_of outcome) a b in
+    served_so name (Smap peer) outcome old mid new (Mails h.middle.inputs mid.inputs) (worked_rose name (Smap peer) outcome old mid h) later
+    (λ mails. inr (record { read = Ok h.inputs; inputs = h.read; is = subst (λ (i : SessionInputs). Mails i new.inputs) h.only.inputs (subst (λ (i : SessionInputs). Mails h.middle.inputs i) (sym later.inputs) mails) }))
+    (mailed_status peer h.inputs outcome h.middle mid h.works)
 
 order_status : (name : List ℕ) (order : Order) (outcome : Outcome) (old mid new : WorldView) → DoesOrder name order outcome old mid → Later mid new → IsStatusOf name order (status_of outcome) old new
 order_status name (ByTable command) outcome old mid new (inl h) later = stops_status name command outcome old mid new h later
@@ -154,6 +147,7 @@ works_left (NetaclRun query) inputs outcome old new h = let left = run_left quer
 works_left (Table query) inputs outcome old new h = (h.files, λ there. subst (λ (i : SessionInputs). IsSome i.keeper) (sym h.inputs) there)
 works_left (Authsrv client) inputs outcome old new h = (h.over.files, λ there. some_there new.inputs.keeper h.book.keeper h.over.kept)
 works_left (TnGw peer) inputs outcome old new h = (h.over.files, λ there. some_there new.inputs.keeper h.book.keeper h.over.kept)
+works_left (Smap peer) inputs outcome old new h = mailed_left peer inputs outcome old new h
 works_left (PlugGw caller) inputs outcome old new h = (h.files, λ there. subst (λ (k : Option KeeperView). IsSome k) (sym h.keeper) there)
 
 -- a command without a link leaves the dialer as it was
@@ -167,6 +161,7 @@ works_unasked (Netacl query) inputs outcome old new h = ap (λ (i : SessionInput
 works_unasked (NetaclRun query) inputs outcome old new h = (run_left query (verdict_of inputs.rules query.peer) _ _ outcome old new h).dialer
 works_unasked (Table query) inputs outcome old new h = ap (λ (i : SessionInputs). i.dialer) h.inputs
 works_unasked (Authsrv client) inputs outcome old new h = h.links
+works_unasked (Smap peer) inputs outcome old new h = mailed_unasked peer inputs outcome old new h
 works_unasked (PlugGw caller) inputs outcome old new h = tt
 works_unasked (TnGw peer) inputs outcome old new h = tt
 
@@ -175,6 +170,7 @@ unasked_through (Netacl query) old middle mid new before after h = after ∙ h �
 unasked_through (NetaclRun query) old middle mid new before after h = after ∙ h ∙ before
 unasked_through (Table query) old middle mid new before after h = after ∙ h ∙ before
 unasked_through (Authsrv client) old middle mid new before after h = after ∙ h ∙ before
+unasked_through (Smap peer) old middle mid new before after h = after ∙ h ∙ before
 unasked_through (PlugGw caller) old middle mid new before after h = tt
 unasked_through (TnGw peer) old middle mid new before after h = tt
 
@@ -215,11 +211,13 @@ works_takes (NetaclRun query) inputs outcome old new h = takes_same (status_of o
 works_takes (Table query) inputs outcome old new h = takes_same (status_of outcome) old.inputs.input new.inputs.input (ap (λ (i : SessionInputs). i.input) h.inputs)
 works_takes (Authsrv client) inputs outcome old new h = attended_takes client inputs outcome old new h
 works_takes (PlugGw caller) inputs outcome old new h = linked_takes caller inputs outcome old new h
+works_takes (Smap peer) inputs outcome old new h = mailed_takes peer inputs outcome old new h
 works_takes (TnGw peer) inputs outcome old new h = gated_takes peer inputs outcome old new h
 
 takes_for : (command : Command) (status : ℕ) (old new : SourceView) → TakesIn status old new → TakesFor command status old new
 takes_for (PlugGw caller) status old new h = record { took = h.took; all = λ long. inl (h.all long) }
 takes_for (TnGw peer) status old new h = record { took = h.took; all = λ long. inl (h.all long) }
+takes_for (Smap peer) status old new h = h
 takes_for (Netacl query) status old new h = h
 takes_for (NetaclRun query) status old new h = h
 takes_for (Table query) status old new h = h
@@ -245,17 +243,28 @@ run_takes line status old new ran =
 
 -- ---- the disks
 
-works_disks : (command : Command) (inputs : Inputs) (outcome : Outcome) (old new : WorldView) → Works command inputs outcome old new → new.inputs.disks ≡ old.inputs.disks
+works_disks : (command : Command) (inputs : Inputs) (outcome : Outcome) (old new : WorldView) → Works command inputs outcome old new → CommandLeavesDisks command old.inputs.disks new.inputs.disks
 works_disks (Netacl query) inputs outcome old new h = ap (λ (i : SessionInputs). i.disks) h.inputs
 works_disks (NetaclRun query) inputs outcome old new h = (run_left query (verdict_of inputs.rules query.peer) _ _ outcome old new h).disks
 works_disks (Table query) inputs outcome old new h = ap (λ (i : SessionInputs). i.disks) h.inputs
 works_disks (Authsrv client) inputs outcome old new h = h.over.disks
+works_disks (Smap peer) inputs outcome old new h = mailed_slots peer inputs outcome old new h
 works_disks (PlugGw caller) inputs outcome old new h = h.disks
 works_disks (TnGw peer) inputs outcome old new h = h.over.disks
 
+disks_same : (command : Command) (old new : List DiskView) → new ≡ old → CommandLeavesDisks command old new
+disks_same (Smap peer) old new is = inl is
+disks_same (Netacl query) old new is = is
+disks_same (NetaclRun query) old new is = is
+disks_same (Table query) old new is = is
+disks_same (Authsrv client) old new is = is
+disks_same (PlugGw caller) old new is = is
+disks_same (TnGw peer) old new is = is
+
 order_disks : (name : List ℕ) (order : Order) (outcome : Outcome) (old new : WorldView) → DoesOrder name order outcome old new → OrderLeavesDisks order (status_of outcome) old.inputs.disks new.inputs.disks
-order_disks name (ByTable command) outcome old new (inl h) = (stops_left name command outcome old new h).disks
-order_disks name (ByTable command) outcome old new (inr h) = works_disks command h.inputs outcome h.middle new h.works ∙ (only_left name (needs_records command) old h.middle h.only).disks
+order_disks name (ByTable command) outcome old new (inl h) = disks_same command old.inputs.disks new.inputs.disks (stops_left name command outcome old new h).disks
+order_disks name (ByTable command) outcome old new (inr h) =
+    subst (λ (d : List DiskView). CommandLeavesDisks command d new.inputs.disks) (only_left name (needs_records command) old h.middle h.only).disks (works_disks command h.inputs outcome h.middle new h.works)
 order_disks name (Alone job) outcome old new h = job_disks job outcome old new h
 
 does_disks : (line : Option LineView) (outcome : Outcome) (old new : WorldView) → DoesLine line outcome old new → LeavesDisks line (status_of outcome) old.inputs.disks new.inputs.disks

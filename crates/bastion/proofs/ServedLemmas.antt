@@ -1,5 +1,5 @@
 -- In a run in which no count rose, the log has the lines of a client of the authentication server whole.
-use Rattle.std.proofs.Common.{arith, ◌≡◌, ◌≤◌, ◌∙◌, refl, sym, ap, subst, ℕ, List, [], ◌++◌, inl, inr, ◌⊎◌, Bool, true, false}
+use Rattle.std.proofs.Common.{arith, ◌≡◌, ◌≤◌, ◌∙◌, refl, sym, ap, subst, ℕ, List, [], inl, inr, ◌⊎◌, Bool, true, false}
 use Rattle.std.specs.Prelude.{Option}
 use Rattle.auth_machine.specs.Port.{BookOrigin}
 use Rattle.authsrv_gate.specs.Dialogue.{rows, session_row}

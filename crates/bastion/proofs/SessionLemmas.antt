@@ -1,5 +1,5 @@
 -- A client of the authentication server: a session was held, or it was denied.
-use Rattle.std.proofs.Common.{◌≡◌, ℕ, refl, ap, subst, inl, inr, ◌⊎◌, Bool, true, false, length}
+use Rattle.std.proofs.Common.{◌≡◌, ℕ, refl, subst, inl, inr, ◌⊎◌, Bool, true, false, length}
 use Rattle.auth_machine.specs.Book.{BookView}
 use Rattle.auth_machine.specs.Port.{BookOrigin}
 use Rattle.authsrv_gate.specs.Dialogue.{rows}

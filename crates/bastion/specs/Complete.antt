@@ -19,11 +19,13 @@ use Rattle.gate_rules.specs.declared.verdict.Verdict.TheVariants.{Permit, Deny}
 use Rattle.session_acts.specs.Session.{deeds_of}
 use Rattle.session_acts.specs.Deeds.{gives}
 use Rattle.session_acts.specs.Laws.{logged}
-use Rattle.client_service.specs.Endings.{denied_text, ending_line}
+use Rattle.client_service.specs.Endings.{denied_text, ending_line, mail_refusal}
 use Rattle.bastion.specs.Asking.{IsAsked, linking_text}
 use Rattle.bastion.specs.Gateway.{OfTelnet}
 use Rattle.bastion.specs.Headline.{OfHistory}
 use Rattle.bastion.specs.Inputs.{HasInputs, Inputs}
+use Rattle.bastion.specs.MailKept.{OfMail}
+use Rattle.bastion.specs.Spool.{HasBadSlot}
 use Rattle.bastion.specs.Jobs.{AreFormatted, drill_refused, formatted_text}
 use Rattle.bastion.specs.Outcome.{fault_line_of, refusal_text, status_of, verdict_status}
 use Rattle.bastion.specs.Run.{ReadsOnly, verdict_for}
@@ -36,6 +38,7 @@ use Rattle.bastion.specs.Words.{LineView}
 use Rattle.bastion.specs.WorldView.{WorldView}
 use Rattle.bastion.specs.declared.outcome.Outcome.TheVariants.{Ended}
 use Rattle.bastion.specs.declared.outcome.Refusal.{Refusal}
+use Rattle.bastion.specs.declared.outcome.Refusal.TheVariants.{Slot}
 use Rattle.bastion.specs.declared.words.Caller.{Caller}
 use Rattle.bastion.specs.declared.words.Client.{Client}
 use Rattle.bastion.specs.declared.words.Command.{Command}
@@ -44,7 +47,7 @@ use Rattle.bastion.specs.declared.words.Job.TheVariants as jobs
 use Rattle.bastion.specs.declared.words.Order.{Order}
 use Rattle.bastion.specs.declared.words.Order.TheVariants.{ByTable, Alone}
 use Rattle.bastion.specs.declared.words.Query.{Query}
-use Rattle.bastion.specs.declared.words.Command.TheVariants.{Netacl, NetaclRun, Table, Authsrv, PlugGw, TnGw}
+use Rattle.bastion.specs.declared.words.Command.TheVariants.{Netacl, NetaclRun, Table, Authsrv, PlugGw, TnGw, Smap}
 
 -- the log and the output have taken these texts whole, and nothing else; and the status is this
 pub record IsWhole (logged printed : List ℕ) (comes status : ℕ) (old new : WorldView) : Type 0 where
@@ -129,6 +132,29 @@ abbrev pub IsServedAtGate : Verdict → List ℕ → Peer → Inputs → ℕ →
 IsServedAtGate (Permit line) name peer inputs status old new = IsPassedWhole name peer inputs status old new
 IsServedAtGate (Deny line) name peer inputs status old new = IsWhole (decision_text (Deny line) services.TnGw peer) (refusal line) 1 status old new
 
+-- ---- mail
+
+-- All slots were opened. The session of this run, as the headline has it, came to its end, or to the most bytes that it may
+-- take. The log has taken its lines whole, and nothing else.
+pub record IsMailedWhole (name : List ℕ) (peer : Peer) (inputs : Inputs) (status : ℕ) (old new : WorldView) : Type 0 where
+  pub middle : WorldView
+  pub only : ReadsOnly name false old middle
+  pub session : OfMail peer inputs status middle new
+  pub ends : (session.ending ≡ Done) ⊎ (session.ending ≡ Spent)
+  pub logs : new.logs.given ≡ grown old.logs.given (decision_text (Permit session.line) services.Smap peer ++ gives logged (deeds_of session.session.held) ++ closing_text services.Smap peer session.ending false)
+
+-- a client whom the rules deny is told so
+abbrev pub IsTakenWhole : Verdict → List ℕ → Peer → Inputs → ℕ → WorldView → WorldView → Type 0
+IsTakenWhole (Permit line) name peer inputs status old new = IsMailedWhole name peer inputs status old new
+IsTakenWhole (Deny line) name peer inputs status old new = IsWhole (decision_text (Deny line) services.Smap peer) (mail_refusal line) 1 status old new
+
+-- or a slot has no reading, and the log was told so
+pub record IsBadWhole (status : ℕ) (old new : WorldView) : Type 0 where
+  pub slot : ℕ
+  pub at : ℕ
+  pub bad : HasBadSlot slot at old.inputs.disks new.inputs.disks
+  pub whole : IsWhole (codes "fault " ++ refusal_text (Slot slot at) ++ codes "\n") [] 3 status old new
+
 -- ---- all commands
 
 -- what can't be read is told to the log; the verdict's line is logged, and its text printed; a client is denied, or its session
@@ -142,6 +168,7 @@ IsAllDone name (Table query) (Ok inputs) status old new =
     IsWhole [] (report_text inputs.rules (verdict_for (Table query) inputs)) (verdict_status (verdict_for (Table query) inputs)) status old new
 IsAllDone name (Authsrv client) (Ok inputs) status old new = IsServedWhole client.console (verdict_for (Authsrv client) inputs) name client inputs status old new
 IsAllDone name (PlugGw caller) (Ok inputs) status old new = IsLinkedWhole (verdict_for (PlugGw caller) inputs) caller inputs status old new
+IsAllDone name (Smap peer) (Ok inputs) status old new = IsBadWhole status old new ⊎ IsTakenWhole (verdict_for (Smap peer) inputs) name peer inputs status old new
 IsAllDone name (TnGw peer) (Ok inputs) status old new = IsServedAtGate (verdict_for (TnGw peer) inputs) name peer inputs status old new
 
 -- by the inputs of the command, or by what can't be read

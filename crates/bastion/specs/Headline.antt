@@ -1,6 +1,6 @@
 -- The headline, a field a sentence, as far as there are commands for it: the replies of the authentication server are those
 -- of one legal history; a destination is asked for exactly if the table permits it; every denial logs its line; what is
--- relayed is a front of what was taken.
+-- relayed is a front of what was taken; each message that is answered as kept stands whole in its slot.
 use Rattle.std.specs.Prelude.{◌≡◌, ◌≢◌, ℕ, ◌⊎◌, Bool, true, false, List, Option, Some, None, Ok}
 use Rattle.auth_machine.specs.Book.{BookView}
 use Rattle.auth_machine.specs.Port.{BookOrigin}
@@ -29,6 +29,7 @@ use Rattle.session_acts.specs.World.{Devices}
 use Rattle.bastion.specs.Asking.{IsAskedBy, IsUndecided}
 use Rattle.bastion.specs.Gateway.{IsGated}
 use Rattle.bastion.specs.Inputs.{HasInputs, Inputs, needs_records}
+use Rattle.bastion.specs.MailKept.{IsTakenIn}
 use Rattle.bastion.specs.Outcome.{verdict_status}
 use Rattle.bastion.specs.Run.{ReadsOnly, is_at_console, verdict_for}
 use Rattle.bastion.specs.Serving.{book_at_first, devices_at, most_entries, origin_of}
@@ -38,7 +39,7 @@ use Rattle.bastion.specs.Works.{with_given}
 use Rattle.bastion.specs.WorldView.{WorldView}
 use Rattle.bastion.specs.declared.words.Client.{Client}
 use Rattle.bastion.specs.declared.words.Command.{Command}
-use Rattle.bastion.specs.declared.words.Command.TheVariants.{Netacl, NetaclRun, Table, Authsrv, PlugGw, TnGw}
+use Rattle.bastion.specs.declared.words.Command.TheVariants.{Netacl, NetaclRun, Table, Authsrv, PlugGw, TnGw, Smap}
 use Rattle.bastion.specs.declared.words.Order.{Order}
 use Rattle.bastion.specs.declared.words.Order.TheVariants.{ByTable, Alone}
 
@@ -75,6 +76,7 @@ DenialLogged name (Table query) status old new = Unit {0}
 DenialLogged name (Authsrv client) status old new = LogsDenial name (Authsrv client) services.Authsrv client.peer status old new
 DenialLogged name (PlugGw caller) status old new = LogsDenial name (PlugGw caller) (services.PlugGw caller.port) caller.peer status old new × (status ≡ 1 → new.output ≡ old.output)
 DenialLogged name (TnGw peer) status old new = LogsDenial name (TnGw peer) services.TnGw peer status old new
+DenialLogged name (Smap peer) status old new = LogsDenial name (Smap peer) services.Smap peer status old new
 
 -- ---- the replies are those of one legal history
 
@@ -119,6 +121,7 @@ IsReplying name (Netacl query) status old new = Unit {0}
 IsReplying name (NetaclRun query) status old new = Unit {0}
 IsReplying name (Table query) status old new = Unit {0}
 IsReplying name (PlugGw caller) status old new = Unit {0}
+IsReplying name (Smap peer) status old new = Unit {0}
 IsReplying name (Authsrv client) status old new = IsUnserved status old new ⊎ IsReplied name client status old new
 IsReplying name (TnGw peer) status old new = IsGated name peer status old new
 
@@ -129,6 +132,13 @@ abbrev pub AsksPermitted : List ℕ → Command → ℕ → WorldView → WorldV
 AsksPermitted name (PlugGw caller) status old new = IsUndecided status old new ⊎ IsAskedBy name caller status old new
 AsksPermitted name (TnGw peer) status old new = IsGated name peer status old new
 AsksPermitted name command status old new = new.inputs.dialer ≡ old.inputs.dialer
+
+-- ---- each message that is answered as kept stands
+
+-- a command without slots answers no message
+abbrev pub AnswersStand : List ℕ → Command → ℕ → WorldView → WorldView → Type 0
+AnswersStand name (Smap peer) status old new = IsTakenIn name peer status old new
+AnswersStand name command status old new = Unit {0}
 
 -- ---- the headline
 
@@ -142,6 +152,9 @@ pub record HeadlineFor (name : List ℕ) (command : Command) (status : ℕ) (old
   pub asks_permitted : AsksPermitted name command status old new
   -- nobody is told anything, or the rules permit, or the log has the whole line of the denial
   pub denials_logged : DenialLogged name command status old new
+  -- a client of `smap` is told nothing, or that it is denied, or the replies to its lines and messages; and each message that
+  -- was answered 250 stands whole in the slot of the number that was told
+  pub answered_stands : AnswersStand name command status old new
 
 -- a job without a table asks for no destination
 abbrev pub HeadlineOf : List ℕ → Order → ℕ → WorldView → WorldView → Type 0

@@ -16,7 +16,7 @@ use Rattle.netperm_table.specs.declared.line.Line.{Line}
 use Rattle.netperm_table.specs.declared.table_fault.TableFault.{TableFault}
 use Rattle.bastion.specs.WorldView.{WorldView}
 use Rattle.bastion.specs.declared.outcome.Refusal.{Refusal}
-use Rattle.bastion.specs.declared.outcome.Refusal.TheVariants.{Table, Rule, Record}
+use Rattle.bastion.specs.declared.outcome.Refusal.TheVariants.{Table, Rule, Record, Slot}
 use Rattle.bastion.specs.declared.words.Command.{Command}
 use Rattle.bastion.specs.declared.words.Command.TheVariants as commands
 
@@ -40,6 +40,7 @@ needs (commands.Table query) = RulesOf query.service ∷ []
 needs (commands.Authsrv client) = book_needs services.Authsrv
 needs (commands.PlugGw caller) = RulesOf (services.PlugGw caller.port) ∷ []
 needs (commands.TnGw peer) = book_needs services.TnGw
+needs (commands.Smap peer) = RulesOf services.Smap ∷ []
 
 abbrev pub is_of_records : Need → Bool
 is_of_records TheRecords = true
@@ -119,6 +120,7 @@ abbrev pub is_of_line : Refusal → Bool
 is_of_line (Table fault) = true
 is_of_line (Rule fault) = true
 is_of_line (Record name at) = false
+is_of_line (Slot slot at) = false
 
 abbrev pub is_of_table : Result Inputs Refusal → Bool
 is_of_table (Ok inputs) = false

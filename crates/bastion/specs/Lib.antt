@@ -7,12 +7,15 @@ pub mod Headline
 pub mod Inputs
 pub mod Jobs
 pub mod Linking
+pub mod MailKept
+pub mod Mailing
 pub mod Outcome
 pub mod Places
 pub mod Reading
 pub mod Run
 pub mod Serving
 pub mod SessionSteps
+pub mod Spool
 pub mod Status
 pub mod TableReport
 pub mod Talk

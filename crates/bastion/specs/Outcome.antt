@@ -17,9 +17,9 @@ use Rattle.bastion.specs.declared.outcome.Device.TheVariants as device
 use Rattle.bastion.specs.declared.outcome.Outcome.{Outcome}
 use Rattle.bastion.specs.declared.outcome.Outcome.TheVariants.{Usage, Unread, Failed, NoMemory, Done, Decided, Ended}
 use Rattle.bastion.specs.declared.outcome.Refusal.{Refusal}
-use Rattle.bastion.specs.declared.outcome.Refusal.TheVariants.{Table, Rule, Record}
+use Rattle.bastion.specs.declared.outcome.Refusal.TheVariants.{Table, Rule, Record, Slot}
 use Rattle.bastion.specs.declared.words.Command.{Command}
-use Rattle.bastion.specs.declared.words.Command.TheVariants.{PlugGw, TnGw}
+use Rattle.bastion.specs.declared.words.Command.TheVariants.{PlugGw, TnGw, Smap}
 use Rattle.bastion.specs.declared.words.Order.{Order}
 use Rattle.bastion.specs.declared.words.Order.TheVariants.{ByTable, Alone}
 
@@ -81,10 +81,15 @@ line_text line why = codes " line " ++ decimal line ++ codes " " ++ why
 abbrev pub record_text : List ℕ → ℕ → List ℕ
 record_text name at = name ++ codes " at " ++ decimal at
 
+-- which slot can't be read, and the place of its first bad byte
+abbrev pub slot_text : ℕ → ℕ → List ℕ
+slot_text slot at = decimal slot ++ codes " at " ++ decimal at
+
 abbrev pub refusal_text : Refusal → List ℕ
 refusal_text (Table fault) = codes "table" ++ line_text (unwrap_or (table.line_of fault) 0) (table.table_why_text fault)
 refusal_text (Rule fault) = codes "rule" ++ line_text fault.line (rule.why_text fault.why)
 refusal_text (Record name at) = codes "record " ++ record_text name at
+refusal_text (Slot slot at) = codes "slot " ++ slot_text slot at
 
 -- what went wrong, where something did; what a session ended with has a line of its own, but for its limit
 abbrev pub fault_line_of : Outcome → Option (List ℕ)
@@ -142,26 +147,27 @@ abbrev pub GateRose : Ending → WorldView → WorldView → Type 0
 GateRose endings.NoRoute old new = ⊥
 GateRose ending old new = LinkRose ending old new
 
--- only a session of the plug or of the gateway has a link
-abbrev pub RoseFor : Command → Outcome → WorldView → WorldView → Type 0
-RoseFor (PlugGw caller) (Ended ending refused) old new = LinkRose ending old new
-RoseFor (TnGw peer) (Ended ending refused) old new = GateRose ending old new
-RoseFor command outcome old new = CountRose outcome old new
-
 -- the disk at a place counted a failure
 abbrev pub DiskRose : ℕ → List DiskView → List DiskView → Type 0
 DiskRose zero (old ∷ olds) (new ∷ news) = Rose old.faults new.faults
 DiskRose (suc slot) (old ∷ olds) (new ∷ news) = DiskRose slot olds news
 DiskRose slot _ _ = ⊥
 
--- a job without a table may call the disks
-abbrev pub JobRose : Outcome → WorldView → WorldView → Type 0
-JobRose (Failed (device.Disk slot)) old new = DiskRose slot old.inputs.disks new.inputs.disks
-JobRose outcome old new = CountRose outcome old new
+-- the slots' disks may be called, too
+abbrev pub SlotsRose : Outcome → WorldView → WorldView → Type 0
+SlotsRose (Failed (device.Disk slot)) old new = DiskRose slot old.inputs.disks new.inputs.disks
+SlotsRose outcome old new = CountRose outcome old new
+
+-- only a session of the plug or of the gateway has a link, and only one of the mail gateway slots
+abbrev pub RoseFor : Command → Outcome → WorldView → WorldView → Type 0
+RoseFor (PlugGw caller) (Ended ending refused) old new = LinkRose ending old new
+RoseFor (TnGw peer) (Ended ending refused) old new = GateRose ending old new
+RoseFor (Smap peer) outcome old new = SlotsRose outcome old new
+RoseFor command outcome old new = CountRose outcome old new
 
 abbrev pub OrderRose : Order → Outcome → WorldView → WorldView → Type 0
 OrderRose (ByTable command) outcome old new = RoseFor command outcome old new
-OrderRose (Alone job) outcome old new = JobRose outcome old new
+OrderRose (Alone job) outcome old new = SlotsRose outcome old new
 
 abbrev pub RoseIn : Option LineView → Outcome → WorldView → WorldView → Type 0
 RoseIn None outcome old new = CountRose outcome old new

@@ -25,6 +25,7 @@ use Rattle.bastion.specs.declared.server_rules.ServerRules.{ServerRules}
 abbrev pub is_early : Step → Bool
 is_early steps.Print = false
 is_early steps.Records = false
+is_early steps.Slots = false
 is_early steps.Drill = false
 is_early _ = true
 

@@ -22,7 +22,7 @@ use Rattle.bastion.specs.declared.outcome.Refusal.{Refusal}
 use Rattle.bastion.specs.declared.outcome.Step.{Step}
 use Rattle.bastion.specs.declared.outcome.Step.TheVariants as steps
 use Rattle.bastion.specs.declared.words.Command.{Command}
-use Rattle.bastion.specs.declared.words.Command.TheVariants.{Netacl, NetaclRun, Table, Authsrv, PlugGw, TnGw}
+use Rattle.bastion.specs.declared.words.Command.TheVariants.{Netacl, NetaclRun, Table, Authsrv, PlugGw, TnGw, Smap}
 use Rattle.bastion.specs.declared.words.Order.{Order}
 use Rattle.bastion.specs.declared.words.Order.TheVariants.{ByTable, Alone}
 
@@ -98,6 +98,7 @@ peer_of (Table query) = query.peer
 peer_of (Authsrv client) = client.peer
 peer_of (PlugGw caller) = caller.peer
 peer_of (TnGw peer) = peer
+peer_of (Smap peer) = peer
 
 -- whom the rules don't decide of
 abbrev pub is_at_console : Command → Bool
@@ -118,6 +119,7 @@ pub record LacksPrint (name : List ℕ) (command : Command) (old new : WorldView
 abbrev pub Lacks : List ℕ → Command → Step → WorldView → WorldView → Type 0
 Lacks name command steps.Print old new = LacksPrint name command old new
 Lacks name command steps.Records old new = ReadsOnly name (needs_records command) old new
+Lacks name command steps.Slots old new = ⊥
 Lacks name command steps.Drill old new = ⊥
 Lacks name command step old new = ReadsOnly name false old new
 

@@ -15,11 +15,12 @@ use Rattle.bastion.specs.Jobs.{AreFormatted}
 use Rattle.bastion.specs.Outcome.{DiskRose, KeeperRose, verdict_status}
 use Rattle.bastion.specs.Run.{verdict_for}
 use Rattle.bastion.specs.Serving.{most_entries}
+use Rattle.bastion.specs.Spool.{AreOpened, HasBadSlot, LeavesSlots}
 use Rattle.bastion.specs.Words.{LineView}
 use Rattle.bastion.specs.WorldView.{SessionInputs, WorldView}
 use Rattle.bastion.specs.declared.outcome.Refusal.{Refusal}
 use Rattle.bastion.specs.declared.words.Command.{Command}
-use Rattle.bastion.specs.declared.words.Command.TheVariants.{Netacl, NetaclRun, Table, Authsrv, PlugGw, TnGw}
+use Rattle.bastion.specs.declared.words.Command.TheVariants.{Netacl, NetaclRun, Table, Authsrv, PlugGw, TnGw, Smap}
 use Rattle.bastion.specs.declared.words.Job.{Job}
 use Rattle.bastion.specs.declared.words.Job.TheVariants.{Drill, SpoolInit}
 use Rattle.bastion.specs.declared.words.Order.{Order}
@@ -41,16 +42,17 @@ LinksFailed old new = Rose old.link_faults new.link_faults ⊎ Rose old.link_idl
 abbrev pub LinksRose : DialerView → DialerView → Type 0
 LinksRose old new = Rose old.refusals new.refusals ⊎ LinksFailed old new
 
--- a device's own count rose: the dialer's, too, where the command has a link; but a link that is refused is no failure of a
--- session of `tn-gw`, which goes on
-abbrev pub RoseBy : Command → WorldView → WorldView → Type 0
-RoseBy (PlugGw caller) old new = SomeRose old new ⊎ LinksRose old.inputs.dialer new.inputs.dialer
-RoseBy (TnGw peer) old new = SomeRose old new ⊎ LinksFailed old.inputs.dialer new.inputs.dialer
-RoseBy command old new = SomeRose old new
-
 -- a disk's own count rose
 abbrev pub DisksRose : List DiskView → List DiskView → Type 0
 DisksRose old new = (slot : ℕ) × DiskRose slot old new
+
+-- a device's own count rose: the dialer's, too, where the command has a link; but a link that is refused is no failure of a
+-- session of `tn-gw`, which goes on; and those of the disks of a command that calls them
+abbrev pub RoseBy : Command → WorldView → WorldView → Type 0
+RoseBy (PlugGw caller) old new = SomeRose old new ⊎ LinksRose old.inputs.dialer new.inputs.dialer
+RoseBy (TnGw peer) old new = SomeRose old new ⊎ LinksFailed old.inputs.dialer new.inputs.dialer
+RoseBy (Smap peer) old new = SomeRose old new ⊎ DisksRose old.inputs.disks new.inputs.disks
+RoseBy command old new = SomeRose old new
 
 -- the disks' counts are among them for a job that calls the disks
 abbrev pub RoseInJob : Job → WorldView → WorldView → Type 0
@@ -102,6 +104,15 @@ abbrev pub IsPassed : Verdict → ℕ → SessionInputs → SessionInputs → Ty
 IsPassed (Permit line) status old new = (status ≡ 0) ⊎ ((status ≡ 6) × (IsAtLimit old new ⊎ LinkSpent new.dialer))
 IsPassed (Deny line) status old new = status ≡ 1
 
+-- a session of the mail gateway: 0, or 6 where as many bytes as may be were taken of the input; 1 where the rules deny the peer
+abbrev pub IsTaken : Verdict → ℕ → SessionInputs → SessionInputs → Type 0
+IsTaken (Permit line) status old new = (status ≡ 0) ⊎ ((status ≡ 6) × TookMost old.input new.input)
+IsTaken (Deny line) status old new = status ≡ 1
+
+-- 3 where a slot has no reading; else all slots were opened, before the rules decide
+abbrev pub IsMailed : Verdict → ℕ → SessionInputs → SessionInputs → Type 0
+IsMailed verdict status old new = ((status ≡ 3) × ((slot : ℕ) × (at : ℕ) × HasBadSlot slot at old.disks new.disks)) ⊎ (AreOpened old.disks × IsTaken verdict status old new)
+
 -- 3 where something can't be read; 0 or 1 as the rules permit or deny the peer
 abbrev pub IsBy : Command → Result Inputs Refusal → ℕ → SessionInputs → SessionInputs → Type 0
 IsBy command (Err refusal) status old new = status ≡ 3
@@ -111,6 +122,7 @@ IsBy (Table query) (Ok inputs) status old new = status ≡ verdict_status (verdi
 IsBy (Authsrv client) (Ok inputs) status old new = IsServed client.console (verdict_for (Authsrv client) inputs) status old new
 IsBy (PlugGw caller) (Ok inputs) status old new = IsLinked (verdict_for (PlugGw caller) inputs) status old new
 IsBy (TnGw peer) (Ok inputs) status old new = IsPassed (verdict_for (TnGw peer) inputs) status old new
+IsBy (Smap peer) (Ok inputs) status old new = IsMailed (verdict_for (Smap peer) inputs) status old new
 
 -- the status is by the inputs of the command, or by what can't be read
 pub record ByInputs (name : List ℕ) (command : Command) (status : ℕ) (old new : WorldView) : Type 0 where
@@ -153,11 +165,16 @@ abbrev pub JobLeavesDisks : Job → ℕ → List DiskView → List DiskView → 
 JobLeavesDisks (Drill drill) status old new = new ≡ old
 JobLeavesDisks SpoolInit status old new = status ≡ 0 → AreFormatted (length old) old new
 
+-- behind `smap` a slot that was opened with a message has it; any other command by the table calls no disk
+abbrev pub CommandLeavesDisks : Command → List DiskView → List DiskView → Type 0
+CommandLeavesDisks (Smap peer) old new = LeavesSlots old new
+CommandLeavesDisks command old new = new ≡ old
+
 abbrev pub OrderLeavesDisks : Order → ℕ → List DiskView → List DiskView → Type 0
-OrderLeavesDisks (ByTable command) status old new = new ≡ old
+OrderLeavesDisks (ByTable command) status old new = CommandLeavesDisks command old new
 OrderLeavesDisks (Alone job) status old new = JobLeavesDisks job status old new
 
--- any other command leaves the disks as they were, their counts too
+-- words that are no command leave the disks as they were
 abbrev pub LeavesDisks : Option LineView → ℕ → List DiskView → List DiskView → Type 0
 LeavesDisks None status old new = new ≡ old
 LeavesDisks (Some line) status old new = OrderLeavesDisks line.order status old new

@@ -1,5 +1,5 @@
 -- The work of each command, once its inputs are read: what it gives to the log and to the output, and what it comes to.
-use Rattle.std.specs.Prelude.{◌≡◌, ℕ, List, [], ◌∷◌, Result, Ok, Err}
+use Rattle.std.specs.Prelude.{◌≡◌, ℕ, List, ◌∷◌, Result, Ok, Err}
 use Rattle.fw_outside.specs.LauncherView.{LauncherView, Starts}
 use Rattle.fw_outside.specs.SinkView.{Gives, SinkView}
 use Rattle.fw_outside.specs.ToldList.{grown}
@@ -12,6 +12,7 @@ use Rattle.gate_rules.specs.declared.verdict.Verdict.TheVariants.{Permit, Deny}
 use Rattle.bastion.specs.Gating.{Gated}
 use Rattle.bastion.specs.Inputs.{Inputs}
 use Rattle.bastion.specs.Linking.{Linked}
+use Rattle.bastion.specs.Mailing.{Mailed}
 use Rattle.bastion.specs.Serving.{Attended}
 use Rattle.bastion.specs.TableReport.{report_text}
 use Rattle.client_service.specs.Decision.{decision_text}
@@ -21,7 +22,7 @@ use Rattle.bastion.specs.declared.outcome.Device.TheVariants as device
 use Rattle.bastion.specs.declared.outcome.Outcome.{Outcome}
 use Rattle.bastion.specs.declared.outcome.Outcome.TheVariants.{Failed, Decided}
 use Rattle.bastion.specs.declared.words.Command.{Command}
-use Rattle.bastion.specs.declared.words.Command.TheVariants.{Netacl, NetaclRun, Table, Authsrv, PlugGw, TnGw}
+use Rattle.bastion.specs.declared.words.Command.TheVariants.{Netacl, NetaclRun, Table, Authsrv, PlugGw, TnGw, Smap}
 use Rattle.bastion.specs.declared.words.Query.{Query}
 
 -- the sink has taken these bytes whole
@@ -111,3 +112,4 @@ Works (Table query) inputs outcome old new = Shown (verdict_of inputs.rules quer
 Works (Authsrv client) inputs outcome old new = Attended client inputs outcome old new
 Works (PlugGw caller) inputs outcome old new = Linked caller inputs outcome old new
 Works (TnGw peer) inputs outcome old new = Gated peer inputs outcome old new
+Works (Smap peer) inputs outcome old new = Mailed peer inputs outcome old new

@@ -7,8 +7,9 @@
 //! anything, the line of its verdict stands whole in the log; what is printed and logged is told byte for byte, where
 //! the devices tell it; the replies that a client of `authsrv` or `tn-gw` is told are those of a legal history; the
 //! destinations that `plug-gw` and `tn-gw` ask for are those that the table permits, and no other command asks for one;
+//! each message that `smap` tells its client to be kept stands whole in the slot of the number that it tells;
 //! and each status but 5, want of memory, has its cause: in the words, in a limit, in the count of a device that rose,
-//! or, where the devices tell what they hold, in the table's text and the records. [`conn`] serves one client.
+//! or, where the devices tell what they hold, in the table's text, the records and the slots. [`conn`] serves one client.
 #![tactic(auto)]
 
 mod authsrv;
@@ -16,6 +17,7 @@ mod book;
 mod deciding;
 mod jobs;
 mod kit;
+mod mailing;
 mod obeying;
 mod outcome;
 mod place_names;

@@ -1,5 +1,5 @@
 //! What the words ask for, by the table: a row for each command.
-ghost use Rattle.std.specs.Prelude.{◌≡◌, IsSome};
+ghost use Rattle.std.specs.Prelude.{◌≡◌, ◌≤◌, length, IsSome};
 ghost use Rattle.bastion.specs.Outcome.{fault_line_of};
 ghost use Rattle.bastion.specs.Run.{DoesFor, DoesLine, DoesOrder, TellsIf};
 ghost use Rattle.bastion.specs.Words.{line_of};
@@ -8,6 +8,7 @@ ghost use Rattle.bastion.specs.declared.words.Command.TheVariants.{Netacl, Netac
 use crate::authsrv::attend;
 use crate::deciding::{decide, show};
 use crate::jobs::do_job;
+use crate::mailing::take_mail;
 use crate::plug::plug;
 use crate::reading::rules_for;
 use crate::starting::decide_run;
@@ -59,6 +60,7 @@ where
     H: Threads + Sync,
     T: Kit,
     requires keeper { IsSome world.old.inputs.keeper }
+    requires disks { length world.old.inputs.disks ≤ 64 }
     ensures { DoesFor name.now command.now result world.old world.new }
 {
     match command {
@@ -68,6 +70,7 @@ where
         Command::Authsrv(client) => attend(rt, alloc, name, client, world),
         Command::PlugGw(caller) => plug(rt, alloc, name, caller, world),
         Command::TnGw(peer) => gate(rt, alloc, name, peer, world),
+        Command::Smap(peer) => take_mail(rt, alloc, name, peer, world),
     }
 }
 
@@ -83,6 +86,7 @@ where
     H: Threads + Sync,
     T: Kit,
     requires keeper { IsSome world.old.inputs.keeper }
+    requires disks { length world.old.inputs.disks ≤ 64 }
     ensures { DoesOrder name.now order.now result world.old world.new }
 {
     match order {
@@ -97,6 +101,7 @@ where
     H: Threads + Sync,
     T: Kit,
     requires keeper { IsSome world.old.inputs.keeper }
+    requires disks { length world.old.inputs.disks ≤ 64 }
     ensures { DoesLine (line_of words.now) result world.old world.new }
 {
     match CommandLine::read(words) {

@@ -4,7 +4,7 @@ ghost use Rattle.std.specs.Fmt.{decimal};
 ghost use Rattle.arrayvec.specs.ArrayVec.{array_vec_len};
 ghost use Rattle.bastion.specs.declared.outcome.Outcome.TheVariants as outcomes;
 ghost use Rattle.bastion.specs.declared.outcome.Step.TheVariants as steps;
-ghost use Rattle.bastion.specs.Outcome.{device_text, ending_status, fault_line_of, is_at_limit, line_text, record_text, refusal_text, status_of, verdict_status};
+ghost use Rattle.bastion.specs.Outcome.{device_text, ending_status, fault_line_of, is_at_limit, line_text, record_text, refusal_text, slot_text, status_of, verdict_status};
 
 use arrayvec::ArrayVec;
 use client_service::LogLine;
@@ -45,6 +45,8 @@ pub enum Step {
     Records,
     /// Making the text that is printed of a permission, and the words of the program to be started.
     Print,
+    /// Opening the slots.
+    Slots,
     /// Drawing the lines of a drill, reading them, and deciding.
     Drill,
 }
@@ -58,6 +60,8 @@ pub enum Refusal {
     Rule(RuleFault),
     /// The record of this name: `at` is the place of its first bad byte.
     Record { name: Name, at: usize },
+    /// The slot of this number: `at` is the place of its first bad byte.
+    Slot { slot: u32, at: u64 },
 }
 
 /// What a run comes to.
@@ -109,13 +113,22 @@ fn append_line(out: &mut LogLine, line: u32, why: &[u8])
     append(out, why);
 }
 
+// Appends a number in decimal.
+fn append_u64(out: &mut LogLine, number: u64)
+    requires { array_vec_len out.old ≤ 480 }
+    ensures items { out.new.items ≡ out.old.items ++ decimal number }
+    ensures room { array_vec_len out.new ≤ array_vec_len out.old + 20 }
+{
+    append_decimal(out, number);
+}
+
 /// Appends a number in decimal.
 pub(crate) fn append_usize(out: &mut LogLine, number: usize)
     requires { array_vec_len out.old ≤ 480 }
     ensures items { out.new.items ≡ out.old.items ++ decimal number }
     ensures room { array_vec_len out.new ≤ array_vec_len out.old + 20 }
 {
-    append_decimal(out, number as u64);
+    append_u64(out, number as u64);
 }
 
 // Appends whose record can't be read, and the place of its first bad byte.
@@ -127,6 +140,17 @@ fn append_record(out: &mut LogLine, name: &Name, at: usize)
     append(out, name.text());
     append(out, b" at ");
     append_usize(out, at);
+}
+
+// Appends which slot can't be read, and the place of its first bad byte.
+fn append_slot(out: &mut LogLine, slot: u32, at: u64)
+    requires { array_vec_len out.old ≤ 400 }
+    ensures items { out.new.items ≡ out.old.items ++ slot_text slot at }
+    ensures room { array_vec_len out.new ≤ array_vec_len out.old + 44 }
+{
+    append_u64(out, u64::from(slot));
+    append(out, b" at ");
+    append_u64(out, at);
 }
 
 // Appends what can't be read.
@@ -147,6 +171,10 @@ fn append_refusal(out: &mut LogLine, refusal: &Refusal)
         Refusal::Record { name, at } => {
             append(out, b"record ");
             append_record(out, name, *at);
+        }
+        Refusal::Slot { slot, at } => {
+            append(out, b"slot ");
+            append_slot(out, *slot, *at);
         }
     }
 }

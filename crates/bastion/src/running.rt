@@ -1,5 +1,5 @@
 //! The call that the program makes.
-ghost use Rattle.std.specs.Prelude.{◌≡◌, ◌↔◌, IsSome, None, Some};
+ghost use Rattle.std.specs.Prelude.{◌≡◌, ◌≤◌, ◌↔◌, length, IsSome, None, Some};
 ghost use Rattle.bastion.specs.Complete.{IsComplete};
 ghost use Rattle.bastion.specs.Headline.{Headline};
 ghost use Rattle.bastion.specs.Run.{Run};
@@ -14,11 +14,11 @@ use std::thread::Threads;
 
 /// Runs a command line over the devices of a world, and answers the exit status:
 ///
-/// - 0 where the table permits the peer, and a session of `authsrv`, `plug-gw` or `tn-gw` is done; 1 where it denies the
-///   peer, who isn't at the console of `authsrv`;
+/// - 0 where the table permits the peer, and a session of `authsrv`, `plug-gw`, `tn-gw` or `smap` is done; 1 where it denies
+///   the peer, who isn't at the console of `authsrv`;
 /// - 2 where the words are no command;
-/// - 3 where a line of the table, or of the service, or a user's record can't be read; for `tn-gw` also where a line of
-///   `authsrv` can't;
+/// - 3 where a line of the table, or of the service, or a user's record or a slot can't be read; for `tn-gw` also where a line
+///   of `authsrv` can't;
 /// - 4 where a device failed, which its count shows;
 /// - 5 for want of memory, which never takes the place of a denial once the records and rules are read;
 /// - 6 where a session took as many bytes as it may, or was done but was refused a request since the history is full.
@@ -32,10 +32,11 @@ where
     H: Threads + Sync,
     T: Kit,
     requires keeper { IsSome world.old.inputs.keeper }
+    requires slots { length world.old.inputs.disks ≤ 64 }
     // What the run came to and did; a failure that it names was counted; its line in the log, and its status.
     ensures ran { Run (line_of words.now) result world.old world.new }
-    // The replies that a client is told are those of a legal history, destinations are asked for as the table permits, and
-    // a denial's line stands in the log.
+    // The replies that a client is told are those of a legal history, destinations are asked for as the table permits, a
+    // denial's line stands in the log, and each message that is answered as kept stands whole in its slot.
     ensures headline { Headline (line_of words.now) result world.old world.new }
     // 2 is for words that are no command; for a command the status is what its inputs say, unless a device failed or
     // there was no memory; 4 is only for a device whose own count rose.
@@ -46,8 +47,8 @@ where
     // Where no count rose, all that the inputs call for was logged and printed whole, and the status is by them; or there
     // was no memory.
     ensures complete { ¬ (RoseOf (line_of words.now) world.old world.new) → IsComplete (line_of words.now) result world.old world.new }
-    // `spool-init` ends with 0 only after each disk is a free slot, whatever a crash leaves of it. Any other command leaves
-    // the disks as they were, their counts too.
+    // `spool-init` ends with 0 only after each disk is a free slot, whatever a crash leaves of it. Behind `smap` a slot that
+    // was opened with a message has it. Any other command leaves the disks as they were, their counts too.
     ensures disks { LeavesDisks (line_of words.now) result world.old.inputs.disks world.new.inputs.disks }
     // Each source that the run got was given back: as many are out as before.
     ensures returned { world.new.files.out ≡ world.old.files.out }

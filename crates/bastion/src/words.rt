@@ -50,6 +50,8 @@ pub enum Command {
     PlugGw(Caller),
     /// `tn-gw ADDR [NAME]`: link a peer to the destination that it asks for, where the table permits it.
     TnGw(Peer),
+    /// `smap ADDR [NAME]`: take a peer's mail into the slots.
+    Smap(Peer),
 }
 
 /// What the words of a command line ask for that needs no table.
@@ -317,6 +319,9 @@ fn command_in(words: &[Octets]) -> Option<Command>
             }
             if is_word(name, b"tn-gw") {
                 return peer_in(words).map(Command::TnGw);
+            }
+            if is_word(name, b"smap") {
+                return peer_in(words).map(Command::Smap);
             }
             None
         }

@@ -3,6 +3,8 @@
 //! `main` has no contract of its own. It answers `--help` and `--version`.
 #![tactic(auto)]
 
+ghost use Rattle.std.specs.Prelude.{◌≤◌, length, IfOk};
+
 use bastion::{
     Command, CommandLine, Device, Job, Order, Outcome, Places, Step, World, places, run,
 };
@@ -27,6 +29,7 @@ usage: fwtk [-t FILE] netacl [-run] DAEMON ADDRESS [NAME]
        fwtk [-t FILE] [-r FILE] authsrv [-console] ADDRESS [NAME]
        fwtk [-t FILE] plug-gw PORT ADDRESS [NAME]
        fwtk [-t FILE] [-r FILE] tn-gw ADDRESS [NAME]
+       fwtk [-t FILE] [-s FOLDER] [-n SLOTS] smap ADDRESS [NAME]
        fwtk [-s FOLDER] [-n SLOTS] spool-init
        fwtk drill START COUNT
        fwtk --help | --version
@@ -35,7 +38,8 @@ usage: fwtk [-t FILE] netacl [-run] DAEMON ADDRESS [NAME]
   -s FOLDER  the folder of the mail's slots, spool in the current directory by default
   -n SLOTS  how many slots there are, 1 to 64, 8 by default
   -m PROGRAM  the program that mail is handed to, /usr/lib/sendmail by default
-fwtk(8) lists the exit statuses; netacl(8), authsrv(8), plug-gw(8), tn-gw(8) and netperm-table(5) have the rest.
+fwtk(8) lists the exit statuses; netacl(8), authsrv(8), plug-gw(8), tn-gw(8), smap(8), netperm-table(5) and spool(5) have the
+rest.
 ";
 
 const VERSION: &[u8] = b"fwtk 2.1\n";
@@ -103,8 +107,27 @@ struct Needs<'a> {
     places: Places<'a>,
     // Whether salts are drawn.
     salts: bool,
-    // Whether slots are made.
-    slots: bool,
+    // What is done with the slots.
+    slots: Slots,
+}
+
+// What a command does with the slots.
+#[derive(Clone, Copy)]
+enum Slots {
+    // It has none.
+    Unused,
+    // They are opened; one that is missing has no byte.
+    Opened,
+    // They are made.
+    Made,
+}
+
+fn slots_for(order: &Order) -> Slots {
+    match order {
+        Order::Alone(Job::SpoolInit) => Slots::Made,
+        Order::ByTable(Command::Smap(_)) => Slots::Opened,
+        _ => Slots::Unused,
+    }
 }
 
 impl<'a> Needs<'a> {
@@ -113,25 +136,35 @@ impl<'a> Needs<'a> {
             Some(line) => Needs {
                 places: line.places,
                 salts: matches!(line.order, Order::ByTable(Command::Authsrv(_))),
-                slots: matches!(line.order, Order::Alone(Job::SpoolInit)),
+                slots: slots_for(&line.order),
             },
             None => Needs {
                 places: places(words),
                 salts: false,
-                slots: false,
+                slots: Slots::Unused,
             },
         }
     }
 }
 
-// The disks of the slots, whose files are made where they are missing; no disk for a command that needs none.
-fn disks_of(rt: HostRuntime, needs: &Needs) -> Result<Vec<SlotDisk>, Outcome> {
+/// The most slots of a spool.
+const MOST_SLOTS: u32 = 64;
+
+// The disks of the slots, none if they aren't used. A file that is missing is made where they are made.
+fn disks_of(rt: HostRuntime, needs: &Needs) -> Result<Vec<SlotDisk>, Outcome>
+    ensures { IfOk result (λ disks. length disks.items ≤ 64) }
+{
     let mut disks = Vec::new(rt.alloc());
-    if needs.slots {
-        for number in 0..needs.places.slots {
-            let file = SlotFile::made(rt, needs.places.spool, number)?;
-            disks.push(FileDisk::new(file))?;
-        }
+    let count = match needs.slots {
+        Slots::Unused => 0,
+        Slots::Opened | Slots::Made => needs.places.slots.min(MOST_SLOTS),
+    };
+    for number in 0..count {
+        let file = match needs.slots {
+            Slots::Made => SlotFile::made(rt, needs.places.spool, number)?,
+            Slots::Unused | Slots::Opened => SlotFile::new(rt, needs.places.spool, number)?,
+        };
+        disks.push(FileDisk::new(file))?;
     }
     Ok(disks)
 }

@@ -97,6 +97,10 @@ pub(crate) fn run_over<H: Threads + Sync>(
     disks: Vec<MemDisk>,
     refuses: Calls,
 ) -> Result<Ended, NoMemory> {
+    // A run has at most 64 disks.
+    if disks.len() > 64 {
+        return Err(NoMemory);
+    }
     let words = words_of(alloc, line)?;
     let mut world = world_of(alloc, disks, refuses)?;
     let status = run(threads, alloc, &words, &mut world);

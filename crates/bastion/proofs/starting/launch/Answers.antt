@@ -1,5 +1,4 @@
 use Rattle.std.proofs.Common.{refl, subst, ◌∙◌, List, ℕ}
-use Rattle.std.specs.Prelude.{Ok, Err}
 use Rattle.fw_outside.specs.SinkView.{Gives, SinkView}
 use Rattle.fw_outside.specs.declared.started.Started.TheVariants as program
 use Rattle.bastion.proofs.starting.launch.Goals as goal

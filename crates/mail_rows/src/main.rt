@@ -1,0 +1,19 @@
+//! Rows of runs of `smap` over devices in memory: each row of `data/` says what is told of what is asked, by the kinds that
+//! [`kinds`] knows. `lines_of_rows` says how a row is written.
+#![tactic(auto)]
+
+mod asked;
+mod kinds;
+mod running;
+mod sweep;
+mod telling;
+
+use kinds::Kinds;
+use lines_of_rows::compare;
+use std::io;
+use std::process::ExitCode;
+
+fn main(rt: HostRuntime) -> io::Result<ExitCode> {
+    let mut kinds = Kinds::new(rt);
+    compare(rt, &mut kinds)
+}
