@@ -127,7 +127,7 @@ fn input_of(alloc: Global, asked: Asked, broken: Broken) -> Result<MemSource, No
 fn world_of(alloc: Global, asked: Asked, broken: Broken) -> Result<World<Memory>, NoMemory> {
     let output = MemSink::new(alloc, ROOM, broken.calls(alloc, Part::Output)?)?;
     let logs = MemSink::new(alloc, ROOM, broken.calls(alloc, Part::Log)?)?;
-    let dialer = MemDialer::new(alloc, Vec::new(alloc), 1, Calls::none())?;
+    let dialer = MemDialer::new(alloc, Vec::new(alloc), Vec::new(alloc), 1, Calls::none())?;
     Ok(World {
         files: files_of(alloc, asked, broken)?,
         input: input_of(alloc, asked, broken)?,
