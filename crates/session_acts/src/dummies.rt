@@ -185,14 +185,22 @@ impl SlotStore for NoStore {
         None
     }
 
-    // No slot is ever taken, so none is put.
-    fn put_free(&mut self, _slot: Free<NoDisk>) {}
+    // No slot is ever taken, so none can be put back.
+    fn put_free(&mut self, _slot: Free<NoDisk>)
+        ensures same { self.new ≡ self.old }
+    {}
 
-    fn put_full(&mut self, _slot: Full<NoDisk>) {}
+    fn put_full(&mut self, _slot: Full<NoDisk>)
+        ensures same { self.new ≡ self.old }
+    {}
 
-    fn put_aside(&mut self, _slot: Aside<NoDisk>) {}
+    fn put_aside(&mut self, _slot: Aside<NoDisk>)
+        ensures same { self.new ≡ self.old }
+    {}
 
-    fn put_broken(&mut self, _slot: Broken<NoDisk>) {}
+    fn put_broken(&mut self, _slot: Broken<NoDisk>)
+        ensures same { self.new ≡ self.old }
+    {}
 }
 
 impl MailStore for NoStore {
