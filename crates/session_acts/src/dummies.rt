@@ -1,6 +1,5 @@
 //! Devices that stand in for those which a kind of session doesn't have.
 ghost use Rattle.std.specs.Prelude.{◌≡◌, None, refl};
-ghost use Rattle.fw_outside.specs.Counts.{Rose};
 ghost use Rattle.fw_outside.specs.SourceView.{fresh, waiting};
 ghost use Rattle.session_acts.specs.Dummies.{failing, nowhere, silent};
 ghost use Rattle.session_acts.specs.World.{no_store};
@@ -75,13 +74,6 @@ impl Nowhere {
             waits: 3600,
         }
     }
-
-    fn refuse(&mut self)
-        ensures rose { Rose self.old.refusals self.new.refusals }
-        ensures is { self.new ≡ record self.old { refusals = self.new.refusals } }
-    {
-        self.refusals = self.refusals.saturating_add(1);
-    }
 }
 
 impl Dialer for Nowhere {
@@ -98,27 +90,27 @@ impl Dialer for Nowhere {
     ghost dialer_view = { λ dialer. dialer };
 
     fn dial(&mut self, _dest: &Dest) -> Dialed<NoSource, Silent> {
-        self.refuse();
+        self.refusals = self.refusals.saturating_add(1);
         Dialed::Refused
     }
 
     fn side(&mut self, _dest: &Dest) -> Dialed<NoSource, Silent> {
-        self.refuse();
+        self.refusals = self.refusals.saturating_add(1);
         Dialed::Refused
     }
 
     fn back(&mut self, _addr: [u8; 4], _port: u16) -> Dialed<NoSource, Silent> {
-        self.refuse();
+        self.refusals = self.refusals.saturating_add(1);
         Dialed::Refused
     }
 
     fn door(&mut self) -> Option<(NoDoor, [u8; 4], u16)> {
-        self.refuse();
+        self.refusals = self.refusals.saturating_add(1);
         None
     }
 
     fn accept(&mut self, _door: &mut NoDoor) -> Dialed<NoSource, Silent> {
-        self.refuse();
+        self.refusals = self.refusals.saturating_add(1);
         Dialed::Refused
     }
 
@@ -193,14 +185,22 @@ impl SlotStore for NoStore {
         None
     }
 
-    // No slot is ever taken, so none is put.
-    fn put_free(&mut self, _slot: Free<NoDisk>) {}
+    // No slot is ever taken, so none can be put back.
+    fn put_free(&mut self, _slot: Free<NoDisk>)
+        ensures same { self.new ≡ self.old }
+    {}
 
-    fn put_full(&mut self, _slot: Full<NoDisk>) {}
+    fn put_full(&mut self, _slot: Full<NoDisk>)
+        ensures same { self.new ≡ self.old }
+    {}
 
-    fn put_aside(&mut self, _slot: Aside<NoDisk>) {}
+    fn put_aside(&mut self, _slot: Aside<NoDisk>)
+        ensures same { self.new ≡ self.old }
+    {}
 
-    fn put_broken(&mut self, _slot: Broken<NoDisk>) {}
+    fn put_broken(&mut self, _slot: Broken<NoDisk>)
+        ensures same { self.new ≡ self.old }
+    {}
 }
 
 impl MailStore for NoStore {
