@@ -14,6 +14,5 @@ use std::io;
 use std::process::ExitCode;
 
 fn main(rt: HostRuntime) -> io::Result<ExitCode> {
-    let mut kinds = Kinds::new(rt);
-    compare(rt, &mut kinds)
+    compare(rt, &mut Kinds { threads: &rt })
 }

@@ -8,6 +8,7 @@ use fw_memory::{
 };
 use fw_types::{NoMemory, Octets};
 use std::alloc::Global;
+use std::thread::Threads;
 
 /// So many bytes come of the client at once.
 const PIECE: usize = 7;
@@ -143,17 +144,17 @@ fn world_of(alloc: Global, asked: Asked, broken: Broken) -> Result<World<Memory>
 }
 
 /// Runs what is asked for; nothing where there are too many slots.
-pub(crate) fn run_over(
-    rt: HostRuntime,
+pub(crate) fn run_over<H: Threads + Sync>(
+    threads: &H,
+    alloc: Global,
     asked: Asked,
     broken: Broken,
 ) -> Result<Option<Ended>, NoMemory> {
-    let alloc = rt.alloc();
     let words = words_of(alloc, asked.words)?;
     let mut world = world_of(alloc, asked, broken)?;
     if world.disks.len() > 64 {
         return Ok(None);
     }
-    let status = run(&rt, alloc, &words, &mut world);
+    let status = run(threads, alloc, &words, &mut world);
     Ok(Some(Ended { status, world }))
 }

@@ -7,6 +7,7 @@ use fw_memory::MemDisk;
 use fw_types::NoMemory;
 use lines_of_rows::{Told, add, add_number, number_of};
 use std::alloc::Global;
+use std::thread::Threads;
 
 /// Each device is failed at so many calls, which are more than it gets.
 const CALLS: u64 = 48;
@@ -79,19 +80,28 @@ fn slots_stay(alloc: Global, asked: Asked, ended: &Ended) -> Result<bool, NoMemo
 }
 
 // Whether a run is as it must be, whatever failed.
-fn is_sound(rt: HostRuntime, asked: Asked, broken: Broken) -> Result<bool, NoMemory> {
-    let alloc = rt.alloc();
-    match run_over(rt, asked, broken)? {
+fn is_sound<H: Threads + Sync>(
+    threads: &H,
+    alloc: Global,
+    asked: Asked,
+    broken: Broken,
+) -> Result<bool, NoMemory> {
+    match run_over(threads, alloc, asked, broken)? {
         Some(ended) => Ok(kept_stand(alloc, &ended)? && slots_stay(alloc, asked, &ended)?),
         None => Ok(false),
     }
 }
 
 // How many of the runs in which the part fails aren't.
-fn unsound(rt: HostRuntime, asked: Asked, part: Part) -> Result<u64, NoMemory> {
+fn unsound<H: Threads + Sync>(
+    threads: &H,
+    alloc: Global,
+    asked: Asked,
+    part: Part,
+) -> Result<u64, NoMemory> {
     let mut count = 0u64;
     for at in 0..CALLS {
-        if !is_sound(rt, asked, Broken { part, at })? {
+        if !is_sound(threads, alloc, asked, Broken { part, at })? {
             count = count.saturating_add(1);
         }
     }
@@ -108,11 +118,15 @@ fn count_slots(slots: &[u8]) -> u64 {
     count
 }
 
-fn unsound_disks(rt: HostRuntime, asked: Asked) -> Result<u64, NoMemory> {
+fn unsound_disks<H: Threads + Sync>(
+    threads: &H,
+    alloc: Global,
+    asked: Asked,
+) -> Result<u64, NoMemory> {
     let mut count = 0u64;
     for number in 0..count_slots(asked.slots).min(64) {
-        count = count.saturating_add(unsound(rt, asked, Part::Disk(number))?);
-        count = count.saturating_add(unsound(rt, asked, Part::DiskOnward(number))?);
+        count = count.saturating_add(unsound(threads, alloc, asked, Part::Disk(number))?);
+        count = count.saturating_add(unsound(threads, alloc, asked, Part::DiskOnward(number))?);
     }
     Ok(count)
 }
@@ -120,9 +134,14 @@ fn unsound_disks(rt: HostRuntime, asked: Asked) -> Result<u64, NoMemory> {
 /// `sweep WORDS!TABLE!SLOTS!CLIENT => N unsound`: in how many runs, in which one device fails at one call or a disk from a call
 /// on, a message that was told as kept isn't whole in its slot, or has no line in the log, or a slot that had a message isn't as
 /// it was, or one has no reading.
-pub(crate) fn tell_sweep(rt: HostRuntime, asked: &[u8], out: &mut Told) -> Result<(), NoMemory> {
+pub(crate) fn tell_sweep<H: Threads + Sync>(
+    threads: &H,
+    alloc: Global,
+    asked: &[u8],
+    out: &mut Told,
+) -> Result<(), NoMemory> {
     let asked = Asked::of(asked);
-    let mut count = unsound_disks(rt, asked)?;
+    let mut count = unsound_disks(threads, alloc, asked)?;
     for part in [
         Part::Client,
         Part::Idle,
@@ -130,7 +149,7 @@ pub(crate) fn tell_sweep(rt: HostRuntime, asked: &[u8], out: &mut Told) -> Resul
         Part::Log,
         Part::Table,
     ] {
-        count = count.saturating_add(unsound(rt, asked, part)?);
+        count = count.saturating_add(unsound(threads, alloc, asked, part)?);
     }
     add_number(out, count);
     add(out, b" unsound");

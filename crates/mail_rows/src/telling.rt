@@ -7,6 +7,7 @@ use fw_types::NoMemory;
 use lines_of_rows::{Told, add, add_hex, add_number, add_word, cut_word, number_of};
 use slot_bytes::{Slot, SlotFault, read_slot};
 use std::alloc::Global;
+use std::thread::Threads;
 
 const UNBROKEN: Broken = Broken {
     part: Part::Nothing,
@@ -37,7 +38,7 @@ pub(crate) fn letter_of(alloc: Global, disk: &MemDisk) -> Result<&'static [u8], 
         Ok(Slot::Free) => Ok(b"f"),
         Ok(Slot::Whole(_)) => Ok(b"w"),
         Ok(Slot::Aside(_)) => Ok(b"a"),
-        Err(SlotFault::BadSlot { .. }) => Ok(b"b"),
+        Err(SlotFault::Bad { .. }) => Ok(b"b"),
         Err(SlotFault::NoMemory) => Err(NoMemory),
     }
 }
@@ -54,27 +55,38 @@ fn tell_ended(alloc: Global, ended: &Ended, out: &mut Told) -> Result<(), NoMemo
     Ok(())
 }
 
-fn tell_with(
-    rt: HostRuntime,
+fn tell_with<H: Threads + Sync>(
+    threads: &H,
+    alloc: Global,
     asked: &[u8],
     broken: Broken,
     out: &mut Told,
 ) -> Result<(), NoMemory> {
-    match run_over(rt, Asked::of(asked), broken)? {
-        Some(ended) => tell_ended(rt.alloc(), &ended, out)?,
+    match run_over(threads, alloc, Asked::of(asked), broken)? {
+        Some(ended) => tell_ended(alloc, &ended, out)?,
         None => add_word(out, b"too many slots"),
     }
     Ok(())
 }
 
 /// `run WORDS!TABLE!SLOTS!CLIENT => STATUS TOLD LOG LETTERS`: a run, in which `^` stands for the end of a line.
-pub(crate) fn tell_run(rt: HostRuntime, asked: &[u8], out: &mut Told) -> Result<(), NoMemory> {
-    tell_with(rt, asked, UNBROKEN, out)
+pub(crate) fn tell_run<H: Threads + Sync>(
+    threads: &H,
+    alloc: Global,
+    asked: &[u8],
+    out: &mut Told,
+) -> Result<(), NoMemory> {
+    tell_with(threads, alloc, asked, UNBROKEN, out)
 }
 
 /// `bytes WORDS!TABLE!SLOTS!CLIENT => DIGITS DIGITS ..`: what the disks hold behind a run.
-pub(crate) fn tell_bytes(rt: HostRuntime, asked: &[u8], out: &mut Told) -> Result<(), NoMemory> {
-    if let Some(ended) = run_over(rt, Asked::of(asked), UNBROKEN)? {
+pub(crate) fn tell_bytes<H: Threads + Sync>(
+    threads: &H,
+    alloc: Global,
+    asked: &[u8],
+    out: &mut Told,
+) -> Result<(), NoMemory> {
+    if let Some(ended) = run_over(threads, alloc, Asked::of(asked), UNBROKEN)? {
         for disk in &ended.world.disks {
             add_hex(out, disk.bytes());
         }
@@ -97,7 +109,12 @@ fn part_of(word: &[u8], slot: u64) -> Part {
 
 /// `broken PART SLOT CALL WORDS!TABLE!SLOTS!CLIENT => ..`: the same as `run`, and the part fails at a call; of the parts `disk`
 /// and `onward`, where all later calls fail, too, it is the disk of the slot.
-pub(crate) fn tell_broken(rt: HostRuntime, asked: &[u8], out: &mut Told) -> Result<(), NoMemory> {
+pub(crate) fn tell_broken<H: Threads + Sync>(
+    threads: &H,
+    alloc: Global,
+    asked: &[u8],
+    out: &mut Told,
+) -> Result<(), NoMemory> {
     let (part, rest) = cut_word(asked);
     let (slot, rest) = cut_word(rest);
     let (at, rest) = cut_word(rest);
@@ -105,5 +122,5 @@ pub(crate) fn tell_broken(rt: HostRuntime, asked: &[u8], out: &mut Told) -> Resu
         part: part_of(part, number_of(slot)),
         at: number_of(at),
     };
-    tell_with(rt, rest, broken, out)
+    tell_with(threads, alloc, rest, broken, out)
 }
