@@ -148,16 +148,14 @@ impl<'a> Needs<'a> {
 }
 
 /// The most slots of a spool.
-const MOST_SLOTS: u32 = 64;
+const MOST_SLOTS: usize = 64;
 
 // The disks of the slots, none if they aren't used. A file that is missing is made where they are made.
-fn disks_of(rt: HostRuntime, needs: &Needs) -> Result<Vec<SlotDisk>, Outcome>
-    ensures { IfOk result (λ disks. length disks.items ≤ 64) }
-{
+fn all_disks(rt: HostRuntime, needs: &Needs) -> Result<Vec<SlotDisk>, Outcome> {
     let mut disks = Vec::new(rt.alloc());
     let count = match needs.slots {
         Slots::Unused => 0,
-        Slots::Opened | Slots::Made => needs.places.slots.min(MOST_SLOTS),
+        Slots::Opened | Slots::Made => needs.places.slots,
     };
     for number in 0..count {
         let file = match needs.slots {
@@ -165,6 +163,17 @@ fn disks_of(rt: HostRuntime, needs: &Needs) -> Result<Vec<SlotDisk>, Outcome>
             Slots::Unused | Slots::Opened => SlotFile::new(rt, needs.places.spool, number)?,
         };
         disks.push(FileDisk::new(file))?;
+    }
+    Ok(disks)
+}
+
+// So many a run takes: the words name no more.
+fn disks_of(rt: HostRuntime, needs: &Needs) -> Result<Vec<SlotDisk>, Outcome>
+    ensures { IfOk result (λ disks. length disks.items ≤ 64) }
+{
+    let disks = all_disks(rt, needs)?;
+    if disks.len() > MOST_SLOTS {
+        return Err(Outcome::Usage);
     }
     Ok(disks)
 }
