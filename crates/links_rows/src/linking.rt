@@ -153,11 +153,33 @@ fn knock(
         TcpStream,
     ),
 > {
-    let Some((mut door, host, port)) = dialer.door() else {
+    let Some(opened) = dialer.door() else {
         return Err(io::Error::from(ErrorKind::NotFound));
     };
-    let knocking = TcpStream::connect(&rt, (Ipv4Addr::from_octets(host), port))?;
-    Ok((dialer.accept(&mut door), knocking))
+    let host = opened.1;
+    let port = opened.2;
+    let mut door = opened.0;
+    let addr = Ipv4Addr::from_octets(host);
+    let knocking = TcpStream::connect(&rt, (addr, port))?;
+    let dialed = dialer.accept(&mut door);
+    Ok((dialed, knocking))
+}
+
+// Tells the steps over a link that came up, or what was heard who knocked where none did.
+fn tell_dialed(
+    dialed: Dialed<LinkSource<TcpStream>, LinkSink<TcpStream>>,
+    knocking: TcpStream,
+    steps: &[u8],
+    out: &mut Told,
+) {
+    let mut server = Some(knocking);
+    match dialed {
+        Dialed::Up(from, to) => tell_steps(&mut Called { from, to, server }, steps, out),
+        Dialed::Refused => {
+            add_word(out, b"-refused");
+            tell_heard(&mut server, out);
+        }
+    }
 }
 
 /// `door HOST STEP .. => TOLD ..`: over a data link that somebody of 127.0.0.1 makes at a door for the client HOST; the
@@ -167,14 +189,7 @@ pub(crate) fn tell_door(rt: HostRuntime, asked: &[u8], out: &mut Told) {
     let (client, steps) = cut_word(asked);
     let mut dialer = dialer_for(rt, client);
     match knock(rt, &mut dialer) {
-        Ok((Dialed::Up(from, to), knocking)) => {
-            let server = Some(knocking);
-            tell_steps(&mut Called { from, to, server }, steps, out);
-        }
-        Ok((Dialed::Refused, knocking)) => {
-            add_word(out, b"-refused");
-            tell_heard(&mut Some(knocking), out);
-        }
+        Ok((dialed, knocking)) => tell_dialed(dialed, knocking, steps, out),
         Err(_) => add_word(out, b"-none"),
     }
 }
