@@ -1,4 +1,5 @@
 //! The one call of `run`.
+ghost use Rattle.std.specs.Prelude.{◌≤◌, length, IfOk, IsSome};
 
 use bastion::{Kit, World, run};
 use fw_memory::{
@@ -69,7 +70,11 @@ fn files_of(alloc: Global) -> Result<MemFiles, NoMemory> {
 }
 
 // The devices: one table, nobody who says anything, no records, no server.
-fn world_of(alloc: Global, disks: Vec<MemDisk>, refuses: Calls) -> Result<World<Memory>, NoMemory> {
+fn world_of(alloc: Global, disks: Vec<MemDisk>, refuses: Calls) -> Result<World<Memory>, NoMemory>
+    requires few { length disks.items ≤ 64 }
+    ensures keeper { IfOk result (λ world. IsSome world.inputs.keeper) }
+    ensures slots { IfOk result (λ world. length world.inputs.disks ≤ 64) }
+{
     let files = files_of(alloc)?;
     let none = Octets::copy(alloc, b"")?;
     let output = MemSink::new(alloc, 1024, refuses)?;
