@@ -1,4 +1,5 @@
 //! The one call of `run`.
+ghost use Rattle.std.specs.Prelude.{IfOk, IsSome};
 
 use crate::asked::{Asked, slot_of, text_with, words_of};
 use bastion::{Kit, World, run};
@@ -125,7 +126,9 @@ fn input_of(alloc: Global, asked: Asked, broken: Broken) -> Result<MemSource, No
 }
 
 // The devices: no records, and no server.
-fn world_of(alloc: Global, asked: Asked, broken: Broken) -> Result<World<Memory>, NoMemory> {
+fn world_of(alloc: Global, asked: Asked, broken: Broken) -> Result<World<Memory>, NoMemory>
+    ensures keeper { IfOk result (λ world. IsSome world.inputs.keeper) }
+{
     let output = MemSink::new(alloc, ROOM, broken.calls(alloc, Part::Output)?)?;
     let logs = MemSink::new(alloc, ROOM, broken.calls(alloc, Part::Log)?)?;
     let dialer = MemDialer::new(alloc, Vec::new(alloc), Vec::new(alloc), 1, Calls::none())?;
