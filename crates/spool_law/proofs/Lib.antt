@@ -5,3 +5,4 @@ mod WorldLemmas
 pub mod RunLemmas
 mod EventLemmas
 mod ExampleLemmas
+pub mod WholeLemmas
