@@ -18,7 +18,7 @@ pub fn stands()
 /// began is where some first of these steps lead, so a crash at that moment is a crash after these.
 pub fn calls_are_events()
     ensures events { (steps : List Step) (w : World) (n : ℕ) (old new : Tape) (l : Known) →
-        (w.slots n).medium ≡ old.now → Does steps (known_in w n) old l new → AreEvents steps w n l new }
+        (w.slots n).medium ≡ old.now → Does steps (known_in w n) old l new → AreEvents steps w n old l new }
     ensures moments { (steps : List Step) (k l : Known) (old new : Tape) →
         Does steps k old l new → Since (IsReached steps k old) old new }
 {}
