@@ -1,0 +1,7 @@
+pub mod GrownLemmas
+pub mod NumberLemmas
+pub mod PlaceLemmas
+pub mod StoreLemmas
+pub mod RackLemmas
+pub mod TapeLemmas
+pub mod HistoryLemmas
