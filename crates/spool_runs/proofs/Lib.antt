@@ -5,3 +5,4 @@ pub mod StoreLemmas
 pub mod RackLemmas
 pub mod TapeLemmas
 pub mod HistoryLemmas
+pub mod SessionLemmas

@@ -89,15 +89,15 @@ pub same_run : (disks : List DiskView) → RunEach disks disks
 same_run [] = tt
 same_run (disk ∷ disks) = (λ k. runs_here k disk, same_run disks)
 
-pub back_run : {D : Type 0} (n slot : ℕ) (why : SlotWhy) (olds news : List DiskView) → CameBack D n slot why olds news → RunEach olds news
-back_run n zero why [] news h = absurd h
-back_run n zero why (old ∷ olds) [] h = absurd h
-back_run n zero why (old ∷ olds) (new ∷ news) h =
+pub back_run : (D : Type 0) (n slot : ℕ) (why : SlotWhy) (olds news : List DiskView) → CameBack D n slot why olds news → RunEach olds news
+back_run D n zero why [] news h = absurd h
+back_run D n zero why (old ∷ olds) [] h = absurd h
+back_run D n zero why (old ∷ olds) (new ∷ news) h =
     (subst (RunsOn old) (sym h.0.disk) h.0.events, subst (RunEach olds) (sym h.1) (same_run olds))
-back_run n (suc slot) why [] news h = absurd h
-back_run n (suc slot) why (old ∷ olds) [] h = absurd h
-back_run n (suc slot) why (old ∷ olds) (new ∷ news) h =
-    (subst (RunsOn old) (sym h.0.disk) h.0.is.events, back_run (n + 1) slot why olds news h.1)
+back_run D n (suc slot) why [] news h = absurd h
+back_run D n (suc slot) why (old ∷ olds) [] h = absurd h
+back_run D n (suc slot) why (old ∷ olds) (new ∷ news) h =
+    (subst (RunsOn old) (sym h.0.disk) h.0.is.events, back_run D (n + 1) slot why olds news h.1)
 
 pub opened_length : {D : Type 0} (n : ℕ) (disks : List DiskView) (slots : List (Opened D)) → AreSlotsOf D n disks slots → length slots ≡ length disks
 opened_length n [] [] h = refl
@@ -111,17 +111,17 @@ disks_length (slot ∷ slots) = ap (λ (k : ℕ). suc k) (disks_length slots)
 
 -- ---- the first tapes
 
-told_or : Option Tape → Tape → Tape
+abbrev told_or : Option Tape → Tape → Tape
 told_or None other = other
 told_or (Some tape) other = tape
 
-tape_in : ℕ → List DiskView → Tape → Tape
+abbrev tape_in : ℕ → List DiskView → Tape → Tape
 tape_in k [] other = other
 tape_in zero (disk ∷ disks) other = told_or disk.told other
 tape_in (suc k) (disk ∷ disks) other = tape_in k disks other
 
 -- the tapes of disks by their places; behind them those that begin where the spool's slots are
-pub first_tapes : World → List DiskView → ℕ → Tape
+abbrev pub first_tapes : World → List DiskView → ℕ → Tape
 first_tapes w disks k = tape_in k disks (record { now = (w.slots k).medium; past = [] })
 
 fits_told : (s : Slot) (disk : DiskView) (other : Tape) → IsOn s disk → s.medium ≡ (told_or disk.told other).now
@@ -137,7 +137,10 @@ fits_in (suc k) a w (disk ∷ disks) other on e =
     ap (λ (i : ℕ). (w.slots i).medium) more ∙ fits_in k (a + 1) w disks other on.1 (ap (λ (i : ℕ). (w.slots i).medium) (sym more) ∙ e)
 
 pub fits_first : (w : World) (disks : List DiskView) → AreOn 0 w disks → Fits w (first_tapes w disks)
-fits_first w disks on = λ k. fits_in k 0 w disks (record { now = (w.slots k).medium; past = [] }) on refl
+fits_first w disks on = λ k. (
+    let here : 0 + k ≡ k = omega arith in
+    ap (λ (i : ℕ). (w.slots i).medium) (sym here) ∙ fits_in k 0 w disks (record { now = (w.slots k).medium; past = [] }) on (ap (λ (i : ℕ). (w.slots i).medium) here)
+    )
 
 -- these disks tell these tapes, from a number on
 abbrev pub ToldBy : (ℕ → Tape) → ℕ → List DiskView → Type 0
@@ -158,7 +161,10 @@ told_in tapes other a w (disk ∷ disks) same on =
     )
 
 pub told_first : (w : World) (disks : List DiskView) → AreOn 0 w disks → ToldBy (first_tapes w disks) 0 disks
-told_first w disks on = told_in (first_tapes w disks) (λ k. record { now = (w.slots k).medium; past = [] }) 0 w disks (λ k. refl) on
+told_first w disks on =
+    let other : ℕ → Tape = λ k. record { now = (w.slots k).medium; past = [] } in
+    let same : (k : ℕ) → first_tapes w disks (0 + k) ≡ tape_in k disks (other (0 + k)) = λ k. (let here : 0 + k ≡ k = omega arith in ap (λ (i : ℕ). tape_in i disks (other (0 + k))) here) in
+    told_in (first_tapes w disks) other 0 w disks same on
 
 -- ---- the rack of slots that were opened
 

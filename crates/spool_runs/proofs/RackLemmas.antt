@@ -151,7 +151,8 @@ module _ (count : ℕ) (a b : ℕ → Tape) (old new : HeldView) (q r : Queues) 
       let all = counted old.number in
       let here = one_here old.number in
       let both = split_count old.number old in
-      count_below old.number 0 count (omega (arith, all, here, both))
+      let low = count_below old.number 0 count (omega (arith, all, here, both)) in
+      omega (arith, low)
 
   alone : held_count old.number moved.others ≡ 0
   alone =

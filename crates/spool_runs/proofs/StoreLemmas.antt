@@ -105,8 +105,8 @@ run_of_places olds news each w reach on =
     }
 
 -- the slots weren't all opened
-pub run_came_back : {D : Type 0} (slot : ℕ) (why : SlotWhy) (olds news : List DiskView) → CameBack D 0 slot why olds news → RunsSpool [] [] olds news
-run_came_back slot why olds news back = run_of_places olds news (back_run 0 slot why olds news back)
+pub run_came_back : (D : Type 0) (slot : ℕ) (why : SlotWhy) (olds news : List DiskView) → CameBack D 0 slot why olds news → RunsSpool [] [] olds news
+run_came_back D slot why olds news back = run_of_places olds news (back_run D 0 slot why olds news back)
 
 -- the slots were opened, and the rack was closed after this was done to it
 pub run_over_rack : {D : Type 0} (answered accepted : List Mail) (disks back : List DiskView) (slots : List (Opened D)) (first last : StoreView) → AreSlotsOf D 0 disks slots → first.queues ≡ Some (queues_of slots)

@@ -1,5 +1,5 @@
 -- Events one after another, and the tapes that they lead.
-use Rattle.std.proofs.Common.{◌≡◌, refl, sym, ap, subst, ◌∙◌, arith, ℕ, ◌+◌, ◌<◌, ◌≤◌, ◌⊎◌, inl, inr, Bool, true, false, nat_eq, cond, List, [], ◌∷◌, ◌++◌, length, map, append_assoc, append-nil, Option, Some, None}
+use Rattle.std.proofs.Common.{◌≡◌, refl, sym, ap, subst, ◌∙◌, arith, ℕ, suc, ◌+◌, ◌<◌, ◌≤◌, ◌⊎◌, inl, inr, Bool, true, false, nat_eq, cond, List, [], ◌∷◌, ◌++◌, length, map, append_assoc, append-nil, Option, Some, None}
 use Rattle.std.specs.Prelude.{option_map, if◌then◌else◌}
 use Rattle.std.specs.List.{AllByRecursion, Contains}
 use Rattle.std.proofs.lemmas.Bool.Decides.{nat_tests}
@@ -113,7 +113,7 @@ pub taped_length : (n : ℕ) (events : List Event) (w : World) (xs ys : List Dis
 taped_length n events w [] [] p = refl
 taped_length n events w [] (y ∷ ys) p = absurd p
 taped_length n events w (x ∷ xs) [] p = absurd p
-taped_length n events w (x ∷ xs) (y ∷ ys) p = ap (λ (k : ℕ). k + 1) (taped_length (n + 1) events w xs ys p.1)
+taped_length n events w (x ∷ xs) (y ∷ ys) p = ap (λ (k : ℕ). suc k) (taped_length (n + 1) events w xs ys p.1)
 
 on_one : (n count : ℕ) (events : List Event) (w : World) (old new : DiskView) → AllByRecursion (IsStepOf count) events → IsOn (w.slots n) old → new.told ≡ option_map (taped n events w) old.told → IsOn ((after_all events w).slots n) new
 on_one n count events w old new are on told = record {
