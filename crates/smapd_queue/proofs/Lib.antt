@@ -1,0 +1,7 @@
+mod LentLemmas
+mod FateLemmas
+mod TurnLemmas
+mod StoreLemmas
+mod MailerLemmas
+mod LogLemmas
+mod RoundLemmas
