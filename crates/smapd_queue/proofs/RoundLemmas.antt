@@ -1,5 +1,5 @@
 -- A round, from its steps.
-use Rattle.std.proofs.Common.{arith, ◌≡◌, refl, sym, ap, subst, ◌∙◌, ℕ, suc, ◌+◌, ◌<◌, ◌≤◌, List, [], ◌∷◌, ◌++◌, length, Option, Some, None, option_map, Result, Ok, Err}
+use Rattle.std.proofs.Common.{arith, ◌≡◌, refl, sym, ap, subst, ◌∙◌, ℕ, suc, ◌+◌, ◌<◌, ◌≤◌, List, [], ◌∷◌, ◌++◌, length, append-nil, Option, Some, None, Result, Ok, Err}
 use Rattle.std.specs.List.{AllByRecursion}
 use Rattle.std.specs.Prelude.{IfSome}
 use Rattle.fw_mail.specs.MailerView.{MailerView}
@@ -11,7 +11,8 @@ use Rattle.smapd_queue.specs.declared.round.RoundFault.{RoundFault}
 use Rattle.smapd_queue.specs.declared.round.RoundFault.TheVariants as faults
 use Rattle.smapd_queue.specs.declared.round.Trouble.{Trouble}
 use Rattle.smapd_queue.specs.declared.tally.Tally.{Tally}
-use Rattle.smapd_queue.specs.Turns.{Turn, line_of}
+use Rattle.smapd_queue.specs.Turns.{Turn, line_of, or_else, trouble_of}
+use Rattle.smapd_queue.specs.Words.{trouble_in, word_by}
 use Rattle.smapd_queue.specs.Meeting.{End, EndsSo, FailsToLog, FindsNone, Lacks, MailersLack, Meeting, TakesTurn, TakesTurns, TurnThen, lacked_of, last_turn, with_text}
 use Rattle.smapd_queue.specs.Meeting.End.{AllTaken, NoneFull, Unlogged, Lacked}
 use Rattle.smapd_queue.specs.Round.{CountsNone, HandsOn, HandsOnTelling, IsTurn, NoneIsFull, TurnsFit, answer_of, round_of}
@@ -20,6 +21,7 @@ use Rattle.smapd_queue.specs.Sums.{LogGoes, MailersGo, StoreGoes}
 use Rattle.smapd_queue.proofs.FateLemmas.{is_turn}
 use Rattle.smapd_queue.proofs.LogLemmas.{logs_cut, logs_first, logs_here}
 use Rattle.smapd_queue.proofs.MailerLemmas.{HasFirst, MetFirst, has_after, mailers_first, mailers_here, mailers_lacked, met_by}
+use Rattle.smapd_queue.proofs.TurnLemmas.{trouble_more}
 use Rattle.smapd_queue.proofs.StoreLemmas.{Turned, lacked_count, store_first, store_here, store_lacked, store_none, turned_by}
 
 -- what steps come to
@@ -132,7 +134,7 @@ has_first [] lt = absurd (omega (arith, lt))
 has_first (first ∷ others) lt = record { first = first; others = others; is = refl }
 
 hands_on : (most : ℕ) (turns : List Turn) (ending : End) (result : Result Round RoundFault) (trouble : Option Trouble) (old middle new : Meeting) → 0 < length old.mailers → TakesTurns turns old middle → EndsSo ending middle new
-    → TurnsFit ending (length turns) most → result ≡ answer_of ending (round_of turns) → trouble ≡ Rattle.smapd_queue.specs.Turns.trouble_of turns → HandsOnTelling most result trouble old new
+    → TurnsFit ending (length turns) most → result ≡ answer_of ending (round_of turns) → trouble ≡ trouble_of (turns ++ last_turn ending) → HandsOnTelling most result trouble old new
 hands_on most turns ending result trouble old middle new some took ends fits answer told =
     let c = comes turns ending old middle new (has_first old.mailers some) took ends in
     record {
@@ -153,29 +155,33 @@ hands_on most turns ending result trouble old middle new some took ends fits ans
       told = told;
     }
 
+no_last : (turns : List Turn) (trouble : Option Trouble) → trouble ≡ trouble_of turns → trouble ≡ trouble_of (turns ++ [])
+no_last turns trouble is = is ∙ ap trouble_of (sym (append-nil turns))
+
 -- all turns were taken
 pub round_all : (most left : ℕ) (tally : Tally) (old new : Meeting) → 0 < length old.mailers → left ≤ 0 → IsSoFar most left tally old new → HandsOnTelling most (Ok tally.round) tally.trouble old new
 round_all most left tally old new some none s =
     let number = s.number in
-    hands_on most s.turns AllTaken (Ok tally.round) tally.trouble old new new some s.took refl (omega (arith, none, number)) (ap (λ (r : Round). Ok r) s.round) s.trouble
+    hands_on most s.turns AllTaken (Ok tally.round) tally.trouble old new new some s.took refl (omega (arith, none, number)) (ap (λ (r : Round). Ok r) s.round) (no_last s.turns tally.trouble s.trouble)
 
 -- no slot was full
 pub round_none : (most left : ℕ) (tally counted : Tally) (old now new : Meeting) → 0 < length old.mailers → 0 < left → IsSoFar most left tally old now → StopsEmpty tally counted now new
     → HandsOnTelling most (Ok counted.round) counted.trouble old new
 round_none most left tally counted old now new some more s e =
     let number = s.number in
-    hands_on most s.turns NoneFull (Ok counted.round) counted.trouble old now new some s.took e.finds (omega (arith, more, number)) (ap (λ (t : Tally). Ok t.round) e.same ∙ ap (λ (r : Round). Ok r) s.round) (ap (λ (t : Tally). t.trouble) e.same ∙ s.trouble)
+    hands_on most s.turns NoneFull (Ok counted.round) counted.trouble old now new some s.took e.finds (omega (arith, more, number)) (ap (λ (t : Tally). Ok t.round) e.same ∙ ap (λ (r : Round). Ok r) s.round) (no_last s.turns counted.trouble (ap (λ (t : Tally). t.trouble) e.same ∙ s.trouble))
 
 -- the log failed
 pub round_unlogged : (most left : ℕ) (tally counted : Tally) (old now new : Meeting) → 0 < length old.mailers → 0 < left → IsSoFar most left tally old now → StopsAtLog tally counted now new
     → HandsOnTelling most (Err (faults.LogFault counted.round)) counted.trouble old new
 round_unlogged most left tally counted old now new some more s e =
     let number = s.number in
-    hands_on most s.turns (Unlogged e.turn) (Err (faults.LogFault counted.round)) counted.trouble old now new some s.took e.fails (omega (arith, more, number)) (ap (λ (t : Tally). Err (faults.LogFault t.round)) e.same ∙ ap (λ (r : Round). Err (faults.LogFault r)) s.round) (ap (λ (t : Tally). t.trouble) e.same ∙ s.trouble)
+    hands_on most s.turns (Unlogged e.turn) (Err (faults.LogFault counted.round)) counted.trouble old now new some s.took e.fails (omega (arith, more, number)) (ap (λ (t : Tally). Err (faults.LogFault t.round)) e.counts ∙ ap (λ (r : Round). Err (faults.LogFault r)) s.round)
+    (ap (λ (t : Tally). t.trouble) e.counts ∙ ap (λ (o : Option Trouble). or_else o (trouble_in e.turn.slot.number (word_by e.turn.fate))) s.trouble ∙ sym (trouble_more s.turns e.turn))
 
 -- there was no memory
 pub round_lacked : (most left : ℕ) (tally counted : Tally) (old now new : Meeting) → 0 < length old.mailers → 0 < left → IsSoFar most left tally old now → StopsForMemory tally counted now new
     → HandsOnTelling most (Err (faults.NoMemory counted.round)) counted.trouble old new
 round_lacked most left tally counted old now new some more s e =
     let number = s.number in
-    hands_on most s.turns (Lacked e.slot e.message) (Err (faults.NoMemory counted.round)) counted.trouble old now new some s.took e.lacks (omega (arith, more, number)) (ap (λ (t : Tally). Err (faults.NoMemory t.round)) e.same ∙ ap (λ (r : Round). Err (faults.NoMemory r)) s.round) (ap (λ (t : Tally). t.trouble) e.same ∙ s.trouble)
+    hands_on most s.turns (Lacked e.slot e.message) (Err (faults.NoMemory counted.round)) counted.trouble old now new some s.took e.lacks (omega (arith, more, number)) (ap (λ (t : Tally). Err (faults.NoMemory t.round)) e.same ∙ ap (λ (r : Round). Err (faults.NoMemory r)) s.round) (no_last s.turns counted.trouble (ap (λ (t : Tally). t.trouble) e.same ∙ s.trouble))

@@ -77,4 +77,4 @@ pub record HandsOn (most : ℕ) (result : Result Round RoundFault) (old new : Me
 -- the same, and the device that failed in the first turn in which one did
 pub record HandsOnTelling (most : ℕ) (result : Result Round RoundFault) (trouble : Option Trouble) (old new : Meeting) : Type 0 where
   pub hands : HandsOn most result old new
-  pub told : trouble ≡ trouble_of hands.turns
+  pub told : trouble ≡ trouble_of (hands.turns ++ last_turn hands.ending)

@@ -103,6 +103,10 @@ with_turn turn tally = record {
   trouble = or_else tally.trouble (trouble_in turn.slot.number (word_by turn.fate));
 }
 
+-- the tally if the line of that turn wasn't given whole
+abbrev pub with_trouble : Turn → Tally → Tally
+with_trouble turn tally = record { round = tally.round; trouble = or_else tally.trouble (trouble_in turn.slot.number (word_by turn.fate)) }
+
 -- a turn was taken and logged, and counts
 pub record Goes (tally counted : Tally) (old new : Meeting) : Type 0 where
   pub turn : Turn
@@ -114,7 +118,7 @@ pub record Goes (tally counted : Tally) (old new : Meeting) : Type 0 where
 pub record StopsAtLog (tally counted : Tally) (old new : Meeting) : Type 0 where
   pub turn : Turn
   pub fails : FailsToLog turn old new
-  pub same : counted ≡ tally
+  pub counts : counted ≡ with_trouble turn tally
 
 pub record StopsForMemory (tally counted : Tally) (old new : Meeting) : Type 0 where
   pub slot : FullView

@@ -59,13 +59,16 @@ fn take_turn_with<M: MailStore, G: Sink>(
 {
     let number = full.number();
     match hand_on(alloc, store, mailers, full) {
-        Ok(word) => match tell(logs, number, word) {
-            Ok(()) => {
-                tally.count(number, word);
-                Step::Went
+        Ok(word) => {
+            tally.note(number, word);
+            match tell(logs, number, word) {
+                Ok(()) => {
+                    tally.count(word);
+                    Step::Went
+                }
+                Err(Failed) => Step::Unlogged,
             }
-            Err(Failed) => Step::Unlogged,
-        },
+        }
         Err(_) => Step::Lacked,
     }
 }

@@ -79,15 +79,24 @@ impl Tally {
         }
     }
 
-    /// A turn that took the slot of this number.
-    pub(crate) fn count(&mut self, number: u32, word: Word)
-        requires { HasRoom self.old.round }
+    /// The device that failed in a turn that took the slot of this number, if one did.
+    pub(crate) fn note(&mut self, number: u32, word: Word)
         ensures { self.new ≡ record {
-          round = with_one word self.old.round;
+          round = self.old.round;
           trouble = or_else self.old.trouble (trouble_in number word);
         } }
     {
-        self.round = with_one(self.round, word);
         self.trouble = or_else(self.trouble, trouble_in(number, word));
+    }
+
+    /// One more of a word.
+    pub(crate) fn count(&mut self, word: Word)
+        requires { HasRoom self.old.round }
+        ensures { self.new ≡ record {
+          round = with_one word self.old.round;
+          trouble = self.old.trouble;
+        } }
+    {
+        self.round = with_one(self.round, word);
     }
 }
