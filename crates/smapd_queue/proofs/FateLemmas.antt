@@ -2,10 +2,10 @@
 use Rattle.std.proofs.Common.{◌≡◌, refl, sym, ap, subst, ◌∙◌, ℕ, ◌++◌, Bool, true, false, List, [], ◌∷◌, Option, Some, None, inl, inr}
 use Rattle.std.specs.List.{Contains}
 use Rattle.std.specs.Prelude.{IfSome}
-use Rattle.std.proofs.lemmas.List.Elements.{Contains-append_right}
+use Rattle.std.proofs.lemmas.List.Elements.{Contains-push}
 use Rattle.fw_disk.specs.DiskView.{DiskView, Tape}
 use Rattle.fw_disk.specs.Medium.{Medium}
-use Rattle.fw_disk.specs.Moments.{EachImage, Now, Through}
+use Rattle.fw_disk.specs.Moments.{EachImage, IsToldSince, Now}
 use Rattle.fw_disk.proofs.MomentLemmas.{through_here, told_here}
 use Rattle.slot_bytes.specs.Layout.{Mail}
 use Rattle.slot_bytes.specs.Reading.Reading.{Whole}
@@ -49,7 +49,7 @@ accept_runs : (k : Known) (slot : FullView) → OfLetter (λ l. Keeps l.mail slo
 accept_runs k slot h = accept_told k slot.disk.told (letter_whole slot k.use_of h)
 
 last_one : (accepted : List Letter) (l : Letter) → Contains (accepted ++ l ∷ []) l
-last_one accepted l = Contains-append_right accepted (l ∷ []) l (0, lit< tt, refl)
+last_one accepted l = Contains-push accepted l
 
 is_in : (slot : FullView) (accepted : List Letter) (u : Use) → OfLetter (λ l. Keeps l.mail slot) u → OfLetter (Contains (accepted ++ letters u)) u
 is_in slot accepted Unused h = absurd h
@@ -70,7 +70,7 @@ stays_here : (slot : FullView) → StaysWholeOrAside slot slot.disk
 stays_here slot m keeps = through_here (EachImage (IsWholeOrAside m)) slot.disk (whole_or_aside m slot.disk.told (keeps_images m slot.disk keeps))
 
 stays_told : (slot : FullView) (new : DiskView) → new.told ≡ slot.disk.told → StaysWholeOrAside slot new
-stays_told slot new same m keeps = subst (λ (t : Option Tape). Rattle.fw_disk.specs.Moments.IsToldSince (EachImage (IsWholeOrAside m)) slot.disk.told t) (sym same) (stays_here slot m keeps)
+stays_told slot new same m keeps = subst (λ (t : Option Tape). IsToldSince (EachImage (IsWholeOrAside m)) slot.disk.told t) (sym same) (stays_here slot m keeps)
 
 -- ---- turns
 

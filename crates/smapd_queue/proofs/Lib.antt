@@ -5,3 +5,4 @@ mod StoreLemmas
 mod MailerLemmas
 mod LogLemmas
 mod RoundLemmas
+mod LawLemmas

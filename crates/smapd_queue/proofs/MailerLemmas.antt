@@ -1,14 +1,15 @@
 -- What turns come to at the mailers.
-use Rattle.std.proofs.Common.{arith, ◌≡◌, refl, sym, ap, subst, ◌∙◌, ℕ, ◌+◌, ◌-◌, ◌^◌, ◌≤◌, List, [], ◌∷◌, ◌++◌, append_assoc, append-nil, Option, Some, None}
+use Rattle.std.proofs.Common.{arith, ◌≡◌, refl, sym, ap, subst, ◌∙◌, ℕ, ◌+◌, ◌-◌, ◌^◌, ◌≤◌, List, [], ◌∷◌, ◌++◌, length, map, append_assoc, append-nil, Option, Some, None}
 use Rattle.std.specs.Prelude.{min}
-use Rattle.fw_mail.specs.MailerView.{Hands, MailerView}
+use Rattle.std.proofs.lemmas.List.{length-map}
+use Rattle.fw_mail.specs.MailerView.{HandsFirst, MailerView}
 use Rattle.fw_mail.specs.declared.handed.Handed.{Handed}
 use Rattle.fw_mail.specs.declared.handed.Handed.TheVariants as answers
 use Rattle.fw_outside.specs.ToldList.{grown}
 use Rattle.fw_types.specs.declared.message.Message.{Message}
 use Rattle.smapd_queue.specs.Turns.{Fate, Turn, accepted_by, accepted_of, failed_by, refused_by}
 use Rattle.smapd_queue.specs.Turns.Fate.{Freed, NotFreed, PutAside, NotAside, PutBack, Unread}
-use Rattle.smapd_queue.specs.Meeting.{FirstAnswers, MailersMeet}
+use Rattle.smapd_queue.specs.Meeting.{MailersMeet}
 use Rattle.smapd_queue.specs.Sums.{MailersGo, RoseBy, failures_of, refusals_of}
 
 pub grown_nil : {A : Type 0} (told : Option (List A)) → told ≡ grown told []
@@ -18,6 +19,16 @@ grown_nil {A} (Some xs) = ap (λ (l : List A). Some l) (sym (append-nil xs))
 pub grown_both : {A : Type 0} (told : Option (List A)) (xs ys : List A) → grown (grown told xs) ys ≡ grown told (xs ++ ys)
 grown_both None xs ys = refl
 grown_both {A} (Some zs) xs ys = ap (λ (l : List A). Some l) (append_assoc zs xs ys)
+
+-- ---- how many there are
+
+pub hands_many : {A : Type 0} (view : A → MailerView) (answer : Handed) (message : Message) (old new : List A) → HandsFirst answer message (map view old) (map view new) → length new ≡ length old
+hands_many view answer message old new h =
+    let a = length-map old view in
+    let b = length-map new view in
+    let was : length (map view old) ≡ length (h.first ∷ h.others) = ap length h.was in
+    let is : length (map view new) ≡ length (h.after ∷ h.others) = ap length h.is in
+    omega (arith, a, b, was, is)
 
 -- ---- one turn
 
@@ -37,18 +48,18 @@ pub record HasFirst (mailers : List MailerView) : Type 0 where
   pub others : List MailerView
   pub is : mailers ≡ first ∷ others
 
-met_first : (fate : Fate) (old new : List MailerView) (answer : Handed) (message : Message) (f : FirstAnswers answer message old new)
+met_first : (fate : Fate) (old new : List MailerView) (answer : Handed) (message : Message) (f : HandsFirst answer message old new)
     → f.after.accepted ≡ grown f.first.accepted (accepted_by fate) → RoseBy (refused_by fate) f.first.refusals f.after.refusals → RoseBy (failed_by fate) f.first.faults f.after.faults → MetFirst fate old new
-met_first fate old new answer message f a r e = record { first = f.first; after = f.after; others = f.others; were = f.were; are = f.are; accepted = a; refusals = r; faults = e }
+met_first fate old new answer message f a r e = record { first = f.first; after = f.after; others = f.others; were = f.was; are = f.is; accepted = a; refusals = r; faults = e }
 
-by_accepted : (fate : Fate) (old new : List MailerView) (message : Message) → accepted_by fate ≡ message ∷ [] → refused_by fate ≡ 0 → failed_by fate ≡ 0 → FirstAnswers answers.Accepted message old new → MetFirst fate old new
+by_accepted : (fate : Fate) (old new : List MailerView) (message : Message) → accepted_by fate ≡ message ∷ [] → refused_by fate ≡ 0 → failed_by fate ≡ 0 → HandsFirst answers.Accepted message old new → MetFirst fate old new
 by_accepted fate old new message one none zero f =
     let refusals : f.after.refusals ≡ f.first.refusals = ap (λ (m : MailerView). m.refusals) f.hands in
     let faults : f.after.faults ≡ f.first.faults = ap (λ (m : MailerView). m.faults) f.hands in
     met_first fate old new answers.Accepted message f
     (ap (λ (m : MailerView). m.accepted) f.hands ∙ ap (grown f.first.accepted) (sym one)) (omega (arith, refusals, none)) (omega (arith, faults, zero))
 
-by_refused : (fate : Fate) (old new : List MailerView) (message : Message) → accepted_by fate ≡ [] → refused_by fate ≡ 1 → failed_by fate ≡ 0 → FirstAnswers answers.Refused message old new → MetFirst fate old new
+by_refused : (fate : Fate) (old new : List MailerView) (message : Message) → accepted_by fate ≡ [] → refused_by fate ≡ 1 → failed_by fate ≡ 0 → HandsFirst answers.Refused message old new → MetFirst fate old new
 by_refused fate old new message none one zero f =
     let refusals : f.after.refusals ≡ f.hands.count = ap (λ (m : MailerView). m.refusals) f.hands.is in
     let faults : f.after.faults ≡ f.first.faults = ap (λ (m : MailerView). m.faults) f.hands.is in
@@ -56,7 +67,7 @@ by_refused fate old new message none one zero f =
     met_first fate old new answers.Refused message f
     (ap (λ (m : MailerView). m.accepted) f.hands.is ∙ grown_nil f.first.accepted ∙ ap (grown f.first.accepted) (sym none)) (omega (arith, refusals, rose, one)) (omega (arith, faults, zero))
 
-by_failed : (fate : Fate) (old new : List MailerView) (message : Message) → accepted_by fate ≡ [] → refused_by fate ≡ 0 → failed_by fate ≡ 1 → FirstAnswers answers.Failed message old new → MetFirst fate old new
+by_failed : (fate : Fate) (old new : List MailerView) (message : Message) → accepted_by fate ≡ [] → refused_by fate ≡ 0 → failed_by fate ≡ 1 → HandsFirst answers.Failed message old new → MetFirst fate old new
 by_failed fate old new message none zero one f =
     let refusals : f.after.refusals ≡ f.first.refusals = ap (λ (m : MailerView). m.refusals) f.hands.is in
     let faults : f.after.faults ≡ f.hands.count = ap (λ (m : MailerView). m.faults) f.hands.is in
@@ -99,9 +110,9 @@ mailers_here mailers new h same = record {
   faults = omega arith;
 }
 
-pub mailers_lacked : (message : Message) (mailers new : List MailerView) → FirstAnswers answers.NoMemory message mailers new → MailersGo [] mailers new
+pub mailers_lacked : (message : Message) (mailers new : List MailerView) → HandsFirst answers.NoMemory message mailers new → MailersGo [] mailers new
 mailers_lacked message mailers new f =
-    mailers_here mailers new (record { first = f.first; others = f.others; is = f.were }) (f.are ∙ ap (λ (m : MailerView). m ∷ f.others) f.hands ∙ sym f.were)
+    mailers_here mailers new (record { first = f.first; others = f.others; is = f.was }) (f.is ∙ ap (λ (m : MailerView). m ∷ f.others) f.hands ∙ sym f.was)
 
 first_is : (x y : MailerView) (xs ys : List MailerView) → x ∷ xs ≡ y ∷ ys → x ≡ y
 first_is x y xs ys e = cc

@@ -17,7 +17,7 @@ use Rattle.smapd_queue.proofs.LentLemmas.{lent_full, loan_here, struck_here}
 abbrev queues_with : List SlotView → List FullView → List SlotView → List BrokenView → Queues
 queues_with free full aside broken = record { free = free; full = full; aside = aside; broken = broken }
 
-abbrev turned : FullView → Fate → Queues → Queues
+abbrev pub turned : FullView → Fate → Queues → Queues
 turned slot fate q = queues_with (q.free ++ freed_by fate) (drop 1 q.full ++ put_back_by slot fate) (q.aside ++ put_aside_by fate) (q.broken ++ broken_by fate)
 
 same_queues : (a b : List SlotView) (c d : List FullView) (e f : List SlotView) (g h : List BrokenView) → a ≡ b → c ≡ d → e ≡ f → g ≡ h → queues_with a c e g ≡ queues_with b d f h
@@ -168,7 +168,7 @@ turned_by slot fate old lent new t h p = turned_lent slot fate old new h (subst 
 
 -- ---- none, and one more in front
 
-front_of : {X : Type 0} (x : X) (items : List X) → take 1 items ≡ x ∷ [] → items ≡ x ∷ drop 1 items
+pub front_of : {X : Type 0} (x : X) (items : List X) → take 1 items ≡ x ∷ [] → items ≡ x ∷ drop 1 items
 front_of x [] e = absurd cc
 front_of {X} x (y ∷ items) e = let is : y ≡ x = cc in ap (λ (z : X). z ∷ items) is
 

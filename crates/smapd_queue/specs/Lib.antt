@@ -4,4 +4,5 @@ pub mod Meeting
 pub mod Sums
 pub mod Round
 pub mod Words
+pub mod Laws
 pub mod Steps

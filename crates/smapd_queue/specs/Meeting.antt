@@ -1,7 +1,6 @@
 -- What a round meets, and what a turn does to it.
 use Rattle.std.specs.Prelude.{◌≡◌, ℕ, zero, suc, ◌+◌, ◌≤◌, List, [], ◌∷◌, ◌++◌, length, Option, Some, None}
-use Rattle.fw_mail.specs.MailerView.{Hands, MailerView}
-use Rattle.fw_mail.specs.declared.handed.Handed.{Handed}
+use Rattle.fw_mail.specs.MailerView.{HandsFirst, MailerView}
 use Rattle.fw_mail.specs.declared.handed.Handed.TheVariants as answers
 use Rattle.fw_outside.specs.SinkView.{Cut, SinkView}
 use Rattle.fw_outside.specs.ToldList.{grown}
@@ -23,22 +22,13 @@ meeting_with store mailers logs = record { store = store; mailers = mailers; log
 
 -- ---- the mailers
 
--- the first mailer answers so to a message, and the others are left alone
-pub record FirstAnswers (answer : Handed) (message : Message) (old new : List MailerView) : Type 0 where
-  pub first : MailerView
-  pub after : MailerView
-  pub others : List MailerView
-  pub were : old ≡ first ∷ others
-  pub hands : Hands answer message first after
-  pub are : new ≡ after ∷ others
-
 -- how the first mailer answered, if it was handed the message
 abbrev pub MailersMeet : Fate → List MailerView → List MailerView → Type 0
-MailersMeet (Freed message free) old new = FirstAnswers answers.Accepted message old new
-MailersMeet (NotFreed message broken) old new = FirstAnswers answers.Accepted message old new
-MailersMeet (PutAside message aside) old new = FirstAnswers answers.Refused message old new
-MailersMeet (NotAside message broken) old new = FirstAnswers answers.Refused message old new
-MailersMeet (PutBack message) old new = FirstAnswers answers.Failed message old new
+MailersMeet (Freed message free) old new = HandsFirst answers.Accepted message old new
+MailersMeet (NotFreed message broken) old new = HandsFirst answers.Accepted message old new
+MailersMeet (PutAside message aside) old new = HandsFirst answers.Refused message old new
+MailersMeet (NotAside message broken) old new = HandsFirst answers.Refused message old new
+MailersMeet (PutBack message) old new = HandsFirst answers.Failed message old new
 MailersMeet (Unread broken) old new = new ≡ old
 
 -- ---- the store
@@ -106,7 +96,7 @@ pub record FailsToLog (turn : Turn) (old new : Meeting) : Type 0 where
 -- there was no memory to hand this message over, or to read one
 abbrev pub MailersLack : FullView → Option Message → List MailerView → List MailerView → Type 0
 MailersLack slot None old new = new ≡ old
-MailersLack slot (Some message) old new = IsItsMessage message slot × FirstAnswers answers.NoMemory message old new
+MailersLack slot (Some message) old new = IsItsMessage message slot × HandsFirst answers.NoMemory message old new
 
 -- the full slot at the front was taken, and put back full as it was
 pub record Lacks (slot : FullView) (message : Option Message) (old new : Meeting) : Type 0 where

@@ -1,25 +1,25 @@
 //! Handing on the message of a slot that was taken.
 ghost use Rattle.std.specs.Prelude.{◌≡◌, ◌<◌, length, map};
-ghost use Rattle.smapd_queue.specs.Meeting.{FirstAnswers};
+ghost use Rattle.fw_mail.specs.MailerView.{HandsFirst};
 ghost use Rattle.smapd_queue.specs.Slots.{IsItsMessage};
 ghost use Rattle.smapd_queue.specs.Steps.{HandsOnSo, IsLent};
 
 use crate::puts::{free_slot, give_up, put_back, set_aside};
 use crate::word::Word;
-use fw_mail::{Handed, Mailer};
+use fw_mail::{Handed, Mailer, hand_to_first};
 use fw_types::{Message, NoMemory};
 use spool_rack::{Full, MailStore, ReadBack};
 use std::alloc::Global;
 
 // Hands a message to the first mailer.
+#[tactic(auto, using(crate::proofs::MailerLemmas::hands_many))]
 fn hand_first(mailers: &mut Vec<Box<dyn Mailer>>, message: &Message) -> Handed
     requires { 0 < length mailers.old.items }
-    ensures answers { FirstAnswers result message.now
-        (map (λ m. (⟦<dyn Mailer as Mailer>⟧ m.vtable).mailer_view m.value) mailers.old.items)
-        (map (λ m. (⟦<dyn Mailer as Mailer>⟧ m.vtable).mailer_view m.value) mailers.new.items) }
+    ensures answers { HandsFirst result message.now (map (λ m. mailer_view m) mailers.old.items)
+        (map (λ m. mailer_view m) mailers.new.items) }
     ensures many { length mailers.new.items ≡ length mailers.old.items }
 {
-    mailers[0].hand(message)
+    hand_to_first(mailers, message)
 }
 
 // Hands the message of a slot to the first mailer, and puts the slot where it belongs.
@@ -32,8 +32,8 @@ fn hand_over<M: MailStore>(
     requires some { 0 < length mailers.old.items }
     requires lent { IsLent full (M.store_view store.old).out }
     ensures so { IsItsMessage message.now full → HandsOnSo result full (M.store_view store.old) (M.store_view store.new)
-        (map (λ m. (⟦<dyn Mailer as Mailer>⟧ m.vtable).mailer_view m.value) mailers.old.items)
-        (map (λ m. (⟦<dyn Mailer as Mailer>⟧ m.vtable).mailer_view m.value) mailers.new.items) }
+        (map (λ m. mailer_view m) mailers.old.items)
+        (map (λ m. mailer_view m) mailers.new.items) }
     ensures many { length mailers.new.items ≡ length mailers.old.items }
 {
     match hand_first(mailers, message) {
@@ -60,8 +60,8 @@ pub(crate) fn hand_on<M: MailStore>(
     requires some { 0 < length mailers.old.items }
     requires lent { IsLent full (M.store_view store.old).out }
     ensures so { HandsOnSo result full (M.store_view store.old) (M.store_view store.new)
-        (map (λ m. (⟦<dyn Mailer as Mailer>⟧ m.vtable).mailer_view m.value) mailers.old.items)
-        (map (λ m. (⟦<dyn Mailer as Mailer>⟧ m.vtable).mailer_view m.value) mailers.new.items) }
+        (map (λ m. mailer_view m) mailers.old.items)
+        (map (λ m. mailer_view m) mailers.new.items) }
     ensures many { length mailers.new.items ≡ length mailers.old.items }
 {
     let mut full = full;

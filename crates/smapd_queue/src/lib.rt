@@ -6,6 +6,7 @@
 #![tactic(auto)]
 
 mod handing;
+pub mod laws;
 mod log_line;
 mod puts;
 mod queue;

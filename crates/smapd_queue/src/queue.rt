@@ -53,8 +53,8 @@ fn take_turn_with<M: MailStore, G: Sink>(
     requires lent { IsLent full (M.store_view store.old).out }
     ensures so { (before : StoreView) → HasTakenFull full before (M.store_view store.old) →
         StepsSo result tally.old tally.new
-        (meeting_with before (map (λ m. (⟦<dyn Mailer as Mailer>⟧ m.vtable).mailer_view m.value) mailers.old.items) (G.sink_view logs.old))
-        (meeting_with (M.store_view store.new) (map (λ m. (⟦<dyn Mailer as Mailer>⟧ m.vtable).mailer_view m.value) mailers.new.items) (G.sink_view logs.new)) }
+        (meeting_with before (map (λ m. mailer_view m) mailers.old.items) (G.sink_view logs.old))
+        (meeting_with (M.store_view store.new) (map (λ m. mailer_view m) mailers.new.items) (G.sink_view logs.new)) }
     ensures many { length mailers.new.items ≡ length mailers.old.items }
 {
     let number = full.number();
@@ -84,8 +84,8 @@ fn take_turn<M: MailStore, G: Sink>(
     requires some { 0 < length mailers.old.items }
     requires room { HasRoom tally.old.round }
     ensures so { StepsSo result tally.old tally.new
-        (meeting_with (M.store_view store.old) (map (λ m. (⟦<dyn Mailer as Mailer>⟧ m.vtable).mailer_view m.value) mailers.old.items) (G.sink_view logs.old))
-        (meeting_with (M.store_view store.new) (map (λ m. (⟦<dyn Mailer as Mailer>⟧ m.vtable).mailer_view m.value) mailers.new.items) (G.sink_view logs.new)) }
+        (meeting_with (M.store_view store.old) (map (λ m. mailer_view m) mailers.old.items) (G.sink_view logs.old))
+        (meeting_with (M.store_view store.new) (map (λ m. mailer_view m) mailers.new.items) (G.sink_view logs.new)) }
     ensures many { length mailers.new.items ≡ length mailers.old.items }
 {
     match take_full(store) {
@@ -104,8 +104,8 @@ pub fn smapd_round_telling<M: MailStore, G: Sink>(
 ) -> Rounded
     requires { 0 < length mailers.old.items }
     ensures { HandsOnTelling turns result.answer result.trouble
-        (meeting_with (M.store_view store.old) (map (λ m. (⟦<dyn Mailer as Mailer>⟧ m.vtable).mailer_view m.value) mailers.old.items) (G.sink_view logs.old))
-        (meeting_with (M.store_view store.new) (map (λ m. (⟦<dyn Mailer as Mailer>⟧ m.vtable).mailer_view m.value) mailers.new.items) (G.sink_view logs.new)) }
+        (meeting_with (M.store_view store.old) (map (λ m. mailer_view m) mailers.old.items) (G.sink_view logs.old))
+        (meeting_with (M.store_view store.new) (map (λ m. mailer_view m) mailers.new.items) (G.sink_view logs.new)) }
 {
     let mut tally = Tally::new();
     let mut left = turns;
@@ -148,8 +148,8 @@ pub fn smapd_round<M: MailStore, G: Sink>(
 ) -> Result<Round, RoundFault>
     requires { 0 < length mailers.old.items }
     ensures { HandsOn turns result
-        (meeting_with (M.store_view store.old) (map (λ m. (⟦<dyn Mailer as Mailer>⟧ m.vtable).mailer_view m.value) mailers.old.items) (G.sink_view logs.old))
-        (meeting_with (M.store_view store.new) (map (λ m. (⟦<dyn Mailer as Mailer>⟧ m.vtable).mailer_view m.value) mailers.new.items) (G.sink_view logs.new)) }
+        (meeting_with (M.store_view store.old) (map (λ m. mailer_view m) mailers.old.items) (G.sink_view logs.old))
+        (meeting_with (M.store_view store.new) (map (λ m. mailer_view m) mailers.new.items) (G.sink_view logs.new)) }
 {
     smapd_round_telling(alloc, store, mailers, turns, logs).answer
 }
