@@ -17,12 +17,12 @@ use Rattle.spool_law.specs.World.Use.{Unused, Begun, CutOff, Opened}
 use Rattle.spool_law.proofs.RunLemmas.{run_one, runs_then, runs_here}
 use Rattle.spool_slots.proofs.EventLemmas.{runs_only_read}
 use Rattle.spool_slots.proofs.MarkLemmas.{keeps_images}
-use Rattle.spool_slots.specs.Images.{IsWholeImage, IsWholeOrAside}
+use Rattle.spool_slots.specs.Images.{IsFreeImage, IsWholeImage, IsWholeOrAside}
 use Rattle.spool_slots.specs.Media.{IsSettled}
-use Rattle.spool_slots.specs.States.{BrokenView, FullView, Keeps, SlotView}
+use Rattle.spool_slots.specs.States.{BrokenView, FullView, IsBrokenFull, IsOnward, Keeps, SlotView}
 use Rattle.smapd_queue.specs.Turns.{Fate, Turn}
 use Rattle.smapd_queue.specs.Turns.Fate.{Freed, NotFreed, PutAside, NotAside, PutBack, Unread}
-use Rattle.smapd_queue.specs.Slots.{IsFateOf, KeepsUnaccepted, RunsAccepted, RunsBy, StaysWholeOrAside, accepted_in, disk_by, is_accepted}
+use Rattle.smapd_queue.specs.Slots.{IsFateOf, IsFreed, IsNotFreed, RunsAccepted, RunsBy, StaysFreeOrWhole, StaysWholeOrAside, accepted_in, disk_by, is_accepted}
 use Rattle.smapd_queue.specs.Round.{IsTurn}
 
 -- ---- a message is accepted
@@ -92,3 +92,13 @@ runs_by slot (Unread broken) h = λ k. runs_only_read k slot.disk broken.disk h.
 
 pub is_turn : (turn : Turn) → IsFateOf turn.slot turn.fate → IsTurn turn
 is_turn turn h = record { fate = h; kept = kept_by turn.slot turn.fate h; events = runs_by turn.slot turn.fate h }
+
+-- ---- by what the calls ensure
+
+pub freed_so : (slot : FullView) (free : SlotView) → IsOnward slot.number slot.disk free.number free.disk → Now (EachImage IsFreeImage) free.disk → StaysFreeOrWhole slot free.disk
+    → ((k : Known) → OfLetter (Contains k.accepted) k.use_of → Runs k slot.disk k free.disk) → IsFreed slot free
+freed_so slot free onward now images events = record { onward = onward; images_now = now; images = images; events = runs_accepted slot free.disk events }
+
+pub not_freed_so : (slot : FullView) (broken : BrokenView) → IsBrokenFull slot.number slot.disk broken → StaysFreeOrWhole slot broken.disk
+    → ((k : Known) → OfLetter (Contains k.accepted) k.use_of → Runs k slot.disk k broken.disk) → IsNotFreed slot broken
+not_freed_so slot broken broke images events = record { broke = broke; images = images; events = runs_accepted slot broken.disk events }

@@ -1,5 +1,6 @@
 mod LentLemmas
 mod FateLemmas
+mod HandLemmas
 mod TurnLemmas
 mod StoreLemmas
 mod MailerLemmas

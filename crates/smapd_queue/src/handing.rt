@@ -4,7 +4,7 @@ ghost use Rattle.fw_mail.specs.MailerView.{HandsFirst};
 ghost use Rattle.smapd_queue.specs.Slots.{IsItsMessage};
 ghost use Rattle.smapd_queue.specs.Steps.{HandsOnSo, IsLent};
 
-use crate::puts::{free_slot, give_up, put_back, set_aside};
+use crate::puts::{free_slot, give_up, keep, lack, set_aside};
 use crate::word::Word;
 use fw_mail::{Handed, Mailer, hand_to_first};
 use fw_types::{Message, NoMemory};
@@ -39,14 +39,8 @@ fn hand_over<M: MailStore>(
     match hand_first(mailers, message) {
         Handed::Accepted => Ok(free_slot(store, full)),
         Handed::Refused => Ok(set_aside(store, full)),
-        Handed::Failed => {
-            put_back(store, full);
-            Ok(Word::Failed)
-        }
-        Handed::NoMemory => {
-            put_back(store, full);
-            Err(NoMemory)
-        }
+        Handed::Failed => Ok(keep(store, full)),
+        Handed::NoMemory => Err(lack(store, full)),
     }
 }
 
@@ -67,13 +61,7 @@ pub(crate) fn hand_on<M: MailStore>(
     let mut full = full;
     match full.message(alloc) {
         Ok(message) => hand_over(store, mailers, full, &message),
-        Err(ReadBack::DiskFault) => {
-            give_up(store, full);
-            Ok(Word::Broken)
-        }
-        Err(ReadBack::NoMemory) => {
-            put_back(store, full);
-            Err(NoMemory)
-        }
+        Err(ReadBack::DiskFault) => Ok(give_up(store, full)),
+        Err(ReadBack::NoMemory) => Err(lack(store, full)),
     }
 }

@@ -2,9 +2,11 @@
 ghost use Rattle.std.specs.Prelude.{◌≡◌, true};
 ghost use Rattle.spool_rack.specs.Store.{IsOut, MayPutAside, MayPutBroken, MayPutFull, PutsBroken, TakesFull};
 ghost use Rattle.spool_rack.specs.Store.{put_aside, put_free, put_full};
+ghost use Rattle.smapd_queue.specs.declared.word.Word.TheVariants as words;
 ghost use Rattle.smapd_queue.specs.Steps.{Accepts, IsLent, IsLentUnread, Refuses, as_broken};
 
 use crate::word::Word;
+use fw_types::NoMemory;
 use spool_rack::{Aside, Broken, Free, Full, MailStore};
 
 /// A slot with a message, if there is one.
@@ -50,22 +52,44 @@ fn put_broken<M: MailStore>(store: &mut M, broken: Broken<M::D>)
     store.put_broken(broken);
 }
 
-/// Puts back a slot as it was taken.
+// Puts back a slot as it was taken.
 #[tactic(auto, using(crate::proofs::LentLemmas::may_put_full))]
-pub(crate) fn put_back<M: MailStore>(store: &mut M, full: Full<M::D>)
+fn put_back<M: MailStore>(store: &mut M, full: Full<M::D>)
     requires { IsLent full (M.store_view store.old).out }
     ensures { M.store_view store.new ≡ put_full full (M.store_view store.old) }
 {
     put_full(store, full);
 }
 
+/// Puts back a slot whose message a mailer failed to take.
+pub(crate) fn keep<M: MailStore>(store: &mut M, full: Full<M::D>) -> Word
+    requires { IsLent full (M.store_view store.old).out }
+    ensures word { result ≡ words.Failed }
+    ensures puts { M.store_view store.new ≡ put_full full (M.store_view store.old) }
+{
+    put_back(store, full);
+    Word::Failed
+}
+
+/// Puts back a slot for want of memory.
+pub(crate) fn lack<M: MailStore>(store: &mut M, full: Full<M::D>) -> NoMemory
+    requires { IsLent full (M.store_view store.old).out }
+    ensures { M.store_view store.new ≡ put_full full (M.store_view store.old) }
+{
+    put_back(store, full);
+    NoMemory
+}
+
 /// Puts back a slot that couldn't be read.
-pub(crate) fn give_up<M: MailStore>(store: &mut M, full: Full<M::D>)
+#[tactic(auto, using(crate::proofs::LentLemmas::may_give_up))]
+pub(crate) fn give_up<M: MailStore>(store: &mut M, full: Full<M::D>) -> Word
     requires unread { full.unread ≡ true }
     requires lent { IsLentUnread full (M.store_view store.old).out }
-    ensures { PutsBroken (as_broken full) (M.store_view store.old) (M.store_view store.new) }
+    ensures word { result ≡ words.Broken }
+    ensures puts { PutsBroken (as_broken full) (M.store_view store.old) (M.store_view store.new) }
 {
     put_broken(store, full.into_broken());
+    Word::Broken
 }
 
 /// Frees a slot whose message was accepted.

@@ -112,25 +112,12 @@ pub fn smapd_round_telling<M: MailStore, G: Sink>(
     while left > 0 {
         match take_turn(alloc, store, mailers, logs, &mut tally) {
             Step::Went => left -= 1,
-            Step::NoneFull => break,
-            Step::Unlogged => {
-                return Rounded {
-                    answer: Err(RoundFault::LogFault(tally.round)),
-                    trouble: tally.trouble,
-                };
-            }
-            Step::Lacked => {
-                return Rounded {
-                    answer: Err(RoundFault::NoMemory(tally.round)),
-                    trouble: tally.trouble,
-                };
-            }
+            Step::NoneFull => return tally.well(),
+            Step::Unlogged => return tally.unlogged(),
+            Step::Lacked => return tally.lacked(),
         }
     }
-    Rounded {
-        answer: Ok(tally.round),
-        trouble: tally.trouble,
-    }
+    tally.well()
 }
 
 /// A round: takes a full slot as many times as there may be turns, or until no slot is full, reads its message and hands it to

@@ -1,10 +1,11 @@
 //! What a round came to so far.
-ghost use Rattle.std.specs.Prelude.{◌≡◌, None};
+ghost use Rattle.std.specs.Prelude.{◌≡◌, None, Ok, Err};
+ghost use Rattle.smapd_queue.specs.declared.round.RoundFault.TheVariants as faults;
 ghost use Rattle.smapd_queue.specs.Turns.{or_else};
 ghost use Rattle.smapd_queue.specs.Words.{HasRoom, trouble_in, with_one};
 
 use crate::word::Word;
-use crate::{Round, Trouble};
+use crate::{Round, RoundFault, Rounded, Trouble};
 
 /// The numbers, and the device that failed first.
 #[derive(Clone, Copy)]
@@ -98,5 +99,35 @@ impl Tally {
         } }
     {
         self.round = with_one(self.round, word);
+    }
+
+    /// What a round answers that ended well.
+    pub(crate) fn well(self) -> Rounded
+        ensures { result ≡ record { answer = Ok self.round; trouble = self.trouble } }
+    {
+        Rounded {
+            answer: Ok(self.round),
+            trouble: self.trouble,
+        }
+    }
+
+    /// What a round answers at which the log failed.
+    pub(crate) fn unlogged(self) -> Rounded
+        ensures { result ≡ record { answer = Err (faults.LogFault self.round); trouble = self.trouble } }
+    {
+        Rounded {
+            answer: Err(RoundFault::LogFault(self.round)),
+            trouble: self.trouble,
+        }
+    }
+
+    /// What a round answers for want of memory.
+    pub(crate) fn lacked(self) -> Rounded
+        ensures { result ≡ record { answer = Err (faults.NoMemory self.round); trouble = self.trouble } }
+    {
+        Rounded {
+            answer: Err(RoundFault::NoMemory(self.round)),
+            trouble: self.trouble,
+        }
     }
 }
