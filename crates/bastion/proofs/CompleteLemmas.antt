@@ -260,14 +260,14 @@ gated_done name peer outcome old mid new none h tells (inr passed) =
 
 -- a slot has no reading, or there was no memory
 bad_done : (name : List ℕ) (peer : Peer) (outcome : Outcome) (old mid new : WorldView) → Quiet old new → (status_of outcome ≡ 4 → ⊥) → (h : Worked name (Smap peer) outcome old mid) → TellsIf (fault_line_of outcome) mid new → (slot : ℕ) (why : SlotWhy)
-    → IsRackFault h.middle.inputs.disks slot why mid.inputs.disks → outcome ≡ slot_fault slot why → mid.logs ≡ h.middle.logs → mid.output ≡ h.middle.output → (status_of outcome ≡ 5) ⊎ AllDone name (Smap peer) (status_of outcome) old new
+    → IsRackFault (Unit {0}) h.middle.inputs.disks slot why mid.inputs.disks → outcome ≡ slot_fault slot why → mid.logs ≡ h.middle.logs → mid.output ≡ h.middle.output → (status_of outcome ≡ 5) ⊎ AllDone name (Smap peer) (status_of outcome) old new
 bad_done name peer outcome old mid new q never h tells slot whys.DiskFault fault comes logs output = absurd (never (ap status_of comes))
 bad_done name peer outcome old mid new q never h tells slot whys.NoMemory fault comes logs output = inl (ap status_of comes)
 bad_done name peer outcome old mid new q never h tells slot (whys.BadSlot at) (inl none) comes logs output = let clash : whys.BadSlot at ≡ whys.NoMemory = none.1 in absurd (cc)
 bad_done name peer outcome old mid new q never h tells slot (whys.BadSlot at) (inr came) comes logs output =
     let told : TellsIf (Some (codes "fault " ++ refusal_text (Slot slot at) ++ codes "\n")) mid new = subst (λ (o : Outcome). TellsIf (fault_line_of o) mid new) comes tells in
     let whole = told_whole (codes "fault " ++ refusal_text (Slot slot at) ++ codes "\n") old mid new q (logs ∙ h.only.logs) (output ∙ h.only.output) told in
-    let Came : SessionInputs → SessionInputs → Type 0 = λ a b. CameBack slot (whys.BadSlot at) a.disks b.disks in
+    let Came : SessionInputs → SessionInputs → Type 0 = λ a b. CameBack (Unit {0}) 0 slot (whys.BadSlot at) a.disks b.disks in
     inr (record {
       read = Ok h.inputs;
       inputs = h.read;
@@ -363,9 +363,71 @@ init_complete (Ok done) outcome old mid new none logs formats h tells = record {
 init_complete (Err slot) outcome old mid new none logs formats h tells =
     absurd (none (inr (slot, subst (λ (i : SessionInputs). DiskRose slot old.inputs.disks i.disks) (sym (tells_later (fault_line_of outcome) mid new tells).inputs) (fails_rose slot old.inputs.disks mid.inputs.disks formats))))
 
+-- a slot has no reading, or there was no memory
+unread_complete : (outcome : Outcome) (old mid new : WorldView) → (RoseInJob Smapd old new → ⊥) → (u : SlotsUnread outcome old mid) → TellsIf (fault_line_of outcome) mid new → (slot : ℕ) (why : SlotWhy) → IsRackFault (Unit {0}) old.inputs.disks slot why mid.inputs.disks → outcome ≡ slot_fault slot why
+    → IsJobComplete Smapd (status_of outcome) old new
+unread_complete outcome old mid new none u tells slot whys.NoMemory fault comes = inl (ap status_of comes)
+unread_complete outcome old mid new none u tells slot whys.DiskFault fault comes =
+    absurd (none (inr (inl (slot, subst (λ (i : SessionInputs). DiskRose slot old.inputs.disks i.disks) (sym (tells_later (fault_line_of outcome) mid new tells).inputs) (unread_rose slot whys.DiskFault old mid fault)))))
+unread_complete outcome old mid new none u tells slot (whys.BadSlot at) (inl none_at) comes = let clash : whys.BadSlot at ≡ whys.NoMemory = none_at.1 in absurd (cc)
+unread_complete outcome old mid new none u tells slot (whys.BadSlot at) (inr came) comes =
+    let told : TellsIf (Some (codes "fault " ++ refusal_text (Slot slot at) ++ codes "\n")) mid new = subst (λ (o : Outcome). TellsIf (fault_line_of o) mid new) comes tells in
+    let whole = told_whole (codes "fault " ++ refusal_text (Slot slot at) ++ codes "\n") old mid new (quiet old new (λ some. none (inl some))) (ap (λ (w : WorldView). w.logs) u.is) (ap (λ (w : WorldView). w.output) u.is) told in
+    inr (inl (record {
+      slot = slot;
+      at = at;
+      bad = record { came = subst (λ (i : SessionInputs). CameBack (Unit {0}) 0 slot (whys.BadSlot at) old.inputs.disks i.disks) (sym (tells_later (fault_line_of outcome) mid new tells).inputs) came };
+      whole = record { logs = whole.0; output = whole.1; status_is = ap status_of comes };
+    }))
+
+-- a round that went to its end logged each line
+round_lines : (ending : End) (turns : List Turn) (round : Round) (old new : SinkView) → Ok round ≡ answer_of ending (round_of turns) → LogGoes turns ending old new → new ≡ record old { given = grown old.given (lines_of turns) }
+round_lines AllTaken turns round old new is goes = goes
+round_lines NoneFull turns round old new is goes = goes
+round_lines (Unlogged turn) turns round old new is goes = absurd (cc)
+round_lines (Lacked slot message) turns round old new is goes = absurd (cc)
+
+-- what was printed of it, and no line follows
+round_whole : (outcome : Outcome) (old mid new : WorldView) → (Rose old.output.faults mid.output.faults → ⊥) → (h : RoundHeld outcome old mid) → TellsIf (fault_line_of outcome) mid new → (round : Round) → h.answer ≡ Ok round → h.trouble ≡ None → (printing : Result (Unit {0}) sink.Failed)
+    → outcome ≡ outcome_printed printing → Gives printing (round_text round) old.output mid.output → IsRoundWhole (status_of outcome) old new
+round_whole outcome old mid new never h tells round well untroubled (Err failed) is gives = absurd (never (cut_rose (round_text round) old.output mid.output gives))
+round_whole outcome old mid new never h tells round well untroubled (Ok done) is gives =
+    let P : Outcome → Type 0 = λ o. TellsIf (fault_line_of o) mid new in
+    let same : new ≡ mid = subst P is tells in
+    let lines = round_lines h.hands.hands.ending h.hands.hands.turns round old.logs mid.logs (sym well ∙ h.hands.hands.answer) h.hands.hands.logs in
+    subst (IsRoundWhole (status_of outcome) old) (sym same) (record {
+      round = round;
+      answer = h.answer;
+      trouble = h.trouble;
+      well = well;
+      untroubled = untroubled;
+      held = round_now outcome old mid h;
+      whole = record {
+        logs = ap (λ (s : SinkView). s.given) lines;
+        output = ap (λ (s : SinkView). s.given) gives;
+        status_is = ap status_of is;
+      };
+    })
+
+-- without trouble
+round_complete : (outcome : Outcome) (old mid new : WorldView) → (RoseInJob Smapd old new → ⊥) → (h : RoundHeld outcome old mid) → TellsIf (fault_line_of outcome) mid new → (answer : Result Round RoundFault) → h.answer ≡ answer → (trouble : Option Trouble) → h.trouble ≡ trouble
+    → TellsRound answer trouble outcome old.output mid.output → IsJobComplete Smapd (status_of outcome) old new
+round_complete outcome old mid new none h tells answer is (Some troubles.Mailer) trouble_is told =
+    absurd (none (inr (inr (subst (IsTroubled old new) trouble_is (troubled_now outcome old mid new (tells_later (fault_line_of outcome) mid new tells) h)))))
+round_complete outcome old mid new none h tells answer is (Some (troubles.Disk slot)) trouble_is told =
+    absurd (none (inr (inl (slot, subst (IsTroubled old new) trouble_is (troubled_now outcome old mid new (tells_later (fault_line_of outcome) mid new tells) h)))))
+round_complete outcome old mid new none h tells (Err (faults_of.NoMemory round)) is None trouble_is told = inl (ap status_of told.0)
+round_complete outcome old mid new none h tells (Err (faults_of.LogFault round)) is None trouble_is told =
+    absurd (none (inl (some_later old mid new (tells_later (fault_line_of outcome) mid new tells) (inr (inl (inr (round_log outcome old mid h round is)))))))
+round_complete outcome old mid new none h tells (Ok round) is None trouble_is told =
+    let later = tells_later (fault_line_of outcome) mid new tells in
+    inr (inr (round_whole outcome old mid new (λ rose. none (inl (some_later old mid new later (inr (inl (inl rose)))))) h tells round is trouble_is told.printing told.is told.gives))
+
 job_complete : (job : Job) (outcome : Outcome) (old mid new : WorldView) → (RoseInJob job old new → ⊥) → DoesJob job outcome old mid → TellsIf (fault_line_of outcome) mid new → IsJobComplete job (status_of outcome) old new
 job_complete (Drill drill) outcome old mid new none (inl h) tells = inl (ap status_of h.is)
 job_complete (Drill drill) outcome old mid new none (inr h) tells = inr (drill_complete drill (drilled drill) outcome old mid new (quiet old new none) h tells)
+job_complete Smapd outcome old mid new none (inl u) tells = unread_complete outcome old mid new none u tells u.slot u.why u.fault u.comes
+job_complete Smapd outcome old mid new none (inr h) tells = round_complete outcome old mid new none h tells h.answer refl h.trouble refl h.tells
 job_complete SpoolInit outcome old mid new none h tells = init_complete h.answer outcome old mid new none h.logs h.formats h.tells tells
 
 order_complete : (name : List ℕ) (order : Order) (outcome : Outcome) (old mid new : WorldView) → (RoseInOrder order old new → ⊥) → DoesOrder name order outcome old mid → TellsIf (fault_line_of outcome) mid new

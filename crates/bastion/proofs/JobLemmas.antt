@@ -15,7 +15,8 @@ use Rattle.bastion.specs.Works.{Prints}
 use Rattle.bastion.specs.WorldView.{SessionInputs, WorldView}
 use Rattle.bastion.specs.declared.outcome.Outcome.{Outcome}
 use Rattle.bastion.specs.declared.words.Job.{Job}
-use Rattle.bastion.specs.declared.words.Job.TheVariants.{Drill, SpoolInit}
+use Rattle.bastion.specs.declared.words.Job.TheVariants.{Drill, SpoolInit, Smapd}
+use Rattle.bastion.proofs.HandedLemmas.{handed_disks, handed_left, handed_status}
 use Rattle.bastion.proofs.JobRoseLemmas.{fails_rose}
 use Rattle.bastion.proofs.LeftLemmas.{Later}
 use Rattle.bastion.proofs.RoseLemmas.{some_later}
@@ -66,6 +67,7 @@ init_status (Err slot) count outcome old mid new later formats h =
 pub job_status : (job : Job) (outcome : Outcome) (old mid new : WorldView) → DoesJob job outcome old mid → Later mid new → IsStatusOfJob job (status_of outcome) old new
 job_status (Drill drill) outcome old mid new (inl h) later = inl (inr (ap status_of h.is))
 job_status (Drill drill) outcome old mid new (inr h) later = drill_comes drill (drilled drill) outcome old mid new later h
+job_status Smapd outcome old mid new h later = handed_status outcome old mid new h later
 job_status SpoolInit outcome old mid new h later = init_status h.answer _ outcome old mid new later h.formats h.tells
 
 -- ---- what is left
@@ -97,6 +99,7 @@ drill_left drill (Err fault) outcome old new h = left_same old new h.same
 pub job_left : (job : Job) (outcome : Outcome) (old new : WorldView) → DoesJob job outcome old new → JobLeft old new
 job_left (Drill drill) outcome old new (inl h) = left_same old new h.same
 job_left (Drill drill) outcome old new (inr h) = drill_left drill (drilled drill) outcome old new h
+job_left Smapd outcome old new h = let left = handed_left outcome old new h in record { files = left.0; input = left.1; dialer = left.2; keeper = left.3 }
 job_left SpoolInit outcome old new h = record {
   files = h.files;
   input = ap (λ (i : SessionInputs). i.input) h.inputs;
@@ -118,4 +121,5 @@ init_disks (Err slot) count outcome old new formats h is = let four = ap status_
 pub job_disks : (job : Job) (outcome : Outcome) (old new : WorldView) → DoesJob job outcome old new → JobLeavesDisks job (status_of outcome) old.inputs.disks new.inputs.disks
 job_disks (Drill drill) outcome old new (inl h) = ap (λ (w : WorldView). w.inputs.disks) h.same
 job_disks (Drill drill) outcome old new (inr h) = drill_disks drill (drilled drill) outcome old new h
+job_disks Smapd outcome old new h = handed_disks outcome old new h
 job_disks SpoolInit outcome old new h = λ is. init_disks h.answer _ outcome old new h.formats h.tells is

@@ -1,4 +1,4 @@
--- The work of the commands that need no table: `drill` and `spool-init`.
+-- The work of the commands that need no table: `drill` and `spool-init`; that of `smapd` has a file of its own.
 use Rattle.std.specs.Prelude.{◌≡◌, ℕ, zero, suc, ◌⊎◌, List, ◌∷◌, ◌++◌, length, codes, Result, Ok, Err}
 use Rattle.std.specs.Fmt.{decimal}
 use Rattle.drill_lines.specs.Drill.{drilled, tally_text}
@@ -13,6 +13,7 @@ use Rattle.fw_outside.specs.SinkView.{SinkView}
 use Rattle.fw_outside.specs.declared.failed.Failed as sink
 use Rattle.spool_slots.specs.Images.{IsFreeImage}
 use Rattle.spool_slots.specs.States.{HasCleared, StillTells}
+use Rattle.bastion.specs.HandingOn.{HandsMail}
 use Rattle.bastion.specs.Works.{Prints}
 use Rattle.bastion.specs.WorldView.{WorldView}
 use Rattle.bastion.specs.declared.outcome.Device.TheVariants as device
@@ -108,3 +109,4 @@ pub record Inits (outcome : Outcome) (old new : WorldView) : Type 0 where
 abbrev pub DoesJob : Job → Outcome → WorldView → WorldView → Type 0
 DoesJob (jobs.Drill drill) outcome old new = Drills drill outcome old new
 DoesJob jobs.SpoolInit outcome old new = Inits outcome old new
+DoesJob jobs.Smapd outcome old new = HandsMail outcome old new

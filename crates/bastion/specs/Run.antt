@@ -121,6 +121,7 @@ Lacks name command steps.Print old new = LacksPrint name command old new
 Lacks name command steps.Records old new = ReadsOnly name (needs_records command) old new
 Lacks name command steps.Slots old new = ⊥
 Lacks name command steps.Drill old new = ⊥
+Lacks name command steps.Round old new = ⊥
 Lacks name command step old new = ReadsOnly name false old new
 
 abbrev pub Stops : List ℕ → Command → Outcome → WorldView → WorldView → Type 0

@@ -12,17 +12,17 @@ use Rattle.gate_rules.specs.declared.verdict.Verdict.{Verdict}
 use Rattle.gate_rules.specs.declared.verdict.Verdict.TheVariants.{Permit, Deny}
 use Rattle.bastion.specs.Inputs.{HasInputs, Inputs}
 use Rattle.bastion.specs.Jobs.{AreFormatted}
-use Rattle.bastion.specs.Outcome.{DiskRose, KeeperRose, verdict_status}
+use Rattle.bastion.specs.Outcome.{DiskRose, KeeperRose, MailersRose, verdict_status}
 use Rattle.bastion.specs.Run.{verdict_for}
 use Rattle.bastion.specs.Serving.{most_entries}
-use Rattle.bastion.specs.Spool.{AreOpened, HasBadSlot, LeavesSlots}
+use Rattle.bastion.specs.Spool.{AreOpened, HasBadSlot, LeavesAside, LeavesSlots}
 use Rattle.bastion.specs.Words.{LineView}
 use Rattle.bastion.specs.WorldView.{SessionInputs, WorldView}
 use Rattle.bastion.specs.declared.outcome.Refusal.{Refusal}
 use Rattle.bastion.specs.declared.words.Command.{Command}
 use Rattle.bastion.specs.declared.words.Command.TheVariants.{Netacl, NetaclRun, Table, Authsrv, PlugGw, TnGw, Smap}
 use Rattle.bastion.specs.declared.words.Job.{Job}
-use Rattle.bastion.specs.declared.words.Job.TheVariants.{Drill, SpoolInit}
+use Rattle.bastion.specs.declared.words.Job.TheVariants.{Drill, SpoolInit, Smapd}
 use Rattle.bastion.specs.declared.words.Order.{Order}
 use Rattle.bastion.specs.declared.words.Order.TheVariants.{ByTable, Alone}
 
@@ -54,10 +54,11 @@ RoseBy (TnGw peer) old new = SomeRose old new ⊎ LinksFailed old.inputs.dialer 
 RoseBy (Smap peer) old new = SomeRose old new ⊎ DisksRose old.inputs.disks new.inputs.disks
 RoseBy command old new = SomeRose old new
 
--- the disks' counts are among them for a job that calls the disks
+-- the disks' counts are among them for a job that calls the disks, and the mailers' for `smapd`
 abbrev pub RoseInJob : Job → WorldView → WorldView → Type 0
 RoseInJob (Drill drill) old new = SomeRose old new
 RoseInJob SpoolInit old new = SomeRose old new ⊎ DisksRose old.inputs.disks new.inputs.disks
+RoseInJob Smapd old new = SomeRose old new ⊎ (DisksRose old.inputs.disks new.inputs.disks ⊎ MailersRose old.inputs.mailers new.inputs.mailers)
 
 abbrev pub RoseInOrder : Order → WorldView → WorldView → Type 0
 RoseInOrder (ByTable command) old new = RoseBy command old new
@@ -144,9 +145,14 @@ abbrev pub drill_status : {A B : Type 0} → Result A B → ℕ
 drill_status (Ok counts) = 0
 drill_status (Err fault) = 3
 
--- `drill` takes memory, `spool-init` none
+-- 3 where a slot has no reading, and 0 where all slots were opened
+abbrev pub IsRoundStatus : ℕ → List DiskView → List DiskView → Type 0
+IsRoundStatus status old new = ((status ≡ 3) × ((slot : ℕ) × (at : ℕ) × HasBadSlot slot at old new)) ⊎ ((status ≡ 0) × AreOpened old)
+
+-- `drill` and `smapd` take memory, `spool-init` none
 abbrev pub IsStatusOfJob : Job → ℕ → WorldView → WorldView → Type 0
 IsStatusOfJob (Drill drill) status old new = (((status ≡ 4) × SomeRose old new) ⊎ (status ≡ 5)) ⊎ (status ≡ drill_status (drilled drill))
+IsStatusOfJob Smapd status old new = (((status ≡ 4) × RoseInJob Smapd old new) ⊎ (status ≡ 5)) ⊎ IsRoundStatus status old.inputs.disks new.inputs.disks
 IsStatusOfJob SpoolInit status old new = ((status ≡ 4) × (SomeRose old new ⊎ DisksRose old.inputs.disks new.inputs.disks)) ⊎ (status ≡ 0)
 
 abbrev pub IsStatusOf : List ℕ → Order → ℕ → WorldView → WorldView → Type 0
@@ -160,10 +166,12 @@ IsStatus (Some line) status old new = IsStatusOf line.table line.order status ol
 
 -- ---- the disks
 
--- `spool-init` ends with 0 only after it made a free slot of each disk; what a failure leaves is in what it did
+-- `spool-init` ends with 0 only after it made a free slot of each disk; what a failure leaves is in what it did. Behind `smapd`
+-- a slot that was opened set aside is so.
 abbrev pub JobLeavesDisks : Job → ℕ → List DiskView → List DiskView → Type 0
 JobLeavesDisks (Drill drill) status old new = new ≡ old
 JobLeavesDisks SpoolInit status old new = status ≡ 0 → AreFormatted (length old) old new
+JobLeavesDisks Smapd status old new = LeavesAside old new
 
 -- behind `smap` a slot that was opened with a message has it; any other command by the table calls no disk
 abbrev pub CommandLeavesDisks : Command → List DiskView → List DiskView → Type 0

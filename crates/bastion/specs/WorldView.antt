@@ -1,6 +1,7 @@
 -- What a run meets: its devices, as plain records.
 use Rattle.std.specs.Prelude.{List, Option}
 use Rattle.fw_disk.specs.DiskView.{DiskView}
+use Rattle.fw_mail.specs.MailerView.{MailerView}
 use Rattle.fw_outside.specs.FilesView.{FilesView}
 use Rattle.fw_outside.specs.SinkView.{SinkView}
 use Rattle.fw_outside.specs.ClockView.{ClockView}
@@ -11,7 +12,8 @@ use Rattle.fw_outside.specs.KeeperView.{KeeperView}
 use Rattle.fw_outside.specs.LauncherView.{LauncherView}
 
 -- what a run meets besides the files, the output and the log: what the client says, the clock, the dice, the keeper of the
--- users' records, where one is there, who makes links to servers, who starts programs, and the disks of the slots
+-- users' records, where one is there, who makes links to servers, who starts programs, the disks of the slots, and who takes
+-- messages on
 pub record SessionInputs : Type 0 where
   pub input : SourceView
   pub clock : ClockView
@@ -20,6 +22,7 @@ pub record SessionInputs : Type 0 where
   pub dialer : DialerView
   pub launcher : LauncherView
   pub disks : List DiskView
+  pub mailers : List MailerView
 
 -- the files that the table is read from, standard output, the log, and what else a run meets
 pub record WorldView : Type 0 where

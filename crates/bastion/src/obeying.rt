@@ -1,5 +1,5 @@
 //! What the words ask for, by the table: a row for each command.
-ghost use Rattle.std.specs.Prelude.{◌≡◌, ◌≤◌, length, IsSome};
+ghost use Rattle.std.specs.Prelude.{◌≡◌, ◌≤◌, ◌<◌, length, IsSome};
 ghost use Rattle.bastion.specs.Outcome.{fault_line_of};
 ghost use Rattle.bastion.specs.Run.{DoesFor, DoesLine, DoesOrder, TellsIf};
 ghost use Rattle.bastion.specs.Words.{line_of};
@@ -87,6 +87,7 @@ where
     T: Kit,
     requires keeper { IsSome world.old.inputs.keeper }
     requires disks { length world.old.inputs.disks ≤ 64 }
+    requires mailers { 0 < length world.old.inputs.mailers }
     ensures { DoesOrder name.now order.now result world.old world.new }
 {
     match order {
@@ -102,6 +103,7 @@ where
     T: Kit,
     requires keeper { IsSome world.old.inputs.keeper }
     requires disks { length world.old.inputs.disks ≤ 64 }
+    requires mailers { 0 < length world.old.inputs.mailers }
     ensures { DoesLine (line_of words.now) result world.old world.new }
 {
     match CommandLine::read(words) {

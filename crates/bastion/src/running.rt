@@ -1,5 +1,5 @@
 //! The call that the program makes.
-ghost use Rattle.std.specs.Prelude.{◌≡◌, ◌≤◌, ◌↔◌, length, IsSome, None, Some};
+ghost use Rattle.std.specs.Prelude.{◌≡◌, ◌≤◌, ◌<◌, ◌↔◌, length, IsSome, None, Some};
 ghost use Rattle.bastion.specs.Complete.{IsComplete};
 ghost use Rattle.bastion.specs.Headline.{Headline};
 ghost use Rattle.bastion.specs.Run.{Run};
@@ -33,6 +33,7 @@ where
     T: Kit,
     requires keeper { IsSome world.old.inputs.keeper }
     requires slots { length world.old.inputs.disks ≤ 64 }
+    requires mailers { 0 < length world.old.inputs.mailers }
     // What the run came to and did; a failure that it names was counted; its line in the log, and its status.
     ensures ran { Run (line_of words.now) result world.old world.new }
     // The replies that a client is told are those of a legal history, destinations are asked for as the table permits, a

@@ -6,3 +6,6 @@ pub mod RackLemmas
 pub mod TapeLemmas
 pub mod HistoryLemmas
 pub mod SessionLemmas
+pub mod RoundLemmas
+pub mod KeepLemmas
+pub mod MailerLemmas

@@ -172,3 +172,25 @@ count_below k a (suc n) some =
       | inl is ↦ omega (arith, is)
       | inr other ↦ let none = one_other k a other in let rest = count_below k (a + 1) n (omega (arith, some, none)) in omega (arith, rest)
     ]
+
+-- slots with so many numbers are so many
+pub numbered_length : (a n : ℕ) (slots : List HeldView) → IsNonDecreasingBy (λ (s : HeldView). s.number) slots → ((k : ℕ) → held_count k slots ≡ count_from k a n) → length slots ≡ n
+numbered_length a zero [] rise counts = refl
+numbered_length a (suc n) [] rise counts =
+    let some = counts a in
+    let here = one_here a in
+    absurd (omega (arith, some, here))
+numbered_length a zero (slot ∷ slots) rise counts =
+    let none = counts slot.number in
+    let here = one_here slot.number in
+    let both = sum_by-cons (λ (h : HeldView). one_at slot.number h.number) slot slots in
+    absurd (omega (arith, none, here, both))
+numbered_length a (suc n) (slot ∷ slots) rise counts =
+    let first : slot.number ≡ a = first_by slot slots a n rise counts (cases_order slot.number a) in
+    let less : (k : ℕ) → held_count k slots ≡ count_from k (a + 1) n = λ k. (
+    let all = counts k in
+    let both = sum_by-cons (λ (h : HeldView). one_at k h.number) slot slots in
+    let same : one_at k slot.number ≡ one_at k a = ap (one_at k) first in
+    omega (arith, all, both, same)
+    ) in
+    ap (λ (m : ℕ). suc m) (numbered_length (a + 1) n slots (rest_rises slot slots rise) less)

@@ -183,6 +183,16 @@ module _ (count : ℕ) (a b : ℕ → Tape) (old new : HeldView) (q r : Queues) 
     full = full;
   }
 
+-- as many slots have each number
+pub moved_count : (k : ℕ) (old new : HeldView) (q r : Queues) → IsMoved old new q r → count_in k r ≡ count_in k q
+moved_count k old new q r moved =
+    let before : held_count k (old ∷ moved.others) ≡ count_in k q = count_permuted k (all_of q) (old ∷ moved.others) moved.before in
+    let last : held_count k (new ∷ moved.others) ≡ count_in k r = count_permuted k (all_of r) (new ∷ moved.others) moved.after in
+    let first = sum_by-cons (λ (h : HeldView). one_at k h.number) old moved.others in
+    let second = sum_by-cons (λ (h : HeldView). one_at k h.number) new moved.others in
+    let same : one_at k new.number ≡ one_at k old.number = ap (one_at k) moved.number in
+    omega (arith, before, last, first, second, same)
+
 -- ---- the queues
 
 front_of : {X : Type 0} (x : X) (xs : List X) → take 1 xs ≡ x ∷ [] → xs ≡ x ∷ drop 1 xs
