@@ -18,7 +18,7 @@ use Rattle.bastion.specs.Outcome.{CountRose, DeviceRose, DiskRose, EndingRose, G
 use Rattle.bastion.specs.Run.{CallsIf, DoesLine, DoesOrder, FilesFailed, ReadsOnly, Stops, Worked}
 use Rattle.bastion.specs.Words.{LineView}
 use Rattle.bastion.specs.Works.{Works}
-use Rattle.bastion.specs.WorldView.{SessionInputs, WorldView}
+use Rattle.bastion.specs.WorldView.{Post, SessionInputs, WorldView}
 use Rattle.bastion.specs.declared.outcome.Device.{Device}
 use Rattle.bastion.specs.declared.outcome.Device.TheVariants as device
 use Rattle.bastion.specs.declared.outcome.Outcome.{Outcome}
@@ -231,14 +231,14 @@ rose_from name (Authsrv client) outcome old mid new only h = count_from name tru
 pub worked_rose : (name : List ℕ) (command : Command) (outcome : Outcome) (old new : WorldView) → Worked name command outcome old new → RoseFor command outcome old new
 worked_rose name command outcome old new h = rose_from name command outcome old h.middle new h.only (works_rose command h.inputs outcome h.middle new h.works)
 
-order_rose : (name : List ℕ) (order : Order) (outcome : Outcome) (old new : WorldView) → DoesOrder name order outcome old new → OrderRose order outcome old new
-order_rose name (ByTable command) outcome old new (inl h) = rose_for command outcome old new (stops_rose name command outcome old new h)
-order_rose name (ByTable command) outcome old new (inr h) = worked_rose name command outcome old new h
-order_rose name (Alone job) outcome old new h = job_rose job outcome old new h
+order_rose : (post : Post) → (name : List ℕ) (order : Order) (outcome : Outcome) (old new : WorldView) → DoesOrder post name order outcome old new → OrderRose post order outcome old new
+order_rose post name (ByTable command) outcome old new (inl h) = rose_for command outcome old new (stops_rose name command outcome old new h)
+order_rose post name (ByTable command) outcome old new (inr h) = worked_rose name command outcome old new h
+order_rose post name (Alone job) outcome old new h = job_rose post job outcome old new h
 
-pub does_rose : (line : Option LineView) (outcome : Outcome) (old new : WorldView) → DoesLine line outcome old new → RoseIn line outcome old new
-does_rose None outcome old new h = subst (λ (o : Outcome). CountRose o old new) (sym h.usage) tt
-does_rose (Some line) outcome old new h = order_rose line.table line.order outcome old new h
+pub does_rose : (post : Post) → (line : Option LineView) (outcome : Outcome) (old new : WorldView) → DoesLine post line outcome old new → RoseIn post line outcome old new
+does_rose post None outcome old new h = subst (λ (o : Outcome). CountRose o old new) (sym h.usage) tt
+does_rose post (Some line) outcome old new h = order_rose post line.table line.order outcome old new h
 
 pub some_later : (old mid new : WorldView) → Later mid new → SomeRose old mid → SomeRose old new
 some_later old mid new h (inl files) = inl (subst (λ (f : FilesView). Rose old.files.missing f.missing ⊎ Rose old.files.read_faults f.read_faults) (sym h.files) files)

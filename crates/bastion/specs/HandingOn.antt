@@ -17,7 +17,7 @@ use Rattle.spool_rack.specs.Opening.{AreInOrder, IsRackOf}
 use Rattle.spool_rack.specs.Store.{StoreView}
 use Rattle.bastion.specs.Mailing.{SlotsUnread}
 use Rattle.bastion.specs.Works.{Prints}
-use Rattle.bastion.specs.WorldView.{WorldView}
+use Rattle.bastion.specs.WorldView.{Post, WorldView}
 use Rattle.bastion.specs.declared.outcome.Device.{Device}
 use Rattle.bastion.specs.declared.outcome.Device.TheVariants as device
 use Rattle.bastion.specs.declared.outcome.Outcome.{Outcome}
@@ -57,31 +57,32 @@ TellsRound (Err fault) trouble outcome old new = (outcome ≡ outcome_after trou
 
 -- All slots were opened, and one round handed on messages of the full ones to the first mailer, with as many turns as there are
 -- slots. Then the disks of all slots were given back, in order of their numbers, and the round was told. Nobody else was asked.
-pub record RoundHeld (outcome : Outcome) (old new : WorldView) : Type 0 where
+pub record RoundHeld (post : Post) (outcome : Outcome) (old new : WorldView) : Type 0 where
   pub first : StoreView
   pub opened : IsRackOf (Unit {0}) old.inputs.disks first
   pub store : StoreView
   pub closed : IfSome store.queues (λ q. AreInOrder q new.inputs.disks)
   pub answer : Result Round RoundFault
   pub trouble : Option Trouble
-  pub hands : HandsOnTelling (length old.inputs.disks) answer trouble (meeting_with first old.inputs.mailers old.logs) (meeting_with store new.inputs.mailers new.logs)
+  pub hands : HandsOnTelling (length old.inputs.disks) answer trouble (meeting_with first post.before old.logs) (meeting_with store post.after new.logs)
   pub tells : TellsRound answer trouble outcome old.output new.output
-  pub inputs_are : new.inputs ≡ record (old.inputs) { disks = new.inputs.disks; mailers = new.inputs.mailers }
+  pub inputs_are : new.inputs ≡ record (old.inputs) { disks = new.inputs.disks }
   pub files : new.files ≡ old.files
 
-abbrev pub HandsMail : Outcome → WorldView → WorldView → Type 0
-HandsMail outcome old new = SlotsUnread outcome old new ⊎ RoundHeld outcome old new
+-- or not all slots were opened, and no mailer was called
+abbrev pub HandsMail : Post → Outcome → WorldView → WorldView → Type 0
+HandsMail post outcome old new = (SlotsUnread outcome old new × (post.after ≡ post.before)) ⊎ RoundHeld post outcome old new
 
 -- ---- step by step
 -- No public clause cites this: it says what a private function answers.
 
 -- a round over these slots, with so many turns
-pub record ServesRound (turns : ℕ) (first : StoreView) (outcome : Outcome) (old new : WorldView) : Type 0 where
+pub record ServesRound (post : Post) (turns : ℕ) (first : StoreView) (outcome : Outcome) (old new : WorldView) : Type 0 where
   pub store : StoreView
   pub closed : IfSome store.queues (λ q. AreInOrder q new.inputs.disks)
   pub answer : Result Round RoundFault
   pub trouble : Option Trouble
-  pub hands : HandsOnTelling turns answer trouble (meeting_with first old.inputs.mailers old.logs) (meeting_with store new.inputs.mailers new.logs)
+  pub hands : HandsOnTelling turns answer trouble (meeting_with first post.before old.logs) (meeting_with store post.after new.logs)
   pub tells : TellsRound answer trouble outcome old.output new.output
-  pub inputs_are : new.inputs ≡ record (old.inputs) { disks = new.inputs.disks; mailers = new.inputs.mailers }
+  pub inputs_are : new.inputs ≡ record (old.inputs) { disks = new.inputs.disks }
   pub files : new.files ≡ old.files

@@ -37,7 +37,7 @@ use Rattle.bastion.specs.Serving.{book_at_first, devices_at, most_entries, origi
 use Rattle.bastion.specs.Talk.{IsConcluded, IsLegalTalk, IsSilent, IsToldOff, IsUnserved, was_refused}
 use Rattle.bastion.specs.Words.{LineView}
 use Rattle.bastion.specs.Works.{with_given}
-use Rattle.bastion.specs.WorldView.{WorldView}
+use Rattle.bastion.specs.WorldView.{Post, WorldView}
 use Rattle.bastion.specs.declared.words.Client.{Client}
 use Rattle.bastion.specs.declared.words.Command.{Command}
 use Rattle.bastion.specs.declared.words.Command.TheVariants.{Netacl, NetaclRun, Table, Authsrv, PlugGw, TnGw, Smap}
@@ -144,9 +144,9 @@ AnswersStand name (Smap peer) status old new = IsTakenIn name peer status old ne
 AnswersStand name command status old new = Unit {0}
 
 -- a job but `smapd` hands on no message
-abbrev pub HandsStand : Job → ℕ → WorldView → WorldView → Type 0
-HandsStand jobs.Smapd status old new = IsHandedOn status old new
-HandsStand job status old new = Unit {0}
+abbrev pub HandsStand : Post → Job → ℕ → WorldView → WorldView → Type 0
+HandsStand post jobs.Smapd status old new = IsHandedOn post status old new
+HandsStand post job status old new = Unit {0}
 
 -- ---- the headline
 
@@ -166,14 +166,14 @@ pub record HeadlineFor (name : List ℕ) (command : Command) (status : ℕ) (old
   pub answered_stands : AnswersStand name command status old new
 
 -- a job without a table asks for no destination; and `smapd` hands on the messages that stand, and no part of one
-pub record HeadlineAlone (job : Job) (status : ℕ) (old new : WorldView) : Type 0 where
+pub record HeadlineAlone (post : Post) (job : Job) (status : ℕ) (old new : WorldView) : Type 0 where
   pub unasked : new.inputs.dialer ≡ old.inputs.dialer
-  pub answered_stands : HandsStand job status old new
+  pub answered_stands : HandsStand post job status old new
 
-abbrev pub HeadlineOf : List ℕ → Order → ℕ → WorldView → WorldView → Type 0
-HeadlineOf name (ByTable command) status old new = HeadlineFor name command status old new
-HeadlineOf name (Alone job) status old new = HeadlineAlone job status old new
+abbrev pub HeadlineOf : Post → List ℕ → Order → ℕ → WorldView → WorldView → Type 0
+HeadlineOf post name (ByTable command) status old new = HeadlineFor name command status old new
+HeadlineOf post name (Alone job) status old new = HeadlineAlone post job status old new
 
-abbrev pub Headline : Option LineView → ℕ → WorldView → WorldView → Type 0
-Headline None status old new = new.inputs.dialer ≡ old.inputs.dialer
-Headline (Some line) status old new = HeadlineOf line.table line.order status old new
+abbrev pub Headline : Post → Option LineView → ℕ → WorldView → WorldView → Type 0
+Headline post None status old new = new.inputs.dialer ≡ old.inputs.dialer
+Headline post (Some line) status old new = HeadlineOf post line.table line.order status old new

@@ -15,7 +15,7 @@ use Rattle.spool_slots.specs.Images.{IsFreeImage}
 use Rattle.spool_slots.specs.States.{HasCleared, StillTells}
 use Rattle.bastion.specs.HandingOn.{HandsMail}
 use Rattle.bastion.specs.Works.{Prints}
-use Rattle.bastion.specs.WorldView.{WorldView}
+use Rattle.bastion.specs.WorldView.{Post, WorldView}
 use Rattle.bastion.specs.declared.outcome.Device.TheVariants as device
 use Rattle.bastion.specs.declared.outcome.Outcome.{Outcome}
 use Rattle.bastion.specs.declared.outcome.Outcome.TheVariants.{Unread, Failed, NoMemory, Done}
@@ -106,7 +106,7 @@ pub record Inits (outcome : Outcome) (old new : WorldView) : Type 0 where
   pub files : new.files ≡ old.files
 
 -- one row a job
-abbrev pub DoesJob : Job → Outcome → WorldView → WorldView → Type 0
-DoesJob (jobs.Drill drill) outcome old new = Drills drill outcome old new
-DoesJob jobs.SpoolInit outcome old new = Inits outcome old new
-DoesJob jobs.Smapd outcome old new = HandsMail outcome old new
+abbrev pub DoesJob : Post → Job → Outcome → WorldView → WorldView → Type 0
+DoesJob post (jobs.Drill drill) outcome old new = Drills drill outcome old new
+DoesJob post jobs.SpoolInit outcome old new = Inits outcome old new
+DoesJob post jobs.Smapd outcome old new = HandsMail post outcome old new

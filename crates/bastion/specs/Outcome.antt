@@ -12,7 +12,7 @@ use Rattle.gate_rules.specs.declared.verdict.Verdict.TheVariants.{Permit, Deny}
 use Rattle.gate_rules.specs.Why as rule
 use Rattle.netperm_table.specs.Fault as table
 use Rattle.bastion.specs.Words.{LineView}
-use Rattle.bastion.specs.WorldView.{WorldView}
+use Rattle.bastion.specs.WorldView.{Post, WorldView}
 use Rattle.bastion.specs.declared.outcome.Device.{Device}
 use Rattle.bastion.specs.declared.outcome.Device.TheVariants as device
 use Rattle.bastion.specs.declared.outcome.Outcome.{Outcome}
@@ -167,9 +167,9 @@ MailersRose (old ∷ olds) (new ∷ news) = Rose old.faults new.faults
 MailersRose _ _ = ⊥
 
 -- a job may call a mailer, too
-abbrev pub JobRose : Outcome → WorldView → WorldView → Type 0
-JobRose (Failed device.Mailer) old new = MailersRose old.inputs.mailers new.inputs.mailers
-JobRose outcome old new = SlotsRose outcome old new
+abbrev pub JobRose : Post → Outcome → WorldView → WorldView → Type 0
+JobRose post (Failed device.Mailer) old new = MailersRose post.before post.after
+JobRose post outcome old new = SlotsRose outcome old new
 
 -- only a session of the plug or of the gateway has a link, and only one of the mail gateway slots
 abbrev pub RoseFor : Command → Outcome → WorldView → WorldView → Type 0
@@ -178,10 +178,10 @@ RoseFor (TnGw peer) (Ended ending refused) old new = GateRose ending old new
 RoseFor (Smap peer) outcome old new = SlotsRose outcome old new
 RoseFor command outcome old new = CountRose outcome old new
 
-abbrev pub OrderRose : Order → Outcome → WorldView → WorldView → Type 0
-OrderRose (ByTable command) outcome old new = RoseFor command outcome old new
-OrderRose (Alone job) outcome old new = JobRose outcome old new
+abbrev pub OrderRose : Post → Order → Outcome → WorldView → WorldView → Type 0
+OrderRose post (ByTable command) outcome old new = RoseFor command outcome old new
+OrderRose post (Alone job) outcome old new = JobRose post outcome old new
 
-abbrev pub RoseIn : Option LineView → Outcome → WorldView → WorldView → Type 0
-RoseIn None outcome old new = CountRose outcome old new
-RoseIn (Some line) outcome old new = OrderRose line.order outcome old new
+abbrev pub RoseIn : Post → Option LineView → Outcome → WorldView → WorldView → Type 0
+RoseIn post None outcome old new = CountRose outcome old new
+RoseIn post (Some line) outcome old new = OrderRose post line.order outcome old new

@@ -12,8 +12,7 @@ use Rattle.fw_outside.specs.KeeperView.{KeeperView}
 use Rattle.fw_outside.specs.LauncherView.{LauncherView}
 
 -- what a run meets besides the files, the output and the log: what the client says, the clock, the dice, the keeper of the
--- users' records, where one is there, who makes links to servers, who starts programs, the disks of the slots, and who takes
--- messages on
+-- users' records, where one is there, who makes links to servers, who starts programs, and the disks of the slots
 pub record SessionInputs : Type 0 where
   pub input : SourceView
   pub clock : ClockView
@@ -22,7 +21,6 @@ pub record SessionInputs : Type 0 where
   pub dialer : DialerView
   pub launcher : LauncherView
   pub disks : List DiskView
-  pub mailers : List MailerView
 
 -- the files that the table is read from, standard output, the log, and what else a run meets
 pub record WorldView : Type 0 where
@@ -30,3 +28,11 @@ pub record WorldView : Type 0 where
   pub output : SinkView
   pub logs : SinkView
   pub inputs : SessionInputs
+
+-- who takes messages on, before a run and behind it; the first is handed them
+pub record Post : Type 0 where
+  pub before : List MailerView
+  pub after : List MailerView
+
+abbrev pub post_of : List MailerView → List MailerView → Post
+post_of before after = record { before = before; after = after }

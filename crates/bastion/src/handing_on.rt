@@ -1,13 +1,15 @@
 //! The command `smapd`: the slots are opened, their messages are handed on in one round, and the disks go back.
-ghost use Rattle.std.specs.Prelude.{◌≡◌, ◌≤◌, ◌<◌, length, Ok};
+ghost use Rattle.std.specs.Prelude.{◌≡◌, ◌≤◌, ◌<◌, length, map, Ok};
 ghost use Rattle.smapd_queue.specs.Meeting.{meeting_with};
 ghost use Rattle.smapd_queue.specs.Round.{HandsOnTelling};
+ghost use Rattle.bastion.specs.WorldView.{post_of};
 ghost use Rattle.bastion.specs.HandingOn.{HandsMail, ServesRound, TellsRound, device_of, outcome_after, outcome_faulted, outcome_printed, round_text};
 
 use crate::mailing::{disk_count, open_rack, put_disks};
 use crate::{Device, Kit, Outcome, Step, World};
 use arrayvec::ArrayVec;
 use client_service::LogLine;
+use fw_mail::Mailer;
 use fw_outside::Failed;
 use fw_types::{append, append_u32};
 use smapd_queue::{Round, RoundFault, Rounded, Trouble, smapd_round_telling};
@@ -72,17 +74,18 @@ fn hand_on<T: Kit>(
     alloc: Global,
     turns: u32,
     rack: &mut Rack<T::Disk>,
+    mailers: &mut Vec<Box<dyn Mailer>>,
     world: &mut World<T>,
 ) -> Rounded
-    requires { 0 < length world.old.inputs.mailers }
+    requires { 0 < length mailers.old.items }
     ensures hands { HandsOnTelling turns result.answer result.trouble
-        (meeting_with rack.old world.old.inputs.mailers world.old.logs)
-        (meeting_with rack.new world.new.inputs.mailers world.new.logs) }
-    ensures inputs { world.new.inputs ≡ record (world.old.inputs) { mailers = world.new.inputs.mailers } }
+        (meeting_with rack.old (map (λ m. mailer_view m) mailers.old.items) world.old.logs)
+        (meeting_with rack.new (map (λ m. mailer_view m) mailers.new.items) world.new.logs) }
+    ensures inputs { world.new.inputs ≡ world.old.inputs }
     ensures output { world.new.output ≡ world.old.output }
     ensures files { world.new.files ≡ world.old.files }
 {
-    smapd_round_telling(alloc, rack, &mut world.mailers, turns, &mut world.logs)
+    smapd_round_telling(alloc, rack, mailers, turns, &mut world.logs)
 }
 
 // Prints a round that went to its end.
@@ -115,26 +118,33 @@ fn hand_over<T: Kit>(
     alloc: Global,
     turns: u32,
     rack: Rack<T::Disk>,
+    mailers: &mut Vec<Box<dyn Mailer>>,
     world: &mut World<T>,
 ) -> Outcome
-    requires { 0 < length world.old.inputs.mailers }
-    ensures { ServesRound turns rack result world.old world.new }
+    requires { 0 < length mailers.old.items }
+    ensures { ServesRound (post_of (map (λ m. mailer_view m) mailers.old.items) (map (λ m. mailer_view m) mailers.new.items))
+        turns rack result world.old world.new }
 {
     let mut rack = rack;
-    let rounded = hand_on(alloc, turns, &mut rack, world);
+    let rounded = hand_on(alloc, turns, &mut rack, mailers, world);
     put_disks(rack.close(), world);
     tell_round(rounded, world)
 }
 
 /// Opens the slots, and hands on the messages of the full ones in one round.
-pub(crate) fn hand_mail<T: Kit>(alloc: Global, world: &mut World<T>) -> Outcome
+pub(crate) fn hand_mail<T: Kit>(
+    alloc: Global,
+    mailers: &mut Vec<Box<dyn Mailer>>,
+    world: &mut World<T>,
+) -> Outcome
     requires few { length world.old.inputs.disks ≤ 64 }
-    requires some { 0 < length world.old.inputs.mailers }
-    ensures { HandsMail result world.old world.new }
+    requires some { 0 < length mailers.old.items }
+    ensures { HandsMail (post_of (map (λ m. mailer_view m) mailers.old.items) (map (λ m. mailer_view m) mailers.new.items))
+        result world.old world.new }
 {
     let turns = disk_count(world) as u32;
     match open_rack(alloc, world) {
-        Ok(rack) => hand_over(alloc, turns, rack, world),
+        Ok(rack) => hand_over(alloc, turns, rack, mailers, world),
         Err(outcome) => outcome,
     }
 }

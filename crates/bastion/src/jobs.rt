@@ -3,6 +3,8 @@ ghost use Rattle.std.specs.Prelude.{◌≡◌, ◌≢◌, ◌≤◌, ◌<◌, le
 ghost use Rattle.drill_lines.specs.Drill.{drilled, tally_text};
 ghost use Rattle.drill_lines.specs.declared.drill_fault.DrillFault.TheVariants as faults;
 ghost use Rattle.fw_outside.specs.SinkView.{Gives};
+ghost use Rattle.bastion.specs.Status.{JobLeavesMailers};
+ghost use Rattle.bastion.specs.WorldView.{post_of};
 ghost use Rattle.bastion.specs.Jobs.{DoesJob, Drills, Formats, Inits, IsFormatted, IsUnformatted, PrintsAlone, drill_refused, formatted_text, printed};
 
 use crate::handing_on::hand_mail;
@@ -13,6 +15,7 @@ use arrayvec::ArrayVec;
 use client_service::LogLine;
 use drill_lines::{Drill, DrillFault, count_drill, tally_line};
 use fw_disk::Disk;
+use fw_mail::Mailer;
 use fw_outside::Failed;
 use fw_types::append;
 use spool_slots::format_in_place;
@@ -108,14 +111,21 @@ fn init_spool<T: Kit>(world: &mut World<T>) -> Outcome
 }
 
 /// Does a job.
-pub(crate) fn do_job<T: Kit>(alloc: Global, job: Job, world: &mut World<T>) -> Outcome
+pub(crate) fn do_job<T: Kit>(
+    alloc: Global,
+    job: Job,
+    mailers: &mut Vec<Box<dyn Mailer>>,
+    world: &mut World<T>,
+) -> Outcome
     requires few { length world.old.inputs.disks ≤ 64 }
-    requires mailers { 0 < length world.old.inputs.mailers }
-    ensures { DoesJob job result world.old world.new }
+    requires some { 0 < length mailers.old.items }
+    ensures does { DoesJob (post_of (map (λ m. mailer_view m) mailers.old.items) (map (λ m. mailer_view m) mailers.new.items))
+        job result world.old world.new }
+    ensures mailers { JobLeavesMailers (post_of (map (λ m. mailer_view m) mailers.old.items) (map (λ m. mailer_view m) mailers.new.items)) job }
 {
     match job {
         Job::Drill(numbers) => run_drill(alloc, numbers, world),
         Job::SpoolInit => init_spool(world),
-        Job::Smapd => hand_mail(alloc, world),
+        Job::Smapd => hand_mail(alloc, mailers, world),
     }
 }

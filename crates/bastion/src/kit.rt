@@ -3,7 +3,6 @@ ghost use Rattle.fw_outside.specs.LauncherView.{Starts};
 ghost use Rattle.fw_outside.specs.SinkView.{Gives};
 
 use fw_disk::Disk;
-use fw_mail::Mailer;
 use fw_outside::{Clock, Dialer, Dice, Failed, Files, Keeper, Launcher, Sink, Source, Started};
 use fw_types::OctetsList;
 use std::marker::Model;
@@ -54,8 +53,6 @@ pub struct World<T: Kit> {
     pub launcher: T::Launch,
     /// The disks of the mail's slots, in order of their numbers.
     pub disks: Vec<T::Disk>,
-    /// Who takes messages on: the first is handed them. A run has at least one.
-    pub mailers: Vec<Box<dyn Mailer>>,
 }
 
 impl<T: Kit> Model for World<T> {
@@ -77,7 +74,6 @@ impl<T: Kit> Model for World<T> {
         dialer = T.Dial.dialer_view w.dialer;
         launcher = T.Launch.launcher_view w.launcher;
         disks = map T.Disk.disk_view w.disks.items;
-        mailers = map (λ m. mailer_view m) w.mailers.items;
       };
     } };
 }
