@@ -19,7 +19,7 @@ use Rattle.session_acts.proofs.ToldLemmas.{by_both, by_nothing}
 use Rattle.spool_rack.specs.Opening.{CameBack, IsRackFault}
 use Rattle.spool_slots.specs.declared.slot_why.SlotWhy.{SlotWhy}
 use Rattle.spool_slots.specs.declared.slot_why.SlotWhy.TheVariants as whys
-use Rattle.bastion.specs.Complete.{AllDone, IsComplete, IsDrilledWhole, IsFormattedWhole, IsJobComplete, IsLaunchedWhole, IsLinkedWhole, IsOrderComplete, IsStartedWhole, IsTakenWhole, IsWhole}
+use Rattle.bastion.specs.Complete.{AllDone, IsComplete, IsDrilledWhole, IsFormattedWhole, IsJobComplete, IsLaunchedWhole, IsLinkedWhole, IsOrderComplete, IsRoundWhole, IsStartedWhole, IsTakenWhole, IsWhole}
 use Rattle.bastion.specs.Inputs.{HasInputs, Inputs}
 use Rattle.bastion.specs.Jobs.{AreFormatted, DoesJob, DrillsBy, Formats, TellsFormatted, drill_refused, formatted_text, printed}
 use Rattle.bastion.specs.Mailing.{Mailed, slot_fault}
@@ -38,7 +38,7 @@ use Rattle.bastion.specs.declared.outcome.Refusal.TheVariants.{Slot}
 use Rattle.bastion.specs.declared.words.Command.{Command}
 use Rattle.bastion.specs.declared.words.Command.TheVariants.{Netacl, NetaclRun, Table, Authsrv, PlugGw, TnGw, Smap}
 use Rattle.bastion.specs.declared.words.Job.{Job}
-use Rattle.bastion.specs.declared.words.Job.TheVariants.{Drill, SpoolInit}
+use Rattle.bastion.specs.declared.words.Job.TheVariants.{Drill, SpoolInit, Smapd}
 use Rattle.bastion.specs.declared.words.Order.{Order}
 use Rattle.bastion.specs.declared.words.Order.TheVariants.{ByTable, Alone}
 use Rattle.bastion.specs.declared.words.Caller.{Caller}
@@ -57,6 +57,22 @@ use Rattle.bastion.proofs.MailKeptLemmas as kept
 use Rattle.bastion.proofs.QuietLemmas.{Quiet, gave_whole, quiet, same_from, same_to}
 use Rattle.bastion.proofs.ServedLemmas.{attended_whole}
 use Rattle.client_service.proofs.SinkLemmas.{cut_rose, gives_most, same_low}
+use Rattle.fw_outside.specs.Counts.{Rose}
+use Rattle.smapd_queue.specs.Meeting.{End}
+use Rattle.smapd_queue.specs.Meeting.End.{AllTaken, NoneFull, Unlogged, Lacked}
+use Rattle.smapd_queue.specs.Round.{answer_of, round_of}
+use Rattle.smapd_queue.specs.Sums.{LogGoes}
+use Rattle.smapd_queue.specs.Turns.{Turn, lines_of}
+use Rattle.smapd_queue.specs.declared.round.Round.{Round}
+use Rattle.smapd_queue.specs.declared.round.RoundFault.{RoundFault}
+use Rattle.smapd_queue.specs.declared.round.RoundFault.TheVariants as faults_of
+use Rattle.smapd_queue.specs.declared.round.Trouble.{Trouble}
+use Rattle.smapd_queue.specs.declared.round.Trouble.TheVariants as troubles
+use Rattle.bastion.specs.HandingOn.{RoundHeld, TellsRound, outcome_printed, round_text}
+use Rattle.bastion.specs.Mailing.{SlotsUnread}
+use Rattle.bastion.proofs.HandedLemmas.{round_now, troubled_now}
+use Rattle.bastion.proofs.HandedRoseLemmas.{IsTroubled, round_log}
+use Rattle.bastion.proofs.MailedLemmas.{unread_rose}
 
 grown_from : (text : List ℕ) (a b c : SinkView) → b ≡ a → c ≡ with_given b text → c.given ≡ grown a.given text
 grown_from text a b c same is = ap (λ (s : SinkView). s.given) is ∙ ap (λ (s : SinkView). grown s.given text) same

@@ -28,7 +28,7 @@ use Rattle.session_acts.specs.Session.{Session, deeds_of}
 use Rattle.session_acts.specs.World.{Devices, devices_with}
 use Rattle.bastion.specs.Asking.{IsUndecided}
 use Rattle.bastion.specs.Gateway.{IsGated, IsUnmet}
-use Rattle.bastion.specs.Headline.{Headline, HeadlineFor, HeadlineOf, IsDenied, IsPermitted, LogsDenial, OfHistory, begins, lent_to}
+use Rattle.bastion.specs.Headline.{HandsStand, Headline, HeadlineFor, HeadlineOf, IsDenied, IsPermitted, LogsDenial, OfHistory, begins, lent_to}
 use Rattle.bastion.specs.Inputs.{Inputs}
 use Rattle.bastion.specs.Outcome.{fault_line_of, is_stopped, status_of, verdict_status}
 use Rattle.bastion.specs.Run.{DoesLine, DoesOrder, ReadsOnly, Run, Stops, TellsIf, Worked, verdict_for}

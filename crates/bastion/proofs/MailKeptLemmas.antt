@@ -48,6 +48,9 @@ use Rattle.bastion.proofs.LeftLemmas.{Later, tells_later}
 use Rattle.bastion.proofs.MailedLemmas.{CutOff, LetIn, OfServed, ShutOut, served_so, session_leaves, stand_behind}
 use Rattle.bastion.proofs.QuietLemmas.{Quiet, same_from}
 use Rattle.bastion.proofs.TalkLemmas.{concluded_whole, tells_noted}
+use Rattle.spool_runs.specs.OnDisks.{RunsSpool}
+use Rattle.slot_bytes.specs.Layout.{Mail}
+use Rattle.bastion.proofs.MailSpoolLemmas.{opened_spool, session_spool, unread_spool}
 
 -- what the headline says of a client, by its inputs
 abbrev pub MailHeadline : Peer → Inputs → ℕ → WorldView → WorldView → Type 0

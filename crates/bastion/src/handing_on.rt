@@ -131,6 +131,14 @@ fn hand_over<T: Kit>(
     tell_round(rounded, world)
 }
 
+// As many turns as there are slots.
+fn turns_for<T: Kit>(world: &World<T>) -> u32
+    requires { length world.now.inputs.disks ≤ 64 }
+    ensures { result ≡ length world.now.inputs.disks }
+{
+    disk_count(world) as u32
+}
+
 /// Opens the slots, and hands on the messages of the full ones in one round.
 pub(crate) fn hand_mail<T: Kit>(
     alloc: Global,
@@ -142,7 +150,7 @@ pub(crate) fn hand_mail<T: Kit>(
     ensures { HandsMail (post_of (map (λ m. mailer_view m) mailers.old.items) (map (λ m. mailer_view m) mailers.new.items))
         result world.old world.new }
 {
-    let turns = disk_count(world) as u32;
+    let turns = turns_for(world);
     match open_rack(alloc, world) {
         Ok(rack) => hand_over(alloc, turns, rack, mailers, world),
         Err(outcome) => outcome,

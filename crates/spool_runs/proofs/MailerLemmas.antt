@@ -6,7 +6,7 @@ use Rattle.fw_mail.specs.declared.handed.Handed.TheVariants as answers
 use Rattle.fw_outside.specs.Counts.{Rose}
 use Rattle.fw_types.specs.declared.message.Message.{Message}
 use Rattle.spool_slots.specs.States.{FullView}
-use Rattle.smapd_queue.specs.Meeting.{End, EndsSo, FirstAnswers, MailersLack, MailersMeet, Meeting, TakesTurn, TakesTurns, last_turn}
+use Rattle.smapd_queue.specs.Meeting.{End, EndsSo, MailersLack, MailersMeet, Meeting, TakesTurn, TakesTurns, last_turn}
 use Rattle.smapd_queue.specs.Meeting.End.{AllTaken, NoneFull, Unlogged, Lacked}
 use Rattle.smapd_queue.specs.Round.{HandsOn}
 use Rattle.smapd_queue.specs.Turns.{Fate, Turn}
@@ -70,13 +70,13 @@ same_faults a b is = omega (arith, is)
 
 module _ (slot : FullView) (first : MailerView) (others old new : List MailerView) (here : old ≡ first ∷ others) where
   by_fate : (fate : Fate) → MailersMeet fate old new → MailersKeep (record { slot = slot; fate = fate } ∷ []) first others new
-  by_fate (Freed message free) h = by_answer (record { slot = slot; fate = Freed message free }) first h.first h.after others h.others old new here h.were h.are (same_faults h.first h.after (ap (λ (m : MailerView). m.faults) h.hands)) tt
-  by_fate (NotFreed message broken) h = by_answer (record { slot = slot; fate = NotFreed message broken }) first h.first h.after others h.others old new here h.were h.are (same_faults h.first h.after (ap (λ (m : MailerView). m.faults) h.hands)) tt
-  by_fate (PutAside message aside) h = by_answer (record { slot = slot; fate = PutAside message aside }) first h.first h.after others h.others old new here h.were h.are (same_faults h.first h.after (ap (λ (m : MailerView). m.faults) h.hands.is)) tt
-  by_fate (NotAside message broken) h = by_answer (record { slot = slot; fate = NotAside message broken }) first h.first h.after others h.others old new here h.were h.are (same_faults h.first h.after (ap (λ (m : MailerView). m.faults) h.hands.is)) tt
+  by_fate (Freed message free) h = by_answer (record { slot = slot; fate = Freed message free }) first h.first h.after others h.others old new here h.was h.is (same_faults h.first h.after (ap (λ (m : MailerView). m.faults) h.hands)) tt
+  by_fate (NotFreed message broken) h = by_answer (record { slot = slot; fate = NotFreed message broken }) first h.first h.after others h.others old new here h.was h.is (same_faults h.first h.after (ap (λ (m : MailerView). m.faults) h.hands)) tt
+  by_fate (PutAside message aside) h = by_answer (record { slot = slot; fate = PutAside message aside }) first h.first h.after others h.others old new here h.was h.is (same_faults h.first h.after (ap (λ (m : MailerView). m.faults) h.hands.is)) tt
+  by_fate (NotAside message broken) h = by_answer (record { slot = slot; fate = NotAside message broken }) first h.first h.after others h.others old new here h.was h.is (same_faults h.first h.after (ap (λ (m : MailerView). m.faults) h.hands.is)) tt
   by_fate (PutBack message) h =
       let rose : Rose h.first.faults h.after.faults = subst (λ (n : ℕ). Rose h.first.faults n) (sym (ap (λ (m : MailerView). m.faults) h.hands.is)) h.hands.rose in
-      by_answer (record { slot = slot; fate = PutBack message }) first h.first h.after others h.others old new here h.were h.are rose.0 rose
+      by_answer (record { slot = slot; fate = PutBack message }) first h.first h.after others h.others old new here h.was h.is rose.0 rose
   by_fate (Unread broken) h = record { after = first; is = h ∙ here; low = omega arith; each = (tt, tt) }
 
 keep_turn : (turn : Turn) (first : MailerView) (others : List MailerView) (old new : Meeting) → TakesTurn turn old new → old.mailers ≡ first ∷ others → MailersKeep (turn ∷ []) first others new.mailers
@@ -94,8 +94,8 @@ keep_turns (turn ∷ turns) first others old new t here =
 lack_keep : (slot : FullView) (message : Option Message) (first : MailerView) (others old new : List MailerView) → MailersLack slot message old new → old ≡ first ∷ others → MailersKeep [] first others new
 lack_keep slot None first others old new is here = keep_here first others new (is ∙ here)
 lack_keep slot (Some message) first others old new h here =
-    let same = same_first h.1.first first h.1.others others (sym h.1.were ∙ here) in
-    keep_here first others new (h.1.are ∙ ap (λ (m : MailerView). m ∷ h.1.others) (h.1.hands ∙ same.0) ∙ ap (λ (l : List MailerView). first ∷ l) same.1)
+    let same = same_first h.1.first first h.1.others others (sym h.1.was ∙ here) in
+    keep_here first others new (h.1.is ∙ ap (λ (m : MailerView). m ∷ h.1.others) (h.1.hands ∙ same.0) ∙ ap (λ (l : List MailerView). first ∷ l) same.1)
 
 keep_end : (ending : End) (first : MailerView) (others : List MailerView) (old new : Meeting) → EndsSo ending old new → old.mailers ≡ first ∷ others → MailersKeep (last_turn ending) first others new.mailers
 keep_end AllTaken first others old new is here = keep_here first others new.mailers (ap (λ (m : Meeting). m.mailers) is ∙ here)

@@ -104,7 +104,7 @@ module _ (count : ℕ) (slot : FullView) (old lent : StoreView) (takes : HasTake
       let whole : EachImage IsWhole (w.slots slot.number).medium = subst (EachImage IsWhole) (sym (fits slot.number)) (full_whole (tapes slot.number).now full) in
       of_letter w slot (tapes slot.number) here_told (fits slot.number) full (its_message w slot.number reach whole)
 
-  here_known : Known
+  abbrev here_known : Known
   here_known = known_in w slot.number
 
   here_of : OfLetter (λ l. Keeps l.mail slot) (w.slots slot.number).use_of
