@@ -88,37 +88,37 @@ module _ (post : Post) where
   troubled_later : (old mid new : WorldView) (trouble : Option Trouble) → Later mid new → IsTroubled post old mid trouble → IsTroubled post old new trouble
   troubled_later old mid new trouble later h = subst (λ (i : SessionInputs). Troubled old.inputs.disks i.disks (MailersRose post.before post.after) trouble) (sym later.inputs) h
 
-  abbrev ByRound : Post → ℕ → WorldView → WorldView → Type 0
-  ByRound post status old new = (((status ≡ 4) × RoseInJob post Smapd old new) ⊎ (status ≡ 5)) ⊎ IsRoundStatus status old.inputs.disks new.inputs.disks
+  abbrev ByRound : ℕ → WorldView → WorldView → Type 0
+  ByRound status old new = (((status ≡ 4) × RoseInJob post Smapd old new) ⊎ (status ≡ 5)) ⊎ IsRoundStatus status old.inputs.disks new.inputs.disks
 
-  after_status : (trouble : Option Trouble) (other : Outcome) (old new : WorldView) → IsTroubled post old new trouble → ByRound post (status_of other) old new → ByRound post (status_of (outcome_after trouble other)) old new
+  after_status : (trouble : Option Trouble) (other : Outcome) (old new : WorldView) → IsTroubled post old new trouble → ByRound (status_of other) old new → ByRound (status_of (outcome_after trouble other)) old new
   after_status None other old new troubled by = by
   after_status (Some troubles.Mailer) other old new troubled by = inl (inl (refl, inr (inr troubled)))
   after_status (Some (troubles.Disk slot)) other old new troubled by = inl (inl (refl, inr (inl (slot, troubled))))
 
-  printed_by : (printing : Result (Unit {0}) sink.Failed) (text : List ℕ) (old mid new : WorldView) → Later mid new → AreOpened old.inputs.disks → Gives printing text old.output mid.output → ByRound post (status_of (outcome_printed printing)) old new
+  printed_by : (printing : Result (Unit {0}) sink.Failed) (text : List ℕ) (old mid new : WorldView) → Later mid new → AreOpened old.inputs.disks → Gives printing text old.output mid.output → ByRound (status_of (outcome_printed printing)) old new
   printed_by (Ok done) text old mid new later opened gives = inr (inr (refl, opened))
   printed_by (Err failed) text old mid new later opened gives = inl (inl (refl, inl (some_later old mid new later (inr (inl (inl (cut_rose text old.output mid.output gives)))))))
 
   module _ (outcome : Outcome) (old mid new : WorldView) (later : Later mid new) (h : RoundHeld post outcome old mid) where
-    faulted_by : (fault : RoundFault) → h.answer ≡ Err fault → ByRound post (status_of (outcome_faulted fault)) old new
+    faulted_by : (fault : RoundFault) → h.answer ≡ Err fault → ByRound (status_of (outcome_faulted fault)) old new
     faulted_by (faults.NoMemory round) is = inl (inr refl)
-    faulted_by (faults.LogFault round) is = inl (inl (refl, inl (some_later old mid new later (inr (inl (inr (round_log outcome old mid h round is)))))))
+    faulted_by (faults.LogFault round) is = inl (inl (refl, inl (some_later old mid new later (inr (inl (inr (round_log post outcome old mid h round is)))))))
 
     pub troubled_now : IsTroubled post old new h.trouble
-    troubled_now = troubled_later old mid new h.trouble later (round_troubled outcome old mid h)
+    troubled_now = troubled_later old mid new h.trouble later (round_troubled post outcome old mid h)
 
-    tells_by : (answer : Result Round RoundFault) → h.answer ≡ answer → TellsRound answer h.trouble outcome old.output mid.output → ByRound post (status_of outcome) old new
+    tells_by : (answer : Result Round RoundFault) → h.answer ≡ answer → TellsRound answer h.trouble outcome old.output mid.output → ByRound (status_of outcome) old new
     tells_by (Ok round) is tells =
         let opened : AreOpened old.inputs.disks = record { slots = h.opened.slots; opened = h.opened.are } in
-        subst (λ (o : Outcome). ByRound post (status_of o) old new) (sym tells.is) (after_status h.trouble (outcome_printed tells.printing) old new troubled_now (printed_by tells.printing _ old mid new later opened tells.gives))
+        subst (λ (o : Outcome). ByRound (status_of o) old new) (sym tells.is) (after_status h.trouble (outcome_printed tells.printing) old new troubled_now (printed_by tells.printing _ old mid new later opened tells.gives))
     tells_by (Err fault) is tells =
-        subst (λ (o : Outcome). ByRound post (status_of o) old new) (sym tells.0) (after_status h.trouble (outcome_faulted fault) old new troubled_now (faulted_by fault is))
+        subst (λ (o : Outcome). ByRound (status_of o) old new) (sym tells.0) (after_status h.trouble (outcome_faulted fault) old new troubled_now (faulted_by fault is))
 
-    round_by : ByRound post (status_of outcome) old new
+    round_by : ByRound (status_of outcome) old new
     round_by = tells_by h.answer refl h.tells
 
-  unread_by : (slot : ℕ) (why : SlotWhy) (old mid new : WorldView) → Later mid new → IsRackFault (Unit {0}) old.inputs.disks slot why mid.inputs.disks → ByRound post (status_of (slot_fault slot why)) old new
+  unread_by : (slot : ℕ) (why : SlotWhy) (old mid new : WorldView) → Later mid new → IsRackFault (Unit {0}) old.inputs.disks slot why mid.inputs.disks → ByRound (status_of (slot_fault slot why)) old new
   unread_by slot (whys.BadSlot at) old mid new later (inl none) = let clash : whys.BadSlot at ≡ whys.NoMemory = none.1 in absurd (cc)
   unread_by slot (whys.BadSlot at) old mid new later (inr came) =
       inr (inl (refl, (slot, at, record { came = subst (λ (i : SessionInputs). CameBack (Unit {0}) 0 slot (whys.BadSlot at) old.inputs.disks i.disks) (sym later.inputs) came })))
@@ -127,7 +127,7 @@ module _ (post : Post) where
   unread_by slot whys.NoMemory old mid new later fault = inl (inr refl)
 
   pub handed_status : (outcome : Outcome) (old mid new : WorldView) → HandsMail post outcome old mid → Later mid new → IsStatusOfJob post Smapd (status_of outcome) old new
-  handed_status outcome old mid new (inl u) later = subst (λ (o : Outcome). ByRound post (status_of o) old new) (sym u.0.comes) (unread_by u.0.slot u.0.why old mid new later u.0.fault)
+  handed_status outcome old mid new (inl u) later = subst (λ (o : Outcome). ByRound (status_of o) old new) (sym u.0.comes) (unread_by u.0.slot u.0.why old mid new later u.0.fault)
   handed_status outcome old mid new (inr h) later = round_by outcome old mid new later h
 
   -- ---- what is left
@@ -139,7 +139,7 @@ module _ (post : Post) where
   pub handed_disks : (outcome : Outcome) (old new : WorldView) → HandsMail post outcome old new → LeavesAside old.inputs.disks new.inputs.disks
   handed_disks outcome old new (inl u) = inl (record { slot = u.0.slot; why = u.0.why; fault = u.0.fault })
   handed_disks outcome old new (inr h) =
-      let b = round_behind outcome old new h in
+      let b = round_behind post outcome old new h in
       inr (record { slots = h.opened.slots; opened = h.opened.are; stay = stays_aside new.inputs.disks h.opened.slots b.q _ b.go.aside b.at; many = b.many })
 
   -- ---- what was handed on
