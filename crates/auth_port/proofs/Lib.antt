@@ -1,1 +1,2 @@
 pub mod FaultyLemmas
+pub mod SharedLemmas
