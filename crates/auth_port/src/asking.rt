@@ -22,14 +22,9 @@ pub struct Asking {
 #[derive(Drop)]
 pub enum Answered {
     /// An entry was made, at this place.
-    Entered {
-        place: u64,
-        reply: Reply,
-    },
+    Entered { place: u64, reply: Reply },
     /// So many entries are there as fit.
-    Full {
-        limit: u64,
-    },
+    Full { limit: u64 },
     NoMemory,
 }
 
