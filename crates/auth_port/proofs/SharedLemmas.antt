@@ -15,10 +15,10 @@ use Rattle.auth_machine.specs.Answers.{full_of}
 use Rattle.auth_machine.specs.Book.{AddsEntry, EntersReply}
 use Rattle.auth_machine.specs.History.{IsLegal}
 use Rattle.auth_machine.specs.Port.{BookOrigin, full_at}
-use Rattle.turn_lock.proofs.Fronts.{front_length, front_self}
+use Rattle.turn_lock.proofs.Fronts.{front_length, front_self, front_trans}
 use Rattle.turn_lock.specs.Known.{IsPassOf, Known, Lock, Made, TookTurn, knowing}
 use Rattle.auth_port.specs.Asking.{AsksInTurn}
-use Rattle.auth_port.specs.Shared.{FoundFull, LackedMemory, MadeEntry, RepliesInOne, SharedOrigin, knows, origin_of, pass_of, shared_port}
+use Rattle.auth_port.specs.Shared.{FoundFull, LackedMemory, MadeEntry, RepliesInOne, GoesOn, SharedOrigin, knows, shared_port}
 use Rattle.auth_port.specs.declared.asking.Answered.{Answered}
 use Rattle.auth_port.specs.declared.asking.Answered.TheVariants.{Entered, Full, NoMemory}
 
@@ -35,6 +35,10 @@ stays_at limit h more longer within = choose (length h == limit) refl
 abbrev made_port : SharedOrigin → List Entry → List ℕ → Option ℕ → Bool → ℕ → Port SharedOrigin
 made_port o seen mine full refused asks = record { seen = seen; mine = mine; full = full; refused = refused; asks = asks; faults = 0; odd = 0; origin = o; home = o.lock.home }
 
+-- a front of a list is one of that list with an entry more
+front_more : (seen before later : List Entry) (entry : Entry) → IsPrefix seen before → later ≡ before ++ entry ∷ [] → IsPrefix seen later
+front_more seen before later entry begins is = front_trans seen before later begins (entry ∷ [], sym is)
+
 -- ---- turns
 
 -- a turn in which this was answered
@@ -50,8 +54,8 @@ made_none limit found seen before mine is (inl same) = same.1
 made_none limit found seen before mine is (inr more) = absurd (omega (arith, sym (ap length is) ∙ ap length more.0.is, length_push found more.0.entry))
 
 -- what a pass knows, by what it has seen and its places
-knows_so : (o : SharedOrigin) (seen : List Entry) (places more : List ℕ) (now : Known Entry BookOrigin) → now ≡ knowing o.lock seen places o.met → places ≡ o.earlier ++ more → now ≡ knows o now.seen more
-knows_so o seen places more now is m = is ∙ ap₂ (λ (h : List Entry) (p : List ℕ). knowing o.lock h p o.met) (sym (ap (λ (k : Known Entry BookOrigin). k.seen) is)) m
+knows_so : (o : SharedOrigin) (seen : List Entry) (places more : List ℕ) (now : Known Entry BookOrigin) → now ≡ knowing o.lock seen places o.first.met → places ≡ o.first.mine ++ more → now ≡ knows o now.seen more
+knows_so o seen places more now is m = is ∙ ap₂ (λ (h : List Entry) (p : List ℕ). knowing o.lock h p o.first.met) (sym (ap (λ (k : Known Entry BookOrigin). k.seen) is)) m
 
 -- ---- an entry was made
 
@@ -64,9 +68,9 @@ pub pass_made : (sid at : ℕ) (request : Request) (place : ℕ) (reply : Reply)
 pass_made sid at request place reply o seen mine now t =
     let a = adds (full_of reply) sid at request reply o.lock.limit t.found t.seen t.did.placed.1 t.did.asked.answers in
     knows_so o t.seen t.mine (mine ++ place ∷ []) now t.is
-    (made_one o.lock.limit t.found t.seen _ (o.earlier ++ mine) t.mine a.is t.made
-    ∙ append_assoc o.earlier mine (length t.found ∷ [])
-    ∙ ap (λ (n : ℕ). o.earlier ++ (mine ++ n ∷ [])) (sym t.did.placed.0))
+    (made_one o.lock.limit t.found t.seen _ (o.first.mine ++ mine) t.mine a.is t.made
+    ∙ append_assoc o.first.mine mine (length t.found ∷ [])
+    ∙ ap (λ (n : ℕ). o.first.mine ++ (mine ++ n ∷ [])) (sym t.did.placed.0))
 
 pub history_made : (sid at : ℕ) (request : Request) (place : ℕ) (reply : Reply) (o : SharedOrigin) (seen : List Entry) (mine : List ℕ) (now : Known Entry BookOrigin) (refused : Bool) (asks more : ℕ)
     → TakesTurn sid at request (Entered place reply) o seen mine now
@@ -119,7 +123,7 @@ stayed seen found left later p same is = (p.0, p.1 ∙ sym same ∙ sym is)
 pub pass_kept : (sid at : ℕ) (request : Request) (answer : Answered) (o : SharedOrigin) (seen : List Entry) (mine : List ℕ) (now : Known Entry BookOrigin)
     → (t : TakesTurn sid at request answer o seen mine now) → t.seen ≡ t.found → now ≡ knows o now.seen mine
 pass_kept sid at request answer o seen mine now t same =
-    knows_so o t.seen t.mine mine now t.is (made_none o.lock.limit t.found t.seen (o.earlier ++ mine) t.mine same t.made)
+    knows_so o t.seen t.mine mine now t.is (made_none o.lock.limit t.found t.seen (o.first.mine ++ mine) t.mine same t.made)
 
 pub pass_full : (sid at : ℕ) (request : Request) (told : ℕ) (o : SharedOrigin) (seen : List Entry) (mine : List ℕ) (now : Known Entry BookOrigin)
     → TakesTurn sid at request (Full told) o seen mine now → now ≡ knows o now.seen mine
@@ -195,7 +199,68 @@ pub history_stays : (o : SharedOrigin) (seen : List Entry) (mine : List ℕ) (re
 history_stays o seen mine refused asks more = record { begins = front_self seen; mine = refl }
 
 -- a pass that is handed in
-pub pass_at_first : (lock : Lock BookOrigin) (pass : Known Entry BookOrigin) → IsPassOf lock pass → pass ≡ knows (origin_of lock pass) pass.seen []
-pass_at_first lock pass of =
+pub at_first : (lock : Lock BookOrigin) (pass : Known Entry BookOrigin) → IsPassOf lock pass → GoesOn (record { lock = lock; first = pass }) [] pass
+at_first lock pass of =
     let none : pass.mine ++ [] ≡ pass.mine = search rules in
-    λ i. record { seen = pass.seen; mine = sym none i; met = pass.met; home = of.home i; limit = of.limit i; origin = of.origin i }
+    record {
+      is = λ i. record { seen = pass.seen; mine = sym none i; met = pass.met; home = of.home i; limit = of.limit i; origin = of.origin i };
+      begins = front_self pass.seen;
+    }
+
+-- ---- the pass of a port goes on
+
+module _ (sid at : ℕ) (request : Request) (o : SharedOrigin) (mine : List ℕ) (pass now : Known Entry BookOrigin) (on : GoesOn o mine pass) where
+  -- a turn of this pass in which this was answered
+  abbrev pub Turned : Answered → Type 0
+  Turned answer = TookTurn (λ found limit origin left. AsksInTurn sid at request found limit origin answer left) o.lock pass now
+
+  taken : (answer : Answered) → Turned answer → TakesTurn sid at request answer o pass.seen mine now
+  taken answer t = subst (λ (k : Known Entry BookOrigin). TookTurn (λ found limit origin left. AsksInTurn sid at request found limit origin answer left) o.lock k now) on.is t
+
+  later : IsPrefix pass.seen now.seen → IsPrefix o.first.seen now.seen
+  later begins = front_trans o.first.seen pass.seen now.seen on.begins begins
+
+  pub goes_made : (place : ℕ) (reply : Reply) → Turned (Entered place reply) → GoesOn o (mine ++ place ∷ []) now
+  goes_made place reply t =
+      let k = taken (Entered place reply) t in
+      let h = history_made sid at request place reply o pass.seen mine now false 0 0 k in
+      record { is = pass_made sid at request place reply o pass.seen mine now k; begins = later (front_more pass.seen h.before now.seen _ h.begins h.seen) }
+
+  pub goes_full : (told : ℕ) → Turned (Full told) → GoesOn o mine now
+  goes_full told t =
+      let k = taken (Full told) t in
+      record { is = pass_full sid at request told o pass.seen mine now k; begins = later (history_full sid at request told o pass.seen mine now false 0 0 k).begins }
+
+  pub goes_lacking : Turned NoMemory → GoesOn o mine now
+  goes_lacking t =
+      let k = taken NoMemory t in
+      record { is = pass_lacks sid at request o pass.seen mine now k; begins = later (history_lacks sid at request o pass.seen mine now false 0 0 k).begins }
+
+  module _ (refused : Bool) (asks more : ℕ) (grew : Grew 1 asks more) where
+    pub asks_made : (place : ℕ) (reply : Reply) → Turned (Entered place reply)
+        → ports.Replies sid at request reply (shared_port o pass.seen mine refused asks) (shared_port o now.seen (mine ++ place ∷ []) refused more)
+    asks_made place reply t = port_made sid at request place reply o pass.seen mine now refused asks more grew (taken (Entered place reply) t)
+
+    pub one_made : (place : ℕ) (reply : Reply) → Turned (Entered place reply)
+        → RepliesInOne (full_of reply) sid at request reply (shared_port o pass.seen mine refused asks) (shared_port o now.seen (mine ++ place ∷ []) refused more)
+    one_made place reply t =
+        let k = taken (Entered place reply) t in
+        subst (λ (f : Option ℕ). RepliesInOne f sid at request reply (shared_port o pass.seen mine refused asks) (shared_port o now.seen (mine ++ place ∷ []) refused more)) (sym k.did.placed.1)
+        (history_made sid at request place reply o pass.seen mine now refused asks more k)
+
+    pub begins_made : (place : ℕ) (reply : Reply) → Turned (Entered place reply) → IsPrefix pass.seen now.seen
+    begins_made place reply t =
+        let h = history_made sid at request place reply o pass.seen mine now refused asks more (taken (Entered place reply) t) in
+        front_more pass.seen h.before now.seen _ h.begins h.seen
+
+    pub asks_full : (told : ℕ) → Turned (Full told) → ports.IsFull told (shared_port o pass.seen mine refused asks) (shared_port o now.seen mine true more)
+    asks_full told t = port_full sid at request told o pass.seen mine now refused asks more grew (taken (Full told) t)
+
+    pub one_full : (told : ℕ) → Turned (Full told) → FoundFull told (shared_port o pass.seen mine refused asks) (shared_port o now.seen mine true more)
+    one_full told t = history_full sid at request told o pass.seen mine now refused asks more (taken (Full told) t)
+
+    pub asks_lacking : Turned NoMemory → ports.RanOutOfMemory (shared_port o pass.seen mine refused asks) (shared_port o now.seen mine refused more)
+    asks_lacking t = port_lacks sid at request o pass.seen mine now refused asks more grew (taken NoMemory t)
+
+    pub one_lacking : Turned NoMemory → LackedMemory (shared_port o pass.seen mine refused asks) (shared_port o now.seen mine refused more)
+    one_lacking t = history_lacks sid at request o pass.seen mine now refused asks more (taken NoMemory t)

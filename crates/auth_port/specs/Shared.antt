@@ -12,15 +12,10 @@ use Rattle.auth_machine.specs.History.{IsLegal, IsStep, after}
 use Rattle.auth_machine.specs.Port.{BookOrigin, full_at}
 use Rattle.turn_lock.specs.Known.{Known, Lock, knowing}
 
--- what stays as it was when a pass was handed in: the lock, with its book's limit and origin; the places of the entries that
--- the pass had made; and those of the passes that it had met
+-- what stays as it was when a pass was handed in: the lock, with its book's limit and origin, and what the pass knew
 pub record SharedOrigin : Type 0 where
   pub lock : Lock BookOrigin
-  pub earlier : List ℕ
-  pub met : List ℕ
-
-abbrev pub origin_of : Lock BookOrigin → Known Entry BookOrigin → SharedOrigin
-origin_of lock pass = record { lock = lock; earlier = pass.mine; met = pass.met }
+  pub first : Known Entry BookOrigin
 
 -- a port that has seen this front of the book's history, and made the entries at these places; it doesn't fail
 abbrev pub shared_port : SharedOrigin → List Entry → List ℕ → Bool → ℕ → Port SharedOrigin
@@ -36,9 +31,14 @@ shared_port origin seen mine refused asks = record {
   home = origin.lock.home;
 }
 
--- what a pass knows that has seen this much and made the entries at these places, besides its earlier ones
+-- what a pass knows that has seen this much and made the entries at these places, besides those that it had made at first
 abbrev pub knows : SharedOrigin → List Entry → List ℕ → Known Entry BookOrigin
-knows origin seen mine = knowing origin.lock seen (origin.earlier ++ mine) origin.met
+knows origin seen mine = knowing origin.lock seen (origin.first.mine ++ mine) origin.first.met
+
+-- a pass goes on from what it knew at first: it has seen all that it had seen then, and has those places and these
+pub record GoesOn (origin : SharedOrigin) (mine : List ℕ) (pass : Known Entry BookOrigin) : Type 0 where
+  pub is : pass ≡ knows origin pass.seen mine
+  pub begins : IsPrefix origin.first.seen pass.seen
 
 -- what the pass of a port knows
 abbrev pub pass_of : Port SharedOrigin → Known Entry BookOrigin

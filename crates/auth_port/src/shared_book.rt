@@ -2,7 +2,7 @@
 ghost use Rattle.std.specs.Prelude.{◌≡◌, [], false};
 ghost use mathlib.Core.List.{IsPrefix};
 ghost use Rattle.auth_events.specs.Port.{Asks};
-ghost use Rattle.auth_port.specs.Shared.{AnswersInOne, origin_of, pass_of, shared_port};
+ghost use Rattle.auth_port.specs.Shared.{AnswersInOne, pass_of, shared_port};
 ghost use Rattle.fw_outside.specs.Counts.{Grew};
 ghost use Rattle.turn_lock.specs.Known.{IsPassOf};
 
@@ -31,13 +31,14 @@ pub struct SharedBook<'a, H, K: Keeper> {
 
 impl<'a, H, K: Keeper> Model for SharedBook<'a, H, K> {
     ghost use Rattle.auth_events.specs.Port.{Port};
-    ghost use Rattle.auth_port.specs.Shared.{SharedOrigin, knows, origin_of, shared_port};
+    ghost use Rattle.auth_port.specs.Shared.{GoesOn, SharedOrigin, shared_port};
 
     ghost Value = { Port SharedOrigin };
 
-    ghost view = { λ s. shared_port (origin_of s.turns.now s.at_first.value) s.pass.seen s.mine.items s.refused s.asks };
+    ghost view = { λ s. shared_port (record { lock = s.turns.now; first = s.at_first.value }) s.pass.seen s.mine.items
+        s.refused s.asks };
 
-    ghost invariant = { λ s. s.pass ≡ knows (origin_of s.turns.now s.at_first.value) s.pass.seen s.mine.items };
+    ghost invariant = { λ s. GoesOn (record { lock = s.turns.now; first = s.at_first.value }) s.mine.items s.pass };
 }
 
 // The count after one more.
@@ -56,7 +57,7 @@ impl<'a, H, K: Keeper> SharedBook<'a, H, K> {
         pass: Pass<Book<K>>,
     ) -> SharedBook<'a, H, K>
         requires pass { IsPassOf turns.now pass }
-        ensures is { result ≡ shared_port (origin_of turns.now pass) pass.seen [] false 0 }
+        ensures is { result ≡ shared_port (record { lock = turns.now; first = pass }) pass.seen [] false 0 }
     {
         let at_first = Snapshot::of(&pass);
         SharedBook {
@@ -74,6 +75,7 @@ impl<'a, H, K: Keeper> SharedBook<'a, H, K> {
     pub fn into_pass(self) -> (Pass<Book<K>>, Vec<u64>)
         ensures pass { result.0 ≡ pass_of self }
         ensures given { IsPassOf self.origin.lock result.0 }
+        ensures begins { IsPrefix self.origin.first.seen self.seen }
         ensures places { result.1.items ≡ self.mine }
     {
         let SharedBook { pass, mine, .. } = self;

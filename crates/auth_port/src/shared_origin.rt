@@ -1,18 +1,22 @@
+use auth_events::Entry;
 use auth_machine::BookOrigin;
 use std::collections::LinkedList;
 use std::marker::Model;
 
-/// What stays as it was when a pass was handed in. Contracts alone name it: no value of it is made.
+/// What stays as it was when a pass was handed in: the lock, and what the pass knew. Contracts alone name it: no value of
+/// it is made.
 pub struct SharedOrigin {
     home: LinkedList<u64>,
     limit: u64,
     origin: BookOrigin,
-    earlier: LinkedList<u64>,
+    seen: LinkedList<Entry>,
+    mine: LinkedList<u64>,
     met: LinkedList<u64>,
 }
 
 impl Model for SharedOrigin {
     ghost use Rattle.auth_port.specs.Shared.{SharedOrigin};
+    ghost use Rattle.turn_lock.specs.Known.{knowing};
 
     ghost Value = { SharedOrigin };
 
@@ -22,7 +26,6 @@ impl Model for SharedOrigin {
         limit = s.limit;
         origin = s.origin;
       };
-      earlier = s.earlier;
-      met = s.met;
+      first = knowing (record { home = s.home; limit = s.limit; origin = s.origin }) s.seen s.mine s.met;
     } };
 }
