@@ -12,7 +12,7 @@ use Rattle.auth_events.specs.declared.request.Request.{Request}
 use Rattle.auth_machine.proofs.HistoryLemmas.{last_step}
 use Rattle.auth_machine.proofs.PortLemmas.{entered, fits_last, is_full, not_yet}
 use Rattle.auth_machine.specs.Answers.{full_of}
-use Rattle.auth_machine.specs.Book.{AddsEntry, EntersReply}
+use Rattle.auth_machine.specs.Book.{AddsEntry, EntersReply, IsFullAt}
 use Rattle.auth_machine.specs.History.{IsLegal}
 use Rattle.auth_machine.specs.Port.{BookOrigin, full_at}
 use Rattle.turn_lock.proofs.Fronts.{front_length, front_self, front_trans}
@@ -100,7 +100,7 @@ port_made sid at request place reply o seen mine now refused asks more grew t =
     let entry : Entry = entry_at sid at request a.kept reply (length t.found) in
     let legal = subst (IsLegal o.lock.origin.origin) a.is t.did.asked.legal in
     let long = front_length seen t.found t.begins in
-    entered reply t.did.placed.1 record {
+    let h : ports.Enters sid at request reply (shared_port o seen mine refused asks) (shared_port o now.seen (mine ++ place ∷ []) refused more) = record {
       others = t.begins.0;
       place = place;
       kept = a.kept;
@@ -112,9 +112,18 @@ port_made sid at request place reply o seen mine now refused asks more grew t =
       fits = subst (λ (n : ℕ). Fits request n reply) (sym t.did.placed.0) (fits_last o.lock.origin.origin t.found entry legal);
       is = ap (λ (h : List Entry). made_port o h (mine ++ place ∷ []) (full_at o.lock.limit now.seen) refused more)
           (is ∙ a.is ∙ ap₂ (λ (h : List Entry) (n : ℕ). h ++ entry_at sid at request a.kept reply n ∷ []) (sym t.begins.1) (sym t.did.placed.0));
-    }
+    } in
+    entered reply t.did.placed.1 h
 
 -- ---- no entry was made
+
+full_in : (sid at : ℕ) (request : Request) (told : ℕ) (o : SharedOrigin) (seen : List Entry) (mine : List ℕ) (now : Known Entry BookOrigin)
+    → (t : TakesTurn sid at request (Full told) o seen mine now) → IsFullAt told o.lock.limit t.found t.seen
+full_in sid at request told o seen mine now t = t.did.asked.answers
+
+lacking_in : (sid at : ℕ) (request : Request) (o : SharedOrigin) (seen : List Entry) (mine : List ℕ) (now : Known Entry BookOrigin)
+    → (t : TakesTurn sid at request NoMemory o seen mine now) → t.seen ≡ t.found
+lacking_in sid at request o seen mine now t = t.did.asked.answers
 
 -- what was seen begins with what had been seen
 stayed : (seen found left later : List Entry) → IsPrefix seen found → left ≡ found → later ≡ left → IsPrefix seen later
@@ -127,17 +136,17 @@ pass_kept sid at request answer o seen mine now t same =
 
 pub pass_full : (sid at : ℕ) (request : Request) (told : ℕ) (o : SharedOrigin) (seen : List Entry) (mine : List ℕ) (now : Known Entry BookOrigin)
     → TakesTurn sid at request (Full told) o seen mine now → now ≡ knows o now.seen mine
-pass_full sid at request told o seen mine now t = pass_kept sid at request (Full told) o seen mine now t t.did.asked.answers.is
+pass_full sid at request told o seen mine now t = pass_kept sid at request (Full told) o seen mine now t (full_in sid at request told o seen mine now t).is
 
 pub pass_lacks : (sid at : ℕ) (request : Request) (o : SharedOrigin) (seen : List Entry) (mine : List ℕ) (now : Known Entry BookOrigin)
     → TakesTurn sid at request NoMemory o seen mine now → now ≡ knows o now.seen mine
-pass_lacks sid at request o seen mine now t = pass_kept sid at request NoMemory o seen mine now t t.did.asked.answers
+pass_lacks sid at request o seen mine now t = pass_kept sid at request NoMemory o seen mine now t (lacking_in sid at request o seen mine now t)
 
 pub history_full : (sid at : ℕ) (request : Request) (told : ℕ) (o : SharedOrigin) (seen : List Entry) (mine : List ℕ) (now : Known Entry BookOrigin) (refused : Bool) (asks more : ℕ)
     → TakesTurn sid at request (Full told) o seen mine now → FoundFull told (shared_port o seen mine refused asks) (shared_port o now.seen mine true more)
 history_full sid at request told o seen mine now refused asks more t =
     let is : now.seen ≡ t.seen = ap (λ (k : Known Entry BookOrigin). k.seen) t.is in
-    let full = t.did.asked.answers in
+    let full = full_in sid at request told o seen mine now t in
     record {
       limit_is = full.limit_is;
       full = ap length (is ∙ full.is) ∙ full.full ∙ sym full.limit_is;
@@ -163,7 +172,7 @@ port_full sid at request told o seen mine now refused asks more grew t =
 pub history_lacks : (sid at : ℕ) (request : Request) (o : SharedOrigin) (seen : List Entry) (mine : List ℕ) (now : Known Entry BookOrigin) (refused : Bool) (asks more : ℕ)
     → TakesTurn sid at request NoMemory o seen mine now → LackedMemory (shared_port o seen mine refused asks) (shared_port o now.seen mine refused more)
 history_lacks sid at request o seen mine now refused asks more t =
-    record { begins = stayed seen t.found t.seen now.seen t.begins t.did.asked.answers (ap (λ (k : Known Entry BookOrigin). k.seen) t.is); mine = refl }
+    record { begins = stayed seen t.found t.seen now.seen t.begins (lacking_in sid at request o seen mine now t) (ap (λ (k : Known Entry BookOrigin). k.seen) t.is); mine = refl }
 
 -- a port that has seen more, and made no entry
 lacked : (o : SharedOrigin) (seen later : List Entry) (mine : List ℕ) (refused : Bool) (asks more : ℕ) → Grew 1 asks more → IsPrefix seen later → Stays (full_at o.lock.limit seen) (full_at o.lock.limit later)
@@ -181,7 +190,7 @@ pub port_lacks : (sid at : ℕ) (request : Request) (o : SharedOrigin) (seen : L
     → TakesTurn sid at request NoMemory o seen mine now → ports.RanOutOfMemory (shared_port o seen mine refused asks) (shared_port o now.seen mine refused more)
 port_lacks sid at request o seen mine now refused asks more grew t =
     let is : now.seen ≡ t.seen = ap (λ (k : Known Entry BookOrigin). k.seen) t.is in
-    let begins = stayed seen t.found t.seen now.seen t.begins t.did.asked.answers is in
+    let begins = stayed seen t.found t.seen now.seen t.begins (lacking_in sid at request o seen mine now t) is in
     lacked o seen now.seen mine refused asks more grew begins
     (stays_at o.lock.limit seen now.seen (front_length seen now.seen begins) (let within = t.did.asked.within in omega (arith, within, ap length is)))
 

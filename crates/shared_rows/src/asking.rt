@@ -7,6 +7,7 @@ use auth_events::{AuthPort, PortFault, Reply, Request};
 use auth_port::{Answered, Asking, Book, Pass, SharedBook, Turns};
 use authsrv_lines::reply_text;
 use fw_memory::MemKeeper;
+use fw_outside::Keeper;
 use std::sync::Wait;
 use std::{io, str};
 
@@ -51,8 +52,8 @@ pub(crate) fn turn<H: Wait>(
 }
 
 /// Asks the port this.
-pub(crate) fn ask<H: Wait>(
-    port: &mut SharedBook<'_, H, MemKeeper>,
+pub(crate) fn ask<H: Wait, K: Keeper>(
+    port: &mut SharedBook<'_, H, K>,
     sid: u64,
     at: u64,
     request: Request,
