@@ -18,9 +18,9 @@ use Rattle.auth_machine.specs.Port.{BookOrigin, full_at}
 use Rattle.turn_lock.proofs.Fronts.{front_length, front_self, front_trans}
 use Rattle.turn_lock.specs.Known.{IsPassOf, Known, Lock, Made, TookTurn, knowing}
 use Rattle.auth_port.specs.Asking.{AsksInTurn}
-use Rattle.auth_port.specs.Shared.{FoundFull, LackedMemory, MadeEntry, RepliesInOne, GoesOn, SharedOrigin, knows, shared_port}
+use Rattle.auth_port.specs.Shared.{FoundFull, LackedMemory, MadeEntry, GoesOn, SharedOrigin, knows, shared_port}
 use Rattle.auth_port.specs.declared.asking.Answered.{Answered}
-use Rattle.auth_port.specs.declared.asking.Answered.TheVariants.{Entered, Full, NoMemory}
+use Rattle.auth_port.specs.declared.asking.Answered.TheVariants as answers
 
 -- ---- limits
 
@@ -36,13 +36,13 @@ abbrev made_port : SharedOrigin → List Entry → List ℕ → Option ℕ → B
 made_port o seen mine full refused asks = record { seen = seen; mine = mine; full = full; refused = refused; asks = asks; faults = 0; odd = 0; origin = o; home = o.lock.home }
 
 -- a front of a list is one of that list with an entry more
-front_more : (seen before later : List Entry) (entry : Entry) → IsPrefix seen before → later ≡ before ++ entry ∷ [] → IsPrefix seen later
+pub front_more : (seen before later : List Entry) (entry : Entry) → IsPrefix seen before → later ≡ before ++ entry ∷ [] → IsPrefix seen later
 front_more seen before later entry begins is = front_trans seen before later begins (entry ∷ [], sym is)
 
 -- ---- turns
 
 -- a turn in which this was answered
-abbrev TakesTurn : ℕ → ℕ → Request → Answered → SharedOrigin → List Entry → List ℕ → Known Entry BookOrigin → Type 0
+abbrev pub TakesTurn : ℕ → ℕ → Request → Answered → SharedOrigin → List Entry → List ℕ → Known Entry BookOrigin → Type 0
 TakesTurn sid at request answer o seen mine now = TookTurn (λ found limit origin left. AsksInTurn sid at request found limit origin answer left) o.lock (knows o seen mine) now
 
 made_one : {E : Type 0} (limit : ℕ) (found seen : List E) (entry : E) (before mine : List ℕ) → seen ≡ found ++ entry ∷ [] → Made limit found seen before mine → mine ≡ before ++ length found ∷ []
@@ -64,7 +64,7 @@ adds None sid at request reply limit before now none h = h
 adds (Some told) sid at request reply limit before now none h = cc
 
 pub pass_made : (sid at : ℕ) (request : Request) (place : ℕ) (reply : Reply) (o : SharedOrigin) (seen : List Entry) (mine : List ℕ) (now : Known Entry BookOrigin)
-    → TakesTurn sid at request (Entered place reply) o seen mine now → now ≡ knows o now.seen (mine ++ place ∷ [])
+    → TakesTurn sid at request (answers.Entered place reply) o seen mine now → now ≡ knows o now.seen (mine ++ place ∷ [])
 pass_made sid at request place reply o seen mine now t =
     let a = adds (full_of reply) sid at request reply o.lock.limit t.found t.seen t.did.placed.1 t.did.asked.answers in
     knows_so o t.seen t.mine (mine ++ place ∷ []) now t.is
@@ -73,7 +73,7 @@ pass_made sid at request place reply o seen mine now t =
     ∙ ap (λ (n : ℕ). o.first.mine ++ (mine ++ n ∷ [])) (sym t.did.placed.0))
 
 pub history_made : (sid at : ℕ) (request : Request) (place : ℕ) (reply : Reply) (o : SharedOrigin) (seen : List Entry) (mine : List ℕ) (now : Known Entry BookOrigin) (refused : Bool) (asks more : ℕ)
-    → TakesTurn sid at request (Entered place reply) o seen mine now
+    → TakesTurn sid at request (answers.Entered place reply) o seen mine now
     → MadeEntry sid at request reply (shared_port o seen mine refused asks) (shared_port o now.seen (mine ++ place ∷ []) refused more)
 history_made sid at request place reply o seen mine now refused asks more t =
     let a = adds (full_of reply) sid at request reply o.lock.limit t.found t.seen t.did.placed.1 t.did.asked.answers in
@@ -92,7 +92,7 @@ history_made sid at request place reply o seen mine now refused asks more t =
 
 -- the same as a port
 pub port_made : (sid at : ℕ) (request : Request) (place : ℕ) (reply : Reply) (o : SharedOrigin) (seen : List Entry) (mine : List ℕ) (now : Known Entry BookOrigin) (refused : Bool) (asks more : ℕ) → Grew 1 asks more
-    → TakesTurn sid at request (Entered place reply) o seen mine now
+    → TakesTurn sid at request (answers.Entered place reply) o seen mine now
     → ports.Replies sid at request reply (shared_port o seen mine refused asks) (shared_port o now.seen (mine ++ place ∷ []) refused more)
 port_made sid at request place reply o seen mine now refused asks more grew t =
     let a = adds (full_of reply) sid at request reply o.lock.limit t.found t.seen t.did.placed.1 t.did.asked.answers in
@@ -118,11 +118,11 @@ port_made sid at request place reply o seen mine now refused asks more grew t =
 -- ---- no entry was made
 
 full_in : (sid at : ℕ) (request : Request) (told : ℕ) (o : SharedOrigin) (seen : List Entry) (mine : List ℕ) (now : Known Entry BookOrigin)
-    → (t : TakesTurn sid at request (Full told) o seen mine now) → IsFullAt told o.lock.limit t.found t.seen
+    → (t : TakesTurn sid at request (answers.Full told) o seen mine now) → IsFullAt told o.lock.limit t.found t.seen
 full_in sid at request told o seen mine now t = t.did.asked.answers
 
 lacking_in : (sid at : ℕ) (request : Request) (o : SharedOrigin) (seen : List Entry) (mine : List ℕ) (now : Known Entry BookOrigin)
-    → (t : TakesTurn sid at request NoMemory o seen mine now) → t.seen ≡ t.found
+    → (t : TakesTurn sid at request answers.NoMemory o seen mine now) → t.seen ≡ t.found
 lacking_in sid at request o seen mine now t = t.did.asked.answers
 
 -- what was seen begins with what had been seen
@@ -135,15 +135,15 @@ pass_kept sid at request answer o seen mine now t same =
     knows_so o t.seen t.mine mine now t.is (made_none o.lock.limit t.found t.seen (o.first.mine ++ mine) t.mine same t.made)
 
 pub pass_full : (sid at : ℕ) (request : Request) (told : ℕ) (o : SharedOrigin) (seen : List Entry) (mine : List ℕ) (now : Known Entry BookOrigin)
-    → TakesTurn sid at request (Full told) o seen mine now → now ≡ knows o now.seen mine
-pass_full sid at request told o seen mine now t = pass_kept sid at request (Full told) o seen mine now t (full_in sid at request told o seen mine now t).is
+    → TakesTurn sid at request (answers.Full told) o seen mine now → now ≡ knows o now.seen mine
+pass_full sid at request told o seen mine now t = pass_kept sid at request (answers.Full told) o seen mine now t (full_in sid at request told o seen mine now t).is
 
 pub pass_lacks : (sid at : ℕ) (request : Request) (o : SharedOrigin) (seen : List Entry) (mine : List ℕ) (now : Known Entry BookOrigin)
-    → TakesTurn sid at request NoMemory o seen mine now → now ≡ knows o now.seen mine
-pass_lacks sid at request o seen mine now t = pass_kept sid at request NoMemory o seen mine now t (lacking_in sid at request o seen mine now t)
+    → TakesTurn sid at request answers.NoMemory o seen mine now → now ≡ knows o now.seen mine
+pass_lacks sid at request o seen mine now t = pass_kept sid at request answers.NoMemory o seen mine now t (lacking_in sid at request o seen mine now t)
 
 pub history_full : (sid at : ℕ) (request : Request) (told : ℕ) (o : SharedOrigin) (seen : List Entry) (mine : List ℕ) (now : Known Entry BookOrigin) (refused : Bool) (asks more : ℕ)
-    → TakesTurn sid at request (Full told) o seen mine now → FoundFull told (shared_port o seen mine refused asks) (shared_port o now.seen mine true more)
+    → TakesTurn sid at request (answers.Full told) o seen mine now → FoundFull told (shared_port o seen mine refused asks) (shared_port o now.seen mine true more)
 history_full sid at request told o seen mine now refused asks more t =
     let is : now.seen ≡ t.seen = ap (λ (k : Known Entry BookOrigin). k.seen) t.is in
     let full = full_in sid at request told o seen mine now t in
@@ -156,7 +156,7 @@ history_full sid at request told o seen mine now refused asks more t =
     }
 
 pub port_full : (sid at : ℕ) (request : Request) (told : ℕ) (o : SharedOrigin) (seen : List Entry) (mine : List ℕ) (now : Known Entry BookOrigin) (refused : Bool) (asks more : ℕ) → Grew 1 asks more
-    → TakesTurn sid at request (Full told) o seen mine now → ports.IsFull told (shared_port o seen mine refused asks) (shared_port o now.seen mine true more)
+    → TakesTurn sid at request (answers.Full told) o seen mine now → ports.IsFull told (shared_port o seen mine refused asks) (shared_port o now.seen mine true more)
 port_full sid at request told o seen mine now refused asks more grew t =
     let h = history_full sid at request told o seen mine now refused asks more t in
     let at_limit : full_at o.lock.limit now.seen ≡ Some told = is_full o.lock.limit now.seen (h.full ∙ h.limit_is) ∙ ap (λ (n : ℕ). Some n) (sym h.limit_is) in
@@ -170,7 +170,7 @@ port_full sid at request told o seen mine now refused asks more grew t =
     }
 
 pub history_lacks : (sid at : ℕ) (request : Request) (o : SharedOrigin) (seen : List Entry) (mine : List ℕ) (now : Known Entry BookOrigin) (refused : Bool) (asks more : ℕ)
-    → TakesTurn sid at request NoMemory o seen mine now → LackedMemory (shared_port o seen mine refused asks) (shared_port o now.seen mine refused more)
+    → TakesTurn sid at request answers.NoMemory o seen mine now → LackedMemory (shared_port o seen mine refused asks) (shared_port o now.seen mine refused more)
 history_lacks sid at request o seen mine now refused asks more t =
     record { begins = stayed seen t.found t.seen now.seen t.begins (lacking_in sid at request o seen mine now t) (ap (λ (k : Known Entry BookOrigin). k.seen) t.is); mine = refl }
 
@@ -187,7 +187,7 @@ lacked o seen later mine refused asks more grew begins stays = record {
 }
 
 pub port_lacks : (sid at : ℕ) (request : Request) (o : SharedOrigin) (seen : List Entry) (mine : List ℕ) (now : Known Entry BookOrigin) (refused : Bool) (asks more : ℕ) → Grew 1 asks more
-    → TakesTurn sid at request NoMemory o seen mine now → ports.RanOutOfMemory (shared_port o seen mine refused asks) (shared_port o now.seen mine refused more)
+    → TakesTurn sid at request answers.NoMemory o seen mine now → ports.RanOutOfMemory (shared_port o seen mine refused asks) (shared_port o now.seen mine refused more)
 port_lacks sid at request o seen mine now refused asks more grew t =
     let is : now.seen ≡ t.seen = ap (λ (k : Known Entry BookOrigin). k.seen) t.is in
     let begins = stayed seen t.found t.seen now.seen t.begins (lacking_in sid at request o seen mine now t) is in
@@ -215,61 +215,3 @@ at_first lock pass of =
       is = λ i. record { seen = pass.seen; mine = sym none i; met = pass.met; home = of.home i; limit = of.limit i; origin = of.origin i };
       begins = front_self pass.seen;
     }
-
--- ---- the pass of a port goes on
-
-module _ (sid at : ℕ) (request : Request) (o : SharedOrigin) (mine : List ℕ) (pass now : Known Entry BookOrigin) (on : GoesOn o mine pass) where
-  -- a turn of this pass in which this was answered
-  abbrev pub Turned : Answered → Type 0
-  Turned answer = TookTurn (λ found limit origin left. AsksInTurn sid at request found limit origin answer left) o.lock pass now
-
-  taken : (answer : Answered) → Turned answer → TakesTurn sid at request answer o pass.seen mine now
-  taken answer t = subst (λ (k : Known Entry BookOrigin). TookTurn (λ found limit origin left. AsksInTurn sid at request found limit origin answer left) o.lock k now) on.is t
-
-  later : IsPrefix pass.seen now.seen → IsPrefix o.first.seen now.seen
-  later begins = front_trans o.first.seen pass.seen now.seen on.begins begins
-
-  pub goes_made : (place : ℕ) (reply : Reply) → Turned (Entered place reply) → GoesOn o (mine ++ place ∷ []) now
-  goes_made place reply t =
-      let k = taken (Entered place reply) t in
-      let h = history_made sid at request place reply o pass.seen mine now false 0 0 k in
-      record { is = pass_made sid at request place reply o pass.seen mine now k; begins = later (front_more pass.seen h.before now.seen _ h.begins h.seen) }
-
-  pub goes_full : (told : ℕ) → Turned (Full told) → GoesOn o mine now
-  goes_full told t =
-      let k = taken (Full told) t in
-      record { is = pass_full sid at request told o pass.seen mine now k; begins = later (history_full sid at request told o pass.seen mine now false 0 0 k).begins }
-
-  pub goes_lacking : Turned NoMemory → GoesOn o mine now
-  goes_lacking t =
-      let k = taken NoMemory t in
-      record { is = pass_lacks sid at request o pass.seen mine now k; begins = later (history_lacks sid at request o pass.seen mine now false 0 0 k).begins }
-
-  module _ (refused : Bool) (asks more : ℕ) (grew : Grew 1 asks more) where
-    pub asks_made : (place : ℕ) (reply : Reply) → Turned (Entered place reply)
-        → ports.Replies sid at request reply (shared_port o pass.seen mine refused asks) (shared_port o now.seen (mine ++ place ∷ []) refused more)
-    asks_made place reply t = port_made sid at request place reply o pass.seen mine now refused asks more grew (taken (Entered place reply) t)
-
-    pub one_made : (place : ℕ) (reply : Reply) → Turned (Entered place reply)
-        → RepliesInOne (full_of reply) sid at request reply (shared_port o pass.seen mine refused asks) (shared_port o now.seen (mine ++ place ∷ []) refused more)
-    one_made place reply t =
-        let k = taken (Entered place reply) t in
-        subst (λ (f : Option ℕ). RepliesInOne f sid at request reply (shared_port o pass.seen mine refused asks) (shared_port o now.seen (mine ++ place ∷ []) refused more)) (sym k.did.placed.1)
-        (history_made sid at request place reply o pass.seen mine now refused asks more k)
-
-    pub begins_made : (place : ℕ) (reply : Reply) → Turned (Entered place reply) → IsPrefix pass.seen now.seen
-    begins_made place reply t =
-        let h = history_made sid at request place reply o pass.seen mine now refused asks more (taken (Entered place reply) t) in
-        front_more pass.seen h.before now.seen _ h.begins h.seen
-
-    pub asks_full : (told : ℕ) → Turned (Full told) → ports.IsFull told (shared_port o pass.seen mine refused asks) (shared_port o now.seen mine true more)
-    asks_full told t = port_full sid at request told o pass.seen mine now refused asks more grew (taken (Full told) t)
-
-    pub one_full : (told : ℕ) → Turned (Full told) → FoundFull told (shared_port o pass.seen mine refused asks) (shared_port o now.seen mine true more)
-    one_full told t = history_full sid at request told o pass.seen mine now refused asks more (taken (Full told) t)
-
-    pub asks_lacking : Turned NoMemory → ports.RanOutOfMemory (shared_port o pass.seen mine refused asks) (shared_port o now.seen mine refused more)
-    asks_lacking t = port_lacks sid at request o pass.seen mine now refused asks more grew (taken NoMemory t)
-
-    pub one_lacking : Turned NoMemory → LackedMemory (shared_port o pass.seen mine refused asks) (shared_port o now.seen mine refused more)
-    one_lacking t = history_lacks sid at request o pass.seen mine now refused asks more (taken NoMemory t)
