@@ -25,7 +25,7 @@ use Rattle.auth_machine.specs.Step.{answer, is_refused, proposed}
 
 -- ---- which replies are entered
 
-some_clash : {A : Type 0} {n : ℕ} → Some n ≡ None → A
+pub some_clash : {A : Type 0} {n : ℕ} → Some n ≡ None → A
 some_clash {A} {n} same = clash (sym (ap is_there same))
   where
     is_there : Option ℕ → Bool
@@ -54,7 +54,7 @@ entered (replies.Denied (denials.Full limit)) not_full h = some_clash not_full
 entered (replies.Denied denials.Closed) not_full h = h
 entered (replies.Denied denials.NotKept) not_full h = h
 
-abbrev told_of : Option ℕ → ℕ
+abbrev pub told_of : Option ℕ → ℕ
 told_of None = 0
 told_of (Some n) = n
 

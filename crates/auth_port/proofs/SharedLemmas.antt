@@ -10,7 +10,7 @@ use Rattle.auth_events.specs.declared.entry.Entry.{Entry}
 use Rattle.auth_events.specs.declared.reply.Reply.{Reply}
 use Rattle.auth_events.specs.declared.request.Request.{Request}
 use Rattle.auth_machine.proofs.HistoryLemmas.{last_step}
-use Rattle.auth_machine.proofs.PortLemmas.{entered, fits_last, is_full, not_yet}
+use Rattle.auth_machine.proofs.PortLemmas.{entered, fits_last, is_full, not_yet, some_clash}
 use Rattle.auth_machine.specs.Answers.{full_of}
 use Rattle.auth_machine.specs.Book.{AddsEntry, EntersReply, IsFullAt}
 use Rattle.auth_machine.specs.History.{IsLegal}
@@ -61,7 +61,7 @@ knows_so o seen places more now is m = is ∙ ap₂ (λ (h : List Entry) (p : Li
 
 adds : (full : Option ℕ) (sid at : ℕ) (request : Request) (reply : Reply) (limit : ℕ) (before now : List Entry) → full ≡ None → EntersReply full sid at request reply limit before now → AddsEntry sid at request reply limit before now
 adds None sid at request reply limit before now none h = h
-adds (Some told) sid at request reply limit before now none h = cc
+adds (Some told) sid at request reply limit before now none h = some_clash none
 
 pub pass_made : (sid at : ℕ) (request : Request) (place : ℕ) (reply : Reply) (o : SharedOrigin) (seen : List Entry) (mine : List ℕ) (now : Known Entry BookOrigin)
     → TakesTurn sid at request (answers.Entered place reply) o seen mine now → now ≡ knows o now.seen (mine ++ place ∷ [])

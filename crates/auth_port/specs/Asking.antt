@@ -1,5 +1,5 @@
 -- What asking a book in a turn answers and leaves.
-use Rattle.std.specs.Prelude.{◌≡◌, ℕ, List, length, None, Result, Ok, Err}
+use Rattle.std.specs.Prelude.{◌≡◌, ℕ, List, length, Option, None, Some, Result, Ok, Err}
 use Rattle.fw_types.specs.declared.no_memory.NoMemory.{NoMemory}
 use Rattle.auth_events.specs.declared.denial.Denial.TheVariants as denials
 use Rattle.auth_events.specs.declared.entry.Entry.{Entry}
@@ -12,7 +12,12 @@ use Rattle.auth_machine.specs.Port.{BookOrigin}
 use Rattle.auth_port.specs.declared.asking.Answered.{Answered}
 use Rattle.auth_port.specs.declared.asking.Answered.TheVariants as answers
 
--- the same, as a book answers it
+-- a reply of a book with so many entries before it, which tells how many fit, or doesn't
+abbrev pub answered_at : Option ℕ → ℕ → Reply → Answered
+answered_at None place reply = answers.Entered place reply
+answered_at (Some told) place reply = answers.Full told
+
+-- the answer as a book gives it
 abbrev pub reply_in : Answered → Result Reply NoMemory
 reply_in (answers.Entered place reply) = Ok reply
 reply_in (answers.Full limit) = Ok (Denied (denials.Full limit))

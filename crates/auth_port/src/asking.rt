@@ -1,13 +1,12 @@
 //! Asking a book in a turn.
 ghost use Rattle.std.specs.Prelude.{◌≡◌};
 ghost use Rattle.auth_machine.specs.Answers.{full_of};
-ghost use Rattle.auth_port.specs.Asking.{AsksInTurn};
+ghost use Rattle.auth_port.specs.Asking.{AsksInTurn, answered_at};
 
 use auth_events::{Denial, Reply, Request};
 use auth_machine::Book;
 use fw_outside::Keeper;
 use fw_types::NoMemory;
-use std::marker::Model;
 use turn_lock::{StandsFor, TurnCall};
 
 /// Asks this request of a book, for the session of this number, at this moment in seconds.
@@ -38,6 +37,16 @@ fn limit_told(reply: &Reply) -> Option<u64>
     }
 }
 
+// A reply of a book that had so many entries.
+fn answered(place: u64, reply: Reply) -> Answered
+    ensures { result ≡ answered_at (full_of reply) place reply }
+{
+    match limit_told(&reply) {
+        None => Answered::Entered { place, reply },
+        Some(limit) => Answered::Full { limit },
+    }
+}
+
 impl<K: Keeper> TurnCall<Book<K>> for Asking {
     type Answer = Answered;
 
@@ -48,10 +57,7 @@ impl<K: Keeper> TurnCall<Book<K>> for Asking {
         let Asking { sid, at, request } = self;
         let place = book.count();
         match Book::ask(book, sid, at, request) {
-            Ok(reply) => match limit_told(&reply) {
-                None => Answered::Entered { place, reply },
-                Some(limit) => Answered::Full { limit },
-            },
+            Ok(reply) => answered(place, reply),
             Err(NoMemory) => Answered::NoMemory,
         }
     }
