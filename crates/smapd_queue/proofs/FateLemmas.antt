@@ -75,12 +75,12 @@ stays_told slot new same m keeps = subst (λ (t : Option Tape). IsToldSince (Eac
 -- ---- turns
 
 kept_by : (slot : FullView) (fate : Fate) → IsFateOf slot fate → is_accepted fate ≡ false → StaysWholeOrAside slot (disk_by slot fate)
-kept_by slot (Freed message free) h no = absurd cc
-kept_by slot (NotFreed message broken) h no = absurd cc
-kept_by slot (PutAside message aside) h no = h.1.images
-kept_by slot (NotAside message broken) h no = h.1.images
-kept_by slot (PutBack message) h no = stays_here slot
-kept_by slot (Unread broken) h no = stays_told slot broken.disk h.told
+kept_by slot (Freed message free) h unaccepted = absurd cc
+kept_by slot (NotFreed message broken) h unaccepted = absurd cc
+kept_by slot (PutAside message aside) h unaccepted = h.1.images
+kept_by slot (NotAside message broken) h unaccepted = h.1.images
+kept_by slot (PutBack message) h unaccepted = stays_here slot
+kept_by slot (Unread broken) h unaccepted = stays_told slot broken.disk h.told
 
 runs_by : (slot : FullView) (fate : Fate) → IsFateOf slot fate → RunsBy slot fate
 runs_by slot (Freed message free) h = h.1.events

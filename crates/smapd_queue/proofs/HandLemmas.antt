@@ -10,6 +10,7 @@ use Rattle.fw_types.specs.declared.no_memory.NoMemory.{NoMemory}
 use Rattle.spool_rack.specs.Store.{HasTakenFull, Loan, PutsBroken, StoreView, put_full}
 use Rattle.spool_slots.specs.Messages.{Leaves}
 use Rattle.spool_slots.specs.States.{BrokenView, FullView}
+use Rattle.spool_slots.specs.declared.read_back.ReadBack.{ReadBack}
 use Rattle.spool_slots.specs.declared.read_back.ReadBack.TheVariants as reads
 use Rattle.smapd_queue.specs.declared.tally.Tally.{Tally}
 use Rattle.smapd_queue.specs.declared.word.Word.{Word}
@@ -77,15 +78,17 @@ read_on result message slot full store now mailers after same its so =
     subst (λ (f : FullView). HandsOnSo result f store now mailers after) same (so (subst (IsItsMessage message) (sym same) its))
 
 -- its disk failed
-pub unread_on : (word : Word) (slot full : FullView) (store now : StoreView) (mailers : List MailerView) → full.number ≡ slot.number → full.disk.told ≡ slot.disk.told → Leaves reads.DiskFault slot full → word ≡ words.Broken
-    → PutsBroken (as_broken full) store now → HandedOn word slot store now mailers mailers
-unread_on word slot full store now mailers number told leaves is puts = record {
-  fate = Unread (as_broken full);
-  so = record { broke = unread_broke slot full number leaves.0; told = told };
-  meets = refl;
-  puts = puts;
-  word_is = is;
-}
+pub unread_on : (word : Word) (fault : ReadBack) (slot full : FullView) (store now : StoreView) (mailers : List MailerView) → fault ≡ reads.DiskFault → full.number ≡ slot.number → full.disk.told ≡ slot.disk.told → Leaves fault slot full
+    → word ≡ words.Broken → PutsBroken (as_broken full) store now → HandedOn word slot store now mailers mailers
+unread_on word fault slot full store now mailers one number told leaves is puts =
+    let l : Leaves reads.DiskFault slot full = subst (λ (f : ReadBack). Leaves f slot full) one leaves in
+    record {
+      fate = Unread (as_broken full);
+      so = record { broke = unread_broke slot full number l.0; told = told };
+      meets = refl;
+      puts = puts;
+      word_is = is;
+    }
 
 -- there was no memory to read it
 pub unread_lacked : (slot full : FullView) (store now : StoreView) (mailers : List MailerView) → full.number ≡ slot.number → full.disk.told ≡ slot.disk.told → Leaves reads.NoMemory slot full → now ≡ put_full full store

@@ -3,7 +3,7 @@ use Rattle.std.proofs.Common.{arith, ◌≡◌, refl, sym, ap, subst, ◌∙◌,
 use Rattle.std.specs.List.{AllByRecursion, Contains}
 use Rattle.std.specs.Prelude.{IfSome}
 use Rattle.std.proofs.lemmas.List.{length-append}
-use Rattle.std.proofs.lemmas.List.Elements.{Contains-append_right}
+use Rattle.std.proofs.lemmas.List.Elements.{Contains-append_left, Contains-append_right}
 use Rattle.fw_types.specs.declared.message.Message.{Message}
 use Rattle.spool_rack.specs.Store.{Queues, StoreView}
 use Rattle.spool_slots.specs.States.{FullView}
@@ -118,7 +118,7 @@ later base x (slot ∷ slots) h = (Contains-append_right (x ∷ []) base slot h.
 
 all_in : (slots : List FullView) → AreIn slots slots
 all_in [] = tt
-all_in (slot ∷ slots) = ((0, lit< tt, refl), later slots slot slots (all_in slots))
+all_in (slot ∷ slots) = (Contains-append_left (slot ∷ []) slots slot (0, lit< tt, refl), later slots slot slots (all_in slots))
 
 were_full_by : (turns : List Turn) (ending : End) (queues : Option Queues) (old middle new : Meeting) → old.store.queues ≡ queues → TakesTurns turns old middle → EndsSo ending middle new
     → IfSome queues (λ q. TakenIn q.full (turns ++ last_turn ending))

@@ -1,7 +1,8 @@
 -- A round, from its steps.
-use Rattle.std.proofs.Common.{arith, ◌≡◌, refl, sym, ap, subst, ◌∙◌, ℕ, suc, ◌+◌, ◌<◌, ◌≤◌, List, [], ◌∷◌, ◌++◌, length, append-nil, Option, Some, None, Result, Ok, Err}
+use Rattle.std.proofs.Common.{arith, ◌≡◌, refl, sym, ap, subst, ◌∙◌, ℕ, suc, ◌+◌, ◌<◌, ◌≤◌, List, [], ◌∷◌, ◌++◌, length, map, append-nil, Option, Some, None, Result, Ok, Err}
 use Rattle.std.specs.List.{AllByRecursion}
 use Rattle.std.specs.Prelude.{IfSome}
+use Rattle.std.proofs.lemmas.List.{length-map}
 use Rattle.fw_mail.specs.MailerView.{MailerView}
 use Rattle.fw_types.specs.declared.message.Message.{Message}
 use Rattle.spool_rack.specs.Store.{HasNoFull, Queues, StoreView}
@@ -128,6 +129,9 @@ comes (turn ∷ turns) ending old middle new some h e =
     comes_first turn turns ending old h.middle new some h.takes (λ there. comes turns ending (with_text (line_of turn) h.middle) middle new there h.more e)
 
 -- ---- the round
+
+pub some_mapped : {A B : Type 0} (f : A → B) (xs : List A) → 0 < length xs → 0 < length (map f xs)
+some_mapped f xs lt = let long = length-map xs f in omega (arith, long, lt)
 
 has_first : (mailers : List MailerView) → 0 < length mailers → HasFirst mailers
 has_first [] lt = absurd (omega (arith, lt))
