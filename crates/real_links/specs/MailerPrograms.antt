@@ -1,5 +1,5 @@
 -- A program that mail is handed to, and which command was run.
-use Rattle.std.specs.Prelude.{◌≡◌, ℕ, Bool, true, false, ◌==◌, ◌∷◌, [], List, Option, Some, None, pos, codes, length, not, if◌then◌else◌}
+use Rattle.std.specs.Prelude.{◌≡◌, ℕ, Bool, true, false, ◌==◌, ◌∷◌, [], List, Option, Some, None, pos, codes, length, if◌then◌else◌}
 use Rattle.std.specs.List.{list_any}
 use Rattle.std.specs.Process.{exit_code}
 use Rattle.fw_types.specs.declared.message.Message.{Message}
@@ -43,6 +43,13 @@ pub record RefusedAs (program : List ℕ) (message : Message) (last : Option Ran
   pub mailed : MailedAs program message ending last
   pub not_accepted : (ending == 0) ≡ false
   pub not_failed : (ending == 75) ≡ false
+
+-- what a program says by its status
+abbrev pub Means : Handed → ℕ → Type 0
+Means Accepted ending = ending ≡ 0
+Means Refused ending = ((ending == 0) ≡ false) × ((ending == 75) ≡ false)
+Means Failed ending = ending ≡ 75
+Means NoMemory ending = ⊥
 
 -- what a program said of a message that it was handed
 abbrev pub SaidSo : Handed → List ℕ → Message → Option Ran → Type 0

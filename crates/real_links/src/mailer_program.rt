@@ -3,8 +3,9 @@ ghost use Rattle.std.specs.List.{list_any};
 ghost use Rattle.std.specs.Process.{exit_code};
 ghost use Rattle.fw_outside.specs.Counts.{Rose, counted};
 ghost use Rattle.fw_mail.specs.MailerView.{Hands};
+ghost use Rattle.fw_types.specs.declared.message.Message.{Message};
 ghost use Rattle.real_links.specs.Programs.{Runs, is_slash};
-ghost use Rattle.real_links.specs.MailerPrograms.{MailedAs, SaidSo, is_unfit_message, mail_args, untold_mailer};
+ghost use Rattle.real_links.specs.MailerPrograms.{MailedAs, Means, SaidSo, is_unfit_message, mail_args, untold_mailer};
 
 use crate::body_file::file_of;
 use crate::command::command;
@@ -111,12 +112,28 @@ impl MailerProgram {
         self.faults = self.faults.saturating_add(1);
         Handed::Failed
     }
+
+    // What the status says.
+    fn judge(&mut self, ending: u8) -> Handed
+        ensures means { Means result ending }
+        ensures hands { (message : Message) → Hands result message (untold_mailer self.old.refusals self.old.faults)
+            (untold_mailer self.new.refusals self.new.faults) }
+        ensures program { self.new.program ≡ self.old.program }
+        ensures last { self.new.last ≡ self.old.last }
+    {
+        match ending {
+            0 => Handed::Accepted,
+            75 => self.fail(),
+            _ => self.refuse(),
+        }
+    }
 }
 
 impl Mailer for MailerProgram {
     ghost mailer_view = { λ m. untold_mailer m.refusals m.faults };
 
     /// Not started for a message whose sender or recipient begins with `-` or has a byte 0.
+    #[tactic(auto, using(crate::proofs::ProgramLemmas::said_so))]
     fn hand(&mut self, message: &Message) -> Handed
         ensures hands { Hands result message.now (untold_mailer self.old.refusals self.old.faults)
             (untold_mailer self.new.refusals self.new.faults) }
@@ -127,9 +144,8 @@ impl Mailer for MailerProgram {
             return self.fail();
         }
         match self.run(message) {
-            Some(0) => Handed::Accepted,
-            Some(75) | None => self.fail(),
-            Some(_) => self.refuse(),
+            Some(ending) => self.judge(ending),
+            None => self.fail(),
         }
     }
 
