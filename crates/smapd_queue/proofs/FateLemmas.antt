@@ -1,14 +1,12 @@
 -- What became of a slot, by the calls on it.
-use Rattle.std.proofs.Common.{◌≡◌, refl, sym, ap, subst, ◌∙◌, ℕ, ◌++◌, Bool, true, false, List, [], ◌∷◌, Option, Some, None, inl, inr}
+use Rattle.std.proofs.Common.{◌≡◌, sym, subst, ◌++◌, false, List, [], ◌∷◌, Option, Some, None, inl}
 use Rattle.std.specs.List.{Contains}
 use Rattle.std.specs.Prelude.{IfSome}
 use Rattle.std.proofs.lemmas.List.Elements.{Contains-push}
 use Rattle.fw_disk.specs.DiskView.{DiskView, Tape}
-use Rattle.fw_disk.specs.Medium.{Medium}
 use Rattle.fw_disk.specs.Moments.{EachImage, IsToldSince, Now}
-use Rattle.fw_disk.proofs.MomentLemmas.{through_here, told_here}
+use Rattle.fw_disk.proofs.MomentLemmas.{through_here}
 use Rattle.slot_bytes.specs.Layout.{Mail}
-use Rattle.slot_bytes.specs.Reading.Reading.{Whole}
 use Rattle.spool_law.specs.Events.Step.{Accept}
 use Rattle.spool_law.specs.Images.{IsWhole}
 use Rattle.spool_law.specs.Runs.{IsToldRun, Known, Runs}
@@ -18,7 +16,6 @@ use Rattle.spool_law.proofs.RunLemmas.{run_one, runs_then, runs_here}
 use Rattle.spool_slots.proofs.EventLemmas.{runs_only_read}
 use Rattle.spool_slots.proofs.MarkLemmas.{keeps_images}
 use Rattle.spool_slots.specs.Images.{IsFreeImage, IsWholeImage, IsWholeOrAside}
-use Rattle.spool_slots.specs.Media.{IsSettled}
 use Rattle.spool_slots.specs.States.{BrokenView, FullView, IsBrokenFull, IsOnward, Keeps, SlotView}
 use Rattle.smapd_queue.specs.Turns.{Fate, Turn}
 use Rattle.smapd_queue.specs.Turns.Fate.{Freed, NotFreed, PutAside, NotAside, PutBack, Unread}

@@ -1,6 +1,6 @@
 -- Handing a message on: what became of it by what was answered.
-use Rattle.std.proofs.Common.{◌≡◌, refl, sym, ap, subst, ◌∙◌, ℕ, Bool, true, List, [], ◌∷◌, ◌++◌, Option, Some, None, Result, Ok, Err}
-use Rattle.fw_disk.specs.DiskView.{DiskView, Tape}
+use Rattle.std.proofs.Common.{◌≡◌, refl, sym, ap, subst, ◌∙◌, ℕ, Bool, List, Option, Some, None, Result}
+use Rattle.fw_disk.specs.DiskView.{Tape}
 use Rattle.fw_mail.specs.MailerView.{HandsFirst, MailerView}
 use Rattle.fw_mail.specs.declared.handed.Handed.TheVariants as answers
 use Rattle.fw_outside.specs.SinkView.{Cut, SinkView}
@@ -9,7 +9,7 @@ use Rattle.fw_types.specs.declared.message.Message.{Message}
 use Rattle.fw_types.specs.declared.no_memory.NoMemory.{NoMemory}
 use Rattle.spool_rack.specs.Store.{HasTakenFull, Loan, PutsBroken, StoreView, put_full}
 use Rattle.spool_slots.specs.Messages.{Leaves}
-use Rattle.spool_slots.specs.States.{BrokenView, FullView}
+use Rattle.spool_slots.specs.States.{FullView}
 use Rattle.spool_slots.specs.declared.read_back.ReadBack.{ReadBack}
 use Rattle.spool_slots.specs.declared.read_back.ReadBack.TheVariants as reads
 use Rattle.smapd_queue.specs.declared.tally.Tally.{Tally}
@@ -18,7 +18,7 @@ use Rattle.smapd_queue.specs.declared.word.Word.TheVariants as words
 use Rattle.smapd_queue.specs.Turns.{Turn, handed_line, line_of, or_else}
 use Rattle.smapd_queue.specs.Turns.Fate.{Freed, NotFreed, PutAside, NotAside, PutBack, Unread}
 use Rattle.smapd_queue.specs.Slots.{IsItsMessage}
-use Rattle.smapd_queue.specs.Meeting.{Meeting, TakesTurn, meeting_with, with_text}
+use Rattle.smapd_queue.specs.Meeting.{TakesTurn, meeting_with}
 use Rattle.smapd_queue.specs.Steps.{Accepts, Goes, HandedOn, HandsOnSo, IsLent, IsLentUnread, NotHandedOn, Refuses, StopsAtLog, StopsForMemory, as_broken, with_trouble, with_turn}
 use Rattle.smapd_queue.specs.Words.{text_of, trouble_in, with_one, word_by}
 use Rattle.smapd_queue.proofs.LentLemmas.{unread_broke}

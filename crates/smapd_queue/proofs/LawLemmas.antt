@@ -1,11 +1,10 @@
 -- What follows of a round.
-use Rattle.std.proofs.Common.{arith, ◌≡◌, refl, sym, ap, subst, ◌∙◌, ℕ, suc, ◌+◌, ◌<◌, ◌≤◌, ◌⊎◌, inl, inr, List, [], ◌∷◌, ◌++◌, length, take, drop, Option, Some, None, option_map, Result, Ok, Err, lit<}
+use Rattle.std.proofs.Common.{arith, ◌≡◌, refl, sym, ap, subst, ◌∙◌, ℕ, ◌+◌, inl, inr, List, [], ◌∷◌, ◌++◌, length, take, drop, Option, Some, None, option_map, Result, Ok, Err, lit<}
 use Rattle.std.specs.List.{AllByRecursion, Contains}
 use Rattle.std.specs.Prelude.{IfSome}
 use Rattle.std.proofs.lemmas.List.{length-append}
 use Rattle.std.proofs.lemmas.List.Elements.{Contains-append_left, Contains-append_right}
-use Rattle.fw_types.specs.declared.message.Message.{Message}
-use Rattle.spool_rack.specs.Store.{Queues, StoreView}
+use Rattle.spool_rack.specs.Store.{Queues}
 use Rattle.spool_slots.specs.States.{FullView}
 use Rattle.smapd_queue.specs.declared.round.Round.{Round}
 use Rattle.smapd_queue.specs.declared.round.RoundFault.{RoundFault}
@@ -15,7 +14,7 @@ use Rattle.smapd_queue.specs.Laws.{AddsUp, WereFull}
 use Rattle.smapd_queue.specs.Meeting.{End, EndsSo, Meeting, TakesTurn, TakesTurns, last_turn, with_text}
 use Rattle.smapd_queue.specs.Meeting.End.{AllTaken, NoneFull, Unlogged, Lacked}
 use Rattle.smapd_queue.specs.Round.{CountsNone, HandsOn, TurnsFit, answer_of, round_of}
-use Rattle.smapd_queue.proofs.StoreLemmas.{Turned, front_of, turned, turned_by}
+use Rattle.smapd_queue.proofs.StoreLemmas.{front_of, turned, turned_by}
 
 -- ---- the numbers
 

@@ -1,5 +1,5 @@
 -- A slot that is lent may be put back.
-use Rattle.std.proofs.Common.{eq-eqb, ◌≡◌, refl, sym, ap, subst, ◌∙◌, ℕ, nat_eq, Bool, true, false, List, [], ◌∷◌, Option, Some, None, option_map, inl, inr}
+use Rattle.std.proofs.Common.{eq-eqb, ◌≡◌, refl, sym, ap, subst, ◌∙◌, ℕ, nat_eq, Bool, true, List, [], ◌∷◌, Option, Some, None, option_map, inl}
 use Rattle.std.specs.Prelude.{IfSome}
 use Rattle.fw_disk.specs.DiskView.{DiskView, FailsToSet, IsToldTorn, Tape}
 use Rattle.fw_disk.specs.Medium.{Medium, written_at}

@@ -1,5 +1,5 @@
 -- What turns come to in the log.
-use Rattle.std.proofs.Common.{◌≡◌, refl, sym, ap, subst, ◌∙◌, ℕ, List, [], ◌∷◌, ◌++◌, Option, Some, None}
+use Rattle.std.proofs.Common.{◌≡◌, ap, ◌∙◌, ℕ, List, [], ◌∷◌, ◌++◌, Option}
 use Rattle.fw_outside.specs.SinkView.{Cut, SinkView}
 use Rattle.fw_outside.specs.ToldList.{grown}
 use Rattle.smapd_queue.specs.Turns.{Turn, line_of, lines_of}

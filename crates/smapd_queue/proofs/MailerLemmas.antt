@@ -1,6 +1,5 @@
 -- What turns come to at the mailers.
-use Rattle.std.proofs.Common.{arith, ◌≡◌, refl, sym, ap, subst, ◌∙◌, ℕ, ◌+◌, ◌-◌, ◌^◌, ◌≤◌, List, [], ◌∷◌, ◌++◌, length, map, append_assoc, append-nil, Option, Some, None}
-use Rattle.std.specs.Prelude.{min}
+use Rattle.std.proofs.Common.{arith, ◌≡◌, refl, sym, ap, ◌∙◌, List, [], ◌∷◌, ◌++◌, length, map, append_assoc, append-nil, Option, Some, None}
 use Rattle.std.proofs.lemmas.List.{length-map}
 use Rattle.fw_mail.specs.MailerView.{HandsFirst, MailerView}
 use Rattle.fw_mail.specs.declared.handed.Handed.{Handed}
@@ -10,7 +9,7 @@ use Rattle.fw_types.specs.declared.message.Message.{Message}
 use Rattle.smapd_queue.specs.Turns.{Fate, Turn, accepted_by, accepted_of, failed_by, refused_by}
 use Rattle.smapd_queue.specs.Turns.Fate.{Freed, NotFreed, PutAside, NotAside, PutBack, Unread}
 use Rattle.smapd_queue.specs.Meeting.{MailersMeet}
-use Rattle.smapd_queue.specs.Sums.{MailersGo, RoseBy, failures_of, refusals_of}
+use Rattle.smapd_queue.specs.Sums.{MailersGo, RoseBy}
 
 pub grown_nil : {A : Type 0} (told : Option (List A)) → told ≡ grown told []
 grown_nil None = refl

@@ -1,5 +1,5 @@
 -- A round, from its steps.
-use Rattle.std.proofs.Common.{arith, ◌≡◌, refl, sym, ap, subst, ◌∙◌, ℕ, suc, ◌+◌, ◌<◌, ◌≤◌, List, [], ◌∷◌, ◌++◌, length, map, append-nil, Option, Some, None, Result, Ok, Err}
+use Rattle.std.proofs.Common.{arith, ◌≡◌, refl, sym, ap, subst, ◌∙◌, ℕ, ◌<◌, ◌≤◌, List, [], ◌∷◌, ◌++◌, length, map, append-nil, Option, Some, None, Result, Ok, Err}
 use Rattle.std.specs.List.{AllByRecursion}
 use Rattle.std.specs.Prelude.{IfSome}
 use Rattle.std.proofs.lemmas.List.{length-map}
@@ -14,14 +14,14 @@ use Rattle.smapd_queue.specs.declared.round.Trouble.{Trouble}
 use Rattle.smapd_queue.specs.declared.tally.Tally.{Tally}
 use Rattle.smapd_queue.specs.Turns.{Turn, line_of, or_else, trouble_of}
 use Rattle.smapd_queue.specs.Words.{trouble_in, word_by}
-use Rattle.smapd_queue.specs.Meeting.{End, EndsSo, FailsToLog, FindsNone, Lacks, MailersLack, Meeting, TakesTurn, TakesTurns, TurnThen, lacked_of, last_turn, with_text}
+use Rattle.smapd_queue.specs.Meeting.{End, EndsSo, FailsToLog, FindsNone, Lacks, MailersLack, Meeting, TakesTurn, TakesTurns, lacked_of, last_turn, with_text}
 use Rattle.smapd_queue.specs.Meeting.End.{AllTaken, NoneFull, Unlogged, Lacked}
-use Rattle.smapd_queue.specs.Round.{CountsNone, HandsOn, HandsOnTelling, IsTurn, NoneIsFull, TurnsFit, answer_of, round_of}
+use Rattle.smapd_queue.specs.Round.{CountsNone, HandsOnTelling, IsTurn, NoneIsFull, TurnsFit, answer_of, round_of}
 use Rattle.smapd_queue.specs.Steps.{IsSoFar, StopsAtLog, StopsEmpty, StopsForMemory}
 use Rattle.smapd_queue.specs.Sums.{LogGoes, MailersGo, StoreGoes}
 use Rattle.smapd_queue.proofs.FateLemmas.{is_turn}
 use Rattle.smapd_queue.proofs.LogLemmas.{logs_cut, logs_first, logs_here}
-use Rattle.smapd_queue.proofs.MailerLemmas.{HasFirst, MetFirst, has_after, mailers_first, mailers_here, mailers_lacked, met_by}
+use Rattle.smapd_queue.proofs.MailerLemmas.{HasFirst, has_after, mailers_first, mailers_here, mailers_lacked, met_by}
 use Rattle.smapd_queue.proofs.TurnLemmas.{trouble_more}
 use Rattle.smapd_queue.proofs.StoreLemmas.{Turned, lacked_count, store_first, store_here, store_lacked, store_none, turned_by}
 

@@ -1,11 +1,11 @@
 -- What turns come to in the store.
-use Rattle.std.proofs.Common.{arith, ◌≡◌, refl, sym, ap, subst, ◌∙◌, ℕ, ◌+◌, ◌-◌, ◌^◌, ◌≤◌, true, false, List, [], ◌∷◌, ◌++◌, length, take, drop, append_assoc, append-nil, Option, Some, None, option_map}
-use Rattle.std.specs.Prelude.{IfSome, min}
+use Rattle.std.proofs.Common.{arith, ◌≡◌, refl, sym, ap, subst, ◌∙◌, true, List, [], ◌∷◌, ◌++◌, length, take, drop, append_assoc, append-nil, Option, Some, None, option_map}
+use Rattle.std.specs.Prelude.{IfSome}
 use Rattle.std.proofs.lemmas.List.{length-append}
-use Rattle.spool_rack.specs.Store.{HasNoFull, HasTakenFull, Handed, Loan, PutsBroken, Queues, StoreView, given_aside, given_broken, given_free, given_full, loan_of, put_aside, put_free, put_full, struck, with_aside, with_broken, with_free, with_full, without_full}
+use Rattle.spool_rack.specs.Store.{HasNoFull, HasTakenFull, Handed, Loan, PutsBroken, Queues, StoreView, given_aside, given_broken, given_free, given_full, loan_of, put_aside, put_free, put_full, with_aside, with_broken, with_free, with_full, without_full}
 use Rattle.spool_slots.specs.States.{BrokenView, FullView, IsBrokenFull, SlotView}
 use Rattle.fw_types.specs.declared.message.Message.{Message}
-use Rattle.smapd_queue.specs.Turns.{Fate, Turn, broken_by, broken_of, freed_by, freed_of, put_aside_by, put_aside_of, put_back_by, put_back_of, taken_of}
+use Rattle.smapd_queue.specs.Turns.{Fate, Turn, broken_by, broken_of, freed_by, freed_of, put_aside_by, put_aside_of, put_back_by, put_back_of}
 use Rattle.smapd_queue.specs.Turns.Fate.{Freed, NotFreed, PutAside, NotAside, PutBack, Unread}
 use Rattle.smapd_queue.specs.Slots.{IsFateOf}
 use Rattle.smapd_queue.specs.Meeting.{PutsBy}

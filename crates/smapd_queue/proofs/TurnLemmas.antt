@@ -1,15 +1,15 @@
 -- One turn more at the end of a list of turns.
-use Rattle.std.proofs.Common.{arith, ◌≡◌, refl, sym, ap, subst, ◌∙◌, ℕ, suc, ◌+◌, ◌<◌, ◌≤◌, List, [], ◌∷◌, ◌++◌, length, Option, Some, None}
+use Rattle.std.proofs.Common.{arith, ◌≡◌, refl, sym, ap, subst, ◌∙◌, ℕ, ◌+◌, ◌<◌, ◌≤◌, List, [], ◌∷◌, ◌++◌, length, Option, Some, None}
 use Rattle.std.proofs.lemmas.List.{length-append}
-use Rattle.spool_slots.specs.States.{BrokenView, FullView, SlotView}
+use Rattle.spool_slots.specs.States.{FullView}
 use Rattle.smapd_queue.specs.declared.round.Round.{Round}
 use Rattle.smapd_queue.specs.declared.round.Trouble.{Trouble}
 use Rattle.smapd_queue.specs.declared.tally.Tally.{Tally}
 use Rattle.smapd_queue.specs.Turns.{Fate, Turn, broken_by, broken_of, freed_by, freed_of, handed_line, line_of, or_else, put_aside_by, put_aside_of, put_back_by, put_back_of, trouble_by, trouble_of, word_of}
 use Rattle.smapd_queue.specs.Turns.Fate.{Freed, NotFreed, PutAside, NotAside, PutBack, Unread}
-use Rattle.smapd_queue.specs.Meeting.{Meeting, TakesTurn, TakesTurns, TurnThen, with_text}
+use Rattle.smapd_queue.specs.Meeting.{Meeting, TakesTurn, TakesTurns, with_text}
 use Rattle.smapd_queue.specs.Round.{round_of}
-use Rattle.smapd_queue.specs.Steps.{Goes, IsSoFar, with_turn}
+use Rattle.smapd_queue.specs.Steps.{Goes, IsSoFar}
 use Rattle.smapd_queue.specs.Words.{HasRoom, text_of, trouble_in, with_one, word_by}
 
 -- ---- step by step

@@ -1,5 +1,5 @@
 -- Step by step. No public clause cites these: they say what private functions answer.
-use Rattle.std.specs.Prelude.{◌≡◌, ℕ, ◌+◌, true, false, List, [], ◌∷◌, ◌++◌, length, Option, Some, None, Result, Ok, Err, IfSome}
+use Rattle.std.specs.Prelude.{◌≡◌, ℕ, ◌+◌, true, false, List, ◌∷◌, length, Option, Result, Ok, Err, IfSome}
 use Rattle.fw_mail.specs.MailerView.{MailerView}
 use Rattle.fw_outside.specs.Counts.{Rose}
 use Rattle.fw_types.specs.declared.message.Message.{Message}

@@ -1,15 +1,12 @@
 -- What the turns of a round come to, in the store, at the mailers and in the log.
-use Rattle.std.specs.Prelude.{◌≡◌, ℕ, ◌+◌, ◌-◌, ◌^◌, ◌≤◌, ◌⊎◌, min, true, List, [], ◌∷◌, ◌++◌, length, map, Option, Some, None}
-use Rattle.std.specs.List.{AllByRecursion, Contains}
-use Rattle.std.specs.List.Sorted.{IsPermutation}
+use Rattle.std.specs.Prelude.{◌≡◌, ℕ, ◌+◌, ◌-◌, ◌^◌, ◌≤◌, min, true, List, [], ◌∷◌, ◌++◌, length, Option, Some, None}
 use Rattle.fw_mail.specs.MailerView.{MailerView}
-use Rattle.fw_outside.specs.Counts.{Rose}
 use Rattle.fw_outside.specs.SinkView.{Cut, SinkView}
 use Rattle.fw_outside.specs.ToldList.{grown}
-use Rattle.spool_rack.specs.Store.{Handed, HasNoFull, Loan, Queues, StoreView}
-use Rattle.spool_slots.specs.States.{BrokenView, FullView, SlotView}
+use Rattle.spool_rack.specs.Store.{Handed, Loan, Queues, StoreView}
+use Rattle.spool_slots.specs.States.{FullView}
 use Rattle.smapd_queue.specs.Turns.{Fate, Turn, accepted_of, broken_of, failed_by, freed_of, line_of, lines_of, put_aside_of, put_back_of, refused_by, taken_of}
-use Rattle.smapd_queue.specs.Turns.Fate.{Freed, NotFreed, PutAside, NotAside, PutBack, Unread}
+use Rattle.smapd_queue.specs.Turns.Fate.{Freed}
 use Rattle.smapd_queue.specs.Meeting.{End}
 use Rattle.smapd_queue.specs.Meeting.End.{AllTaken, NoneFull, Unlogged, Lacked}
 

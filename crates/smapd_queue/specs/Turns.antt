@@ -1,5 +1,5 @@
 -- A turn of a round: a slot that was taken with its message, and what became of that.
-use Rattle.std.specs.Prelude.{ℕ, ◌+◌, Bool, true, false, List, [], ◌∷◌, ◌++◌, Option, Some, None, codes}
+use Rattle.std.specs.Prelude.{ℕ, List, [], ◌∷◌, ◌++◌, Option, Some, None, codes}
 use Rattle.std.specs.Fmt.{decimal}
 use Rattle.fw_types.specs.declared.message.Message.{Message}
 use Rattle.spool_slots.specs.States.{BrokenView, FullView, SlotView}

@@ -1,11 +1,11 @@
 -- The words by which the log tells turns.
-use Rattle.std.specs.Prelude.{◌≡◌, ℕ, ◌+◌, ◌<◌, List, Option, Some, None, codes}
+use Rattle.std.specs.Prelude.{ℕ, ◌+◌, ◌<◌, List, Option, Some, None, codes}
 use Rattle.smapd_queue.specs.declared.round.Round.{Round}
 use Rattle.smapd_queue.specs.declared.round.Trouble.{Trouble}
 use Rattle.smapd_queue.specs.declared.round.Trouble.TheVariants.{Mailer, Disk}
 use Rattle.smapd_queue.specs.declared.word.Word.{Word}
 use Rattle.smapd_queue.specs.declared.word.Word.TheVariants as words
-use Rattle.smapd_queue.specs.Turns.{Fate, or_else}
+use Rattle.smapd_queue.specs.Turns.{Fate}
 use Rattle.smapd_queue.specs.Turns.Fate.{Freed, NotFreed, PutAside, NotAside, PutBack, Unread}
 
 abbrev pub word_by : Fate → Word
