@@ -73,10 +73,10 @@ impl<'a, H, K: Keeper> SharedBook<'a, H, K> {
 
     /// The pass, and the places of the entries that this port made, in order.
     pub fn into_pass(self) -> (Pass<Book<K>>, Vec<u64>)
-        ensures pass { result.0 ≡ pass_of self }
-        ensures given { IsPassOf self.origin.lock result.0 }
-        ensures begins { IsPrefix self.origin.first.seen self.seen }
-        ensures places { result.1.items ≡ self.mine }
+        ensures pass { result.0 ≡ pass_of self.entry }
+        ensures given { IsPassOf self.entry.origin.lock result.0 }
+        ensures begins { IsPrefix self.entry.origin.first.seen self.entry.seen }
+        ensures places { result.1.items ≡ self.entry.mine }
     {
         let SharedBook { pass, mine, .. } = self;
         (pass, mine)
