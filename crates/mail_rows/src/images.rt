@@ -20,6 +20,7 @@ fn message_in(alloc: Global, full: Full<MemDisk>) -> Result<Option<Message>, NoM
 }
 
 // What an image opens as.
+#[derive(Drop)]
 enum Image {
     Free,
     Full(Message),
@@ -39,7 +40,7 @@ fn opened(alloc: Global, disk: MemDisk) -> Result<Image, NoMemory> {
         Ok(Opened::Full(full)) => image_in(alloc, full),
         Ok(Opened::Aside(_)) => Ok(Image::Other),
         Err((_, SlotWhy::NoMemory)) => Err(NoMemory),
-        Err((_, _)) => Ok(Image::Other),
+        Err(_) => Ok(Image::Other),
     }
 }
 
@@ -66,7 +67,27 @@ fn has_stayed(alloc: Global, image: &MemDisk, word: &[u8]) -> Result<bool, NoMem
     Ok(before.bytes() == image.bytes())
 }
 
-// Whether an image of a slot is as it must be: with the message that was told as kept there, or with the one that it had.
+fn was_full(word: &[u8]) -> bool {
+    matches!(word, b"w" | b"a")
+}
+
+// Whether an image of a slot whose number was told has the message.
+fn has_kept(alloc: Global, image: MemDisk, letters: &[u8], kept: Kept) -> Result<bool, NoMemory> {
+    match letter_at(letters, kept.letter) {
+        Some(letter) => has_letter(alloc, image, &letter),
+        None => Ok(false),
+    }
+}
+
+// Whether an image of another slot is as it must be.
+fn is_left(alloc: Global, image: MemDisk, word: &[u8], letters: &[u8]) -> Result<bool, NoMemory> {
+    if was_full(word) {
+        return has_stayed(alloc, &image, word);
+    }
+    has_any(alloc, image, letters)
+}
+
+// Whether an image of a slot is as it must be. No message is kept where one stood.
 fn is_right(
     alloc: Global,
     image: MemDisk,
@@ -74,14 +95,10 @@ fn is_right(
     letters: &[u8],
     kept: Option<Kept>,
 ) -> Result<bool, NoMemory> {
-    let was_full = word == b"w".as_slice() || word == b"a".as_slice();
     match kept {
-        Some(kept) => match letter_at(letters, kept.letter) {
-            Some(letter) if !was_full => has_letter(alloc, image, &letter),
-            _ => Ok(false),
-        },
-        None if was_full => has_stayed(alloc, &image, word),
-        None => has_any(alloc, image, letters),
+        Some(_) if was_full(word) => Ok(false),
+        Some(kept) => has_kept(alloc, image, letters, kept),
+        None => is_left(alloc, image, word, letters),
     }
 }
 
@@ -121,9 +138,15 @@ pub(crate) fn is_sound(
     ended: Ended,
     pick: u64,
 ) -> Result<bool, NoMemory> {
-    let all = kept_of(alloc, ended.output.bytes())?;
-    if !are_logged(alloc, letters, &all, ended.logs.bytes())? {
+    let Ended {
+        status: _,
+        output,
+        logs,
+        disks,
+    } = ended;
+    let all = kept_of(alloc, output.bytes())?;
+    if !are_logged(alloc, letters, &all, logs.bytes())? {
         return Ok(false);
     }
-    are_right(alloc, slots, letters, &all, ended.disks, pick)
+    are_right(alloc, slots, letters, &all, disks, pick)
 }

@@ -81,11 +81,29 @@ pub(crate) fn kept_of(alloc: Global, told: &[u8]) -> Result<Vec<Kept>, NoMemory>
     Ok(all)
 }
 
+// Whether a line of the text ends so.
+fn has_line(text: &[u8], end: &[u8]) -> bool {
+    for line in text.split(|byte| *byte == b'\n') {
+        if line.ends_with(end) {
+            return true;
+        }
+    }
+    false
+}
+
 // Whether the log has the line of a message in this slot.
-fn is_logged(alloc: Global, log: &[u8], slot: u64, letter: &Letter) -> Result<bool, NoMemory> {
+fn is_logged(alloc: Global, log: &[u8], slot: u64, letter: Letter) -> Result<bool, NoMemory> {
     let (count, size) = (letter.rcpt_count(), letter.body.len());
-    let line = format!(in alloc; " slot {slot} recipients {count} bytes {size}\n")?;
-    Ok(log.windows(line.len()).any(|part| part == line.as_bytes()))
+    let end = format!(in alloc; " slot {slot} recipients {count} bytes {size}")?;
+    Ok(has_line(log, end.as_bytes()))
+}
+
+// Whether it has the line of this one.
+fn is_kept_logged(alloc: Global, letters: &[u8], kept: Kept, log: &[u8]) -> Result<bool, NoMemory> {
+    match letter_at(letters, kept.letter) {
+        Some(letter) => is_logged(alloc, log, kept.slot, letter),
+        None => Ok(false),
+    }
 }
 
 /// Whether the log has the line of each of them.
@@ -96,9 +114,8 @@ pub(crate) fn are_logged(
     log: &[u8],
 ) -> Result<bool, NoMemory> {
     for kept in all {
-        match letter_at(letters, kept.letter) {
-            Some(letter) if is_logged(alloc, log, kept.slot, &letter)? => (),
-            _ => return Ok(false),
+        if !is_kept_logged(alloc, letters, *kept, log)? {
+            return Ok(false);
         }
     }
     Ok(true)

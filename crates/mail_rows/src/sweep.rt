@@ -9,10 +9,13 @@ use lines_of_rows::{Told, add, add_number, cut};
 use std::alloc::Global;
 use std::thread::Threads;
 
-/// Each device is failed at so many calls, which are more than it gets.
+/// Each device but a disk is failed at so many calls, which are more than it gets.
 const CALLS: u64 = 48;
 
-/// So many images of each disk are looked at.
+/// Each disk is failed at so many calls, which are more than it gets.
+const DISK_CALLS: u64 = 16;
+
+/// So many images of each disk are looked at where a disk fails.
 const IMAGES: u64 = 16;
 
 // Whether a run is as it must be, whatever failed, in these images.
@@ -46,7 +49,24 @@ fn stands_whole<H: Threads + Sync>(
     Ok(true)
 }
 
-// How many of the runs in which the part fails aren't.
+// How many of the runs in which a disk fails aren't.
+fn unsound_disk<H: Threads + Sync>(
+    threads: &H,
+    alloc: Global,
+    asked: Asked,
+    letters: &[u8],
+    part: Part,
+) -> Result<u64, NoMemory> {
+    let mut count = 0u64;
+    for at in 0..DISK_CALLS {
+        if !stands_whole(threads, alloc, asked, letters, Broken { part, at })? {
+            count = count.saturating_add(1);
+        }
+    }
+    Ok(count)
+}
+
+// How many of the runs in which another part fails aren't, in one image, of another number for each call.
 fn unsound<H: Threads + Sync>(
     threads: &H,
     alloc: Global,
@@ -56,7 +76,8 @@ fn unsound<H: Threads + Sync>(
 ) -> Result<u64, NoMemory> {
     let mut count = 0u64;
     for at in 0..CALLS {
-        if !stands_whole(threads, alloc, asked, letters, Broken { part, at })? {
+        let pick = at % IMAGES;
+        if !stands(threads, alloc, asked, letters, Broken { part, at }, pick)? {
             count = count.saturating_add(1);
         }
     }
@@ -82,14 +103,14 @@ fn unsound_disks<H: Threads + Sync>(
     let mut count = 0u64;
     for slot in 0..count_slots(asked.slots).min(64) {
         for part in [Part::Disk(slot), Part::DiskOnward(slot)] {
-            count = count.saturating_add(unsound(threads, alloc, asked, letters, part)?);
+            count = count.saturating_add(unsound_disk(threads, alloc, asked, letters, part)?);
         }
     }
     Ok(count)
 }
 
 /// `sweep MESSAGES!WORDS!TABLE!SLOTS!CLIENT => N unsound`: how many of the runs, in which one device fails at one call, or a disk
-/// from a call on, aren't as they must be in some image of the slots. `MESSAGES` are what the client sends, as `letters.rt` says.
+/// from a call on, aren't as they must be in an image of the slots. `MESSAGES` are what the client sends, as `letters.rt` says.
 pub(crate) fn tell_sweep<H: Threads + Sync>(
     threads: &H,
     alloc: Global,
