@@ -1,5 +1,5 @@
 //! A run over devices in memory.
-ghost use Rattle.std.specs.Prelude.{◌≤◌, length, IsSome};
+ghost use Rattle.std.specs.Prelude.{◌≤◌, length};
 
 use bastion::{Kit, World, run};
 use fw_memory::{
@@ -97,32 +97,6 @@ fn devices_of(alloc: Global, refuses: Calls) -> Result<Devices, NoMemory> {
     })
 }
 
-fn world_of(alloc: Global, devices: Devices, disks: Vec<MemDisk>) -> World<Memory>
-    requires few { length disks.items ≤ 64 }
-    ensures keeper { IsSome result.inputs.keeper }
-    ensures slots { length result.inputs.disks ≤ 64 }
-{
-    let Devices {
-        files,
-        input,
-        output,
-        logs,
-        dialer,
-    } = devices;
-    World {
-        files,
-        input,
-        output,
-        logs,
-        clock: MemClock::new(Vec::new(alloc)),
-        dice: MemDice::new(0),
-        keeper: Some(MemKeeper::new(alloc, Vec::new(alloc), Calls::none())),
-        dialer,
-        launcher: MemLauncher::new(alloc, Vec::new(alloc), Calls::none()),
-        disks,
-    }
-}
-
 fn ended_of(status: u8, world: World<Memory>) -> Ended {
     let World {
         output,
@@ -148,7 +122,25 @@ fn run_with<H: Threads + Sync>(
 ) -> Ended
     requires few { length disks.items ≤ 64 }
 {
-    let mut world = world_of(alloc, devices, disks);
+    let Devices {
+        files,
+        input,
+        output,
+        logs,
+        dialer,
+    } = devices;
+    let mut world: World<Memory> = World {
+        files,
+        input,
+        output,
+        logs,
+        clock: MemClock::new(Vec::new(alloc)),
+        dice: MemDice::new(0),
+        keeper: Some(MemKeeper::new(alloc, Vec::new(alloc), Calls::none())),
+        dialer,
+        launcher: MemLauncher::new(alloc, Vec::new(alloc), Calls::none()),
+        disks,
+    };
     let status = run(threads, alloc, words, &mut world);
     ended_of(status, world)
 }

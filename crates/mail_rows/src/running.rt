@@ -1,5 +1,5 @@
 //! A run over devices in memory.
-ghost use Rattle.std.specs.Prelude.{◌≤◌, length, IsSome};
+ghost use Rattle.std.specs.Prelude.{◌≤◌, length};
 
 use crate::asked::{Asked, slot_of, text_with, words_of};
 use crate::breaking::{Broken, Part};
@@ -99,32 +99,6 @@ fn devices_of(alloc: Global, asked: Asked, broken: Broken) -> Result<Devices, No
     })
 }
 
-fn world_of(alloc: Global, devices: Devices, disks: Vec<MemDisk>) -> World<Memory>
-    requires few { length disks.items ≤ 64 }
-    ensures keeper { IsSome result.inputs.keeper }
-    ensures slots { length result.inputs.disks ≤ 64 }
-{
-    let Devices {
-        files,
-        input,
-        output,
-        logs,
-        dialer,
-    } = devices;
-    World {
-        files,
-        input,
-        output,
-        logs,
-        clock: MemClock::new(Vec::new(alloc)),
-        dice: MemDice::new(0),
-        keeper: Some(MemKeeper::new(alloc, Vec::new(alloc), Calls::none())),
-        dialer,
-        launcher: MemLauncher::new(alloc, Vec::new(alloc), Calls::none()),
-        disks,
-    }
-}
-
 /// The status of a run, what the client was told, what was logged, and the disks behind it.
 #[derive(Drop)]
 pub(crate) struct Ended {
@@ -159,7 +133,25 @@ fn run_with<H: Threads + Sync>(
 ) -> Ended
     requires few { length disks.items ≤ 64 }
 {
-    let mut world = world_of(alloc, devices, disks);
+    let Devices {
+        files,
+        input,
+        output,
+        logs,
+        dialer,
+    } = devices;
+    let mut world: World<Memory> = World {
+        files,
+        input,
+        output,
+        logs,
+        clock: MemClock::new(Vec::new(alloc)),
+        dice: MemDice::new(0),
+        keeper: Some(MemKeeper::new(alloc, Vec::new(alloc), Calls::none())),
+        dialer,
+        launcher: MemLauncher::new(alloc, Vec::new(alloc), Calls::none()),
+        disks,
+    };
     let status = run(threads, alloc, words, &mut world);
     ended_of(status, world)
 }

@@ -13,7 +13,7 @@ use std::thread::Threads;
 const CALLS: u64 = 48;
 
 /// Each disk is failed at so many calls, which are more than it gets.
-const DISK_CALLS: u64 = 16;
+const DISK_CALLS: u64 = 12;
 
 /// So many images of each disk are looked at where a disk fails.
 const IMAGES: u64 = 16;
