@@ -150,7 +150,7 @@ module _ (post : Post) where
       run_over_rack [] (map mail_view (accepted_of (h.hands.hands.turns ++ last_turn h.hands.hands.ending))) old.inputs.disks new.inputs.disks h.opened.slots h.first h.store h.opened.are (first_queues old.inputs.disks h.first h.opened)
       (round_grows count count h.answer (meeting_with h.first post.before old.logs) (meeting_with h.store post.after new.logs) h.hands.hands) h.closed
 
-  pub round_now : (outcome : Outcome) (old new : WorldView) (h : RoundHeld post outcome old new) → HandsRound post h.answer h.trouble old new
+  abbrev pub round_now : (outcome : Outcome) (old new : WorldView) (h : RoundHeld post outcome old new) → HandsRound post h.answer h.trouble old new
   round_now outcome old new h = record { first = h.first; opened = h.opened; store = h.store; logs = new.logs; hands = h.hands; spool = round_spool outcome old new h }
 
   hands_round : (outcome : Outcome) (old mid new : WorldView) (h : RoundHeld post outcome old mid) → Later mid new → HandsRound post h.answer h.trouble old new

@@ -1,8 +1,9 @@
 //! The one call of `run`.
 
-use bastion::{Kit, World, run};
+use bastion::{Kit, Mailer, World, run};
 use fw_memory::{
-    MemClock, MemDialer, MemDice, MemDisk, MemFiles, MemKeeper, MemLauncher, MemSink, MemSource,
+    MemClock, MemDialer, MemDice, MemDisk, MemFiles, MemKeeper, MemLauncher, MemMailer, MemSink,
+    MemSource,
 };
 use fw_types::Octets;
 use runs_of_rows::{Devices, Ended, Helpers, Place, Talk};
@@ -67,6 +68,9 @@ fn ended_of(status: u8, world: World<Memory>) -> Ended {
     }
 }
 
+// The status for want of memory, here for the mailer, which no row calls.
+const WANTS_MEMORY: u8 = 5;
+
 /// Runs the command line over the devices and the keeper.
 pub(crate) fn run_over<H: Threads + Sync>(
     rt: &H,
@@ -100,6 +104,13 @@ pub(crate) fn run_over<H: Threads + Sync>(
         launcher,
         disks: Vec::new(alloc),
     };
-    let status = run(rt, alloc, words, &mut world);
+    let mut mailers: Vec<Box<dyn Mailer>> = Vec::new(alloc);
+    let Ok(mailer) = Box::new(alloc, MemMailer::new(alloc, Vec::new(alloc))) else {
+        return ended_of(WANTS_MEMORY, world);
+    };
+    if mailers.push(mailer).is_err() {
+        return ended_of(WANTS_MEMORY, world);
+    }
+    let status = run(rt, alloc, words, &mut mailers, &mut world);
     ended_of(status, world)
 }

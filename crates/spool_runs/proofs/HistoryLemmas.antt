@@ -1,5 +1,5 @@
 -- Lists of runs are lists of events.
-use Rattle.std.proofs.Common.{arith, ◌≡◌, refl, sym, ap, subst, ◌∙◌, ℕ, ◌⊎◌, inl, inr, List, [], ◌∷◌, ◌++◌, map, append-nil, Option, Some, None}
+use Rattle.std.proofs.Common.{arith, ◌≡◌, refl, sym, ap, subst, ◌∙◌, ℕ, ◌+◌, ◌⊎◌, inl, inr, List, [], ◌∷◌, ◌++◌, map, append-nil, Option, Some, None}
 use Rattle.std.specs.List.{AllByRecursion, Contains}
 use Rattle.fw_disk.specs.DiskView.{DiskView}
 use Rattle.slot_bytes.specs.Layout.{Mail}
@@ -8,7 +8,7 @@ use Rattle.spool_law.specs.Events.Event.{Crash}
 use Rattle.spool_law.specs.Safe.{IsSafe, Stands}
 use Rattle.spool_law.specs.World.{Letter, World, formatted}
 use Rattle.spool_runs.specs.History.{AreSafe, Episode, Happens, IsCutOff, IsSafeMail, Leads, Passes}
-use Rattle.spool_runs.specs.OnDisks.{AreAccepted, AreAnswered, AreOn, IsReachable, RunsSpool, SpoolRun}
+use Rattle.spool_runs.specs.OnDisks.{AreAccepted, AreAnswered, AreOn, IsNew, IsReachable, RunsSpool, SpoolRun}
 use Rattle.spool_runs.proofs.TapeLemmas.{after_both, answered_stays, possible_both, possible_front, taped_same}
 
 -- ---- what is reached
@@ -87,6 +87,12 @@ happens_mails (e ∷ episodes) w v h safe =
 
 pub mails_safe : IsLaw → (episodes : List Episode) (w : World) → Happens episodes formatted w → AreSafe episodes w
 mails_safe law episodes w h = happens_mails episodes formatted w h (reachable_safe law w (happens_reached episodes w h))
+
+-- ---- new slots
+
+pub new_on : (n : ℕ) (disks : List DiskView) → AllByRecursion IsNew disks → AreOn n formatted disks
+new_on n [] all = tt
+new_on n (disk ∷ disks) all = (record { tape = all.0.tape; told = all.0.told; now = sym all.0.zeros }, new_on (n + 1) disks all.1)
 
 -- ---- no run
 

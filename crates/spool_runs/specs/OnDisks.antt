@@ -2,6 +2,7 @@
 use Rattle.std.specs.Prelude.{◌≡◌, ℕ, ◌+◌, ◌<◌, ◌≤◌, List, [], ◌∷◌, ◌++◌, length, map, Some, option_map}
 use Rattle.std.specs.List.{AllByRecursion, Contains}
 use Rattle.fw_disk.specs.DiskView.{DiskView, Tape}
+use Rattle.fw_disk.specs.Medium.{settled}
 use Rattle.slot_bytes.specs.Layout.{Mail}
 use Rattle.spool_law.specs.Events.{ArePossible, Event, after_all}
 use Rattle.spool_law.specs.Events.Event.{At, Crash}
@@ -20,6 +21,12 @@ pub record IsOn (slot : Slot) (disk : DiskView) : Type 0 where
 abbrev pub AreOn : ℕ → World → List DiskView → Type 0
 AreOn n w [] = Unit {0}
 AreOn n w (disk ∷ disks) = IsOn (w.slots n) disk × AreOn (n + 1) w disks
+
+-- the disk tells, and has two zeros, which are synced: a slot that was formatted
+pub record IsNew (disk : DiskView) : Type 0 where
+  pub tape : Tape
+  pub told : disk.told ≡ Some tape
+  pub zeros : tape.now ≡ settled (0 ∷ 0 ∷ [])
 
 -- events led to it from slots that were formatted
 pub record IsReachable (w : World) : Type 0 where

@@ -1,12 +1,13 @@
 //! What holds of all lists of runs over one spool.
 ghost use Rattle.std.specs.Prelude.{List, []};
+ghost use Rattle.std.specs.List.{AllByRecursion};
 ghost use Rattle.fw_disk.specs.DiskView.{DiskView};
 ghost use Rattle.slot_bytes.specs.Layout.{Mail};
 ghost use Rattle.spool_law.specs.Events.{after_all};
 ghost use Rattle.spool_law.specs.Safe.{IsSafe};
 ghost use Rattle.spool_law.specs.World.{World, formatted};
 ghost use Rattle.spool_runs.specs.History.{AreSafe, Episode, Happens};
-ghost use Rattle.spool_runs.specs.OnDisks.{AreOn, IsReachable, RunsSpool, SpoolRun};
+ghost use Rattle.spool_runs.specs.OnDisks.{AreOn, IsNew, IsReachable, RunsSpool, SpoolRun};
 
 /// Whatever list of runs there was over slots that were formatted, with crashes between them and inside them: each message
 /// that was answered for stands whole or was accepted (`safe`), and so does each that a run answered for which no crash cut
@@ -23,6 +24,11 @@ pub fn answered_stands()
 pub fn a_run_leaves_its_spool()
     ensures { (answered accepted : List Mail) (old new : List DiskView) (w : World) (run : SpoolRun answered accepted old new w)
         → AreOn 0 w old → AreOn 0 (after_all run.events w) new }
+{}
+
+/// A list of runs begins over disks whose slots were formatted.
+pub fn new_slots_are_a_spool()
+    ensures { (disks : List DiskView) → AllByRecursion IsNew disks → AreOn 0 formatted disks }
 {}
 
 /// A run that leaves the disks as they were does nothing to a spool.
