@@ -1,0 +1,173 @@
+//! A run over devices in memory.
+ghost use Rattle.std.specs.Prelude.{◌≤◌, length};
+
+use crate::asked::{Asked, slot_of, text_with, words_of};
+use crate::breaking::{Broken, Part};
+use bastion::{Kit, World, run};
+use fw_memory::{
+    Calls, MemClock, MemDialer, MemDice, MemDisk, MemFiles, MemKeeper, MemLauncher, MemSink,
+    MemSource,
+};
+use fw_types::{NoMemory, Octets};
+use std::alloc::Global;
+use std::thread::Threads;
+
+/// So many bytes come of the client at once.
+const PIECE: usize = 7;
+
+/// For so many bytes there is room at the client.
+const ROOM: usize = 65_536;
+
+/// The name of the table where the command line names none.
+const TABLE: &[u8] = b"/usr/local/etc/netperm-table";
+
+/// The kinds of device in memory.
+#[derive(Drop)]
+pub(crate) struct Memory;
+
+impl Kit for Memory {
+    type Files = MemFiles;
+
+    type Input = MemSource;
+
+    type Output = MemSink;
+
+    type Logs = MemSink;
+
+    type Tick = MemClock;
+
+    type Dice = MemDice;
+
+    type Keeper = MemKeeper;
+
+    type Dial = MemDialer;
+
+    type Launch = MemLauncher;
+
+    type Disk = MemDisk;
+}
+
+fn disks_of(alloc: Global, slots: &[u8], broken: Broken) -> Result<Vec<MemDisk>, NoMemory> {
+    let mut disks = Vec::new(alloc);
+    let mut number = 0u64;
+    for word in slots.split(|byte| *byte == b',') {
+        let fails = broken.disk_calls(alloc, number)?;
+        disks.push(MemDisk::new(alloc, slot_of(alloc, word)?, fails))?;
+        number = number.saturating_add(1);
+    }
+    Ok(disks)
+}
+
+fn files_of(alloc: Global, asked: Asked, broken: Broken) -> Result<MemFiles, NoMemory> {
+    let name = Octets::copy(alloc, TABLE)?;
+    let text = text_with(alloc, asked.table, b'|', b"\n")?;
+    let mut entries = Vec::new(alloc);
+    entries.push((name, text))?;
+    let fails = broken.calls(alloc, Part::Table)?;
+    Ok(MemFiles::new(alloc, entries, PIECE, fails, Calls::none()))
+}
+
+fn input_of(alloc: Global, asked: Asked, broken: Broken) -> Result<MemSource, NoMemory> {
+    let said = text_with(alloc, asked.client, b'^', b"\r\n")?;
+    let fails = broken.calls(alloc, Part::Client)?;
+    let idle = broken.calls(alloc, Part::Idle)?;
+    Ok(MemSource::new(said, PIECE, fails, idle))
+}
+
+/// What a run is given beside its disks. There are no records, and no server.
+#[derive(Drop)]
+struct Devices {
+    files: MemFiles,
+    input: MemSource,
+    output: MemSink,
+    logs: MemSink,
+    dialer: MemDialer,
+}
+
+fn devices_of(alloc: Global, asked: Asked, broken: Broken) -> Result<Devices, NoMemory> {
+    let files = files_of(alloc, asked, broken)?;
+    let input = input_of(alloc, asked, broken)?;
+    let output = MemSink::new(alloc, ROOM, broken.calls(alloc, Part::Output)?)?;
+    let logs = MemSink::new(alloc, broken.log_room(), broken.calls(alloc, Part::Log)?)?;
+    let dialer = MemDialer::new(alloc, Vec::new(alloc), Vec::new(alloc), 1, Calls::none())?;
+    Ok(Devices {
+        files,
+        input,
+        output,
+        logs,
+        dialer,
+    })
+}
+
+/// The status of a run, what the client was told, what was logged, and the disks behind it.
+#[derive(Drop)]
+pub(crate) struct Ended {
+    pub(crate) status: u8,
+    pub(crate) output: MemSink,
+    pub(crate) logs: MemSink,
+    pub(crate) disks: Vec<MemDisk>,
+}
+
+fn ended_of(status: u8, world: World<Memory>) -> Ended {
+    let World {
+        output,
+        logs,
+        disks,
+        ..
+    } = world;
+    Ended {
+        status,
+        output,
+        logs,
+        disks,
+    }
+}
+
+// The one call of `run`.
+fn run_with<H: Threads + Sync>(
+    threads: &H,
+    alloc: Global,
+    words: &[Octets],
+    devices: Devices,
+    disks: Vec<MemDisk>,
+) -> Ended
+    requires few { length disks.items ≤ 64 }
+{
+    let Devices {
+        files,
+        input,
+        output,
+        logs,
+        dialer,
+    } = devices;
+    let mut world: World<Memory> = World {
+        files,
+        input,
+        output,
+        logs,
+        clock: MemClock::new(Vec::new(alloc)),
+        dice: MemDice::new(0),
+        keeper: Some(MemKeeper::new(alloc, Vec::new(alloc), Calls::none())),
+        dialer,
+        launcher: MemLauncher::new(alloc, Vec::new(alloc), Calls::none()),
+        disks,
+    };
+    let status = run(threads, alloc, words, &mut world);
+    ended_of(status, world)
+}
+
+/// Runs what is asked for; nothing where there are too many slots.
+pub(crate) fn run_over<H: Threads + Sync>(
+    threads: &H,
+    alloc: Global,
+    asked: Asked,
+    broken: Broken,
+) -> Result<Option<Ended>, NoMemory> {
+    let disks = disks_of(alloc, asked.slots, broken)?;
+    if disks.len() > 64 {
+        return Ok(None);
+    }
+    let words = words_of(alloc, asked.words)?;
+    let devices = devices_of(alloc, asked, broken)?;
+    Ok(Some(run_with(threads, alloc, &words, devices, disks)))
+}
