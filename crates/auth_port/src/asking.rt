@@ -38,7 +38,7 @@ fn limit_told(reply: &Reply) -> Option<u64>
 }
 
 // A reply of a book that had so many entries.
-fn answered(place: u64, reply: Reply) -> Answered
+fn answer_of(place: u64, reply: Reply) -> Answered
     ensures { result ≡ answered_at (full_of reply) place reply }
 {
     match limit_told(&reply) {
@@ -57,7 +57,7 @@ impl<K: Keeper> TurnCall<Book<K>> for Asking {
         let Asking { sid, at, request } = self;
         let place = book.count();
         match Book::ask(book, sid, at, request) {
-            Ok(reply) => answered(place, reply),
+            Ok(reply) => answer_of(place, reply),
             Err(NoMemory) => Answered::NoMemory,
         }
     }
