@@ -27,7 +27,7 @@ fn stands<H: Threads + Sync>(
     broken: Broken,
     pick: u64,
 ) -> Result<bool, NoMemory> {
-    match run_over(threads, alloc, asked, broken)? {
+    match run_over(threads, alloc, asked, broken, Vec::new(alloc))? {
         Some(ended) => is_sound(alloc, asked.slots, letters, ended, pick),
         None => Ok(false),
     }
