@@ -143,9 +143,8 @@ fn run_with<H: Threads + Sync>(
         dialer,
         launcher: MemLauncher::new(alloc, Vec::new(alloc), Calls::none()),
         disks,
-        mailers,
     };
-    let status = run(threads, alloc, words, &mut world);
+    let status = run(threads, alloc, words, &mut mailers, &mut world);
     Ok(ended_of(status, world))
 }
 

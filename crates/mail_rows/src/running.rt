@@ -159,10 +159,9 @@ fn run_with<H: Threads + Sync>(
         dialer,
         launcher: MemLauncher::new(alloc, Vec::new(alloc), Calls::none()),
         disks,
-        mailers,
     };
-    let status = run(threads, alloc, words, &mut world);
-    let shown = shown_by(alloc, &world.mailers)?;
+    let status = run(threads, alloc, words, &mut mailers, &mut world);
+    let shown = shown_by(alloc, &mailers)?;
     Ok(ended_of(status, world, shown))
 }
 
