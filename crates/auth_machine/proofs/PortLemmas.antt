@@ -25,14 +25,14 @@ use Rattle.auth_machine.specs.Step.{answer, is_refused, proposed}
 
 -- ---- which replies are entered
 
-some_clash : {A : Type 0} {n : ℕ} → Some n ≡ None → A
+pub some_clash : {A : Type 0} {n : ℕ} → Some n ≡ None → A
 some_clash {A} {n} same = clash (sym (ap is_there same))
   where
     is_there : Option ℕ → Bool
     is_there None = false
     is_there (Some m) = true
 
-entered : {sid at : ℕ} {request : Request} {old new : Port BookOrigin} (reply : Reply) → full_of reply ≡ None → ports.Enters sid at request reply old new → ports.Replies sid at request reply old new
+pub entered : {Origin : Type 0} {sid at : ℕ} {request : Request} {old new : Port Origin} (reply : Reply) → full_of reply ≡ None → ports.Enters sid at request reply old new → ports.Replies sid at request reply old new
 entered (replies.Opened sid) not_full h = h
 entered replies.Password not_full h = h
 entered (replies.Challenge n word_seed) not_full h = h
@@ -54,7 +54,7 @@ entered (replies.Denied (denials.Full limit)) not_full h = some_clash not_full
 entered (replies.Denied denials.Closed) not_full h = h
 entered (replies.Denied denials.NotKept) not_full h = h
 
-abbrev told_of : Option ℕ → ℕ
+abbrev pub told_of : Option ℕ → ℕ
 told_of None = 0
 told_of (Some n) = n
 
@@ -108,14 +108,14 @@ same_book_origin new old limit origin failed called = cc
 nothing_more : (h : List Entry) → h ++ [] ≡ h
 nothing_more h = search rules
 
-not_yet : (limit : ℕ) (h : List Entry) → length h < limit → full_at limit h ≡ None
+pub not_yet : (limit : ℕ) (h : List Entry) → length h < limit → full_at limit h ≡ None
 not_yet limit h fits = choose (length h == limit) refl
   where
     choose : (b : Bool) → length h == limit ≡ b → cond b (Some limit) None ≡ None
     choose true same = let is : length h ≡ limit = search rules in absurd (omega (arith, is, fits))
     choose false other = refl
 
-is_full : (limit : ℕ) (h : List Entry) → length h ≡ limit → full_at limit h ≡ Some limit
+pub is_full : (limit : ℕ) (h : List Entry) → length h ≡ limit → full_at limit h ≡ Some limit
 is_full limit h is = ap (λ (b : Bool). cond b (Some limit) None) same
   where
     same : length h == limit ≡ true

@@ -40,6 +40,7 @@ mod rights;
 mod room;
 mod session;
 mod showing;
+mod standing;
 mod step;
 mod user_record;
 mod users;

@@ -19,7 +19,7 @@ use Rattle.session_acts.proofs.ToldLemmas.{by_both, by_nothing}
 use Rattle.spool_rack.specs.Opening.{CameBack, IsRackFault}
 use Rattle.spool_slots.specs.declared.slot_why.SlotWhy.{SlotWhy}
 use Rattle.spool_slots.specs.declared.slot_why.SlotWhy.TheVariants as whys
-use Rattle.bastion.specs.Complete.{AllDone, IsComplete, IsDrilledWhole, IsFormattedWhole, IsJobComplete, IsLaunchedWhole, IsLinkedWhole, IsOrderComplete, IsStartedWhole, IsTakenWhole, IsWhole}
+use Rattle.bastion.specs.Complete.{AllDone, IsComplete, IsDrilledWhole, IsFormattedWhole, IsJobComplete, IsLaunchedWhole, IsLinkedWhole, IsOrderComplete, IsRoundWhole, IsStartedWhole, IsTakenWhole, IsWhole}
 use Rattle.bastion.specs.Inputs.{HasInputs, Inputs}
 use Rattle.bastion.specs.Jobs.{AreFormatted, DoesJob, DrillsBy, Formats, TellsFormatted, drill_refused, formatted_text, printed}
 use Rattle.bastion.specs.Mailing.{Mailed, slot_fault}
@@ -30,7 +30,7 @@ use Rattle.client_service.specs.Decision.{decision_text}
 use Rattle.bastion.specs.Texts.{ended_text, print_text, program_of}
 use Rattle.bastion.specs.Words.{LineView}
 use Rattle.bastion.specs.Works.{LaunchesIf, PrintsAfter, PrintsEnd, StaysSo, announced, shown, with_given}
-use Rattle.bastion.specs.WorldView.{SessionInputs, WorldView}
+use Rattle.bastion.specs.WorldView.{Post, SessionInputs, WorldView}
 use Rattle.bastion.specs.declared.outcome.Device.TheVariants as device
 use Rattle.bastion.specs.declared.outcome.Outcome.{Outcome}
 use Rattle.bastion.specs.declared.outcome.Outcome.TheVariants.{Usage, Unread, Failed, NoMemory, Done, Decided, Ended}
@@ -38,7 +38,7 @@ use Rattle.bastion.specs.declared.outcome.Refusal.TheVariants.{Slot}
 use Rattle.bastion.specs.declared.words.Command.{Command}
 use Rattle.bastion.specs.declared.words.Command.TheVariants.{Netacl, NetaclRun, Table, Authsrv, PlugGw, TnGw, Smap}
 use Rattle.bastion.specs.declared.words.Job.{Job}
-use Rattle.bastion.specs.declared.words.Job.TheVariants.{Drill, SpoolInit}
+use Rattle.bastion.specs.declared.words.Job.TheVariants.{Drill, SpoolInit, Smapd}
 use Rattle.bastion.specs.declared.words.Order.{Order}
 use Rattle.bastion.specs.declared.words.Order.TheVariants.{ByTable, Alone}
 use Rattle.bastion.specs.declared.words.Caller.{Caller}
@@ -57,6 +57,22 @@ use Rattle.bastion.proofs.MailKeptLemmas as kept
 use Rattle.bastion.proofs.QuietLemmas.{Quiet, gave_whole, quiet, same_from, same_to}
 use Rattle.bastion.proofs.ServedLemmas.{attended_whole}
 use Rattle.client_service.proofs.SinkLemmas.{cut_rose, gives_most, same_low}
+use Rattle.fw_outside.specs.Counts.{Rose}
+use Rattle.smapd_queue.specs.Meeting.{End}
+use Rattle.smapd_queue.specs.Meeting.End.{AllTaken, NoneFull, Unlogged, Lacked}
+use Rattle.smapd_queue.specs.Round.{answer_of, round_of}
+use Rattle.smapd_queue.specs.Sums.{LogGoes}
+use Rattle.smapd_queue.specs.Turns.{Turn, lines_of}
+use Rattle.smapd_queue.specs.declared.round.Round.{Round}
+use Rattle.smapd_queue.specs.declared.round.RoundFault.{RoundFault}
+use Rattle.smapd_queue.specs.declared.round.RoundFault.TheVariants as faults_of
+use Rattle.smapd_queue.specs.declared.round.Trouble.{Trouble}
+use Rattle.smapd_queue.specs.declared.round.Trouble.TheVariants as troubles
+use Rattle.bastion.specs.HandingOn.{RoundHeld, TellsRound, outcome_printed, round_text}
+use Rattle.bastion.specs.Mailing.{SlotsUnread}
+use Rattle.bastion.proofs.HandedLemmas.{round_now, troubled_now}
+use Rattle.bastion.proofs.HandedRoseLemmas.{IsTroubled, round_log}
+use Rattle.bastion.proofs.MailedLemmas.{unread_rose}
 
 grown_from : (text : List ℕ) (a b c : SinkView) → b ≡ a → c ≡ with_given b text → c.given ≡ grown a.given text
 grown_from text a b c same is = ap (λ (s : SinkView). s.given) is ∙ ap (λ (s : SinkView). grown s.given text) same
@@ -260,14 +276,14 @@ gated_done name peer outcome old mid new none h tells (inr passed) =
 
 -- a slot has no reading, or there was no memory
 bad_done : (name : List ℕ) (peer : Peer) (outcome : Outcome) (old mid new : WorldView) → Quiet old new → (status_of outcome ≡ 4 → ⊥) → (h : Worked name (Smap peer) outcome old mid) → TellsIf (fault_line_of outcome) mid new → (slot : ℕ) (why : SlotWhy)
-    → IsRackFault h.middle.inputs.disks slot why mid.inputs.disks → outcome ≡ slot_fault slot why → mid.logs ≡ h.middle.logs → mid.output ≡ h.middle.output → (status_of outcome ≡ 5) ⊎ AllDone name (Smap peer) (status_of outcome) old new
+    → IsRackFault (Unit {0}) h.middle.inputs.disks slot why mid.inputs.disks → outcome ≡ slot_fault slot why → mid.logs ≡ h.middle.logs → mid.output ≡ h.middle.output → (status_of outcome ≡ 5) ⊎ AllDone name (Smap peer) (status_of outcome) old new
 bad_done name peer outcome old mid new q never h tells slot whys.DiskFault fault comes logs output = absurd (never (ap status_of comes))
 bad_done name peer outcome old mid new q never h tells slot whys.NoMemory fault comes logs output = inl (ap status_of comes)
 bad_done name peer outcome old mid new q never h tells slot (whys.BadSlot at) (inl none) comes logs output = let clash : whys.BadSlot at ≡ whys.NoMemory = none.1 in absurd (cc)
 bad_done name peer outcome old mid new q never h tells slot (whys.BadSlot at) (inr came) comes logs output =
     let told : TellsIf (Some (codes "fault " ++ refusal_text (Slot slot at) ++ codes "\n")) mid new = subst (λ (o : Outcome). TellsIf (fault_line_of o) mid new) comes tells in
     let whole = told_whole (codes "fault " ++ refusal_text (Slot slot at) ++ codes "\n") old mid new q (logs ∙ h.only.logs) (output ∙ h.only.output) told in
-    let Came : SessionInputs → SessionInputs → Type 0 = λ a b. CameBack slot (whys.BadSlot at) a.disks b.disks in
+    let Came : SessionInputs → SessionInputs → Type 0 = λ a b. CameBack (Unit {0}) 0 slot (whys.BadSlot at) a.disks b.disks in
     inr (record {
       read = Ok h.inputs;
       inputs = h.read;
@@ -354,7 +370,7 @@ drill_complete drill (Err fault) outcome old mid new q h tells =
     let told = refused_line fault old mid new q (ap (λ (w : WorldView). w.logs) h.same) (ap (λ (w : WorldView). w.output) h.same) (subst (λ (o : Outcome). TellsIf (fault_line_of o) mid new) h.is tells) in
     record { logs = told.0; output = told.1; status_is = ap status_of h.is }
 
-init_complete : (answer : Result (Unit {0}) ℕ) (outcome : Outcome) (old mid new : WorldView) → (RoseInJob SpoolInit old new → ⊥) → mid.logs ≡ old.logs → Formats answer old.inputs.disks mid.inputs.disks
+init_complete : (answer : Result (Unit {0}) ℕ) (outcome : Outcome) (old mid new : WorldView) → (RoseInJob post SpoolInit old new → ⊥) → mid.logs ≡ old.logs → Formats answer old.inputs.disks mid.inputs.disks
     → TellsFormatted answer (length old.inputs.disks) outcome old.output mid.output → TellsIf (fault_line_of outcome) mid new → IsFormattedWhole (status_of outcome) old new
 init_complete (Ok done) outcome old mid new none logs formats h tells = record {
   disks = subst (λ (i : SessionInputs). AreFormatted (length old.inputs.disks) old.inputs.disks i.disks) (sym (tells_later (fault_line_of outcome) mid new tells).inputs) formats;
@@ -363,24 +379,86 @@ init_complete (Ok done) outcome old mid new none logs formats h tells = record {
 init_complete (Err slot) outcome old mid new none logs formats h tells =
     absurd (none (inr (slot, subst (λ (i : SessionInputs). DiskRose slot old.inputs.disks i.disks) (sym (tells_later (fault_line_of outcome) mid new tells).inputs) (fails_rose slot old.inputs.disks mid.inputs.disks formats))))
 
-job_complete : (job : Job) (outcome : Outcome) (old mid new : WorldView) → (RoseInJob job old new → ⊥) → DoesJob job outcome old mid → TellsIf (fault_line_of outcome) mid new → IsJobComplete job (status_of outcome) old new
-job_complete (Drill drill) outcome old mid new none (inl h) tells = inl (ap status_of h.is)
-job_complete (Drill drill) outcome old mid new none (inr h) tells = inr (drill_complete drill (drilled drill) outcome old mid new (quiet old new none) h tells)
-job_complete SpoolInit outcome old mid new none h tells = init_complete h.answer outcome old mid new none h.logs h.formats h.tells tells
+-- a slot has no reading, or there was no memory
+unread_complete : (post : Post) → (outcome : Outcome) (old mid new : WorldView) → (RoseInJob post Smapd old new → ⊥) → (u : SlotsUnread outcome old mid) → TellsIf (fault_line_of outcome) mid new → (slot : ℕ) (why : SlotWhy) → IsRackFault (Unit {0}) old.inputs.disks slot why mid.inputs.disks → outcome ≡ slot_fault slot why
+    → IsJobComplete post Smapd (status_of outcome) old new
+unread_complete post outcome old mid new none u tells slot whys.NoMemory fault comes = inl (ap status_of comes)
+unread_complete post outcome old mid new none u tells slot whys.DiskFault fault comes =
+    absurd (none (inr (inl (slot, subst (λ (i : SessionInputs). DiskRose slot old.inputs.disks i.disks) (sym (tells_later (fault_line_of outcome) mid new tells).inputs) (unread_rose slot whys.DiskFault old mid fault)))))
+unread_complete post outcome old mid new none u tells slot (whys.BadSlot at) (inl none_at) comes = let clash : whys.BadSlot at ≡ whys.NoMemory = none_at.1 in absurd (cc)
+unread_complete post outcome old mid new none u tells slot (whys.BadSlot at) (inr came) comes =
+    let told : TellsIf (Some (codes "fault " ++ refusal_text (Slot slot at) ++ codes "\n")) mid new = subst (λ (o : Outcome). TellsIf (fault_line_of o) mid new) comes tells in
+    let whole = told_whole (codes "fault " ++ refusal_text (Slot slot at) ++ codes "\n") old mid new (quiet old new (λ some. none (inl some))) (ap (λ (w : WorldView). w.logs) u.is) (ap (λ (w : WorldView). w.output) u.is) told in
+    inr (inl (record {
+      slot = slot;
+      at = at;
+      bad = record { came = subst (λ (i : SessionInputs). CameBack (Unit {0}) 0 slot (whys.BadSlot at) old.inputs.disks i.disks) (sym (tells_later (fault_line_of outcome) mid new tells).inputs) came };
+      whole = record { logs = whole.0; output = whole.1; status_is = ap status_of comes };
+    }))
 
-order_complete : (name : List ℕ) (order : Order) (outcome : Outcome) (old mid new : WorldView) → (RoseInOrder order old new → ⊥) → DoesOrder name order outcome old mid → TellsIf (fault_line_of outcome) mid new
-    → IsOrderComplete name order (status_of outcome) old new
-order_complete name (ByTable command) outcome old mid new none (inl h) tells = stops_complete name command outcome old mid new none h tells
-order_complete name (ByTable command) outcome old mid new none (inr h) tells = worked_complete name command outcome old mid new none h tells
-order_complete name (Alone job) outcome old mid new none h tells = job_complete job outcome old mid new none h tells
+-- a round that went to its end logged each line
+round_lines : (ending : End) (turns : List Turn) (round : Round) (old new : SinkView) → Ok round ≡ answer_of ending (round_of turns) → LogGoes turns ending old new → new ≡ record old { given = grown old.given (lines_of turns) }
+round_lines AllTaken turns round old new is goes = goes
+round_lines NoneFull turns round old new is goes = goes
+round_lines (Unlogged turn) turns round old new is goes = absurd (cc)
+round_lines (Lacked slot message) turns round old new is goes = absurd (cc)
 
-does_complete : (line : Option LineView) (outcome : Outcome) (old mid new : WorldView) → (RoseOf line old new → ⊥) → DoesLine line outcome old mid → TellsIf (fault_line_of outcome) mid new → IsComplete line (status_of outcome) old new
-does_complete None outcome old mid new none h tells =
+-- what was printed of it, and no line follows
+round_whole : (post : Post) → (outcome : Outcome) (old mid new : WorldView) → (Rose old.output.faults mid.output.faults → ⊥) → (h : RoundHeld post outcome old mid) → TellsIf (fault_line_of outcome) mid new → (round : Round) → h.answer ≡ Ok round → h.trouble ≡ None → (printing : Result (Unit {0}) sink.Failed)
+    → outcome ≡ outcome_printed printing → Gives printing (round_text round) old.output mid.output → IsRoundWhole post (status_of outcome) old new
+round_whole post outcome old mid new never h tells round well untroubled (Err failed) is gives = absurd (never (cut_rose (round_text round) old.output mid.output gives))
+round_whole post outcome old mid new never h tells round well untroubled (Ok done) is gives =
+    let P : Outcome → Type 0 = λ o. TellsIf (fault_line_of o) mid new in
+    let same : new ≡ mid = subst P is tells in
+    let lines = round_lines h.hands.hands.ending h.hands.hands.turns round old.logs mid.logs (sym well ∙ h.hands.hands.answer) h.hands.hands.logs in
+    subst (IsRoundWhole post (status_of outcome) old) (sym same) (record {
+      round = round;
+      answer = h.answer;
+      trouble = h.trouble;
+      well = well;
+      untroubled = untroubled;
+      held = round_now post outcome old mid h;
+      whole = record {
+        logs = ap (λ (s : SinkView). s.given) lines;
+        output = ap (λ (s : SinkView). s.given) gives;
+        status_is = ap status_of is;
+      };
+    })
+
+-- without trouble
+round_complete : (post : Post) → (outcome : Outcome) (old mid new : WorldView) → (RoseInJob post Smapd old new → ⊥) → (h : RoundHeld post outcome old mid) → TellsIf (fault_line_of outcome) mid new → (answer : Result Round RoundFault) → h.answer ≡ answer → (trouble : Option Trouble) → h.trouble ≡ trouble
+    → TellsRound answer trouble outcome old.output mid.output → IsJobComplete post Smapd (status_of outcome) old new
+round_complete post outcome old mid new none h tells answer is (Some troubles.Mailer) trouble_is told =
+    absurd (none (inr (inr (subst (IsTroubled post old new) trouble_is (troubled_now post outcome old mid new (tells_later (fault_line_of outcome) mid new tells) h)))))
+round_complete post outcome old mid new none h tells answer is (Some (troubles.Disk slot)) trouble_is told =
+    absurd (none (inr (inl (slot, subst (IsTroubled post old new) trouble_is (troubled_now post outcome old mid new (tells_later (fault_line_of outcome) mid new tells) h)))))
+round_complete post outcome old mid new none h tells (Err (faults_of.NoMemory round)) is None trouble_is told = inl (ap status_of told.0)
+round_complete post outcome old mid new none h tells (Err (faults_of.LogFault round)) is None trouble_is told =
+    absurd (none (inl (some_later old mid new (tells_later (fault_line_of outcome) mid new tells) (inr (inl (inr (round_log post outcome old mid h round is)))))))
+round_complete post outcome old mid new none h tells (Ok round) is None trouble_is told =
+    let later = tells_later (fault_line_of outcome) mid new tells in
+    inr (inr (round_whole post outcome old mid new (λ rose. none (inl (some_later old mid new later (inr (inl (inl rose)))))) h tells round is trouble_is told.printing told.is told.gives))
+
+job_complete : (post : Post) → (job : Job) (outcome : Outcome) (old mid new : WorldView) → (RoseInJob post job old new → ⊥) → DoesJob post job outcome old mid → TellsIf (fault_line_of outcome) mid new → IsJobComplete post job (status_of outcome) old new
+job_complete post (Drill drill) outcome old mid new none (inl h) tells = inl (ap status_of h.is)
+job_complete post (Drill drill) outcome old mid new none (inr h) tells = inr (drill_complete drill (drilled drill) outcome old mid new (quiet old new none) h tells)
+job_complete post Smapd outcome old mid new none (inl u) tells = unread_complete post outcome old mid new none u.0 tells u.0.slot u.0.why u.0.fault u.0.comes
+job_complete post Smapd outcome old mid new none (inr h) tells = round_complete post outcome old mid new none h tells h.answer refl h.trouble refl h.tells
+job_complete post SpoolInit outcome old mid new none h tells = init_complete h.answer outcome old mid new none h.logs h.formats h.tells tells
+
+order_complete : (post : Post) → (name : List ℕ) (order : Order) (outcome : Outcome) (old mid new : WorldView) → (RoseInOrder post order old new → ⊥) → DoesOrder post name order outcome old mid → TellsIf (fault_line_of outcome) mid new
+    → IsOrderComplete post name order (status_of outcome) old new
+order_complete post name (ByTable command) outcome old mid new none (inl h) tells = stops_complete name command outcome old mid new none h tells
+order_complete post name (ByTable command) outcome old mid new none (inr h) tells = worked_complete name command outcome old mid new none h tells
+order_complete post name (Alone job) outcome old mid new none h tells = job_complete post job outcome old mid new none h tells
+
+does_complete : (post : Post) → (line : Option LineView) (outcome : Outcome) (old mid new : WorldView) → (RoseOf post line old new → ⊥) → DoesLine post line outcome old mid → TellsIf (fault_line_of outcome) mid new → IsComplete post line (status_of outcome) old new
+does_complete post None outcome old mid new none h tells =
     let usage : TellsIf (fault_line_of Usage) mid new = subst (λ (o : Outcome). TellsIf (fault_line_of o) mid new) h.usage tells in
     let told = told_whole (codes "fault usage\n") old mid new (quiet old new none) (ap (λ (w : WorldView). w.logs) h.is) (ap (λ (w : WorldView). w.output) h.is) usage in
     record { logs = told.0; output = told.1; status_is = ap status_of h.usage }
-does_complete (Some line) outcome old mid new none h tells = order_complete line.table line.order outcome old mid new none h tells
+does_complete post (Some line) outcome old mid new none h tells = order_complete post line.table line.order outcome old mid new none h tells
 
-pub run_complete : (line : Option LineView) (status : ℕ) (old new : WorldView) → Run line status old new → (RoseOf line old new → ⊥) → IsComplete line status old new
-run_complete line status old new ran none =
-    subst (λ (s : ℕ). IsComplete line s old new) (sym ran.status_is) (does_complete line ran.outcome old ran.middle new none ran.does ran.tells)
+pub run_complete : (post : Post) → (line : Option LineView) (status : ℕ) (old new : WorldView) → Run post line status old new → (RoseOf post line old new → ⊥) → IsComplete post line status old new
+run_complete post line status old new ran none =
+    subst (λ (s : ℕ). IsComplete post line s old new) (sym ran.status_is) (does_complete post line ran.outcome old ran.middle new none ran.does ran.tells)

@@ -28,7 +28,7 @@ use Rattle.session_acts.specs.Session.{Session, deeds_of}
 use Rattle.session_acts.specs.World.{Devices, devices_with}
 use Rattle.bastion.specs.Asking.{IsUndecided}
 use Rattle.bastion.specs.Gateway.{IsGated, IsUnmet}
-use Rattle.bastion.specs.Headline.{Headline, HeadlineFor, HeadlineOf, IsDenied, IsPermitted, LogsDenial, OfHistory, begins, lent_to}
+use Rattle.bastion.specs.Headline.{HandsStand, Headline, HeadlineFor, HeadlineOf, IsDenied, IsPermitted, LogsDenial, OfHistory, begins, lent_to}
 use Rattle.bastion.specs.Inputs.{Inputs}
 use Rattle.bastion.specs.Outcome.{fault_line_of, is_stopped, status_of, verdict_status}
 use Rattle.bastion.specs.Run.{DoesLine, DoesOrder, ReadsOnly, Run, Stops, TellsIf, Worked, verdict_for}
@@ -38,7 +38,7 @@ use Rattle.bastion.specs.Talk.{IsSilent, IsToldOff, IsUnserved, table_kept, was_
 use Rattle.bastion.specs.Texts.{print_text, program_of}
 use Rattle.bastion.specs.Words.{LineView}
 use Rattle.bastion.specs.Works.{Announced, AnnouncedRun, PrintsAfter, StaysSo, announced}
-use Rattle.bastion.specs.WorldView.{SessionInputs, WorldView}
+use Rattle.bastion.specs.WorldView.{Post, SessionInputs, WorldView}
 use Rattle.bastion.specs.declared.outcome.Device.TheVariants as device
 use Rattle.bastion.specs.declared.outcome.Outcome.{Outcome}
 use Rattle.bastion.specs.declared.outcome.Outcome.TheVariants.{Usage, Unread, Failed, NoMemory, Done, Decided, Ended}
@@ -61,6 +61,12 @@ use Rattle.bastion.proofs.SessionLemmas.{OfClient, OfSession, lent_outlet, lent_
 use Rattle.bastion.proofs.TalkLemmas.{concluded, legal_talk, tells_noted, was}
 use Rattle.bastion.proofs.LeftLemmas.{Later, only_left, stops_left, tells_later}
 use Rattle.bastion.proofs.RunLemmas.{worked_unasked}
+use Rattle.spool_runs.specs.OnDisks.{RunsSpool}
+use Rattle.spool_runs.proofs.HistoryLemmas.{stays_same}
+use Rattle.bastion.specs.Jobs.{DoesJob}
+use Rattle.bastion.specs.declared.words.Job.{Job}
+use Rattle.bastion.specs.declared.words.Job.TheVariants as jobs
+use Rattle.bastion.proofs.HandedLemmas.{handed_on}
 
 -- ---- nothing was done
 
@@ -76,16 +82,16 @@ stops_undenied name command (Ended ending refused) old new h is = h
 stops_silent : (name : List ℕ) (command : Command) (outcome : Outcome) (old mid new : WorldView) → Stops name command outcome old mid → Later mid new → IsSilent (status_of outcome) old new
 stops_silent name command outcome old mid new h later = record { output = later.output ∙ (stops_left name command outcome old mid h).output; undenied = stops_undenied name command outcome old mid h }
 
-silent_headline : (name : List ℕ) (command : Command) (status : ℕ) (old new : WorldView) → IsUnserved status old new → IsUndecided status old new → HeadlineFor name command status old new
-silent_headline name (Netacl query) status old new h none = record { replies_legal = tt; asks_permitted = none.dialer; denials_logged = inl h.silent; answered_stands = tt }
-silent_headline name (NetaclRun query) status old new h none = record { replies_legal = tt; asks_permitted = none.dialer; denials_logged = inl h.silent; answered_stands = tt }
-silent_headline name (Table query) status old new h none = record { replies_legal = tt; asks_permitted = none.dialer; denials_logged = tt; answered_stands = tt }
-silent_headline name (Authsrv client) status old new h none = record { replies_legal = inl h; asks_permitted = none.dialer; denials_logged = inl h.silent; answered_stands = tt }
-silent_headline name (Smap peer) status old new h none =
-    record { replies_legal = tt; asks_permitted = none.dialer; denials_logged = inl h.silent; answered_stands = inl (record { silent = h.silent; unheld = h.unheld }) }
-silent_headline name (TnGw peer) status old new h none =
+silent_headline : (name : List ℕ) (command : Command) (status : ℕ) (old new : WorldView) → IsUnserved status old new → IsUndecided status old new → new.inputs.disks ≡ old.inputs.disks → HeadlineFor name command status old new
+silent_headline name (Netacl query) status old new h none disks = record { replies_legal = tt; asks_permitted = none.dialer; denials_logged = inl h.silent; answered_stands = tt }
+silent_headline name (NetaclRun query) status old new h none disks = record { replies_legal = tt; asks_permitted = none.dialer; denials_logged = inl h.silent; answered_stands = tt }
+silent_headline name (Table query) status old new h none disks = record { replies_legal = tt; asks_permitted = none.dialer; denials_logged = tt; answered_stands = tt }
+silent_headline name (Authsrv client) status old new h none disks = record { replies_legal = inl h; asks_permitted = none.dialer; denials_logged = inl h.silent; answered_stands = tt }
+silent_headline name (Smap peer) status old new h none disks =
+    record { replies_legal = tt; asks_permitted = none.dialer; denials_logged = inl h.silent; answered_stands = inl (record { silent = h.silent; unheld = h.unheld; spool = subst (RunsSpool [] [] old.inputs.disks) (sym disks) (stays_same old.inputs.disks) }) }
+silent_headline name (TnGw peer) status old new h none disks =
     let unmet : IsUnmet status old new = record { undecided = none; unserved = h } in record { replies_legal = inl unmet; asks_permitted = inl unmet; denials_logged = inl h.silent; answered_stands = tt }
-silent_headline name (PlugGw caller) status old new h none = record { replies_legal = tt; asks_permitted = inl none; denials_logged = (inl h.silent, λ denied. none.output); answered_stands = tt }
+silent_headline name (PlugGw caller) status old new h none disks = record { replies_legal = tt; asks_permitted = inl none; denials_logged = (inl h.silent, λ denied. none.output); answered_stands = tt }
 
 -- ---- what such a run comes to
 
@@ -378,16 +384,25 @@ worked_headline name (TnGw peer) outcome old mid new h tells =
     let gated : IsGated name peer (status_of outcome) old new = inr (record { inputs = h.inputs; read = h.read; middle = h.middle; only = h.only; so = so.0 }) in
     record { replies_legal = gated; asks_permitted = gated; denials_logged = gate_denials name peer outcome (status_of outcome) old mid new h so.1; answered_stands = tt }
 
-order_headline : (name : List ℕ) (order : Order) (outcome : Outcome) (old mid new : WorldView) → DoesOrder name order outcome old mid → TellsIf (fault_line_of outcome) mid new → HeadlineOf name order (status_of outcome) old new
-order_headline name (ByTable command) outcome old mid new (inl h) tells =
+job_stands : (post : Post) → (job : Job) (outcome : Outcome) (old mid new : WorldView) → DoesJob post job outcome old mid → TellsIf (fault_line_of outcome) mid new → HandsStand post job (status_of outcome) old new
+job_stands post (jobs.Drill drill) outcome old mid new h tells = tt
+job_stands post jobs.SpoolInit outcome old mid new h tells = tt
+job_stands post jobs.Smapd outcome old mid new h tells = handed_on post outcome old mid new h tells
+
+order_headline : (post : Post) → (name : List ℕ) (order : Order) (outcome : Outcome) (old mid new : WorldView) → DoesOrder post name order outcome old mid → TellsIf (fault_line_of outcome) mid new → HeadlineOf post name order (status_of outcome) old new
+order_headline post name (ByTable command) outcome old mid new (inl h) tells =
     silent_headline name command (status_of outcome) old new (stops_unserved name command outcome old mid new h (tells_later (fault_line_of outcome) mid new tells)) (stops_undecided name command outcome old mid new h tells)
-order_headline name (ByTable command) outcome old mid new (inr h) tells = worked_headline name command outcome old mid new h tells
-order_headline name (Alone job) outcome old mid new h tells = ap (λ (i : SessionInputs). i.dialer) (tells_later (fault_line_of outcome) mid new tells).inputs ∙ (job_left job outcome old mid h).dialer
+    (ap (λ (i : SessionInputs). i.disks) (tells_later (fault_line_of outcome) mid new tells).inputs ∙ (stops_left name command outcome old mid h).disks)
+order_headline post name (ByTable command) outcome old mid new (inr h) tells = worked_headline name command outcome old mid new h tells
+order_headline post name (Alone job) outcome old mid new h tells = record {
+  unasked = ap (λ (i : SessionInputs). i.dialer) (tells_later (fault_line_of outcome) mid new tells).inputs ∙ (job_left post job outcome old mid h).dialer;
+  answered_stands = job_stands post job outcome old mid new h tells;
+}
 
-does_headline : (line : Option LineView) (outcome : Outcome) (old mid new : WorldView) → DoesLine line outcome old mid → TellsIf (fault_line_of outcome) mid new → Headline line (status_of outcome) old new
-does_headline None outcome old mid new h tells = ap (λ (i : SessionInputs). i.dialer) (tells_later (fault_line_of outcome) mid new tells).inputs ∙ ap (λ (w : WorldView). w.inputs.dialer) h.is
-does_headline (Some line) outcome old mid new h tells = order_headline line.table line.order outcome old mid new h tells
+does_headline : (post : Post) → (line : Option LineView) (outcome : Outcome) (old mid new : WorldView) → DoesLine post line outcome old mid → TellsIf (fault_line_of outcome) mid new → Headline post line (status_of outcome) old new
+does_headline post None outcome old mid new h tells = ap (λ (i : SessionInputs). i.dialer) (tells_later (fault_line_of outcome) mid new tells).inputs ∙ ap (λ (w : WorldView). w.inputs.dialer) h.is
+does_headline post (Some line) outcome old mid new h tells = order_headline post line.table line.order outcome old mid new h tells
 
-pub run_headline : (line : Option LineView) (status : ℕ) (old new : WorldView) → Run line status old new → Headline line status old new
-run_headline line status old new ran =
-    subst (λ (s : ℕ). Headline line s old new) (sym ran.status_is) (does_headline line ran.outcome old ran.middle new ran.does ran.tells)
+pub run_headline : (post : Post) → (line : Option LineView) (status : ℕ) (old new : WorldView) → Run post line status old new → Headline post line status old new
+run_headline post line status old new ran =
+    subst (λ (s : ℕ). Headline post line s old new) (sym ran.status_is) (does_headline post line ran.outcome old ran.middle new ran.does ran.tells)

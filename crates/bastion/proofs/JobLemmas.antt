@@ -12,10 +12,11 @@ use Rattle.bastion.specs.Jobs.{AreFormatted, DoesJob, DrillsBy, Formats, TellsFo
 use Rattle.bastion.specs.Outcome.{DiskRose, status_of}
 use Rattle.bastion.specs.Status.{DisksRose, IsStatusOfJob, JobLeavesDisks, SomeRose, drill_status}
 use Rattle.bastion.specs.Works.{Prints}
-use Rattle.bastion.specs.WorldView.{SessionInputs, WorldView}
+use Rattle.bastion.specs.WorldView.{Post, SessionInputs, WorldView}
 use Rattle.bastion.specs.declared.outcome.Outcome.{Outcome}
 use Rattle.bastion.specs.declared.words.Job.{Job}
-use Rattle.bastion.specs.declared.words.Job.TheVariants.{Drill, SpoolInit}
+use Rattle.bastion.specs.declared.words.Job.TheVariants.{Drill, SpoolInit, Smapd}
+use Rattle.bastion.proofs.HandedLemmas.{handed_disks, handed_left, handed_status}
 use Rattle.bastion.proofs.JobRoseLemmas.{fails_rose}
 use Rattle.bastion.proofs.LeftLemmas.{Later}
 use Rattle.bastion.proofs.RoseLemmas.{some_later}
@@ -63,10 +64,11 @@ init_status (Ok done) count outcome old mid new later formats h = some_inited (s
 init_status (Err slot) count outcome old mid new later formats h =
     inl (ap status_of h.0, inr (slot, subst (λ (i : SessionInputs). DiskRose slot old.inputs.disks i.disks) (sym later.inputs) (fails_rose slot old.inputs.disks mid.inputs.disks formats)))
 
-pub job_status : (job : Job) (outcome : Outcome) (old mid new : WorldView) → DoesJob job outcome old mid → Later mid new → IsStatusOfJob job (status_of outcome) old new
-job_status (Drill drill) outcome old mid new (inl h) later = inl (inr (ap status_of h.is))
-job_status (Drill drill) outcome old mid new (inr h) later = drill_comes drill (drilled drill) outcome old mid new later h
-job_status SpoolInit outcome old mid new h later = init_status h.answer _ outcome old mid new later h.formats h.tells
+pub job_status : (post : Post) → (job : Job) (outcome : Outcome) (old mid new : WorldView) → DoesJob post job outcome old mid → Later mid new → IsStatusOfJob post job (status_of outcome) old new
+job_status post (Drill drill) outcome old mid new (inl h) later = inl (inr (ap status_of h.is))
+job_status post (Drill drill) outcome old mid new (inr h) later = drill_comes drill (drilled drill) outcome old mid new later h
+job_status post Smapd outcome old mid new h later = handed_status post outcome old mid new h later
+job_status post SpoolInit outcome old mid new h later = init_status h.answer _ outcome old mid new later h.formats h.tells
 
 -- ---- what is left
 
@@ -94,10 +96,11 @@ drill_left drill (Ok tally) outcome old new h = record {
 }
 drill_left drill (Err fault) outcome old new h = left_same old new h.same
 
-pub job_left : (job : Job) (outcome : Outcome) (old new : WorldView) → DoesJob job outcome old new → JobLeft old new
-job_left (Drill drill) outcome old new (inl h) = left_same old new h.same
-job_left (Drill drill) outcome old new (inr h) = drill_left drill (drilled drill) outcome old new h
-job_left SpoolInit outcome old new h = record {
+pub job_left : (post : Post) → (job : Job) (outcome : Outcome) (old new : WorldView) → DoesJob post job outcome old new → JobLeft old new
+job_left post (Drill drill) outcome old new (inl h) = left_same old new h.same
+job_left post (Drill drill) outcome old new (inr h) = drill_left drill (drilled drill) outcome old new h
+job_left post Smapd outcome old new h = let left = handed_left post outcome old new h in record { files = left.0; input = left.1; dialer = left.2; keeper = left.3 }
+job_left post SpoolInit outcome old new h = record {
   files = h.files;
   input = ap (λ (i : SessionInputs). i.input) h.inputs;
   dialer = ap (λ (i : SessionInputs). i.dialer) h.inputs;
@@ -115,7 +118,8 @@ init_disks : (answer : Result (Unit {0}) ℕ) (count : ℕ) (outcome : Outcome) 
 init_disks (Ok done) count outcome old new formats h is = formats
 init_disks (Err slot) count outcome old new formats h is = let four = ap status_of h.0 in absurd (omega (arith, four, is))
 
-pub job_disks : (job : Job) (outcome : Outcome) (old new : WorldView) → DoesJob job outcome old new → JobLeavesDisks job (status_of outcome) old.inputs.disks new.inputs.disks
-job_disks (Drill drill) outcome old new (inl h) = ap (λ (w : WorldView). w.inputs.disks) h.same
-job_disks (Drill drill) outcome old new (inr h) = drill_disks drill (drilled drill) outcome old new h
-job_disks SpoolInit outcome old new h = λ is. init_disks h.answer _ outcome old new h.formats h.tells is
+pub job_disks : (post : Post) → (job : Job) (outcome : Outcome) (old new : WorldView) → DoesJob post job outcome old new → JobLeavesDisks job (status_of outcome) old.inputs.disks new.inputs.disks
+job_disks post (Drill drill) outcome old new (inl h) = ap (λ (w : WorldView). w.inputs.disks) h.same
+job_disks post (Drill drill) outcome old new (inr h) = drill_disks drill (drilled drill) outcome old new h
+job_disks post Smapd outcome old new h = handed_disks post outcome old new h
+job_disks post SpoolInit outcome old new h = λ is. init_disks h.answer _ outcome old new h.formats h.tells is

@@ -9,13 +9,16 @@ use Rattle.drill_lines.specs.declared.tally.Tally.{Tally}
 use Rattle.fw_disk.specs.DiskView.{DiskView}
 use Rattle.fw_outside.specs.SinkView.{Gives}
 use Rattle.fw_outside.specs.declared.failed.Failed as sink
-use Rattle.bastion.specs.Jobs.{DoesJob, DrillsBy, FailsAt, Formats, TellsFormatted, drill_refused, printed}
-use Rattle.bastion.specs.Outcome.{DiskRose, SlotsRose}
+use Rattle.bastion.specs.Jobs.{DoesJob, Drills, DrillsBy, FailsAt, Formats, TellsFormatted, drill_refused, printed}
+use Rattle.bastion.specs.Outcome.{DiskRose, JobRose, SlotsRose}
 use Rattle.bastion.specs.Works.{Prints}
-use Rattle.bastion.specs.WorldView.{WorldView}
+use Rattle.bastion.specs.WorldView.{Post, WorldView}
+use Rattle.bastion.specs.declared.outcome.Device.TheVariants as device
 use Rattle.bastion.specs.declared.outcome.Outcome.{Outcome}
+use Rattle.bastion.specs.declared.outcome.Outcome.TheVariants.{Usage, Unread, Failed, NoMemory, Done, Decided, Ended}
+use Rattle.bastion.proofs.HandedRoseLemmas.{handed_rose}
 use Rattle.bastion.specs.declared.words.Job.{Job}
-use Rattle.bastion.specs.declared.words.Job.TheVariants.{Drill, SpoolInit}
+use Rattle.bastion.specs.declared.words.Job.TheVariants.{Drill, SpoolInit, Smapd}
 use Rattle.client_service.proofs.SinkLemmas.{cut_rose}
 
 printed_rose : (printing : Result (Unit {0}) sink.Failed) (text : List ℕ) (old new : WorldView) → Gives printing text old.output new.output → SlotsRose (printed printing) old new
@@ -46,7 +49,27 @@ init_rose : (answer : Result (Unit {0}) ℕ) (count : ℕ) (outcome : Outcome) (
 init_rose (Ok done) count outcome old new formats h = prints_rose _ outcome old new h
 init_rose (Err slot) count outcome old new formats h = subst (λ (o : Outcome). SlotsRose o old new) (sym h.0) (fails_rose slot old.inputs.disks new.inputs.disks formats)
 
-pub job_rose : (job : Job) (outcome : Outcome) (old new : WorldView) → DoesJob job outcome old new → SlotsRose outcome old new
-job_rose (Drill drill) outcome old new (inl h) = subst (λ (o : Outcome). SlotsRose o old new) (sym h.is) tt
-job_rose (Drill drill) outcome old new (inr h) = drill_rose drill (drilled drill) outcome old new h
-job_rose SpoolInit outcome old new h = init_rose h.answer _ outcome old new h.formats h.tells
+-- what counts for a session over slots counts for a job
+pub slots_job : (post : Post) → (outcome : Outcome) (old new : WorldView) → SlotsRose outcome old new → JobRose post outcome old new
+slots_job post Usage old new h = h
+slots_job post (Unread refusal) old new h = h
+slots_job post (Failed device.Table) old new h = h
+slots_job post (Failed device.Output) old new h = h
+slots_job post (Failed device.Log) old new h = h
+slots_job post (Failed device.Records) old new h = h
+slots_job post (Failed device.Program) old new h = h
+slots_job post (Failed device.Mailer) old new h = absurd h
+slots_job post (Failed (device.Disk slot)) old new h = h
+slots_job post (NoMemory step) old new h = h
+slots_job post Done old new h = h
+slots_job post (Decided verdict) old new h = h
+slots_job post (Ended ending refused) old new h = h
+
+drill_job : (drill : drills.Drill) (outcome : Outcome) (old new : WorldView) → Drills drill outcome old new → SlotsRose outcome old new
+drill_job drill outcome old new (inl h) = subst (λ (o : Outcome). SlotsRose o old new) (sym h.is) tt
+drill_job drill outcome old new (inr h) = drill_rose drill (drilled drill) outcome old new h
+
+pub job_rose : (post : Post) → (job : Job) (outcome : Outcome) (old new : WorldView) → DoesJob post job outcome old new → JobRose post outcome old new
+job_rose post (Drill drill) outcome old new h = slots_job post outcome old new (drill_job drill outcome old new h)
+job_rose post SpoolInit outcome old new h = slots_job post outcome old new (init_rose h.answer _ outcome old new h.formats h.tells)
+job_rose post Smapd outcome old new h = handed_rose post outcome old new h

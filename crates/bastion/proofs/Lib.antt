@@ -27,3 +27,6 @@ pub mod SessionLemmas
 pub mod SpoolLemmas
 pub mod StoreLemmas
 pub mod TalkLemmas
+pub mod HandedLemmas
+pub mod HandedRoseLemmas
+pub mod MailSpoolLemmas

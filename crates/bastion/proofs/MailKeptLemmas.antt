@@ -48,6 +48,9 @@ use Rattle.bastion.proofs.LeftLemmas.{Later, tells_later}
 use Rattle.bastion.proofs.MailedLemmas.{CutOff, LetIn, OfServed, ShutOut, served_so, session_leaves, stand_behind}
 use Rattle.bastion.proofs.QuietLemmas.{Quiet, same_from}
 use Rattle.bastion.proofs.TalkLemmas.{concluded_whole, tells_noted}
+use Rattle.spool_runs.specs.OnDisks.{RunsSpool}
+use Rattle.slot_bytes.specs.Layout.{Mail}
+use Rattle.bastion.proofs.MailSpoolLemmas.{opened_spool, session_spool, unread_spool}
 
 -- what the headline says of a client, by its inputs
 abbrev pub MailHeadline : Peer → Inputs → ℕ → WorldView → WorldView → Type 0
@@ -71,8 +74,12 @@ unread_six slot (whys.BadSlot at) is = omega (arith, is)
 unread_six slot whys.DiskFault is = omega (arith, is)
 unread_six slot whys.NoMemory is = omega (arith, is)
 
+later_spool : (answered accepted : List Mail) (old mid new : WorldView) → Later mid new → RunsSpool answered accepted old.inputs.disks mid.inputs.disks → RunsSpool answered accepted old.inputs.disks new.inputs.disks
+later_spool answered accepted old mid new later runs = subst (λ (i : SessionInputs). RunsSpool answered accepted old.inputs.disks i.disks) (sym later.inputs) runs
+
 unread_unheard : (out : Outcome) (old mid new : WorldView) → SlotsUnread out old mid → Later mid new → IsUnheard (status_of out) old new
 unread_unheard out old mid new u later = record {
+  spool = later_spool [] [] old mid new later (unread_spool out old mid u);
   silent = record { output = later.output ∙ ap (λ (w : WorldView). w.output) u.is; undenied = subst (λ (o : Outcome). status_of o ≢ 1) (sym u.comes) (unread_one u.slot u.why) };
   unheld = (subst (λ (o : Outcome). status_of o ≢ 0) (sym u.comes) (unread_none u.slot u.why), subst (λ (o : Outcome). status_of o ≢ 6) (sym u.comes) (unread_six u.slot u.why));
 }
@@ -101,6 +108,7 @@ module _ (peer : Peer) (inputs : Inputs) (out : Outcome) (old mid new : WorldVie
   cut_unheard cut =
       let four : status_of out ≡ 4 = status_by endings.LogFault cut.ends in
       record {
+        spool = later_spool [] [] old mid new later (opened_spool peer inputs out old mid h cut.store);
         silent = record { output = later.output ∙ cut.output; undenied = λ is. omega (arith, four, is) };
         unheld = (λ is. omega (arith, four, is), λ is. omega (arith, four, is));
       }
@@ -117,6 +125,7 @@ module _ (peer : Peer) (inputs : Inputs) (out : Outcome) (old mid new : WorldVie
       denied = shut.denied;
       tried = shut.away.tried;
       gets = subst (λ (s : SinkView). Gets (mail_refusal shut.line) shut.away.tried old.output s) (sym later.output) shut.away.gets;
+      spool = later_spool [] [] old mid new later (opened_spool peer inputs out old mid h (ap (λ (d : Devices (Unit {0})). d.store) shut.away.same));
     }
 
     shut_logs : new.logs ≡ with_given old.logs (decision_text (Deny shut.line) services.Smap peer)
@@ -165,6 +174,7 @@ module _ (peer : Peer) (inputs : Inputs) (out : Outcome) (old mid new : WorldVie
       told = session_gave let_in.behind.session;
       logged_so = let_logged;
       stand = (stand_behind (gives kept deeds) peer inputs out old mid h (session_leaves text peer inputs.rules h.ending begun ended let_in.behind)).stand;
+      spool = session_spool text peer inputs out old mid h begun ended refl refl let_in.behind;
       concluded = record {
         ended = mid.logs;
         noted = h.serves.noted;

@@ -1,5 +1,5 @@
 -- What a session of the mail gateway comes to, by its ending, and what it leaves of the slots.
-use Rattle.std.proofs.Common.{◌≡◌, ◌∙◌, ℕ, zero, suc, ◌+◌, refl, sym, ap, subst, inl, inr, ◌⊎◌, ◌==◌, List, [], ◌∷◌, ◌++◌, append-nil, map, false}
+use Rattle.std.proofs.Common.{◌≡◌, ◌∙◌, ℕ, zero, suc, ◌+◌, refl, sym, ap, subst, inl, inr, ◌⊎◌, ◌==◌, List, [], ◌∷◌, ◌++◌, append-nil, length, map, false}
 use Rattle.std.specs.Prelude.{Option, Some, None, IfSome, IsSome, option_map}
 use Rattle.client_service.proofs.ConnLemmas.{conn_caused, conn_refused, conn_spent}
 use Rattle.client_service.proofs.MailLemmas.{mails_behind}
@@ -33,21 +33,23 @@ use Rattle.session_acts.specs.Stored.{AreKept, KeptMail, kept}
 use Rattle.session_acts.specs.World.{Devices, World, at_first, most_taken}
 use Rattle.spool_rack.specs.Opening.{AreInOrder, AreSlotsOf, CameBack, IsRackFault, IsRackOf, IsSlotOf, queues_of, store_of}
 use Rattle.spool_rack.specs.Store.{Handed, PutGrew, Queues, StoreView}
+use Rattle.spool_slots.specs.Opened.{disk_of}
 use Rattle.spool_slots.specs.States.{FullView}
 use Rattle.spool_slots.specs.declared.opening.Opened.{Opened}
 use Rattle.spool_slots.specs.declared.opening.Opened.TheVariants.{Free, Full, Aside}
 use Rattle.spool_slots.specs.declared.slot_why.SlotWhy.{SlotWhy}
 use Rattle.spool_slots.specs.declared.slot_why.SlotWhy.TheVariants as whys
 use Rattle.bastion.specs.Inputs.{Inputs}
-use Rattle.bastion.specs.Mailing.{MailServed, Mailed, OpensRack, ServesMail, TakesOut, mailed_devices, slot_fault, with_disks}
+use Rattle.bastion.specs.Mailing.{MailServed, Mailed, OpensRack, ServesMail, SlotsUnread, TakesOut, mailed_devices, slot_fault, with_disks}
 use Rattle.bastion.specs.Outcome.{DiskRose, EndingRose, SlotsRose, status_of}
-use Rattle.bastion.specs.Spool.{LeavesSlots, StandAtPlaces, StayAsOpened}
+use Rattle.bastion.specs.Spool.{LeavesSlots, StandAtPlaces, StayAsOpened, StaysBehind}
 use Rattle.bastion.specs.Status.{IsMailed, IsTaken, TakesIn}
 use Rattle.bastion.specs.WorldView.{SessionInputs, WorldView}
 use Rattle.bastion.specs.declared.outcome.Outcome.{Outcome}
 use Rattle.bastion.specs.declared.outcome.Outcome.TheVariants.{Ended}
 use Rattle.bastion.proofs.AttendedLemmas.{denied_status, port_rose, spent_is, takes_same}
-use Rattle.bastion.proofs.SpoolLemmas.{closed_at, stand, stays}
+use Rattle.spool_runs.proofs.PlaceLemmas.{broken_none}
+use Rattle.bastion.proofs.SpoolLemmas.{closed_at, closed_length, stand, stays}
 use Rattle.bastion.proofs.StoreLemmas.{QueuesStayIf, StoreStays, same_stays, slots_last}
 
 -- ---- slots that were opened, on disks of whatever type
@@ -84,6 +86,31 @@ plain_rack D disks rack h = record {
 pub opens_rack : (D : Type 0) (disks : List DiskView) (rack : StoreView) (old new : WorldView) → TakesOut disks old new → IsRackOf D disks rack → OpensRack rack old new
 opens_rack D disks rack old new takes h = record { opened = subst (λ (d : List DiskView). IsRackOf (Unit {0}) d rack) takes.are (plain_rack D disks rack h); is = takes.is }
 
+disk_plain : {D : Type 0} (slot : Opened D) → disk_of (plain slot) ≡ disk_of slot
+disk_plain (Free slot) = refl
+disk_plain (Full slot) = refl
+disk_plain (Aside slot) = refl
+
+plain_back : (D : Type 0) (n slot : ℕ) (why : SlotWhy) (old new : List DiskView) → CameBack D n slot why old new → CameBack (Unit {0}) n slot why old new
+plain_back D n zero why [] new h = absurd h
+plain_back D n zero why (disk ∷ old) [] h = absurd h
+plain_back D n zero why (disk ∷ old) (last ∷ new) h = h
+plain_back D n (suc slot) why [] new h = absurd h
+plain_back D n (suc slot) why (disk ∷ old) [] h = absurd h
+plain_back D n (suc slot) why (disk ∷ old) (last ∷ new) h =
+    (record { slot = plain h.0.slot; is = plain_slot n disk h.0.slot h.0.is; disk = h.0.disk ∙ sym (disk_plain h.0.slot) }, plain_back D (n + 1) slot why old new h.1)
+
+plain_fault : (D : Type 0) (slot : ℕ) (why : SlotWhy) (old new : List DiskView) → IsRackFault D old slot why new → IsRackFault (Unit {0}) old slot why new
+plain_fault D slot why old new (inl none) = inl none
+plain_fault D slot why old new (inr came) = inr (plain_back D 0 slot why old new came)
+
+pub leaves_unread : (D : Type 0) (disks back : List DiskView) (slot : ℕ) (why : SlotWhy) (out : Outcome) (old mid new : WorldView) → TakesOut disks old mid → IsRackFault D disks slot why back → new ≡ with_disks back mid → out ≡ slot_fault slot why → SlotsUnread out old new
+leaves_unread D disks back slot why out old mid new takes fault puts comes =
+    let there : WorldView = with_disks back old in
+    let is : new ≡ there = puts ∙ ap (with_disks back) takes.is in
+    let unread : SlotsUnread out old there = record { slot = slot; why = why; fault = plain_fault D slot why old.inputs.disks back (subst (λ (d : List DiskView). IsRackFault D d slot why back) takes.are fault); comes = comes; is = refl } in
+    subst (SlotsUnread out old) (sym is) unread
+
 -- ---- a client that was served over them, whose disks are given back
 
 pub serves_over : (peer : Peer) (rules : RuleBook) (first store : StoreView) (before after : DialerView) (disks : List DiskView) (ending : Ending) (old mid new : WorldView) → before ≡ nowhere
@@ -104,19 +131,19 @@ serves_over peer rules first store before after disks ending old mid new at_firs
 
 -- ---- slots that weren't opened
 
-came_rose : (slot : ℕ) (old new : List DiskView) → CameBack slot whys.DiskFault old new → DiskRose slot old new
-came_rose zero [] new h = absurd h
-came_rose (suc slot) [] new h = absurd h
-came_rose zero (disk ∷ old) [] h = absurd h
-came_rose (suc slot) (disk ∷ old) [] h = absurd h
-came_rose zero (disk ∷ old) (last ∷ new) h = subst (λ (d : DiskView). Rose disk.faults d.faults) (sym h.0.disk) h.0.because.0
-came_rose (suc slot) (disk ∷ old) (last ∷ new) h = came_rose slot old new h.1
+came_rose : (n slot : ℕ) (old new : List DiskView) → CameBack (Unit {0}) n slot whys.DiskFault old new → DiskRose slot old new
+came_rose n zero [] new h = absurd h
+came_rose n (suc slot) [] new h = absurd h
+came_rose n zero (disk ∷ old) [] h = absurd h
+came_rose n (suc slot) (disk ∷ old) [] h = absurd h
+came_rose n zero (disk ∷ old) (last ∷ new) h = subst (λ (d : DiskView). Rose disk.faults d.faults) (sym h.0.disk) h.0.because.0
+came_rose n (suc slot) (disk ∷ old) (last ∷ new) h = came_rose (n + 1) slot old new h.1
 
-unread_rose : (slot : ℕ) (why : SlotWhy) (old new : WorldView) → IsRackFault old.inputs.disks slot why new.inputs.disks → SlotsRose (slot_fault slot why) old new
+pub unread_rose : (slot : ℕ) (why : SlotWhy) (old new : WorldView) → IsRackFault (Unit {0}) old.inputs.disks slot why new.inputs.disks → SlotsRose (slot_fault slot why) old new
 unread_rose slot (whys.BadSlot at) old new h = tt
 unread_rose slot whys.NoMemory old new h = tt
 unread_rose slot whys.DiskFault old new (inl none) = let clash : whys.DiskFault ≡ whys.NoMemory = none.1 in absurd (cc)
-unread_rose slot whys.DiskFault old new (inr came) = came_rose slot old.inputs.disks new.inputs.disks came
+unread_rose slot whys.DiskFault old new (inr came) = came_rose 0 slot old.inputs.disks new.inputs.disks came
 
 -- ---- what each ending has counted
 
@@ -186,7 +213,7 @@ mailed_takes peer inputs out old new (inr h) =
 abbrev pub ByMail : Verdict → ℕ → WorldView → WorldView → Type 0
 ByMail verdict status old new = ((status ≡ 4) ⊎ (status ≡ 5)) ⊎ IsMailed verdict status old.inputs new.inputs
 
-unread_status : (verdict : Verdict) (slot : ℕ) (why : SlotWhy) (old new : WorldView) → IsRackFault old.inputs.disks slot why new.inputs.disks → ByMail verdict (status_of (slot_fault slot why)) old new
+pub unread_status : (verdict : Verdict) (slot : ℕ) (why : SlotWhy) (old new : WorldView) → IsRackFault (Unit {0}) old.inputs.disks slot why new.inputs.disks → ByMail verdict (status_of (slot_fault slot why)) old new
 unread_status verdict slot (whys.BadSlot at) old new (inl none) = let clash : whys.BadSlot at ≡ whys.NoMemory = none.1 in absurd (cc)
 unread_status verdict slot (whys.BadSlot at) old new (inr came) = inr (inl (refl, (slot, at, record { came = came })))
 unread_status verdict slot whys.DiskFault old new h = inl (inl refl)
@@ -242,13 +269,7 @@ store_here old new is = subst (λ (s : StoreView). LeavesStore [] old s) (sym is
   are = tt;
 })
 
-broken_none : (slots : List (Opened (Unit {0}))) → (queues_of slots).broken ≡ []
-broken_none [] = refl
-broken_none (Free slot ∷ slots) = broken_none slots
-broken_none (Full slot ∷ slots) = broken_none slots
-broken_none (Aside slot ∷ slots) = broken_none slots
-
-first_queues : (disks : List DiskView) (first : StoreView) (h : IsRackOf (Unit {0}) disks first) → first.queues ≡ Some (queues_of h.slots)
+pub first_queues : (disks : List DiskView) (first : StoreView) (h : IsRackOf (Unit {0}) disks first) → first.queues ≡ Some (queues_of h.slots)
 first_queues disks first h =
     let q : Queues = queues_of h.slots in
     ap (λ (s : StoreView). s.queues) h.is ∙ ap (λ b. Some (record { free = q.free; full = q.full; aside = q.aside; broken = b })) (sym (broken_none h.slots))
@@ -257,19 +278,20 @@ some_same : (a b : List FullView) → Some a ≡ Some b → a ≡ b
 some_same a b is = cc
 
 -- what stands on the disks when the rack is closed
-pub record StandBehind (mails : List KeptMail) (slots : List (Opened (Unit {0}))) (back : List DiskView) : Type 0 where
+pub record StandBehind (mails : List KeptMail) (disks : List DiskView) (slots : List (Opened (Unit {0}))) (back : List DiskView) : Type 0 where
   pub stay : StayAsOpened slots back
   pub stand : StandAtPlaces mails back
+  pub many : length back ≡ length disks
 
 closed_so : (mails : List KeptMail) (disks back : List DiskView) (slots : List (Opened (Unit {0}))) (more : List FullView) (last : Option Queues) → AreSlotsOf (Unit {0}) 0 disks slots → QueuesStayIf (Some (queues_of slots)) last
-    → option_map (λ (q : Queues). q.full) last ≡ Some ((queues_of slots).full ++ more) → AreKept mails more → IfSome last (λ q. AreInOrder q back) → StandBehind mails slots back
+    → option_map (λ (q : Queues). q.full) last ≡ Some ((queues_of slots).full ++ more) → AreKept mails more → IfSome last (λ q. AreInOrder q back) → StandBehind mails disks slots back
 closed_so mails disks back slots more None opened stay full are closed = absurd stay
 closed_so mails disks back slots more (Some q) opened stay full are closed =
     let grew : q.full ≡ (queues_of slots).full ++ more = some_same q.full ((queues_of slots).full ++ more) full in
-    let at = closed_at disks back slots q opened stay closed in
-    record { stay = stays back slots q more grew stay.aside at; stand = stand back mails (queues_of slots).full more q grew are at }
+    let at = closed_at disks back slots q opened stay.counts closed in
+    record { stay = stays back slots q more grew stay.aside at; stand = stand back mails (queues_of slots).full more q grew are at; many = closed_length disks back slots q opened stay.counts closed }
 
-pub stand_behind : (mails : List KeptMail) (peer : Peer) (inputs : Inputs) (out : Outcome) (old new : WorldView) (h : MailServed peer inputs out old new) → LeavesStore mails h.first h.store → StandBehind mails h.opened.slots new.inputs.disks
+pub stand_behind : (mails : List KeptMail) (peer : Peer) (inputs : Inputs) (out : Outcome) (old new : WorldView) (h : MailServed peer inputs out old new) → LeavesStore mails h.first h.store → StandBehind mails old.inputs.disks h.opened.slots new.inputs.disks
 stand_behind mails peer inputs out old new h l =
     let first : h.first.queues ≡ Some (queues_of h.opened.slots) = first_queues old.inputs.disks h.first h.opened in
     closed_so mails old.inputs.disks new.inputs.disks h.opened.slots l.more h.store.queues h.opened.are (subst (λ (q : Option Queues). QueuesStayIf q h.store.queues) first l.stays)
@@ -327,17 +349,22 @@ pub served_so : (peer : Peer) (inputs : Inputs) (out : Outcome) (old new : World
 served_so peer inputs out old new h = treats_so peer inputs.rules (mailed_devices old nowhere h.first) (mailed_devices new h.dialer h.store) h.serves.logs h.ending (verdict_of inputs.rules peer) refl h.serves.treats
 
 -- the slots that were opened with a message stay so
-stays_behind : (peer : Peer) (inputs : Inputs) (out : Outcome) (old new : WorldView) (h : MailServed peer inputs out old new) → OfServed peer inputs.rules (mailed_devices old nowhere h.first) (mailed_devices new h.dialer h.store) h.serves.logs h.ending → StayAsOpened h.opened.slots new.inputs.disks
-stays_behind peer inputs out old new h (inl cut) = (stand_behind [] peer inputs out old new h (store_here h.first h.store cut.store)).stay
-stays_behind peer inputs out old new h (inr (inl shut)) = (stand_behind [] peer inputs out old new h (store_here h.first h.store (ap (λ (d : Devices (Unit {0})). d.store) shut.away.same))).stay
-stays_behind peer inputs out old new h (inr (inr in_)) =
-    (stand_behind (gives kept (deeds_of in_.behind.session.held)) peer inputs out old new h
+behind_so : (peer : Peer) (inputs : Inputs) (out : Outcome) (old new : WorldView) (h : MailServed peer inputs out old new) → OfServed peer inputs.rules (mailed_devices old nowhere h.first) (mailed_devices new h.dialer h.store) h.serves.logs h.ending → StaysBehind old.inputs.disks new.inputs.disks
+behind_so peer inputs out old new h (inl cut) =
+    let b = stand_behind [] peer inputs out old new h (store_here h.first h.store cut.store) in
+    record { slots = h.opened.slots; opened = h.opened.are; stay = b.stay; many = b.many }
+behind_so peer inputs out old new h (inr (inl shut)) =
+    let b = stand_behind [] peer inputs out old new h (store_here h.first h.store (ap (λ (d : Devices (Unit {0})). d.store) shut.away.same)) in
+    record { slots = h.opened.slots; opened = h.opened.are; stay = b.stay; many = b.many }
+behind_so peer inputs out old new h (inr (inr in_)) =
+    let b = stand_behind (gives kept (deeds_of in_.behind.session.held)) peer inputs out old new h
     (session_leaves (decision_text (Permit in_.line) services.Smap peer) peer inputs.rules h.ending (mail_devices (patient (timeout_of inputs.rules) (mailed_devices old nowhere h.first)))
-    (mail_devices (record (mailed_devices new h.dialer h.store) { logs = h.serves.logs })) in_.behind)).stay
+    (mail_devices (record (mailed_devices new h.dialer h.store) { logs = h.serves.logs })) in_.behind) in
+    record { slots = h.opened.slots; opened = h.opened.are; stay = b.stay; many = b.many }
 
 pub mailed_slots : (peer : Peer) (inputs : Inputs) (out : Outcome) (old new : WorldView) → Mailed peer inputs out old new → LeavesSlots old.inputs.disks new.inputs.disks
 mailed_slots peer inputs out old new (inl u) = inr (inl (record { slot = u.slot; why = u.why; fault = u.fault }))
-mailed_slots peer inputs out old new (inr h) = inr (inr (record { slots = h.opened.slots; opened = h.opened.are; stay = stays_behind peer inputs out old new h (served_so peer inputs out old new h) }))
+mailed_slots peer inputs out old new (inr h) = inr (inr (behind_so peer inputs out old new h (served_so peer inputs out old new h)))
 
 -- ---- what else is left
 

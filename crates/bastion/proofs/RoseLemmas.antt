@@ -18,7 +18,7 @@ use Rattle.bastion.specs.Outcome.{CountRose, DeviceRose, DiskRose, EndingRose, G
 use Rattle.bastion.specs.Run.{CallsIf, DoesLine, DoesOrder, FilesFailed, ReadsOnly, Stops, Worked}
 use Rattle.bastion.specs.Words.{LineView}
 use Rattle.bastion.specs.Works.{Works}
-use Rattle.bastion.specs.WorldView.{SessionInputs, WorldView}
+use Rattle.bastion.specs.WorldView.{Post, SessionInputs, WorldView}
 use Rattle.bastion.specs.declared.outcome.Device.{Device}
 use Rattle.bastion.specs.declared.outcome.Device.TheVariants as device
 use Rattle.bastion.specs.declared.outcome.Outcome.{Outcome}
@@ -58,6 +58,7 @@ stops_rose name command (Failed device.Records) old new h =
 stops_rose name command (Failed device.Output) old new h = absurd h
 stops_rose name command (Failed device.Log) old new h = absurd h
 stops_rose name command (Failed device.Program) old new h = absurd h
+stops_rose name command (Failed device.Mailer) old new h = absurd h
 stops_rose name command (Failed (device.Disk slot)) old new h = absurd h
 stops_rose name command (Ended ending refused) old new h = absurd h
 stops_rose name command outcome old new h = tt
@@ -101,6 +102,7 @@ rose_for (Smap peer) (Failed device.Output) old new h = h
 rose_for (Smap peer) (Failed device.Log) old new h = h
 rose_for (Smap peer) (Failed device.Records) old new h = h
 rose_for (Smap peer) (Failed device.Program) old new h = h
+rose_for (Smap peer) (Failed device.Mailer) old new h = absurd h
 rose_for (Smap peer) (Failed (device.Disk slot)) old new h = absurd h
 rose_for (Smap peer) (NoMemory step) old new h = h
 rose_for (Smap peer) Done old new h = h
@@ -141,6 +143,7 @@ device_from name records device.Log old mid new only h = subst (λ (s : SinkView
 device_from name records device.Records old mid new only h = keeper_from records old.inputs mid.inputs new.inputs.keeper only.inputs h
 device_from name records device.Program old mid new only h =
     subst (λ (l : LauncherView). Rose l.faults new.inputs.launcher.faults) (calls_launcher records old.inputs mid.inputs only.inputs) h
+device_from name records device.Mailer old mid new only h = absurd h
 device_from name records (device.Disk slot) old mid new only h = absurd h
 
 client_from : (old mid : WorldView) (new : WorldView) → mid.inputs.input ≡ old.inputs.input → mid.output ≡ old.output
@@ -195,6 +198,7 @@ slots_from name (Failed device.Output) old mid new only h = device_from name fal
 slots_from name (Failed device.Log) old mid new only h = device_from name false device.Log old mid new only h
 slots_from name (Failed device.Records) old mid new only h = device_from name false device.Records old mid new only h
 slots_from name (Failed device.Program) old mid new only h = device_from name false device.Program old mid new only h
+slots_from name (Failed device.Mailer) old mid new only h = absurd h
 slots_from name (Failed (device.Disk slot)) old mid new only h = subst (λ (i : SessionInputs). DiskRose slot i.disks new.inputs.disks) only.inputs h
 slots_from name Usage old mid new only h = tt
 slots_from name (Unread refusal) old mid new only h = tt
@@ -227,14 +231,14 @@ rose_from name (Authsrv client) outcome old mid new only h = count_from name tru
 pub worked_rose : (name : List ℕ) (command : Command) (outcome : Outcome) (old new : WorldView) → Worked name command outcome old new → RoseFor command outcome old new
 worked_rose name command outcome old new h = rose_from name command outcome old h.middle new h.only (works_rose command h.inputs outcome h.middle new h.works)
 
-order_rose : (name : List ℕ) (order : Order) (outcome : Outcome) (old new : WorldView) → DoesOrder name order outcome old new → OrderRose order outcome old new
-order_rose name (ByTable command) outcome old new (inl h) = rose_for command outcome old new (stops_rose name command outcome old new h)
-order_rose name (ByTable command) outcome old new (inr h) = worked_rose name command outcome old new h
-order_rose name (Alone job) outcome old new h = job_rose job outcome old new h
+order_rose : (post : Post) → (name : List ℕ) (order : Order) (outcome : Outcome) (old new : WorldView) → DoesOrder post name order outcome old new → OrderRose post order outcome old new
+order_rose post name (ByTable command) outcome old new (inl h) = rose_for command outcome old new (stops_rose name command outcome old new h)
+order_rose post name (ByTable command) outcome old new (inr h) = worked_rose name command outcome old new h
+order_rose post name (Alone job) outcome old new h = job_rose post job outcome old new h
 
-pub does_rose : (line : Option LineView) (outcome : Outcome) (old new : WorldView) → DoesLine line outcome old new → RoseIn line outcome old new
-does_rose None outcome old new h = subst (λ (o : Outcome). CountRose o old new) (sym h.usage) tt
-does_rose (Some line) outcome old new h = order_rose line.table line.order outcome old new h
+pub does_rose : (post : Post) → (line : Option LineView) (outcome : Outcome) (old new : WorldView) → DoesLine post line outcome old new → RoseIn post line outcome old new
+does_rose post None outcome old new h = subst (λ (o : Outcome). CountRose o old new) (sym h.usage) tt
+does_rose post (Some line) outcome old new h = order_rose post line.table line.order outcome old new h
 
 pub some_later : (old mid new : WorldView) → Later mid new → SomeRose old mid → SomeRose old new
 some_later old mid new h (inl files) = inl (subst (λ (f : FilesView). Rose old.files.missing f.missing ⊎ Rose old.files.read_faults f.read_faults) (sym h.files) files)
@@ -313,6 +317,7 @@ device_some device.Output old new h = inr (inl (inl h))
 device_some device.Log old new h = inr (inl (inr h))
 device_some device.Records old new h = inr (inr (inr (inl h)))
 device_some device.Program old new h = inr (inr (inr (inr h)))
+device_some device.Mailer old new h = absurd h
 device_some (device.Disk slot) old new h = absurd h
 
 verdict_four : {A : Type 0} (verdict : Verdict) → verdict_status verdict ≡ 4 → A
@@ -354,6 +359,7 @@ slots_some (Failed device.Output) old new h is = inl (device_some device.Output 
 slots_some (Failed device.Log) old new h is = inl (device_some device.Log old new h)
 slots_some (Failed device.Records) old new h is = inl (device_some device.Records old new h)
 slots_some (Failed device.Program) old new h is = inl (device_some device.Program old new h)
+slots_some (Failed device.Mailer) old new h is = absurd h
 slots_some (Failed (device.Disk slot)) old new h is = inr (slot, h)
 slots_some Usage old new h is = inl (count_some Usage old new h is)
 slots_some (Unread refusal) old new h is = inl (count_some (Unread refusal) old new h is)

@@ -13,11 +13,11 @@ use Rattle.gate_rules.specs.declared.verdict.Verdict.{Verdict}
 use Rattle.gate_rules.specs.declared.verdict.Verdict.TheVariants.{Permit, Deny}
 use Rattle.bastion.specs.Inputs.{Inputs, needs_records}
 use Rattle.bastion.specs.Outcome.{RoseFor, fault_line_of, status_of, verdict_status}
-use Rattle.bastion.specs.Run.{DoesLine, DoesOrder, Run, Stops, Worked}
+use Rattle.bastion.specs.Run.{DoesLine, DoesOrder, Run, Stops, TellsIf, Worked}
 use Rattle.bastion.specs.Status.{CommandLeavesDisks, IsAtLimit, IsFull, IsHeld, IsLinked, IsMailed, IsPassed, IsServed, IsStatus, IsStatusFor, IsStatusOf, LeavesDisks, LinkSpent, OrderLeavesDisks, TakesBy, TakesFor, TakesIn, TakesOf}
 use Rattle.bastion.specs.Words.{LineView}
 use Rattle.bastion.specs.Works.{Works}
-use Rattle.bastion.specs.WorldView.{SessionInputs, WorldView}
+use Rattle.bastion.specs.WorldView.{Post, SessionInputs, WorldView}
 use Rattle.bastion.specs.declared.outcome.Outcome.{Outcome}
 use Rattle.bastion.specs.declared.outcome.Outcome.TheVariants.{Usage, Unread, Failed, NoMemory, Done, Decided, Ended}
 use Rattle.bastion.specs.declared.words.Command.{Command}
@@ -32,7 +32,7 @@ use Rattle.bastion.proofs.GatedLemmas.{gated_status, gated_takes}
 use Rattle.bastion.proofs.LinkingLemmas.{linked_status, linked_takes}
 use Rattle.bastion.proofs.MailedLemmas.{mailed_left, mailed_slots, mailed_status, mailed_takes, mailed_unasked}
 use Rattle.bastion.proofs.LeftLemmas.{Later, only_left, some_there, stops_left, tells_later}
-use Rattle.bastion.proofs.RoseLemmas.{by_later, rose_for, rose_some, stops_rose, worked_rose}
+use Rattle.bastion.proofs.RoseLemmas.{by_later, does_rose, rose_for, rose_some, stops_rose, worked_rose}
 
 -- ---- the status
 
@@ -126,18 +126,18 @@ worked_status name (Smap peer) outcome old mid new h later =
     (λ mails. inr (record { read = Ok h.inputs; inputs = h.read; is = subst (λ (i : SessionInputs). Mails i new.inputs) h.only.inputs (subst (λ (i : SessionInputs). Mails h.middle.inputs i) (sym later.inputs) mails) }))
     (mailed_status peer h.inputs outcome h.middle mid h.works)
 
-order_status : (name : List ℕ) (order : Order) (outcome : Outcome) (old mid new : WorldView) → DoesOrder name order outcome old mid → Later mid new → IsStatusOf name order (status_of outcome) old new
-order_status name (ByTable command) outcome old mid new (inl h) later = stops_status name command outcome old mid new h later
-order_status name (ByTable command) outcome old mid new (inr h) later = worked_status name command outcome old mid new h later
-order_status name (Alone job) outcome old mid new h later = job_status job outcome old mid new h later
+order_status : (post : Post) → (name : List ℕ) (order : Order) (outcome : Outcome) (old mid new : WorldView) → DoesOrder post name order outcome old mid → Later mid new → IsStatusOf post name order (status_of outcome) old new
+order_status post name (ByTable command) outcome old mid new (inl h) later = stops_status name command outcome old mid new h later
+order_status post name (ByTable command) outcome old mid new (inr h) later = worked_status name command outcome old mid new h later
+order_status post name (Alone job) outcome old mid new h later = job_status post job outcome old mid new h later
 
-does_status : (line : Option LineView) (outcome : Outcome) (old mid new : WorldView) → DoesLine line outcome old mid → Later mid new → IsStatus line (status_of outcome) old new
-does_status None outcome old mid new h later = ap status_of h.usage
-does_status (Some line) outcome old mid new h later = order_status line.table line.order outcome old mid new h later
+does_status : (post : Post) → (line : Option LineView) (outcome : Outcome) (old mid new : WorldView) → DoesLine post line outcome old mid → Later mid new → IsStatus post line (status_of outcome) old new
+does_status post None outcome old mid new h later = ap status_of h.usage
+does_status post (Some line) outcome old mid new h later = order_status post line.table line.order outcome old mid new h later
 
-pub run_status : (line : Option LineView) (status : ℕ) (old new : WorldView) → Run line status old new → IsStatus line status old new
-run_status line status old new ran =
-    subst (λ (s : ℕ). IsStatus line s old new) (sym ran.status_is) (does_status line ran.outcome old ran.middle new ran.does (tells_later (fault_line_of ran.outcome) ran.middle new ran.tells))
+pub run_status : (post : Post) → (line : Option LineView) (status : ℕ) (old new : WorldView) → Run post line status old new → IsStatus post line status old new
+run_status post line status old new ran =
+    subst (λ (s : ℕ). IsStatus post line s old new) (sym ran.status_is) (does_status post line ran.outcome old ran.middle new ran.does (tells_later (fault_line_of ran.outcome) ran.middle new ran.tells))
 
 -- ---- what is left
 
@@ -183,23 +183,23 @@ pub record GivesBackAll (old new : WorldView) : Type 0 where
   pub out : new.files.out ≡ old.files.out
   pub keeper : IsSome old.inputs.keeper → IsSome new.inputs.keeper
 
-order_back : (name : List ℕ) (order : Order) (outcome : Outcome) (old new : WorldView) → DoesOrder name order outcome old new → GivesBackAll old new
-order_back name (ByTable command) outcome old new (inl h) = let left = stops_left name command outcome old new h in record { out = left.out; keeper = left.keeper }
-order_back name (ByTable command) outcome old new (inr h) =
+order_back : (post : Post) → (name : List ℕ) (order : Order) (outcome : Outcome) (old new : WorldView) → DoesOrder post name order outcome old new → GivesBackAll old new
+order_back post name (ByTable command) outcome old new (inl h) = let left = stops_left name command outcome old new h in record { out = left.out; keeper = left.keeper }
+order_back post name (ByTable command) outcome old new (inr h) =
     let left = only_left name (needs_records command) old h.middle h.only in
     let works = works_left command h.inputs outcome h.middle new h.works in
     record { out = ap (λ (f : FilesView). f.out) works.0 ∙ left.out; keeper = λ there. works.1 (left.keeper there) }
-order_back name (Alone job) outcome old new h =
-    let left = job_left job outcome old new h in
+order_back post name (Alone job) outcome old new h =
+    let left = job_left post job outcome old new h in
     record { out = ap (λ (f : FilesView). f.out) left.files; keeper = λ there. subst (λ (k : Option KeeperView). IsSome k) (sym left.keeper) there }
 
-does_back : (line : Option LineView) (outcome : Outcome) (old new : WorldView) → DoesLine line outcome old new → GivesBackAll old new
-does_back None outcome old new h = record { out = ap (λ (w : WorldView). w.files.out) h.is; keeper = λ there. subst (λ (w : WorldView). IsSome w.inputs.keeper) (sym h.is) there }
-does_back (Some line) outcome old new h = order_back line.table line.order outcome old new h
+does_back : (post : Post) → (line : Option LineView) (outcome : Outcome) (old new : WorldView) → DoesLine post line outcome old new → GivesBackAll old new
+does_back post None outcome old new h = record { out = ap (λ (w : WorldView). w.files.out) h.is; keeper = λ there. subst (λ (w : WorldView). IsSome w.inputs.keeper) (sym h.is) there }
+does_back post (Some line) outcome old new h = order_back post line.table line.order outcome old new h
 
-pub run_back : (line : Option LineView) (status : ℕ) (old new : WorldView) → Run line status old new → GivesBackAll old new
-run_back line status old new ran =
-    let back = does_back line ran.outcome old ran.middle ran.does in
+pub run_back : (post : Post) → (line : Option LineView) (status : ℕ) (old new : WorldView) → Run post line status old new → GivesBackAll old new
+run_back post line status old new ran =
+    let back = does_back post line ran.outcome old ran.middle ran.does in
     let later = tells_later (fault_line_of ran.outcome) ran.middle new ran.tells in
     record { out = ap (λ (f : FilesView). f.out) later.files ∙ back.out; keeper = λ there. subst (λ (i : SessionInputs). IsSome i.keeper) (sym later.inputs) (back.keeper there) }
 
@@ -223,23 +223,23 @@ takes_for (NetaclRun query) status old new h = h
 takes_for (Table query) status old new h = h
 takes_for (Authsrv client) status old new h = h
 
-order_takes : (name : List ℕ) (order : Order) (outcome : Outcome) (old new : WorldView) → DoesOrder name order outcome old new → TakesOf order (status_of outcome) old.inputs.input new.inputs.input
-order_takes name (ByTable command) outcome old new (inl h) =
+order_takes : (post : Post) → (name : List ℕ) (order : Order) (outcome : Outcome) (old new : WorldView) → DoesOrder post name order outcome old new → TakesOf order (status_of outcome) old.inputs.input new.inputs.input
+order_takes post name (ByTable command) outcome old new (inl h) =
     takes_for command (status_of outcome) old.inputs.input new.inputs.input (takes_same (status_of outcome) old.inputs.input new.inputs.input (stops_left name command outcome old new h).input)
-order_takes name (ByTable command) outcome old new (inr h) =
+order_takes post name (ByTable command) outcome old new (inr h) =
     let left = only_left name (needs_records command) old h.middle h.only in
     subst (λ (s : SourceView). TakesFor command (status_of outcome) s new.inputs.input) left.input (works_takes command h.inputs outcome h.middle new h.works)
-order_takes name (Alone job) outcome old new h = (job_left job outcome old new h).input
+order_takes post name (Alone job) outcome old new h = (job_left post job outcome old new h).input
 
-does_takes : (line : Option LineView) (outcome : Outcome) (old new : WorldView) → DoesLine line outcome old new → TakesBy line (status_of outcome) old.inputs.input new.inputs.input
-does_takes None outcome old new h = takes_same (status_of outcome) old.inputs.input new.inputs.input (ap (λ (w : WorldView). w.inputs.input) h.is)
-does_takes (Some line) outcome old new h = order_takes line.table line.order outcome old new h
+does_takes : (post : Post) → (line : Option LineView) (outcome : Outcome) (old new : WorldView) → DoesLine post line outcome old new → TakesBy line (status_of outcome) old.inputs.input new.inputs.input
+does_takes post None outcome old new h = takes_same (status_of outcome) old.inputs.input new.inputs.input (ap (λ (w : WorldView). w.inputs.input) h.is)
+does_takes post (Some line) outcome old new h = order_takes post line.table line.order outcome old new h
 
-pub run_takes : (line : Option LineView) (status : ℕ) (old new : WorldView) → Run line status old new → TakesBy line status old.inputs.input new.inputs.input
-run_takes line status old new ran =
+pub run_takes : (post : Post) → (line : Option LineView) (status : ℕ) (old new : WorldView) → Run post line status old new → TakesBy line status old.inputs.input new.inputs.input
+run_takes post line status old new ran =
     let later = tells_later (fault_line_of ran.outcome) ran.middle new ran.tells in
     subst (λ (s : ℕ). TakesBy line s old.inputs.input new.inputs.input) (sym ran.status_is)
-    (subst (λ (i : SessionInputs). TakesBy line (status_of ran.outcome) old.inputs.input i.input) (sym later.inputs) (does_takes line ran.outcome old ran.middle ran.does))
+    (subst (λ (i : SessionInputs). TakesBy line (status_of ran.outcome) old.inputs.input i.input) (sym later.inputs) (does_takes post line ran.outcome old ran.middle ran.does))
 
 -- ---- the disks
 
@@ -261,18 +261,23 @@ disks_same (Authsrv client) old new is = is
 disks_same (PlugGw caller) old new is = is
 disks_same (TnGw peer) old new is = is
 
-order_disks : (name : List ℕ) (order : Order) (outcome : Outcome) (old new : WorldView) → DoesOrder name order outcome old new → OrderLeavesDisks order (status_of outcome) old.inputs.disks new.inputs.disks
-order_disks name (ByTable command) outcome old new (inl h) = disks_same command old.inputs.disks new.inputs.disks (stops_left name command outcome old new h).disks
-order_disks name (ByTable command) outcome old new (inr h) =
+order_disks : (post : Post) → (name : List ℕ) (order : Order) (outcome : Outcome) (old new : WorldView) → DoesOrder post name order outcome old new → OrderLeavesDisks order (status_of outcome) old.inputs.disks new.inputs.disks
+order_disks post name (ByTable command) outcome old new (inl h) = disks_same command old.inputs.disks new.inputs.disks (stops_left name command outcome old new h).disks
+order_disks post name (ByTable command) outcome old new (inr h) =
     subst (λ (d : List DiskView). CommandLeavesDisks command d new.inputs.disks) (only_left name (needs_records command) old h.middle h.only).disks (works_disks command h.inputs outcome h.middle new h.works)
-order_disks name (Alone job) outcome old new h = job_disks job outcome old new h
+order_disks post name (Alone job) outcome old new h = job_disks post job outcome old new h
 
-does_disks : (line : Option LineView) (outcome : Outcome) (old new : WorldView) → DoesLine line outcome old new → LeavesDisks line (status_of outcome) old.inputs.disks new.inputs.disks
-does_disks None outcome old new h = ap (λ (w : WorldView). w.inputs.disks) h.is
-does_disks (Some line) outcome old new h = order_disks line.table line.order outcome old new h
+does_disks : (post : Post) → (line : Option LineView) (outcome : Outcome) (old new : WorldView) → DoesLine post line outcome old new → LeavesDisks line (status_of outcome) old.inputs.disks new.inputs.disks
+does_disks post None outcome old new h = ap (λ (w : WorldView). w.inputs.disks) h.is
+does_disks post (Some line) outcome old new h = order_disks post line.table line.order outcome old new h
 
-pub run_disks : (line : Option LineView) (status : ℕ) (old new : WorldView) → Run line status old new → LeavesDisks line status old.inputs.disks new.inputs.disks
-run_disks line status old new ran =
+pub run_disks : (post : Post) → (line : Option LineView) (status : ℕ) (old new : WorldView) → Run post line status old new → LeavesDisks line status old.inputs.disks new.inputs.disks
+run_disks post line status old new ran =
     let later = tells_later (fault_line_of ran.outcome) ran.middle new ran.tells in
     subst (λ (s : ℕ). LeavesDisks line s old.inputs.disks new.inputs.disks) (sym ran.status_is)
-    (subst (λ (i : SessionInputs). LeavesDisks line (status_of ran.outcome) old.inputs.disks i.disks) (sym later.inputs) (does_disks line ran.outcome old ran.middle ran.does))
+    (subst (λ (i : SessionInputs). LeavesDisks line (status_of ran.outcome) old.inputs.disks i.disks) (sym later.inputs) (does_disks post line ran.outcome old ran.middle ran.does))
+
+-- ---- a run, from what it came to
+
+pub run_so : (post : Post) (line : Option LineView) (outcome : Outcome) (status : ℕ) (old mid new : WorldView) → DoesLine post line outcome old mid → TellsIf (fault_line_of outcome) mid new → status ≡ status_of outcome → Run post line status old new
+run_so post line outcome status old mid new does tells is = record { outcome = outcome; middle = mid; does = does; rose = does_rose post line outcome old mid does; tells = tells; status_is = is }

@@ -13,7 +13,8 @@ use Rattle.session_acts.specs.declared.deposited.Deposited.TheVariants.{NoSlot, 
 use Rattle.spool_rack.specs.Opening.{held_broken, held_full, held_slot}
 use Rattle.spool_rack.specs.Store.{HasNoFree, HasTakenFree, PutsBroken, Queues, StoreView, put_free, put_full, with_broken, with_free, with_full, without_free}
 use Rattle.spool_slots.specs.States.{BrokenView, FullView, SlotView}
-use Rattle.bastion.proofs.SpoolLemmas.{QueuesStay, four_counts, held_added, held_first, one_at}
+use Rattle.spool_runs.proofs.NumberLemmas.{four_counts, held_added, held_first, one_at}
+use Rattle.bastion.proofs.SpoolLemmas.{QueuesStay}
 
 -- where the store tells its queues
 abbrev pub QueuesStayIf : Option Queues → Option Queues → Type 0

@@ -26,6 +26,12 @@ use Rattle.bastion.specs.Headline.{OfHistory}
 use Rattle.bastion.specs.Inputs.{HasInputs, Inputs}
 use Rattle.bastion.specs.MailKept.{OfMail}
 use Rattle.bastion.specs.Spool.{HasBadSlot}
+use Rattle.smapd_queue.specs.Turns.{lines_of}
+use Rattle.smapd_queue.specs.declared.round.Round.{Round}
+use Rattle.smapd_queue.specs.declared.round.RoundFault.{RoundFault}
+use Rattle.smapd_queue.specs.declared.round.Trouble.{Trouble}
+use Rattle.bastion.specs.HandingOn.{round_text}
+use Rattle.bastion.specs.HandedOn.{HandsRound}
 use Rattle.bastion.specs.Jobs.{AreFormatted, drill_refused, formatted_text}
 use Rattle.bastion.specs.Outcome.{fault_line_of, refusal_text, status_of, verdict_status}
 use Rattle.bastion.specs.Run.{ReadsOnly, verdict_for}
@@ -35,7 +41,7 @@ use Rattle.bastion.specs.TableReport.{report_text}
 use Rattle.client_service.specs.Decision.{decision_text}
 use Rattle.bastion.specs.Texts.{ended_text, print_text, program_of}
 use Rattle.bastion.specs.Words.{LineView}
-use Rattle.bastion.specs.WorldView.{WorldView}
+use Rattle.bastion.specs.WorldView.{Post, WorldView}
 use Rattle.bastion.specs.declared.outcome.Outcome.TheVariants.{Ended}
 use Rattle.bastion.specs.declared.outcome.Refusal.{Refusal}
 use Rattle.bastion.specs.declared.outcome.Refusal.TheVariants.{Slot}
@@ -187,15 +193,27 @@ pub record IsFormattedWhole (status : ℕ) (old new : WorldView) : Type 0 where
   pub disks : AreFormatted (length old.inputs.disks) old.inputs.disks new.inputs.disks
   pub whole : IsWhole [] (formatted_text (length old.inputs.disks)) 0 status old new
 
-abbrev pub IsJobComplete : Job → ℕ → WorldView → WorldView → Type 0
-IsJobComplete (jobs.Drill drill) status old new = (status ≡ 5) ⊎ IsDrilledWhole drill (drilled drill) status old new
-IsJobComplete jobs.SpoolInit status old new = IsFormattedWhole status old new
+-- One round was held over the slots, in which no hand failed and no slot broke. The log has taken the line of each turn whole,
+-- and the numbers of the round were printed, and nothing else.
+pub record IsRoundWhole (post : Post) (status : ℕ) (old new : WorldView) : Type 0 where
+  pub round : Round
+  pub answer : Result Round RoundFault
+  pub trouble : Option Trouble
+  pub well : answer ≡ Ok round
+  pub untroubled : trouble ≡ None
+  pub held : HandsRound post answer trouble old new
+  pub whole : IsWhole (lines_of held.hands.hands.turns) (round_text round) 0 status old new
+
+abbrev pub IsJobComplete : Post → Job → ℕ → WorldView → WorldView → Type 0
+IsJobComplete post (jobs.Drill drill) status old new = (status ≡ 5) ⊎ IsDrilledWhole drill (drilled drill) status old new
+IsJobComplete post jobs.SpoolInit status old new = IsFormattedWhole status old new
+IsJobComplete post jobs.Smapd status old new = (status ≡ 5) ⊎ (IsBadWhole status old new ⊎ IsRoundWhole post status old new)
 
 -- or there was no memory
-abbrev pub IsOrderComplete : List ℕ → Order → ℕ → WorldView → WorldView → Type 0
-IsOrderComplete name (ByTable command) status old new = (status ≡ 5) ⊎ AllDone name command status old new
-IsOrderComplete name (Alone job) status old new = IsJobComplete job status old new
+abbrev pub IsOrderComplete : Post → List ℕ → Order → ℕ → WorldView → WorldView → Type 0
+IsOrderComplete post name (ByTable command) status old new = (status ≡ 5) ⊎ AllDone name command status old new
+IsOrderComplete post name (Alone job) status old new = IsJobComplete post job status old new
 
-abbrev pub IsComplete : Option LineView → ℕ → WorldView → WorldView → Type 0
-IsComplete None status old new = IsWhole (codes "fault usage\n") [] 2 status old new
-IsComplete (Some line) status old new = IsOrderComplete line.table line.order status old new
+abbrev pub IsComplete : Post → Option LineView → ℕ → WorldView → WorldView → Type 0
+IsComplete post None status old new = IsWhole (codes "fault usage\n") [] 2 status old new
+IsComplete post (Some line) status old new = IsOrderComplete post line.table line.order status old new

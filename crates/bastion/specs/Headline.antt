@@ -28,6 +28,7 @@ use Rattle.session_acts.specs.Session.{Session, deeds_of}
 use Rattle.session_acts.specs.World.{Devices}
 use Rattle.bastion.specs.Asking.{IsAskedBy, IsUndecided}
 use Rattle.bastion.specs.Gateway.{IsGated}
+use Rattle.bastion.specs.HandedOn.{IsHandedOn}
 use Rattle.bastion.specs.Inputs.{HasInputs, Inputs, needs_records}
 use Rattle.bastion.specs.MailKept.{IsTakenIn}
 use Rattle.bastion.specs.Outcome.{verdict_status}
@@ -36,10 +37,12 @@ use Rattle.bastion.specs.Serving.{book_at_first, devices_at, most_entries, origi
 use Rattle.bastion.specs.Talk.{IsConcluded, IsLegalTalk, IsSilent, IsToldOff, IsUnserved, was_refused}
 use Rattle.bastion.specs.Words.{LineView}
 use Rattle.bastion.specs.Works.{with_given}
-use Rattle.bastion.specs.WorldView.{WorldView}
+use Rattle.bastion.specs.WorldView.{Post, WorldView}
 use Rattle.bastion.specs.declared.words.Client.{Client}
 use Rattle.bastion.specs.declared.words.Command.{Command}
 use Rattle.bastion.specs.declared.words.Command.TheVariants.{Netacl, NetaclRun, Table, Authsrv, PlugGw, TnGw, Smap}
+use Rattle.bastion.specs.declared.words.Job.{Job}
+use Rattle.bastion.specs.declared.words.Job.TheVariants as jobs
 use Rattle.bastion.specs.declared.words.Order.{Order}
 use Rattle.bastion.specs.declared.words.Order.TheVariants.{ByTable, Alone}
 
@@ -140,6 +143,11 @@ abbrev pub AnswersStand : List ℕ → Command → ℕ → WorldView → WorldVi
 AnswersStand name (Smap peer) status old new = IsTakenIn name peer status old new
 AnswersStand name command status old new = Unit {0}
 
+-- a job but `smapd` hands on no message
+abbrev pub HandsStand : Post → Job → ℕ → WorldView → WorldView → Type 0
+HandsStand post jobs.Smapd status old new = IsHandedOn post status old new
+HandsStand post job status old new = Unit {0}
+
 -- ---- the headline
 
 pub record HeadlineFor (name : List ℕ) (command : Command) (status : ℕ) (old new : WorldView) : Type 0 where
@@ -153,14 +161,19 @@ pub record HeadlineFor (name : List ℕ) (command : Command) (status : ℕ) (old
   -- nobody is told anything, or the rules permit, or the log has the whole line of the denial
   pub denials_logged : DenialLogged name command status old new
   -- a client of `smap` is told nothing, or that it is denied, or the replies to its lines and messages; and each message that
-  -- was answered 250 stands whole in the slot of the number that was told
+  -- was answered 250 stands whole in the slot of the number that was told; what was done to the spool on the disks are events
+  -- of its law, by which whatever list of such runs and crashes loses no message that was answered
   pub answered_stands : AnswersStand name command status old new
 
--- a job without a table asks for no destination
-abbrev pub HeadlineOf : List ℕ → Order → ℕ → WorldView → WorldView → Type 0
-HeadlineOf name (ByTable command) status old new = HeadlineFor name command status old new
-HeadlineOf name (Alone job) status old new = new.inputs.dialer ≡ old.inputs.dialer
+-- a job without a table asks for no destination; and `smapd` hands on the messages that stand, and no part of one
+pub record HeadlineAlone (post : Post) (job : Job) (status : ℕ) (old new : WorldView) : Type 0 where
+  pub unasked : new.inputs.dialer ≡ old.inputs.dialer
+  pub answered_stands : HandsStand post job status old new
 
-abbrev pub Headline : Option LineView → ℕ → WorldView → WorldView → Type 0
-Headline None status old new = new.inputs.dialer ≡ old.inputs.dialer
-Headline (Some line) status old new = HeadlineOf line.table line.order status old new
+abbrev pub HeadlineOf : Post → List ℕ → Order → ℕ → WorldView → WorldView → Type 0
+HeadlineOf post name (ByTable command) status old new = HeadlineFor name command status old new
+HeadlineOf post name (Alone job) status old new = HeadlineAlone post job status old new
+
+abbrev pub Headline : Post → Option LineView → ℕ → WorldView → WorldView → Type 0
+Headline post None status old new = new.inputs.dialer ≡ old.inputs.dialer
+Headline post (Some line) status old new = HeadlineOf post line.table line.order status old new

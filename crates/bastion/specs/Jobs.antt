@@ -1,4 +1,4 @@
--- The work of the commands that need no table: `drill` and `spool-init`.
+-- The work of the commands that need no table: `drill` and `spool-init`; that of `smapd` has a file of its own.
 use Rattle.std.specs.Prelude.{◌≡◌, ℕ, zero, suc, ◌⊎◌, List, ◌∷◌, ◌++◌, length, codes, Result, Ok, Err}
 use Rattle.std.specs.Fmt.{decimal}
 use Rattle.drill_lines.specs.Drill.{drilled, tally_text}
@@ -13,8 +13,9 @@ use Rattle.fw_outside.specs.SinkView.{SinkView}
 use Rattle.fw_outside.specs.declared.failed.Failed as sink
 use Rattle.spool_slots.specs.Images.{IsFreeImage}
 use Rattle.spool_slots.specs.States.{HasCleared, StillTells}
+use Rattle.bastion.specs.HandingOn.{HandsMail}
 use Rattle.bastion.specs.Works.{Prints}
-use Rattle.bastion.specs.WorldView.{WorldView}
+use Rattle.bastion.specs.WorldView.{Post, WorldView}
 use Rattle.bastion.specs.declared.outcome.Device.TheVariants as device
 use Rattle.bastion.specs.declared.outcome.Outcome.{Outcome}
 use Rattle.bastion.specs.declared.outcome.Outcome.TheVariants.{Unread, Failed, NoMemory, Done}
@@ -105,6 +106,7 @@ pub record Inits (outcome : Outcome) (old new : WorldView) : Type 0 where
   pub files : new.files ≡ old.files
 
 -- one row a job
-abbrev pub DoesJob : Job → Outcome → WorldView → WorldView → Type 0
-DoesJob (jobs.Drill drill) outcome old new = Drills drill outcome old new
-DoesJob jobs.SpoolInit outcome old new = Inits outcome old new
+abbrev pub DoesJob : Post → Job → Outcome → WorldView → WorldView → Type 0
+DoesJob post (jobs.Drill drill) outcome old new = Drills drill outcome old new
+DoesJob post jobs.SpoolInit outcome old new = Inits outcome old new
+DoesJob post jobs.Smapd outcome old new = HandsMail post outcome old new

@@ -3,6 +3,8 @@ pub mod Complete
 pub mod Deciding
 pub mod Gateway
 pub mod Gating
+pub mod HandedOn
+pub mod HandingOn
 pub mod Headline
 pub mod Inputs
 pub mod Jobs

@@ -1,5 +1,5 @@
 -- A client of `smap`: what it is told, and what stands in the slots behind that.
-use Rattle.std.specs.Prelude.{◌≡◌, ◌≢◌, ℕ, ◌⊎◌, false, List, ◌++◌, None, Result, Ok}
+use Rattle.std.specs.Prelude.{◌≡◌, ◌≢◌, ℕ, ◌⊎◌, false, List, [], ◌++◌, map, None, Result, Ok}
 use Rattle.client_service.specs.Decision.{decision_text}
 use Rattle.client_service.specs.Endings.{mail_refusal}
 use Rattle.client_service.specs.MailService.{mail_devices, mail_gate_of}
@@ -25,6 +25,7 @@ use Rattle.smap_gate.specs.Messages.{KeepsMessages}
 use Rattle.smap_gate.specs.Replies.{ToldInOrder}
 use Rattle.spool_rack.specs.Opening.{IsRackOf}
 use Rattle.spool_rack.specs.Store.{StoreView}
+use Rattle.spool_runs.specs.OnDisks.{RunsSpool}
 use Rattle.bastion.specs.Inputs.{HasInputs, Inputs}
 use Rattle.bastion.specs.Mailing.{mailed_devices}
 use Rattle.bastion.specs.Run.{ReadsOnly, verdict_for}
@@ -63,14 +64,18 @@ pub record OfMail (peer : Peer) (inputs : Inputs) (status : ℕ) (old new : Worl
   pub told : new.output.given ≡ grown old.output.given (gives told (deeds_of session.held))
   pub logged_so : logs.given ≡ grown old.logs.given (decision_text (Permit line) services.Smap peer ++ gives logged (deeds_of session.held))
   pub stand : StandAtPlaces (gives kept (deeds_of session.held)) new.inputs.disks
+  -- each message that was kept is one that was answered for in the spool on the disks
+  pub spool : RunsSpool (map (λ one. one.mail) (gives kept (deeds_of session.held))) [] old.inputs.disks new.inputs.disks
   pub concluded : IsConcluded services.Smap peer ending false status logs new.logs
 
--- the rules deny the client, and the log has the line of that whole; the client was given the words of it, or a front of them
+-- The rules deny the client. It was given the words of that, or a front of them, and nothing was done to the spool but that its
+-- slots were opened. That the log has the line of the denial, and that the status is 1, is said of every denial.
 pub record IsShutOut (peer : Peer) (inputs : Inputs) (old new : WorldView) : Type 0 where
   pub line : ℕ
   pub denied : verdict_for (Smap peer) inputs ≡ Deny line
   pub tried : Result (Unit {0}) (Front (mail_refusal line))
   pub gets : Gets (mail_refusal line) tried old.output new.output
+  pub spool : RunsSpool [] [] old.inputs.disks new.inputs.disks
 
 -- by the inputs of the command
 pub record IsTakenInBy (name : List ℕ) (peer : Peer) (status : ℕ) (old new : WorldView) : Type 0 where
@@ -80,10 +85,11 @@ pub record IsTakenInBy (name : List ℕ) (peer : Peer) (status : ℕ) (old new :
   pub only : ReadsOnly name false old middle
   pub so : IsShutOut peer inputs middle new ⊎ OfMail peer inputs status middle new
 
--- no session was held, and the client was told nothing
+-- no session was held, the client was told nothing, and nothing was done to the spool but that slots were opened
 pub record IsUnheard (status : ℕ) (old new : WorldView) : Type 0 where
   pub silent : IsSilent status old new
   pub unheld : (status ≢ 0) × (status ≢ 6)
+  pub spool : RunsSpool [] [] old.inputs.disks new.inputs.disks
 
 abbrev pub IsTakenIn : List ℕ → Peer → ℕ → WorldView → WorldView → Type 0
 IsTakenIn name peer status old new = IsUnheard status old new ⊎ IsTakenInBy name peer status old new

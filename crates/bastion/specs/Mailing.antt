@@ -40,7 +40,7 @@ with_disks disks world = record world { inputs = record (world.inputs) { disks =
 pub record SlotsUnread (out : outcomes.Outcome) (old new : WorldView) : Type 0 where
   pub slot : ℕ
   pub why : SlotWhy
-  pub fault : IsRackFault old.inputs.disks slot why new.inputs.disks
+  pub fault : IsRackFault (Unit {0}) old.inputs.disks slot why new.inputs.disks
   pub comes : out ≡ slot_fault slot why
   pub is : new ≡ with_disks new.inputs.disks old
 

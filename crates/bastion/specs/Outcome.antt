@@ -2,6 +2,7 @@
 use Rattle.std.specs.Prelude.{ℕ, zero, suc, ◌⊎◌, Bool, true, false, List, ◌∷◌, ◌++◌, Option, Some, None, unwrap_or, codes, if◌then◌else◌}
 use Rattle.std.specs.Fmt.{decimal}
 use Rattle.fw_disk.specs.DiskView.{DiskView}
+use Rattle.fw_mail.specs.MailerView.{MailerView}
 use Rattle.fw_outside.specs.Counts.{Rose}
 use Rattle.fw_outside.specs.KeeperView.{KeeperView}
 use Rattle.fw_types.specs.declared.ending.Ending.{Ending}
@@ -11,7 +12,7 @@ use Rattle.gate_rules.specs.declared.verdict.Verdict.TheVariants.{Permit, Deny}
 use Rattle.gate_rules.specs.Why as rule
 use Rattle.netperm_table.specs.Fault as table
 use Rattle.bastion.specs.Words.{LineView}
-use Rattle.bastion.specs.WorldView.{WorldView}
+use Rattle.bastion.specs.WorldView.{Post, WorldView}
 use Rattle.bastion.specs.declared.outcome.Device.{Device}
 use Rattle.bastion.specs.declared.outcome.Device.TheVariants as device
 use Rattle.bastion.specs.declared.outcome.Outcome.{Outcome}
@@ -71,6 +72,7 @@ device_text device.Output = codes "output"
 device_text device.Log = codes "log"
 device_text device.Records = codes "records"
 device_text device.Program = codes "program"
+device_text device.Mailer = codes "mailer"
 device_text (device.Disk slot) = codes "disk " ++ decimal slot
 
 -- a line, by its number, and what is wrong with it
@@ -108,14 +110,15 @@ abbrev pub KeeperRose : Option KeeperView → Option KeeperView → Type 0
 KeeperRose (Some old) (Some new) = Rose old.faults new.faults
 KeeperRose _ _ = ⊥
 
--- the device's own count rose; the files count names without a source, and sources that failed; what is done by the table
--- calls no disk
+-- the device's own count rose; the files count names without a source, and sources that failed; those of the disks and the
+-- mailers are said apart, of what calls them
 abbrev pub DeviceRose : Device → WorldView → WorldView → Type 0
 DeviceRose device.Table old new = Rose old.files.missing new.files.missing ⊎ Rose old.files.read_faults new.files.read_faults
 DeviceRose device.Output old new = Rose old.output.faults new.output.faults
 DeviceRose device.Log old new = Rose old.logs.faults new.logs.faults
 DeviceRose device.Records old new = KeeperRose old.inputs.keeper new.inputs.keeper
 DeviceRose device.Program old new = Rose old.inputs.launcher.faults new.inputs.launcher.faults
+DeviceRose device.Mailer old new = ⊥
 DeviceRose (device.Disk slot) old new = ⊥
 
 -- what a session that ended with status 4 has counted: of the client, its source failed, or nothing came of it in time, or
@@ -158,6 +161,16 @@ abbrev pub SlotsRose : Outcome → WorldView → WorldView → Type 0
 SlotsRose (Failed (device.Disk slot)) old new = DiskRose slot old.inputs.disks new.inputs.disks
 SlotsRose outcome old new = CountRose outcome old new
 
+-- a mailer's count of failures rose: that of the first, to which messages are handed
+abbrev pub MailersRose : List MailerView → List MailerView → Type 0
+MailersRose (old ∷ olds) (new ∷ news) = Rose old.faults new.faults
+MailersRose _ _ = ⊥
+
+-- a job may call a mailer, too
+abbrev pub JobRose : Post → Outcome → WorldView → WorldView → Type 0
+JobRose post (Failed device.Mailer) old new = MailersRose post.before post.after
+JobRose post outcome old new = SlotsRose outcome old new
+
 -- only a session of the plug or of the gateway has a link, and only one of the mail gateway slots
 abbrev pub RoseFor : Command → Outcome → WorldView → WorldView → Type 0
 RoseFor (PlugGw caller) (Ended ending refused) old new = LinkRose ending old new
@@ -165,10 +178,10 @@ RoseFor (TnGw peer) (Ended ending refused) old new = GateRose ending old new
 RoseFor (Smap peer) outcome old new = SlotsRose outcome old new
 RoseFor command outcome old new = CountRose outcome old new
 
-abbrev pub OrderRose : Order → Outcome → WorldView → WorldView → Type 0
-OrderRose (ByTable command) outcome old new = RoseFor command outcome old new
-OrderRose (Alone job) outcome old new = SlotsRose outcome old new
+abbrev pub OrderRose : Post → Order → Outcome → WorldView → WorldView → Type 0
+OrderRose post (ByTable command) outcome old new = RoseFor command outcome old new
+OrderRose post (Alone job) outcome old new = JobRose post outcome old new
 
-abbrev pub RoseIn : Option LineView → Outcome → WorldView → WorldView → Type 0
-RoseIn None outcome old new = CountRose outcome old new
-RoseIn (Some line) outcome old new = OrderRose line.order outcome old new
+abbrev pub RoseIn : Post → Option LineView → Outcome → WorldView → WorldView → Type 0
+RoseIn post None outcome old new = CountRose outcome old new
+RoseIn post (Some line) outcome old new = OrderRose post line.order outcome old new

@@ -27,6 +27,7 @@ is_early steps.Print = false
 is_early steps.Records = false
 is_early steps.Slots = false
 is_early steps.Drill = false
+is_early steps.Round = false
 is_early _ = true
 
 -- memory was wanting for what is read of the table, and the table was asked for

@@ -14,7 +14,7 @@ use Rattle.bastion.specs.Jobs.{DoesJob}
 use Rattle.bastion.specs.Outcome.{RoseIn, fault_line_of, status_of, verdict_status}
 use Rattle.bastion.specs.Words.{LineView}
 use Rattle.bastion.specs.Works.{Works}
-use Rattle.bastion.specs.WorldView.{SessionInputs, WorldView}
+use Rattle.bastion.specs.WorldView.{Post, SessionInputs, WorldView}
 use Rattle.bastion.specs.declared.outcome.Device.TheVariants as device
 use Rattle.bastion.specs.declared.outcome.Outcome.{Outcome}
 use Rattle.bastion.specs.declared.outcome.Outcome.TheVariants.{Usage, Unread, Failed, NoMemory}
@@ -121,6 +121,7 @@ Lacks name command steps.Print old new = LacksPrint name command old new
 Lacks name command steps.Records old new = ReadsOnly name (needs_records command) old new
 Lacks name command steps.Slots old new = ⊥
 Lacks name command steps.Drill old new = ⊥
+Lacks name command steps.Round old new = ⊥
 Lacks name command step old new = ReadsOnly name false old new
 
 abbrev pub Stops : List ℕ → Command → Outcome → WorldView → WorldView → Type 0
@@ -149,13 +150,13 @@ abbrev pub DoesFor : List ℕ → Command → Outcome → WorldView → WorldVie
 DoesFor name command outcome old new = Stops name command outcome old new ⊎ Worked name command outcome old new
 
 -- or a job that needs none
-abbrev pub DoesOrder : List ℕ → Order → Outcome → WorldView → WorldView → Type 0
-DoesOrder name (ByTable command) outcome old new = DoesFor name command outcome old new
-DoesOrder name (Alone job) outcome old new = DoesJob job outcome old new
+abbrev pub DoesOrder : Post → List ℕ → Order → Outcome → WorldView → WorldView → Type 0
+DoesOrder post name (ByTable command) outcome old new = DoesFor name command outcome old new
+DoesOrder post name (Alone job) outcome old new = DoesJob post job outcome old new
 
-abbrev pub DoesLine : Option LineView → Outcome → WorldView → WorldView → Type 0
-DoesLine None outcome old new = Unused outcome old new
-DoesLine (Some line) outcome old new = DoesOrder line.table line.order outcome old new
+abbrev pub DoesLine : Post → Option LineView → Outcome → WorldView → WorldView → Type 0
+DoesLine post None outcome old new = Unused outcome old new
+DoesLine post (Some line) outcome old new = DoesOrder post line.table line.order outcome old new
 
 -- ---- the whole run
 
@@ -174,10 +175,10 @@ TellsIf (Some text) old new = Tells text old new
 
 -- The run came to an outcome: what it did for that; a failure that it names was counted; then the outcome's line was given to
 -- the log, where it has one; and its status is the outcome's, whatever became of that line.
-pub record Run (line : Option LineView) (status : ℕ) (old new : WorldView) : Type 0 where
+pub record Run (post : Post) (line : Option LineView) (status : ℕ) (old new : WorldView) : Type 0 where
   pub outcome : Outcome
   pub middle : WorldView
-  pub does : DoesLine line outcome old middle
-  pub rose : RoseIn line outcome old middle
+  pub does : DoesLine post line outcome old middle
+  pub rose : RoseIn post line outcome old middle
   pub tells : TellsIf (fault_line_of outcome) middle new
   pub status_is : status ≡ status_of outcome

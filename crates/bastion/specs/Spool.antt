@@ -1,5 +1,5 @@
 -- The slots of the disks, by their places.
-use Rattle.std.specs.Prelude.{◌≡◌, ℕ, zero, suc, List, [], ◌∷◌, ◌⊎◌}
+use Rattle.std.specs.Prelude.{◌≡◌, ℕ, zero, suc, List, [], ◌∷◌, length, ◌⊎◌}
 use Rattle.std.specs.List.{AllByRecursion}
 use Rattle.fw_disk.specs.DiskView.{DiskView}
 use Rattle.fw_disk.specs.Moments.{Now}
@@ -42,21 +42,39 @@ pub record AreOpened (disks : List DiskView) : Type 0 where
   pub slots : List (Opened (Unit {0}))
   pub opened : AreSlotsOf (Unit {0}) 0 disks slots
 
--- so they were, and those with a message stayed so
+-- so they were, those with a message stayed so, and as many disks are there
 pub record StaysBehind (old new : List DiskView) : Type 0 where
   pub slots : List (Opened (Unit {0}))
   pub opened : AreSlotsOf (Unit {0}) 0 old slots
   pub stay : StayAsOpened slots new
+  pub many : length new ≡ length old
 
 -- or they weren't all opened, and no disk was called but to open its slot
 pub record IsUnopened (old new : List DiskView) : Type 0 where
   pub slot : ℕ
   pub why : SlotWhy
-  pub fault : IsRackFault old slot why new
+  pub fault : IsRackFault (Unit {0}) old slot why new
 
--- the slot at a place has no reading, and those before it have one
+-- the slot at a place has no reading, and on each disk before it stands the slot of its place
 pub record HasBadSlot (slot at : ℕ) (old new : List DiskView) : Type 0 where
-  pub came : CameBack slot (BadSlot at) old new
+  pub came : CameBack (Unit {0}) 0 slot (BadSlot at) old new
+
+-- the disk of a slot that was opened set aside is, at the place of its number, as the opening left it
+abbrev pub StaysAside : List DiskView → Opened (Unit {0}) → Type 0
+StaysAside disks (Free slot) = Unit {0}
+StaysAside disks (Full slot) = Unit {0}
+StaysAside disks (Aside slot) = AtPlace (λ disk. disk ≡ slot.disk) slot.number disks
+
+-- the slots of all disks were opened, those that were set aside stayed so, and as many disks are there
+pub record StaysAsideBehind (old new : List DiskView) : Type 0 where
+  pub slots : List (Opened (Unit {0}))
+  pub opened : AreSlotsOf (Unit {0}) 0 old slots
+  pub stay : AllByRecursion (StaysAside new) slots
+  pub many : length new ≡ length old
+
+-- what a round over the slots leaves, if there is one
+abbrev pub LeavesAside : List DiskView → List DiskView → Type 0
+LeavesAside old new = IsUnopened old new ⊎ StaysAsideBehind old new
 
 -- what a session over the slots leaves, if there is one
 abbrev pub LeavesSlots : List DiskView → List DiskView → Type 0

@@ -12,17 +12,17 @@ use Rattle.gate_rules.specs.declared.verdict.Verdict.{Verdict}
 use Rattle.gate_rules.specs.declared.verdict.Verdict.TheVariants.{Permit, Deny}
 use Rattle.bastion.specs.Inputs.{HasInputs, Inputs}
 use Rattle.bastion.specs.Jobs.{AreFormatted}
-use Rattle.bastion.specs.Outcome.{DiskRose, KeeperRose, verdict_status}
+use Rattle.bastion.specs.Outcome.{DiskRose, KeeperRose, MailersRose, verdict_status}
 use Rattle.bastion.specs.Run.{verdict_for}
 use Rattle.bastion.specs.Serving.{most_entries}
-use Rattle.bastion.specs.Spool.{AreOpened, HasBadSlot, LeavesSlots}
+use Rattle.bastion.specs.Spool.{AreOpened, HasBadSlot, LeavesAside, LeavesSlots}
 use Rattle.bastion.specs.Words.{LineView}
-use Rattle.bastion.specs.WorldView.{SessionInputs, WorldView}
+use Rattle.bastion.specs.WorldView.{Post, SessionInputs, WorldView}
 use Rattle.bastion.specs.declared.outcome.Refusal.{Refusal}
 use Rattle.bastion.specs.declared.words.Command.{Command}
 use Rattle.bastion.specs.declared.words.Command.TheVariants.{Netacl, NetaclRun, Table, Authsrv, PlugGw, TnGw, Smap}
 use Rattle.bastion.specs.declared.words.Job.{Job}
-use Rattle.bastion.specs.declared.words.Job.TheVariants.{Drill, SpoolInit}
+use Rattle.bastion.specs.declared.words.Job.TheVariants.{Drill, SpoolInit, Smapd}
 use Rattle.bastion.specs.declared.words.Order.{Order}
 use Rattle.bastion.specs.declared.words.Order.TheVariants.{ByTable, Alone}
 
@@ -54,18 +54,19 @@ RoseBy (TnGw peer) old new = SomeRose old new ⊎ LinksFailed old.inputs.dialer 
 RoseBy (Smap peer) old new = SomeRose old new ⊎ DisksRose old.inputs.disks new.inputs.disks
 RoseBy command old new = SomeRose old new
 
--- the disks' counts are among them for a job that calls the disks
-abbrev pub RoseInJob : Job → WorldView → WorldView → Type 0
-RoseInJob (Drill drill) old new = SomeRose old new
-RoseInJob SpoolInit old new = SomeRose old new ⊎ DisksRose old.inputs.disks new.inputs.disks
+-- the disks' counts are among them for a job that calls the disks, and the mailers' for `smapd`
+abbrev pub RoseInJob : Post → Job → WorldView → WorldView → Type 0
+RoseInJob post (Drill drill) old new = SomeRose old new
+RoseInJob post SpoolInit old new = SomeRose old new ⊎ DisksRose old.inputs.disks new.inputs.disks
+RoseInJob post Smapd old new = SomeRose old new ⊎ (DisksRose old.inputs.disks new.inputs.disks ⊎ MailersRose post.before post.after)
 
-abbrev pub RoseInOrder : Order → WorldView → WorldView → Type 0
-RoseInOrder (ByTable command) old new = RoseBy command old new
-RoseInOrder (Alone job) old new = RoseInJob job old new
+abbrev pub RoseInOrder : Post → Order → WorldView → WorldView → Type 0
+RoseInOrder post (ByTable command) old new = RoseBy command old new
+RoseInOrder post (Alone job) old new = RoseInJob post job old new
 
-abbrev pub RoseOf : Option LineView → WorldView → WorldView → Type 0
-RoseOf None old new = SomeRose old new
-RoseOf (Some line) old new = RoseInOrder line.order old new
+abbrev pub RoseOf : Post → Option LineView → WorldView → WorldView → Type 0
+RoseOf post None old new = SomeRose old new
+RoseOf post (Some line) old new = RoseInOrder post line.order old new
 
 -- more requests were asked than fit in a history: each took a moment of the clock
 pub record IsFull (old new : SessionInputs) : Type 0 where
@@ -144,26 +145,33 @@ abbrev pub drill_status : {A B : Type 0} → Result A B → ℕ
 drill_status (Ok counts) = 0
 drill_status (Err fault) = 3
 
--- `drill` takes memory, `spool-init` none
-abbrev pub IsStatusOfJob : Job → ℕ → WorldView → WorldView → Type 0
-IsStatusOfJob (Drill drill) status old new = (((status ≡ 4) × SomeRose old new) ⊎ (status ≡ 5)) ⊎ (status ≡ drill_status (drilled drill))
-IsStatusOfJob SpoolInit status old new = ((status ≡ 4) × (SomeRose old new ⊎ DisksRose old.inputs.disks new.inputs.disks)) ⊎ (status ≡ 0)
+-- 3 where a slot has no reading, and 0 where all slots were opened
+abbrev pub IsRoundStatus : ℕ → List DiskView → List DiskView → Type 0
+IsRoundStatus status old new = ((status ≡ 3) × ((slot : ℕ) × (at : ℕ) × HasBadSlot slot at old new)) ⊎ ((status ≡ 0) × AreOpened old)
 
-abbrev pub IsStatusOf : List ℕ → Order → ℕ → WorldView → WorldView → Type 0
-IsStatusOf name (ByTable command) status old new = IsStatusFor name command status old new
-IsStatusOf name (Alone job) status old new = IsStatusOfJob job status old new
+-- `drill` and `smapd` take memory, `spool-init` none
+abbrev pub IsStatusOfJob : Post → Job → ℕ → WorldView → WorldView → Type 0
+IsStatusOfJob post (Drill drill) status old new = (((status ≡ 4) × SomeRose old new) ⊎ (status ≡ 5)) ⊎ (status ≡ drill_status (drilled drill))
+IsStatusOfJob post Smapd status old new = (((status ≡ 4) × RoseInJob post Smapd old new) ⊎ (status ≡ 5)) ⊎ IsRoundStatus status old.inputs.disks new.inputs.disks
+IsStatusOfJob post SpoolInit status old new = ((status ≡ 4) × (SomeRose old new ⊎ DisksRose old.inputs.disks new.inputs.disks)) ⊎ (status ≡ 0)
+
+abbrev pub IsStatusOf : Post → List ℕ → Order → ℕ → WorldView → WorldView → Type 0
+IsStatusOf post name (ByTable command) status old new = IsStatusFor name command status old new
+IsStatusOf post name (Alone job) status old new = IsStatusOfJob post job status old new
 
 -- 2 is for words that are no command
-abbrev pub IsStatus : Option LineView → ℕ → WorldView → WorldView → Type 0
-IsStatus None status old new = status ≡ 2
-IsStatus (Some line) status old new = IsStatusOf line.table line.order status old new
+abbrev pub IsStatus : Post → Option LineView → ℕ → WorldView → WorldView → Type 0
+IsStatus post None status old new = status ≡ 2
+IsStatus post (Some line) status old new = IsStatusOf post line.table line.order status old new
 
 -- ---- the disks
 
--- `spool-init` ends with 0 only after it made a free slot of each disk; what a failure leaves is in what it did
+-- `spool-init` ends with 0 only after it made a free slot of each disk; what a failure leaves is in what it did. Behind `smapd`
+-- a slot that was opened set aside is so.
 abbrev pub JobLeavesDisks : Job → ℕ → List DiskView → List DiskView → Type 0
 JobLeavesDisks (Drill drill) status old new = new ≡ old
 JobLeavesDisks SpoolInit status old new = status ≡ 0 → AreFormatted (length old) old new
+JobLeavesDisks Smapd status old new = LeavesAside old new
 
 -- behind `smap` a slot that was opened with a message has it; any other command by the table calls no disk
 abbrev pub CommandLeavesDisks : Command → List DiskView → List DiskView → Type 0
@@ -174,10 +182,24 @@ abbrev pub OrderLeavesDisks : Order → ℕ → List DiskView → List DiskView 
 OrderLeavesDisks (ByTable command) status old new = CommandLeavesDisks command old new
 OrderLeavesDisks (Alone job) status old new = JobLeavesDisks job status old new
 
+abbrev pub JobLeavesMailers : Post → Job → Type 0
+JobLeavesMailers post Smapd = Unit {0}
+JobLeavesMailers post (Drill drill) = post.after ≡ post.before
+JobLeavesMailers post SpoolInit = post.after ≡ post.before
+
+abbrev pub OrderLeavesMailers : Post → Order → Type 0
+OrderLeavesMailers post (ByTable command) = post.after ≡ post.before
+OrderLeavesMailers post (Alone job) = JobLeavesMailers post job
+
 -- words that are no command leave the disks as they were
 abbrev pub LeavesDisks : Option LineView → ℕ → List DiskView → List DiskView → Type 0
 LeavesDisks None status old new = new ≡ old
 LeavesDisks (Some line) status old new = OrderLeavesDisks line.order status old new
+
+-- any command but `smapd` leaves the mailers as they were
+abbrev pub LeavesMailers : Post → Option LineView → Type 0
+LeavesMailers post None = post.after ≡ post.before
+LeavesMailers post (Some line) = OrderLeavesMailers post line.order
 
 -- no more bytes were taken than a session may take; and after so many the status is 6
 pub record TakesIn (status : ℕ) (old new : SourceView) : Type 0 where

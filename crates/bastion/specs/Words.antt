@@ -143,16 +143,17 @@ abbrev pub drill_in : List (List ℕ) → Option Drill
 drill_in (start ∷ count ∷ []) = drill_by (in_range 0 2147483647 (number_of start)) (in_range 1 10000 (number_of count))
 drill_in _ = None
 
--- no further words
-abbrev pub spool_init_in : List (List ℕ) → Option Job
-spool_init_in [] = Some jobs.SpoolInit
-spool_init_in (word ∷ more) = None
+-- a job without further words
+abbrev pub lone_in : Job → List (List ℕ) → Option Job
+lone_in job [] = Some job
+lone_in job (word ∷ more) = None
 
--- a command by the table, or `drill START N` or `spool-init`, which need none
+-- a command by the table, or `drill START N`, `spool-init` or `smapd`, which need none
 abbrev pub order_in : List (List ℕ) → Option Order
 order_in (name ∷ words) =
     if bytes_eq name (codes "drill") then option_map Alone (option_map jobs.Drill (drill_in words))
-    else if bytes_eq name (codes "spool-init") then option_map Alone (spool_init_in words)
+    else if bytes_eq name (codes "spool-init") then option_map Alone (lone_in jobs.SpoolInit words)
+    else if bytes_eq name (codes "smapd") then option_map Alone (lone_in jobs.Smapd words)
     else option_map ByTable (command_in (name ∷ words))
 order_in [] = None
 

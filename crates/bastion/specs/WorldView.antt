@@ -1,6 +1,7 @@
 -- What a run meets: its devices, as plain records.
 use Rattle.std.specs.Prelude.{List, Option}
 use Rattle.fw_disk.specs.DiskView.{DiskView}
+use Rattle.fw_mail.specs.MailerView.{MailerView}
 use Rattle.fw_outside.specs.FilesView.{FilesView}
 use Rattle.fw_outside.specs.SinkView.{SinkView}
 use Rattle.fw_outside.specs.ClockView.{ClockView}
@@ -27,3 +28,11 @@ pub record WorldView : Type 0 where
   pub output : SinkView
   pub logs : SinkView
   pub inputs : SessionInputs
+
+-- who takes messages on, before a run and behind it; the first is handed them
+pub record Post : Type 0 where
+  pub before : List MailerView
+  pub after : List MailerView
+
+abbrev pub post_of : List MailerView → List MailerView → Post
+post_of before after = record { before = before; after = after }

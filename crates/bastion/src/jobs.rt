@@ -1,16 +1,21 @@
-//! The commands that need no table: `drill` and `spool-init`.
-ghost use Rattle.std.specs.Prelude.{◌≡◌, ◌≢◌, length, map, IfErr, IfOk, Ok, Err};
+//! The commands that need no table: `drill`, `spool-init` and `smapd`.
+ghost use Rattle.std.specs.Prelude.{◌≡◌, ◌≢◌, ◌≤◌, ◌<◌, length, map, IfErr, IfOk, Ok, Err};
 ghost use Rattle.drill_lines.specs.Drill.{drilled, tally_text};
 ghost use Rattle.drill_lines.specs.declared.drill_fault.DrillFault.TheVariants as faults;
 ghost use Rattle.fw_outside.specs.SinkView.{Gives};
+ghost use Rattle.bastion.specs.Status.{JobLeavesMailers};
+ghost use Rattle.bastion.specs.WorldView.{post_of};
 ghost use Rattle.bastion.specs.Jobs.{DoesJob, Drills, Formats, Inits, IsFormatted, IsUnformatted, PrintsAlone, drill_refused, formatted_text, printed};
 
+use crate::handing_on::hand_mail;
+use crate::mailing::disk_count;
 use crate::outcome::append_usize;
 use crate::{Device, Job, Kit, Outcome, Refusal, Step, World};
 use arrayvec::ArrayVec;
 use client_service::LogLine;
 use drill_lines::{Drill, DrillFault, count_drill, tally_line};
 use fw_disk::Disk;
+use fw_mail::Mailer;
 use fw_outside::Failed;
 use fw_types::append;
 use spool_slots::format_in_place;
@@ -87,12 +92,6 @@ fn format_all<T: Kit>(world: &mut World<T>) -> Result<(), usize>
     format_disks(&mut world.disks)
 }
 
-fn disk_count<T: Kit>(world: &World<T>) -> usize
-    ensures { result ≡ length world.now.inputs.disks }
-{
-    world.disks.len()
-}
-
 // Prints how many disks were formatted.
 fn print_formatted<T: Kit>(count: usize, world: &mut World<T>) -> Outcome
     ensures { PrintsAlone (formatted_text count) result world.old world.new }
@@ -112,11 +111,21 @@ fn init_spool<T: Kit>(world: &mut World<T>) -> Outcome
 }
 
 /// Does a job.
-pub(crate) fn do_job<T: Kit>(alloc: Global, job: Job, world: &mut World<T>) -> Outcome
-    ensures { DoesJob job result world.old world.new }
+pub(crate) fn do_job<T: Kit>(
+    alloc: Global,
+    job: Job,
+    mailers: &mut Vec<Box<dyn Mailer>>,
+    world: &mut World<T>,
+) -> Outcome
+    requires few { length world.old.inputs.disks ≤ 64 }
+    requires some { 0 < length mailers.old.items }
+    ensures does { DoesJob (post_of (map (λ m. mailer_view m) mailers.old.items) (map (λ m. mailer_view m) mailers.new.items))
+        job result world.old world.new }
+    ensures mailers { JobLeavesMailers (post_of (map (λ m. mailer_view m) mailers.old.items) (map (λ m. mailer_view m) mailers.new.items)) job }
 {
     match job {
         Job::Drill(numbers) => run_drill(alloc, numbers, world),
         Job::SpoolInit => init_spool(world),
+        Job::Smapd => hand_mail(alloc, mailers, world),
     }
 }

@@ -15,6 +15,7 @@
 mod authsrv;
 mod book;
 mod deciding;
+mod handing_on;
 mod jobs;
 mod kit;
 mod mailing;
@@ -33,6 +34,7 @@ mod words;
 
 pub use client_service::{LogLine, conn, decision_line, denied_line, ending_line};
 pub use drill_lines::Drill;
+pub use fw_mail::Mailer;
 pub use kit::{Kit, World};
 pub use outcome::{Device, Outcome, Refusal, Step, ending_status};
 pub use place_names::Places;

@@ -37,15 +37,25 @@ fn take_disks<T: Kit>(alloc: Global, world: &mut World<T>) -> Vec<T::Disk>
     mem::replace(&mut world.disks, Vec::new(alloc))
 }
 
-// The disks are there again.
-fn put_disks<T: Kit>(disks: Vec<T::Disk>, world: &mut World<T>)
+/// The disks are there again.
+pub(crate) fn put_disks<T: Kit>(disks: Vec<T::Disk>, world: &mut World<T>)
     ensures { world.new ≡ with_disks (map T.Disk.disk_view disks.items) world.old }
 {
     world.disks = disks;
 }
 
-// Opens the slots of the disks, which are in the rack then. Where one can't be opened, they are in the world again.
-fn open_rack<T: Kit>(alloc: Global, world: &mut World<T>) -> Result<Rack<T::Disk>, Outcome>
+/// How many disks there are.
+pub(crate) fn disk_count<T: Kit>(world: &World<T>) -> usize
+    ensures { result ≡ length world.now.inputs.disks }
+{
+    world.disks.len()
+}
+
+/// Opens the slots of the disks, which are in the rack then. Where one can't be opened, they are in the world again.
+pub(crate) fn open_rack<T: Kit>(
+    alloc: Global,
+    world: &mut World<T>,
+) -> Result<Rack<T::Disk>, Outcome>
     requires few { length world.old.inputs.disks ≤ 64 }
     ensures opened { IfOk result (λ rack. OpensRack rack world.old world.new) }
     ensures unopened { IfErr result (λ outcome. SlotsUnread outcome world.old world.new) }

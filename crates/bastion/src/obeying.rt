@@ -1,8 +1,10 @@
 //! What the words ask for, by the table: a row for each command.
-ghost use Rattle.std.specs.Prelude.{◌≡◌, ◌≤◌, length, IsSome};
+ghost use Rattle.std.specs.Prelude.{◌≡◌, ◌≤◌, ◌<◌, length, map, IsSome};
 ghost use Rattle.bastion.specs.Outcome.{fault_line_of};
 ghost use Rattle.bastion.specs.Run.{DoesFor, DoesLine, DoesOrder, TellsIf};
+ghost use Rattle.bastion.specs.Status.{LeavesMailers, OrderLeavesMailers};
 ghost use Rattle.bastion.specs.Words.{line_of};
+ghost use Rattle.bastion.specs.WorldView.{post_of};
 ghost use Rattle.bastion.specs.declared.words.Command.TheVariants.{Netacl, NetaclRun, Table};
 
 use crate::authsrv::attend;
@@ -14,6 +16,7 @@ use crate::reading::rules_for;
 use crate::starting::decide_run;
 use crate::telnet_gateway::gate;
 use crate::{Command, CommandLine, Kit, Order, Outcome, Query, World};
+use fw_mail::Mailer;
 use fw_types::Octets;
 use std::alloc::Global;
 use std::thread::Threads;
@@ -80,6 +83,7 @@ fn do_order<H, T>(
     alloc: Global,
     name: &[u8],
     order: &Order,
+    mailers: &mut Vec<Box<dyn Mailer>>,
     world: &mut World<T>,
 ) -> Outcome
 where
@@ -87,25 +91,38 @@ where
     T: Kit,
     requires keeper { IsSome world.old.inputs.keeper }
     requires disks { length world.old.inputs.disks ≤ 64 }
-    ensures { DoesOrder name.now order.now result world.old world.new }
+    requires some { 0 < length mailers.old.items }
+    ensures does { DoesOrder (post_of (map (λ m. mailer_view m) mailers.old.items) (map (λ m. mailer_view m) mailers.new.items))
+        name.now order.now result world.old world.new }
+    ensures mailers { OrderLeavesMailers (post_of (map (λ m. mailer_view m) mailers.old.items) (map (λ m. mailer_view m) mailers.new.items)) order.now }
 {
     match order {
         Order::ByTable(command) => work(rt, alloc, name, command, world),
-        Order::Alone(job) => do_job(alloc, *job, world),
+        Order::Alone(job) => do_job(alloc, *job, mailers, world),
     }
 }
 
 /// Does what the words ask for.
-pub(crate) fn obey<H, T>(rt: &H, alloc: Global, words: &[Octets], world: &mut World<T>) -> Outcome
+pub(crate) fn obey<H, T>(
+    rt: &H,
+    alloc: Global,
+    words: &[Octets],
+    mailers: &mut Vec<Box<dyn Mailer>>,
+    world: &mut World<T>,
+) -> Outcome
 where
     H: Threads + Sync,
     T: Kit,
     requires keeper { IsSome world.old.inputs.keeper }
     requires disks { length world.old.inputs.disks ≤ 64 }
-    ensures { DoesLine (line_of words.now) result world.old world.new }
+    requires some { 0 < length mailers.old.items }
+    ensures does { DoesLine (post_of (map (λ m. mailer_view m) mailers.old.items) (map (λ m. mailer_view m) mailers.new.items))
+        (line_of words.now) result world.old world.new }
+    ensures mailers { LeavesMailers (post_of (map (λ m. mailer_view m) mailers.old.items) (map (λ m. mailer_view m) mailers.new.items))
+        (line_of words.now) }
 {
     match CommandLine::read(words) {
-        Some(line) => do_order(rt, alloc, line.table, &line.order, world),
+        Some(line) => do_order(rt, alloc, line.table, &line.order, mailers, world),
         None => Outcome::Usage,
     }
 }

@@ -26,6 +26,8 @@ pub enum Device {
     Records,
     /// Who starts programs.
     Program,
+    /// Who takes messages on.
+    Mailer,
     /// The disk of the slot with this number.
     Disk(usize),
 }
@@ -49,6 +51,8 @@ pub enum Step {
     Slots,
     /// Drawing the lines of a drill, reading them, and deciding.
     Drill,
+    /// Reading a message that is handed on, or handing it over.
+    Round,
 }
 
 /// The first thing that a command needs and that can't be read.
@@ -94,6 +98,7 @@ fn append_device(out: &mut LogLine, device: Device)
         Device::Log => append(out, b"log"),
         Device::Records => append(out, b"records"),
         Device::Program => append(out, b"program"),
+        Device::Mailer => append(out, b"mailer"),
         Device::Disk(slot) => {
             append(out, b"disk ");
             append_usize(out, slot);

@@ -4,7 +4,7 @@ ghost use Rattle.std.specs.Str.{bytes_eq};
 ghost use Rattle.fw_types.specs.Number.{in_range, number_of};
 ghost use Rattle.gate_rules.specs.Label.{label_of};
 ghost use Rattle.bastion.specs.Places.{places_of};
-ghost use Rattle.bastion.specs.Words.{after_options, any_twice, caller_in, caller_of, command_in, drill_by, drill_in, is_option_pair, is_option_name, is_option_word, line_of, order_in, order_of, places_in, slots_in, slots_or, spool_init_in, name_in, netacl_by, netacl_in, peer_by, peer_in, query_of, run_in, stands, table_in, table_named, client_in, client_of, word_after, word_or};
+ghost use Rattle.bastion.specs.Words.{after_options, any_twice, caller_in, caller_of, command_in, drill_by, drill_in, is_option_pair, is_option_name, is_option_word, line_of, order_in, order_of, places_in, slots_in, slots_or, lone_in, name_in, netacl_by, netacl_in, peer_by, peer_in, query_of, run_in, stands, table_in, table_named, client_in, client_of, word_after, word_or};
 
 use crate::Places;
 use drill_lines::Drill;
@@ -61,6 +61,8 @@ pub enum Job {
     Drill(Drill),
     /// `spool-init`: make a free slot of each disk.
     SpoolInit,
+    /// `smapd`: hand on the messages of the slots, in one round.
+    Smapd,
 }
 
 /// What the words of a command line ask for.
@@ -359,11 +361,12 @@ fn drill_in(words: &[Octets]) -> Option<Drill>
     }
 }
 
-fn spool_init_in(words: &[Octets]) -> Option<Job>
-    ensures { result ≡ spool_init_in words.now }
+// A job that has no further words.
+fn lone_in(job: Job, words: &[Octets]) -> Option<Job>
+    ensures { result ≡ lone_in job words.now }
 {
     match words {
-        [] => Some(Job::SpoolInit),
+        [] => Some(job),
         _ => None,
     }
 }
@@ -377,7 +380,10 @@ fn order_in(words: &[Octets]) -> Option<Order>
                 return drill_in(more).map(Job::Drill).map(Order::Alone);
             }
             if is_word(name, b"spool-init") {
-                return spool_init_in(more).map(Order::Alone);
+                return lone_in(Job::SpoolInit, more).map(Order::Alone);
+            }
+            if is_word(name, b"smapd") {
+                return lone_in(Job::Smapd, more).map(Order::Alone);
             }
             command_in(words).map(Order::ByTable)
         }

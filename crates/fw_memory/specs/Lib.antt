@@ -12,3 +12,4 @@ pub mod Noted
 pub mod HeldMedium
 pub mod MemDiskView
 pub mod Past
+pub mod MemMailerView

@@ -10,7 +10,8 @@
 //! none. [`MemDice`] count up from the number that they were made with. [`MemDialer`] brings up the links and opens the
 //! doors that it was given, in order, and refuses exactly the calls that it is told, those past its room, and those for
 //! which no link or door is left. [`MemLauncher`] starts nothing: it fails at the calls that it is told, and if it has no memory to note a
-//! program, and answers as it is told at each other. [`MemDisk`] fails at the calls that it is told, and if it has no
+//! program, and answers as it is told at each other. [`MemMailer`] hands nothing on: each call answers as it is told, and past
+//! that it accepts; what it accepts it keeps, and where there is no memory for that it answers so. [`MemDisk`] fails at the calls that it is told, and if it has no
 //! memory for a change; a crash of it leaves an image of its medium, which a number picks.
 #![tactic(auto)]
 
@@ -24,6 +25,7 @@ mod mem_disk;
 mod mem_files;
 mod mem_keeper;
 mod mem_launcher;
+mod mem_mailer;
 mod mem_sink;
 mod mem_source;
 mod past;
@@ -38,5 +40,6 @@ pub use mem_disk::MemDisk;
 pub use mem_files::MemFiles;
 pub use mem_keeper::MemKeeper;
 pub use mem_launcher::MemLauncher;
+pub use mem_mailer::MemMailer;
 pub use mem_sink::MemSink;
 pub use mem_source::MemSource;

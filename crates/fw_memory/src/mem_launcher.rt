@@ -45,8 +45,8 @@ fn answer_of(answers: &[u8], call: u64) -> u8
     }
 }
 
-// An equal list.
-fn copy_of(alloc: Global, items: &[Octets]) -> Result<OctetsList, NoMemory>
+/// An equal list.
+pub(crate) fn copy_of(alloc: Global, items: &[Octets]) -> Result<OctetsList, NoMemory>
     ensures { IfOk result (λ copy. copy ≡ items.now) }
 {
     let mut copy = OctetsList::new(alloc);

@@ -6,7 +6,7 @@
 ghost use Rattle.std.specs.Prelude.{◌≤◌, length, IfOk};
 
 use bastion::{
-    Command, CommandLine, Device, Job, Order, Outcome, Places, Step, World, places, run,
+    Command, CommandLine, Device, Job, Mailer, Order, Outcome, Places, Step, World, places, run,
 };
 use fw_memory::MemDice;
 use fw_outside::{Dice, Sink};
@@ -15,7 +15,7 @@ use fw_real::{
 };
 use fw_types::Octets;
 use process::{Process, SlotDisk};
-use real_links::{ClientHosts, LinkSink, Programs, StandardOutput, TcpDialer};
+use real_links::{ClientHosts, LinkSink, MailerProgram, Programs, StandardOutput, TcpDialer};
 use std::env;
 use std::io::ErrorKind;
 use std::process::ExitCode;
@@ -30,6 +30,7 @@ usage: fwtk [-t FILE] netacl [-run] DAEMON ADDRESS [NAME]
        fwtk [-t FILE] plug-gw PORT ADDRESS [NAME]
        fwtk [-t FILE] [-r FILE] tn-gw ADDRESS [NAME]
        fwtk [-t FILE] [-s FOLDER] [-n SLOTS] smap ADDRESS [NAME]
+       fwtk [-s FOLDER] [-n SLOTS] [-m PROGRAM] smapd
        fwtk [-s FOLDER] [-n SLOTS] spool-init
        fwtk drill START COUNT
        fwtk --help | --version
@@ -38,7 +39,7 @@ usage: fwtk [-t FILE] netacl [-run] DAEMON ADDRESS [NAME]
   -s FOLDER  the folder of the mail's slots, spool in the current directory by default
   -n SLOTS  how many slots there are, 1 to 64, 8 by default
   -m PROGRAM  the program that mail is handed to, /usr/lib/sendmail by default
-fwtk(8) lists the exit statuses; netacl(8), authsrv(8), plug-gw(8), tn-gw(8), smap(8), netperm-table(5) and spool(5) have the
+fwtk(8) lists the exit statuses; netacl(8), authsrv(8), plug-gw(8), tn-gw(8), smap(8), smapd(8), netperm-table(5) and spool(5) have the
 rest.
 ";
 
@@ -126,6 +127,7 @@ fn slots_for(order: &Order) -> Slots {
     match order {
         Order::Alone(Job::SpoolInit) => Slots::Made,
         Order::ByTable(Command::Smap(_)) => Slots::Opened,
+        Order::Alone(Job::Smapd) => Slots::Opened,
         _ => Slots::Unused,
     }
 }
@@ -178,6 +180,9 @@ fn disks_of(rt: HostRuntime, needs: &Needs) -> Result<Vec<SlotDisk>, Outcome>
     Ok(disks)
 }
 
+/// How many seconds the mailer's program has for each message.
+const HAND_SECONDS: u32 = 300;
+
 fn run_with<H, D>(
     threads: &H,
     rt: HostRuntime,
@@ -203,7 +208,10 @@ where
         launcher: Programs::new(rt, rt.alloc()),
         disks: disks_of(rt, needs)?,
     };
-    Ok(run(threads, rt.alloc(), words, &mut world))
+    let mailer = MailerProgram::new(rt, needs.places.mailer, needs.places.spool, HAND_SECONDS)?;
+    let mut mailers: Vec<Box<dyn Mailer>> = Vec::new(rt.alloc());
+    mailers.push(Box::new(rt.alloc(), mailer)?)?;
+    Ok(run(threads, rt.alloc(), words, &mut mailers, &mut world))
 }
 
 fn serve<H: Threads + Sync>(threads: &H, rt: HostRuntime) -> Result<u8, Stop> {

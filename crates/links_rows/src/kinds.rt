@@ -2,6 +2,7 @@
 
 use crate::launching::tell_program;
 use crate::linking::{tell_door, tell_host, tell_link};
+use crate::mailing::tell_mail;
 use fw_types::NoMemory;
 use lines_of_rows::{Rows, Told, add};
 use real_links::can_be_looked_up;
@@ -32,6 +33,7 @@ impl Rows for Kinds {
     ) -> Result<(), NoMemory> {
         match kind {
             "program" => return tell_program(self.rt, alloc, asked, out),
+            "mail" => return tell_mail(self.rt, alloc, asked, out),
             "name" => tell_name(asked, out),
             "host" => tell_host(self.rt, asked, out),
             "door" => tell_door(self.rt, asked, out),

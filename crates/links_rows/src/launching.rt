@@ -6,8 +6,8 @@ use lines_of_rows::{Told, add_number, add_word, cut};
 use real_links::Programs;
 use std::alloc::Global;
 
-// The texts between commas, or none.
-fn args_of(alloc: Global, texts: &[u8]) -> Result<OctetsList, NoMemory> {
+/// The texts between commas, or none.
+pub(crate) fn args_of(alloc: Global, texts: &[u8]) -> Result<OctetsList, NoMemory> {
     let mut args = OctetsList::new(alloc);
     if texts.is_empty() {
         return Ok(args);

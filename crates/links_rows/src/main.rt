@@ -10,6 +10,7 @@ mod doors;
 mod kinds;
 mod launching;
 mod linking;
+mod mailing;
 mod relaying;
 
 use doors::wait_at_door;

@@ -5,6 +5,7 @@ use crate::dialing::{tell_calls, tell_dialer};
 use crate::keeping::tell_keeper;
 use crate::launching::tell_launcher;
 use crate::lines::tell_lines;
+use crate::mailing::tell_mailer;
 use crate::values::{
     tell_host, tell_name, tell_number, tell_octets, tell_order, tell_party, tell_peer, tell_port,
     tell_verb, tell_verbs,
@@ -53,6 +54,7 @@ impl Rows for Kinds {
             "calls" => tell_calls(alloc, asked, out),
             "keeper" => tell_keeper(alloc, asked, out),
             "launcher" => tell_launcher(alloc, asked, out),
+            "mailer" => tell_mailer(alloc, asked, out),
             "lines" => tell_lines(alloc, asked, out),
             "way" => tell_way(alloc, asked, out),
             "dice" => {

@@ -16,8 +16,8 @@ fn answers_of(alloc: Global, text: &[u8]) -> Result<Vec<u8>, NoMemory> {
     Ok(answers)
 }
 
-// The texts between commas, or none.
-fn args_of(alloc: Global, texts: &[u8]) -> Result<OctetsList, NoMemory> {
+/// The texts between commas, or none.
+pub(crate) fn args_of(alloc: Global, texts: &[u8]) -> Result<OctetsList, NoMemory> {
     let mut args = OctetsList::new(alloc);
     if texts.is_empty() {
         return Ok(args);

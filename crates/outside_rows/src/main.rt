@@ -8,6 +8,7 @@ mod keeping;
 mod kinds;
 mod launching;
 mod lines;
+mod mailing;
 mod signature;
 mod values;
 mod ways;

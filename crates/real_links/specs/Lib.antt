@@ -5,3 +5,4 @@ pub mod Names
 pub mod NewLinks
 pub mod Programs
 pub mod TcpDialerView
+pub mod MailerPrograms

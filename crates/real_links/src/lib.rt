@@ -6,6 +6,9 @@
 //! over the real thing: none tells what it holds, and each counts its failures in counts of 64 bits that stand still at
 //! their last value.
 //!
+//! [`MailerProgram`] is the mailer of `fw_mail` over a program: it hands a message to it, waits so long at most, and goes
+//! by the status with which it ended.
+//!
 //! A [`LinkSink`] over [`StandardOutput`] is the sink to a client whom inetd or systemd handed over: its end is told too.
 //!
 //! A name is looked up only if no resolver can take it for an address ([`can_be_looked_up`]), and a program is run only
@@ -13,13 +16,17 @@
 #![tactic(auto)]
 
 mod address;
+mod body_file;
 mod client_hosts;
 mod command;
 mod dialer;
 mod door;
+mod ending;
 mod link;
 mod link_sink;
 mod link_source;
+mod mail_words;
+mod mailer_program;
 mod names;
 mod programs;
 mod ran;
@@ -32,6 +39,7 @@ pub use dialer::TcpDialer;
 pub use door::TcpDoor;
 pub use link_sink::LinkSink;
 pub use link_source::LinkSource;
+pub use mailer_program::MailerProgram;
 pub use names::can_be_looked_up;
 pub use programs::Programs;
 pub use standard_output::StandardOutput;

@@ -12,14 +12,15 @@ use fw_types::{Octets, OctetsList};
 use std::alloc::Global;
 use std::process::{ExitStatus, Processes};
 
-fn has_slash(program: &[u8]) -> bool
+/// Whether the program is named by a path.
+pub(crate) fn has_slash(program: &[u8]) -> bool
     ensures { result ≡ list_any is_slash program.now }
 {
     program.iter().any(|byte| *byte == b'/')
 }
 
-// The status with which a program ended, or nothing where a signal ended it.
-fn status_of(status: ExitStatus) -> Option<u8>
+/// The status with which a program ended, or nothing where a signal ended it.
+pub(crate) fn status_of(status: ExitStatus) -> Option<u8>
     ensures { IfSome result (λ ending. exit_code status ≡ Some (pos ending)) }
 {
     match status.code() {

@@ -1,4 +1,4 @@
-mod Fronts
+pub mod Fronts
 mod Sums
 mod Keeps
 mod Passes

@@ -2,6 +2,7 @@
 ghost use Rattle.std.specs.Prelude.{◌≡◌, [], IfErr, IfOk, Ok};
 ghost use mathlib.Core.List.{IsPrefix};
 ghost use Rattle.turn_lock.specs.Known.{IsPassOf, Met, TookTurn, knowing};
+ghost use Rattle.turn_lock.specs.Places.{Places};
 
 use crate::pass::Pass;
 use crate::plays::Look;
@@ -74,6 +75,7 @@ impl<V: StandsFor> Turns<V> {
         ensures turn { TookTurn (λ found limit origin seen. C.does call found limit origin result seen) self.now pass.old
             pass.new }
         ensures own { IsPassOf self.now pass.new }
+        ensures places { Places pass.new.seen pass.new.mine }
     {
         let desk = &self.table.shared;
         let mut value = take_out(rt, desk, &mut pass.seat);
@@ -106,6 +108,7 @@ impl<V: StandsFor> Turns<V> {
         requires other { IsPassOf self.now other }
         ensures met { Met self.now pass.old other pass.new }
         ensures own { IsPassOf self.now pass.new }
+        ensures places { Places pass.new.seen pass.new.mine }
     {
         let seat = other.into_seat();
         let desk = &self.table.shared;

@@ -38,7 +38,7 @@ returns-then-count-before g c =
     let r = turn_same g.V.StandsFor.entries g.V.StandsFor.limit g.V.StandsFor.origin (λ found limit origin seen. g.C.TurnCall.does c.args.call found limit origin c.apply-answer.result seen) c.args.self.now _ c.pass.inside.seat c.take_out-value.new.seat c.give_back.new.seat
     c.take_out-value.result c.apply-answer.new.value c.pass.view_is c.requires.pass c.pass.invariant c.take_out-value.ensures.out (c.give_back.ensures.same.0 ∙ c.take_out-value.ensures.same.0) c.give_back.ensures.freed
     (grown_none _ _ _ c.apply-answer.ensures.grows n) c.apply-answer.ensures.does in
-    record { turn = r.0; own = r.1 }
+    record { turn = r.0; own = r.1; places = r.2.places }
 
 pub returns-else-count-before : goal.returns-else-count-before
 returns-else-count-before g c =
@@ -46,4 +46,4 @@ returns-else-count-before g c =
     let r = turn_more g.V.StandsFor.entries g.V.StandsFor.limit g.V.StandsFor.origin (λ found limit origin seen. g.C.TurnCall.does c.args.call found limit origin c.apply-answer.result seen) c.args.self.now _ c.pass.inside.seat c.take_out-value.new.seat c.give_back_more.new.seat
     c.take_out-value.result c.apply-answer.new.value c.pass.view_is c.requires.pass c.pass.invariant c.take_out-value.ensures.out (c.give_back_more.ensures.same.0 ∙ c.take_out-value.ensures.same.0) c.give_back_more.ensures.freed
     more c.apply-answer.ensures.does in
-    record { turn = r.0; own = r.1 }
+    record { turn = r.0; own = r.1; places = r.2.places }

@@ -1,0 +1,9 @@
+mod LentLemmas
+mod FateLemmas
+mod HandLemmas
+mod TurnLemmas
+mod StoreLemmas
+mod MailerLemmas
+mod LogLemmas
+mod RoundLemmas
+mod LawLemmas

@@ -1,0 +1,8 @@
+/// How the log tells a turn.
+#[derive(Clone, Copy)]
+pub(crate) enum Word {
+    Accepted,
+    Refused,
+    Failed,
+    Broken,
+}
