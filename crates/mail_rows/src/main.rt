@@ -9,6 +9,7 @@ mod images;
 mod kept;
 mod kinds;
 mod letters;
+mod rounds;
 mod running;
 mod sweep;
 mod telling;

@@ -165,7 +165,25 @@ fn run_with<H: Threads + Sync>(
     Ok(ended_of(status, world, shown))
 }
 
-/// Runs what is asked for, with a mailer that gives these answers; nothing where there are too many slots.
+/// Runs what is asked for over these disks, with a mailer that gives these answers; nothing where there are too many disks.
+pub(crate) fn run_on<H: Threads + Sync>(
+    threads: &H,
+    alloc: Global,
+    asked: Asked,
+    broken: Broken,
+    disks: Vec<MemDisk>,
+    answers: Vec<Handed>,
+) -> Result<Option<Ended>, NoMemory> {
+    if disks.len() > 64 {
+        return Ok(None);
+    }
+    let words = words_of(alloc, asked.words)?;
+    let devices = devices_of(alloc, asked, broken)?;
+    let ended = run_with(threads, alloc, &words, devices, disks, answers)?;
+    Ok(Some(ended))
+}
+
+/// The same over disks with the slots that are asked for.
 pub(crate) fn run_over<H: Threads + Sync>(
     threads: &H,
     alloc: Global,
@@ -174,11 +192,5 @@ pub(crate) fn run_over<H: Threads + Sync>(
     answers: Vec<Handed>,
 ) -> Result<Option<Ended>, NoMemory> {
     let disks = disks_of(alloc, asked.slots, broken)?;
-    if disks.len() > 64 {
-        return Ok(None);
-    }
-    let words = words_of(alloc, asked.words)?;
-    let devices = devices_of(alloc, asked, broken)?;
-    let ended = run_with(threads, alloc, &words, devices, disks, answers)?;
-    Ok(Some(ended))
+    run_on(threads, alloc, asked, broken, disks, answers)
 }
