@@ -2,9 +2,10 @@
 ghost use Rattle.std.specs.Prelude.{◌≤◌, length};
 
 use bastion::{Kit, World, run};
+use fw_mail::Mailer;
 use fw_memory::{
-    Calls, MemClock, MemDialer, MemDice, MemDisk, MemFiles, MemKeeper, MemLauncher, MemSink,
-    MemSource,
+    Calls, MemClock, MemDialer, MemDice, MemDisk, MemFiles, MemKeeper, MemLauncher, MemMailer,
+    MemSink, MemSource,
 };
 use fw_types::{NoMemory, Octets};
 use std::alloc::Global;
@@ -119,9 +120,11 @@ fn run_with<H: Threads + Sync>(
     words: &[Octets],
     devices: Devices,
     disks: Vec<MemDisk>,
-) -> Ended
+) -> Result<Ended, NoMemory>
     requires few { length disks.items ≤ 64 }
 {
+    let mut mailers: Vec<Box<dyn Mailer>> = Vec::new(alloc);
+    mailers.push(Box::new(alloc, MemMailer::new(alloc, Vec::new(alloc)))?)?;
     let Devices {
         files,
         input,
@@ -141,8 +144,8 @@ fn run_with<H: Threads + Sync>(
         launcher: MemLauncher::new(alloc, Vec::new(alloc), Calls::none()),
         disks,
     };
-    let status = run(threads, alloc, words, &mut world);
-    ended_of(status, world)
+    let status = run(threads, alloc, words, &mut mailers, &mut world);
+    Ok(ended_of(status, world))
 }
 
 /// Runs a command line over these disks. The output refuses these calls.
@@ -159,5 +162,5 @@ pub(crate) fn run_over<H: Threads + Sync>(
     }
     let words = words_of(alloc, line)?;
     let devices = devices_of(alloc, refuses)?;
-    Ok(run_with(threads, alloc, &words, devices, disks))
+    run_with(threads, alloc, &words, devices, disks)
 }

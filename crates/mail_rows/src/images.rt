@@ -143,6 +143,7 @@ pub(crate) fn is_sound(
         output,
         logs,
         disks,
+        shown: _,
     } = ended;
     let all = kept_of(alloc, output.bytes())?;
     if !are_logged(alloc, letters, &all, logs.bytes())? {

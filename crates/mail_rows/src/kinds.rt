@@ -1,5 +1,7 @@
 //! The kinds of row.
 
+use crate::handing::{tell_round, tell_then};
+use crate::rounds::tell_rounds;
 use crate::sweep::tell_sweep;
 use crate::telling::{tell_broken, tell_bytes, tell_run};
 use fw_types::NoMemory;
@@ -24,6 +26,9 @@ impl Runs for Kinds {
             "run" => tell_run(threads, alloc, asked, out)?,
             "bytes" => tell_bytes(threads, alloc, asked, out)?,
             "broken" => tell_broken(threads, alloc, asked, out)?,
+            "round" => tell_round(threads, alloc, asked, out)?,
+            "then" => tell_then(threads, alloc, asked, out)?,
+            "rounds" => tell_rounds(threads, alloc, asked, out)?,
             "sweep" => tell_sweep(threads, alloc, asked, out)?,
             _ => add(out, b"no such kind"),
         }

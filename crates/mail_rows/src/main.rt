@@ -1,13 +1,15 @@
-//! Rows of runs of `smap` over devices in memory: each row of `data/` says what is told of what is asked, by the kinds that
+//! Rows of runs of `smap` and `smapd` over devices in memory: each row of `data/` says what is told of what is asked, by the kinds that
 //! [`kinds`] knows. `lines_of_rows` says how a row is written.
 #![tactic(auto)]
 
 mod asked;
 mod breaking;
+mod handing;
 mod images;
 mod kept;
 mod kinds;
 mod letters;
+mod rounds;
 mod running;
 mod sweep;
 mod telling;

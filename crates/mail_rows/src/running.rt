@@ -3,10 +3,12 @@ ghost use Rattle.std.specs.Prelude.{◌≤◌, length};
 
 use crate::asked::{Asked, slot_of, text_with, words_of};
 use crate::breaking::{Broken, Part};
+use crate::handing::shown_by;
 use bastion::{Kit, World, run};
+use fw_mail::{Handed, Mailer};
 use fw_memory::{
-    Calls, MemClock, MemDialer, MemDice, MemDisk, MemFiles, MemKeeper, MemLauncher, MemSink,
-    MemSource,
+    Calls, MemClock, MemDialer, MemDice, MemDisk, MemFiles, MemKeeper, MemLauncher, MemMailer,
+    MemSink, MemSource,
 };
 use fw_types::{NoMemory, Octets};
 use std::alloc::Global;
@@ -99,16 +101,18 @@ fn devices_of(alloc: Global, asked: Asked, broken: Broken) -> Result<Devices, No
     })
 }
 
-/// The status of a run, what the client was told, what was logged, and the disks behind it.
+/// The status of a run, what was printed or the client was told, what was logged, the disks behind it, and the messages that
+/// the mailer took.
 #[derive(Drop)]
 pub(crate) struct Ended {
     pub(crate) status: u8,
     pub(crate) output: MemSink,
     pub(crate) logs: MemSink,
     pub(crate) disks: Vec<MemDisk>,
+    pub(crate) shown: Vec<u8>,
 }
 
-fn ended_of(status: u8, world: World<Memory>) -> Ended {
+fn ended_of(status: u8, world: World<Memory>, shown: Vec<u8>) -> Ended {
     let World {
         output,
         logs,
@@ -120,19 +124,23 @@ fn ended_of(status: u8, world: World<Memory>) -> Ended {
         output,
         logs,
         disks,
+        shown,
     }
 }
 
-// The one call of `run`.
+// The one call of `run`, with a mailer that gives these answers.
 fn run_with<H: Threads + Sync>(
     threads: &H,
     alloc: Global,
     words: &[Octets],
     devices: Devices,
     disks: Vec<MemDisk>,
-) -> Ended
+    answers: Vec<Handed>,
+) -> Result<Ended, NoMemory>
     requires few { length disks.items ≤ 64 }
 {
+    let mut mailers: Vec<Box<dyn Mailer>> = Vec::new(alloc);
+    mailers.push(Box::new(alloc, MemMailer::new(alloc, answers))?)?;
     let Devices {
         files,
         input,
@@ -152,22 +160,37 @@ fn run_with<H: Threads + Sync>(
         launcher: MemLauncher::new(alloc, Vec::new(alloc), Calls::none()),
         disks,
     };
-    let status = run(threads, alloc, words, &mut world);
-    ended_of(status, world)
+    let status = run(threads, alloc, words, &mut mailers, &mut world);
+    let shown = shown_by(alloc, &mailers)?;
+    Ok(ended_of(status, world, shown))
 }
 
-/// Runs what is asked for; nothing where there are too many slots.
-pub(crate) fn run_over<H: Threads + Sync>(
+/// Runs what is asked for over these disks, with a mailer that gives these answers; nothing where there are too many disks.
+pub(crate) fn run_on<H: Threads + Sync>(
     threads: &H,
     alloc: Global,
     asked: Asked,
     broken: Broken,
+    disks: Vec<MemDisk>,
+    answers: Vec<Handed>,
 ) -> Result<Option<Ended>, NoMemory> {
-    let disks = disks_of(alloc, asked.slots, broken)?;
     if disks.len() > 64 {
         return Ok(None);
     }
     let words = words_of(alloc, asked.words)?;
     let devices = devices_of(alloc, asked, broken)?;
-    Ok(Some(run_with(threads, alloc, &words, devices, disks)))
+    let ended = run_with(threads, alloc, &words, devices, disks, answers)?;
+    Ok(Some(ended))
+}
+
+/// The same over disks with the slots that are asked for.
+pub(crate) fn run_over<H: Threads + Sync>(
+    threads: &H,
+    alloc: Global,
+    asked: Asked,
+    broken: Broken,
+    answers: Vec<Handed>,
+) -> Result<Option<Ended>, NoMemory> {
+    let disks = disks_of(alloc, asked.slots, broken)?;
+    run_on(threads, alloc, asked, broken, disks, answers)
 }

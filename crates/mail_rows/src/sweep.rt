@@ -13,10 +13,10 @@ use std::thread::Threads;
 const CALLS: u64 = 48;
 
 /// Each disk is failed at so many calls, which are more than it gets.
-const DISK_CALLS: u64 = 12;
+pub(crate) const DISK_CALLS: u64 = 12;
 
 /// So many images of each disk are looked at where a disk fails.
-const IMAGES: u64 = 16;
+pub(crate) const IMAGES: u64 = 16;
 
 // Whether a run is as it must be, whatever failed, in these images.
 fn stands<H: Threads + Sync>(
@@ -27,7 +27,7 @@ fn stands<H: Threads + Sync>(
     broken: Broken,
     pick: u64,
 ) -> Result<bool, NoMemory> {
-    match run_over(threads, alloc, asked, broken)? {
+    match run_over(threads, alloc, asked, broken, Vec::new(alloc))? {
         Some(ended) => is_sound(alloc, asked.slots, letters, ended, pick),
         None => Ok(false),
     }
@@ -84,7 +84,8 @@ fn unsound<H: Threads + Sync>(
     Ok(count)
 }
 
-fn count_slots(slots: &[u8]) -> u64 {
+/// How many slots stand between the commas.
+pub(crate) fn count_slots(slots: &[u8]) -> u64 {
     let mut count = 1u64;
     for byte in slots {
         if *byte == b',' {

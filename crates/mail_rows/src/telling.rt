@@ -21,7 +21,7 @@ fn add_text(out: &mut Told, text: &[u8]) {
     }
 }
 
-fn tell_text(text: &[u8], out: &mut Told) {
+pub(crate) fn tell_text(text: &[u8], out: &mut Told) {
     if !text.is_empty() {
         add_word(out, b"");
         add_text(out, text);
@@ -39,8 +39,8 @@ pub(crate) fn letter_of(alloc: Global, disk: &MemDisk) -> Result<&'static [u8], 
     }
 }
 
-// The status, what the client was told, what was logged, and what the slots hold.
-fn tell_ended(alloc: Global, ended: &Ended, out: &mut Told) -> Result<(), NoMemory> {
+// The status, what was printed or the client was told, what was logged, and what the slots hold.
+pub(crate) fn tell_ended(alloc: Global, ended: &Ended, out: &mut Told) -> Result<(), NoMemory> {
     add_number(out, u64::from(ended.status));
     tell_text(ended.output.bytes(), out);
     tell_text(ended.logs.bytes(), out);
@@ -58,7 +58,7 @@ fn tell_with<H: Threads + Sync>(
     broken: Broken,
     out: &mut Told,
 ) -> Result<(), NoMemory> {
-    match run_over(threads, alloc, Asked::of(asked), broken)? {
+    match run_over(threads, alloc, Asked::of(asked), broken, Vec::new(alloc))? {
         Some(ended) => tell_ended(alloc, &ended, out)?,
         None => add_word(out, b"too many slots"),
     }
@@ -82,7 +82,7 @@ pub(crate) fn tell_bytes<H: Threads + Sync>(
     asked: &[u8],
     out: &mut Told,
 ) -> Result<(), NoMemory> {
-    if let Some(ended) = run_over(threads, alloc, Asked::of(asked), UNBROKEN)? {
+    if let Some(ended) = run_over(threads, alloc, Asked::of(asked), UNBROKEN, Vec::new(alloc))? {
         for disk in &ended.disks {
             add_hex(out, disk.bytes());
         }
@@ -104,6 +104,18 @@ fn part_of(word: &[u8], slot: u64) -> Part {
     }
 }
 
+/// What fails, by the first three words, and the rest.
+pub(crate) fn broken_of(asked: &[u8]) -> (Broken, &[u8]) {
+    let (part, rest) = cut_word(asked);
+    let (slot, rest) = cut_word(rest);
+    let (at, rest) = cut_word(rest);
+    let broken = Broken {
+        part: part_of(part, number_of(slot)),
+        at: number_of(at),
+    };
+    (broken, rest)
+}
+
 /// `broken PART SLOT CALL WORDS!TABLE!SLOTS!CLIENT => ..`: the same as `run`, and the part fails at a call; of the parts `disk`
 /// and `onward`, where all later calls fail, too, it is the disk of the slot. Of the part `log-room` the number says for how
 /// many bytes there is room in the log.
@@ -113,12 +125,6 @@ pub(crate) fn tell_broken<H: Threads + Sync>(
     asked: &[u8],
     out: &mut Told,
 ) -> Result<(), NoMemory> {
-    let (part, rest) = cut_word(asked);
-    let (slot, rest) = cut_word(rest);
-    let (at, rest) = cut_word(rest);
-    let broken = Broken {
-        part: part_of(part, number_of(slot)),
-        at: number_of(at),
-    };
+    let (broken, rest) = broken_of(asked);
     tell_with(threads, alloc, rest, broken, out)
 }

@@ -1,0 +1,117 @@
+//! Runs of `smapd`, which hands messages to a mailer.
+
+use crate::asked::Asked;
+use crate::breaking::UNBROKEN;
+use crate::running::{Ended, run_on, run_over};
+use crate::telling::{broken_of, tell_ended, tell_text};
+use fw_mail::{Handed, Mailer};
+use fw_types::{Message, NoMemory};
+use lines_of_rows::{Told, add_word, cut};
+use std::alloc::Global;
+use std::thread::Threads;
+
+/// Adds a message, as `letters.rt` writes it.
+pub(crate) fn add_message(out: &mut Vec<u8>, message: &Message) -> Result<(), NoMemory> {
+    out.extend_from_slice(message.from.bytes())?;
+    let mut mark = b'>';
+    for rcpt in message.rcpts.as_slice() {
+        out.push(mark)?;
+        out.extend_from_slice(rcpt.bytes())?;
+        mark = b',';
+    }
+    out.push(b':')?;
+    out.extend_from_slice(message.body.bytes())?;
+    out.push(b';')?;
+    Ok(())
+}
+
+/// The messages that the first mailer shows.
+pub(crate) fn shown_by(alloc: Global, mailers: &[Box<dyn Mailer>]) -> Result<Vec<u8>, NoMemory> {
+    let mut out = Vec::new(alloc);
+    if let Some(mailer) = mailers.first() {
+        for message in mailer.shown() {
+            add_message(&mut out, message)?;
+        }
+    }
+    Ok(out)
+}
+
+fn answer_of(letter: u8) -> Handed {
+    match letter {
+        b'r' => Handed::Refused,
+        b'f' => Handed::Failed,
+        b'n' => Handed::NoMemory,
+        _ => Handed::Accepted,
+    }
+}
+
+/// The answers of a mailer, a letter each.
+pub(crate) fn answers_of(alloc: Global, letters: &[u8]) -> Result<Vec<Handed>, NoMemory> {
+    let mut answers = Vec::new(alloc);
+    for letter in letters {
+        answers.push(answer_of(*letter))?;
+    }
+    Ok(answers)
+}
+
+// What a run came to, and the messages that its mailer took.
+fn tell_handed_on(alloc: Global, ended: Option<Ended>, out: &mut Told) -> Result<(), NoMemory> {
+    match ended {
+        Some(ended) => {
+            tell_ended(alloc, &ended, out)?;
+            tell_text(&ended.shown, out);
+        }
+        None => add_word(out, b"too many slots"),
+    }
+    Ok(())
+}
+
+/// `round PART SLOT CALL WORDS!TABLE!SLOTS!ANSWERS => STATUS PRINTED LOG LETTERS MESSAGES`: a run in which a part fails as in a row
+/// `broken`, or none for `-`, and the messages that its mailer took. The mailer's answers are letters: `a` accepts, `r` refuses,
+/// `f` fails, `n` has no memory.
+pub(crate) fn tell_round<H: Threads + Sync>(
+    threads: &H,
+    alloc: Global,
+    asked: &[u8],
+    out: &mut Told,
+) -> Result<(), NoMemory> {
+    let (broken, rest) = broken_of(asked);
+    let asked = Asked::of(rest);
+    let answers = answers_of(alloc, asked.client)?;
+    let ended = run_over(threads, alloc, asked, broken, answers)?;
+    tell_handed_on(alloc, ended, out)
+}
+
+// A run of `smapd` by these words.
+fn round_by(words: &[u8]) -> Asked<'_> {
+    Asked {
+        words,
+        table: b"",
+        slots: b"",
+        client: b"",
+    }
+}
+
+/// `then WORDS!WORDS!TABLE!SLOTS!CLIENT => STATUS PRINTED LOG LETTERS MESSAGES`: what a run of the first words comes to, with a mailer
+/// that accepts, over the disks that the run behind them left.
+pub(crate) fn tell_then<H: Threads + Sync>(
+    threads: &H,
+    alloc: Global,
+    asked: &[u8],
+    out: &mut Told,
+) -> Result<(), NoMemory> {
+    let (words, rest) = cut(asked, b'!');
+    let first = Asked::of(rest);
+    match run_over(threads, alloc, first, UNBROKEN, Vec::new(alloc))? {
+        Some(left) => {
+            let next = round_by(words);
+            let none = Vec::new(alloc);
+            let ended = run_on(threads, alloc, next, UNBROKEN, left.disks, none)?;
+            tell_handed_on(alloc, ended, out)
+        }
+        None => {
+            add_word(out, b"too many slots");
+            Ok(())
+        }
+    }
+}

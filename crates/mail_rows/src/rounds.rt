@@ -1,0 +1,151 @@
+//! Runs of `smapd` in which each disk fails at each of its calls.
+
+use crate::asked::{Asked, slot_of};
+use crate::breaking::{Broken, Part};
+use crate::handing::{add_message, answers_of};
+use crate::running::{Ended, run_over};
+use crate::sweep::{DISK_CALLS, IMAGES, count_slots};
+use fw_memory::MemDisk;
+use fw_types::{Message, NoMemory};
+use lines_of_rows::{Told, add, add_number};
+use slot_bytes::{Slot, SlotFault, read_slot};
+use std::alloc::Global;
+use std::thread::Threads;
+
+// A slot by its bytes: the mark of its kind, and its message, as `letters.rt` writes it.
+#[derive(Drop)]
+struct Read {
+    mark: u8,
+    message: Vec<u8>,
+}
+
+fn with(alloc: Global, mark: u8, message: &Message) -> Result<Read, NoMemory> {
+    let mut text = Vec::new(alloc);
+    add_message(&mut text, message)?;
+    Ok(Read {
+        mark,
+        message: text,
+    })
+}
+
+fn without(alloc: Global, mark: u8) -> Read {
+    Read {
+        mark,
+        message: Vec::new(alloc),
+    }
+}
+
+fn read(alloc: Global, bytes: &[u8]) -> Result<Read, NoMemory> {
+    match read_slot(alloc, bytes) {
+        Ok(Slot::Free) => Ok(without(alloc, b'f')),
+        Ok(Slot::Whole(message)) => with(alloc, b'w', &message),
+        Ok(Slot::Aside(message)) => with(alloc, b'a', &message),
+        Err(SlotFault::Bad { at: _ }) => Ok(without(alloc, b'b')),
+        Err(SlotFault::NoMemory) => Err(NoMemory),
+    }
+}
+
+// Whether a text has a message, which ends in `;`.
+fn has_message(text: &[u8], message: &[u8]) -> bool {
+    let Some(message) = message.strip_suffix(b";") else {
+        return false;
+    };
+    for one in text.split(|byte| *byte == b';') {
+        if one == message {
+            return true;
+        }
+    }
+    false
+}
+
+// Whether an image of a slot has the message that was there, or the mailer took it.
+fn is_right(before: &Read, image: &Read, shown: &[u8]) -> bool {
+    match (before.mark, image.mark) {
+        (b'w', b'w' | b'a') | (b'a', b'a') => image.message.as_slice() == before.message.as_slice(),
+        (b'w', b'f') => has_message(shown, &before.message),
+        (b'f', b'f') => true,
+        _ => false,
+    }
+}
+
+fn is_image_right(
+    alloc: Global,
+    word: &[u8],
+    image: MemDisk,
+    shown: &[u8],
+) -> Result<bool, NoMemory> {
+    let before = slot_of(alloc, word)?;
+    let before = read(alloc, before.bytes())?;
+    let image = read(alloc, image.bytes())?;
+    Ok(is_right(&before, &image, shown))
+}
+
+// Whether the images that the number picks are.
+fn are_right(alloc: Global, slots: &[u8], ended: Ended, pick: u64) -> Result<bool, NoMemory> {
+    let Ended {
+        status: _,
+        output: _,
+        logs: _,
+        disks,
+        shown,
+    } = ended;
+    let mut words = slots.split(|byte| *byte == b',');
+    for disk in disks {
+        let word = words.next().unwrap_or(b"");
+        if !is_image_right(alloc, word, disk.crash(pick)?, &shown)? {
+            return Ok(false);
+        }
+    }
+    Ok(true)
+}
+
+fn stands<H: Threads + Sync>(
+    threads: &H,
+    alloc: Global,
+    asked: Asked,
+    broken: Broken,
+    pick: u64,
+) -> Result<bool, NoMemory> {
+    let answers = answers_of(alloc, asked.client)?;
+    match run_over(threads, alloc, asked, broken, answers)? {
+        Some(ended) => are_right(alloc, asked.slots, ended, pick),
+        None => Ok(false),
+    }
+}
+
+// In how many runs and images in which the part fails they aren't.
+fn wrong_with<H: Threads + Sync>(
+    threads: &H,
+    alloc: Global,
+    asked: Asked,
+    part: Part,
+) -> Result<u64, NoMemory> {
+    let mut count = 0u64;
+    for number in 0..DISK_CALLS * IMAGES {
+        let (at, pick) = (number / IMAGES, number % IMAGES);
+        if !stands(threads, alloc, asked, Broken { part, at }, pick)? {
+            count = count.saturating_add(1);
+        }
+    }
+    Ok(count)
+}
+
+/// `rounds WORDS!TABLE!SLOTS!ANSWERS => N lost`: in how many images, behind runs of `smapd` in which a disk fails at one call or from
+/// a call on, or the log at a call, a slot lacks the message that it had, and the mailer didn't take it.
+pub(crate) fn tell_rounds<H: Threads + Sync>(
+    threads: &H,
+    alloc: Global,
+    asked: &[u8],
+    out: &mut Told,
+) -> Result<(), NoMemory> {
+    let asked = Asked::of(asked);
+    let mut count = wrong_with(threads, alloc, asked, Part::Log)?;
+    for slot in 0..count_slots(asked.slots).min(64) {
+        for part in [Part::Disk(slot), Part::DiskOnward(slot)] {
+            count = count.saturating_add(wrong_with(threads, alloc, asked, part)?);
+        }
+    }
+    add_number(out, count);
+    add(out, b" lost");
+    Ok(())
+}
