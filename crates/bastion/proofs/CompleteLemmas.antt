@@ -370,13 +370,13 @@ drill_complete drill (Err fault) outcome old mid new q h tells =
     let told = refused_line fault old mid new q (ap (λ (w : WorldView). w.logs) h.same) (ap (λ (w : WorldView). w.output) h.same) (subst (λ (o : Outcome). TellsIf (fault_line_of o) mid new) h.is tells) in
     record { logs = told.0; output = told.1; status_is = ap status_of h.is }
 
-init_complete : (answer : Result (Unit {0}) ℕ) (outcome : Outcome) (old mid new : WorldView) → (RoseInJob post SpoolInit old new → ⊥) → mid.logs ≡ old.logs → Formats answer old.inputs.disks mid.inputs.disks
+init_complete : (post : Post) → (answer : Result (Unit {0}) ℕ) (outcome : Outcome) (old mid new : WorldView) → (RoseInJob post SpoolInit old new → ⊥) → mid.logs ≡ old.logs → Formats answer old.inputs.disks mid.inputs.disks
     → TellsFormatted answer (length old.inputs.disks) outcome old.output mid.output → TellsIf (fault_line_of outcome) mid new → IsFormattedWhole (status_of outcome) old new
-init_complete (Ok done) outcome old mid new none logs formats h tells = record {
+init_complete post (Ok done) outcome old mid new none logs formats h tells = record {
   disks = subst (λ (i : SessionInputs). AreFormatted (length old.inputs.disks) old.inputs.disks i.disks) (sym (tells_later (fault_line_of outcome) mid new tells).inputs) formats;
   whole = printed_whole (formatted_text (length old.inputs.disks)) outcome old mid new (quiet old new (λ some. none (inl some))) logs h.printing h.is h.gives tells;
 }
-init_complete (Err slot) outcome old mid new none logs formats h tells =
+init_complete post (Err slot) outcome old mid new none logs formats h tells =
     absurd (none (inr (slot, subst (λ (i : SessionInputs). DiskRose slot old.inputs.disks i.disks) (sym (tells_later (fault_line_of outcome) mid new tells).inputs) (fails_rose slot old.inputs.disks mid.inputs.disks formats))))
 
 -- a slot has no reading, or there was no memory
@@ -444,7 +444,7 @@ job_complete post (Drill drill) outcome old mid new none (inl h) tells = inl (ap
 job_complete post (Drill drill) outcome old mid new none (inr h) tells = inr (drill_complete drill (drilled drill) outcome old mid new (quiet old new none) h tells)
 job_complete post Smapd outcome old mid new none (inl u) tells = unread_complete post outcome old mid new none u.0 tells u.0.slot u.0.why u.0.fault u.0.comes
 job_complete post Smapd outcome old mid new none (inr h) tells = round_complete post outcome old mid new none h tells h.answer refl h.trouble refl h.tells
-job_complete post SpoolInit outcome old mid new none h tells = init_complete h.answer outcome old mid new none h.logs h.formats h.tells tells
+job_complete post SpoolInit outcome old mid new none h tells = init_complete post h.answer outcome old mid new none h.logs h.formats h.tells tells
 
 order_complete : (post : Post) → (name : List ℕ) (order : Order) (outcome : Outcome) (old mid new : WorldView) → (RoseInOrder post order old new → ⊥) → DoesOrder post name order outcome old mid → TellsIf (fault_line_of outcome) mid new
     → IsOrderComplete post name order (status_of outcome) old new

@@ -144,7 +144,7 @@ module _ (post : Post) where
 
   -- ---- what was handed on
 
-  round_spool : (outcome : Outcome) (old new : WorldView) (h : RoundHeld post outcome old new) → RunsSpool [] (map mail_view (accepted_of (h.hands.hands.turns ++ last_turn h.hands.hands.ending))) old.inputs.disks new.inputs.disks
+  pub round_spool : (outcome : Outcome) (old new : WorldView) (h : RoundHeld post outcome old new) → RunsSpool [] (map mail_view (accepted_of (h.hands.hands.turns ++ last_turn h.hands.hands.ending))) old.inputs.disks new.inputs.disks
   round_spool outcome old new h =
       let count : ℕ = length old.inputs.disks in
       run_over_rack [] (map mail_view (accepted_of (h.hands.hands.turns ++ last_turn h.hands.hands.ending))) old.inputs.disks new.inputs.disks h.opened.slots h.first h.store h.opened.are (first_queues old.inputs.disks h.first h.opened)

@@ -349,7 +349,7 @@ gate_denials name peer outcome status old mid new h (inr so) = inr (record { inp
 mail_denials : (name : List ℕ) (peer : Peer) (outcome : Outcome) (status : ℕ) (old mid new : WorldView) (h : Worked name (Smap peer) outcome old mid) → new.inputs.dialer ≡ old.inputs.dialer → MailHeadline peer h.inputs status h.middle new → HeadlineFor name (Smap peer) status old new
 mail_denials name peer outcome status old mid new h same (inl unheard) =
     let silent = silent_from status old h.middle new h.only.output unheard.silent in
-    record { replies_legal = tt; asks_permitted = same; denials_logged = inl silent; answered_stands = inl (record { silent = silent; unheld = unheard.unheld }) }
+    record { replies_legal = tt; asks_permitted = same; denials_logged = inl silent; answered_stands = inl (record { silent = silent; unheld = unheard.unheld; spool = subst (λ (i : SessionInputs). RunsSpool [] [] i.disks new.inputs.disks) h.only.inputs unheard.spool }) }
 mail_denials name peer outcome status old mid new h same (inr so) = record {
   replies_legal = tt;
   asks_permitted = same;

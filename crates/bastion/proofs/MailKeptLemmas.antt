@@ -1,5 +1,5 @@
 -- From what a session of the mail gateway did to the headline, and to a run in which no count rose.
-use Rattle.std.proofs.Common.{◌≡◌, ◌≢◌, ◌≤◌, ◌∙◌, arith, ℕ, List, ◌++◌, refl, sym, ap, subst, inl, inr, ◌⊎◌, false}
+use Rattle.std.proofs.Common.{◌≡◌, ◌≢◌, ◌≤◌, ◌∙◌, arith, ℕ, List, [], ◌++◌, refl, sym, ap, subst, inl, inr, ◌⊎◌, false}
 use Rattle.std.specs.Prelude.{Option}
 use Rattle.client_service.proofs.ConnLemmas.{conn_caused}
 use Rattle.client_service.proofs.SinkLemmas.{same_low}

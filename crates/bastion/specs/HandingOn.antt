@@ -44,13 +44,17 @@ abbrev pub outcome_printed : Result (Unit {0}) sink.Failed → Outcome
 outcome_printed (Ok done) = Done
 outcome_printed (Err failed) = Failed device.Output
 
+-- what a round comes to that the output was told, or wasn't
+abbrev pub outcome_told : Option Trouble → Result (Unit {0}) sink.Failed → Outcome
+outcome_told trouble printing = outcome_after trouble (outcome_printed printing)
+
 abbrev pub outcome_faulted : RoundFault → Outcome
 outcome_faulted (faults.NoMemory round) = NoMemory steps.Round
 outcome_faulted (faults.LogFault round) = Failed device.Log
 
 -- a round that went to its end is printed, and of any other nothing
 abbrev pub TellsRound : Result Round RoundFault → Option Trouble → Outcome → SinkView → SinkView → Type 0
-TellsRound (Ok round) trouble outcome old new = Prints (λ printing. outcome_after trouble (outcome_printed printing)) (round_text round) outcome old new
+TellsRound (Ok round) trouble outcome old new = Prints (outcome_told trouble) (round_text round) outcome old new
 TellsRound (Err fault) trouble outcome old new = (outcome ≡ outcome_after trouble (outcome_faulted fault)) × (new ≡ old)
 
 -- ---- the work

@@ -3,7 +3,8 @@ ghost use Rattle.std.specs.Prelude.{◌≡◌, ◌≤◌, ◌<◌, length, map, 
 ghost use Rattle.smapd_queue.specs.Meeting.{meeting_with};
 ghost use Rattle.smapd_queue.specs.Round.{HandsOnTelling};
 ghost use Rattle.bastion.specs.WorldView.{post_of};
-ghost use Rattle.bastion.specs.HandingOn.{HandsMail, ServesRound, TellsRound, device_of, outcome_after, outcome_faulted, outcome_printed, round_text};
+ghost use Rattle.bastion.specs.Works.{Prints};
+ghost use Rattle.bastion.specs.HandingOn.{HandsMail, ServesRound, TellsRound, device_of, outcome_after, outcome_faulted, outcome_printed, outcome_told, round_text};
 
 use crate::mailing::{disk_count, open_rack, put_disks};
 use crate::{Device, Kit, Outcome, Step, World};
@@ -42,6 +43,13 @@ fn outcome_printed(printing: Result<(), Failed>) -> Outcome
         Ok(()) => Outcome::Done,
         Err(Failed) => Outcome::Failed(Device::Output),
     }
+}
+
+// What a round comes to that was printed, or wasn't.
+fn outcome_told(trouble: Option<Trouble>, printing: Result<(), Failed>) -> Outcome
+    ensures { result ≡ outcome_told trouble printing }
+{
+    outcome_after(trouble, outcome_printed(printing))
 }
 
 fn outcome_faulted(fault: RoundFault) -> Outcome
@@ -88,6 +96,16 @@ fn hand_on<T: Kit>(
     smapd_round_telling(alloc, rack, mailers, turns, &mut world.logs)
 }
 
+// Prints a text that tells of a round.
+fn print_text<T: Kit>(text: &[u8], trouble: Option<Trouble>, world: &mut World<T>) -> Outcome
+    ensures tells { Prints (outcome_told trouble) text.now result world.old.output world.new.output }
+    ensures inputs { world.new.inputs ≡ world.old.inputs }
+    ensures logs { world.new.logs ≡ world.old.logs }
+    ensures files { world.new.files ≡ world.old.files }
+{
+    outcome_told(trouble, world.print(text))
+}
+
 // Prints a round that went to its end.
 fn print_round<T: Kit>(round: Round, trouble: Option<Trouble>, world: &mut World<T>) -> Outcome
     ensures tells { TellsRound (Ok round) trouble result world.old.output world.new.output }
@@ -95,8 +113,7 @@ fn print_round<T: Kit>(round: Round, trouble: Option<Trouble>, world: &mut World
     ensures logs { world.new.logs ≡ world.old.logs }
     ensures files { world.new.files ≡ world.old.files }
 {
-    let printing = world.print(round_line(round).as_slice());
-    outcome_after(trouble, outcome_printed(printing))
+    print_text(round_line(round).as_slice(), trouble, world)
 }
 
 // Tells what a round came to.
