@@ -1,4 +1,1 @@
-pub mod AskingLemmas
 pub mod FaultyLemmas
-pub mod SharedAsks
-pub mod SharedLemmas

@@ -1,3 +1,1 @@
-pub mod Asking
 pub mod Faulty
-pub mod Shared
