@@ -65,6 +65,7 @@ fn add_job(alloc: Global, out: &mut Vec<u8>, job: Job) -> Result<(), NoMemory> {
             out.extend_from_slice(text.as_bytes())?;
         }
         Job::SpoolInit => out.extend_from_slice(b"spool-init")?,
+        Job::Smapd => out.extend_from_slice(b"smapd")?,
     }
     Ok(())
 }

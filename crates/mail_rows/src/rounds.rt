@@ -35,7 +35,7 @@ fn without(alloc: Global, mark: u8) -> Read {
     }
 }
 
-fn read(alloc: Global, bytes: &[u8]) -> Result<Read, NoMemory> {
+fn slot_read(alloc: Global, bytes: &[u8]) -> Result<Read, NoMemory> {
     match read_slot(alloc, bytes) {
         Ok(Slot::Free) => Ok(without(alloc, b'f')),
         Ok(Slot::Whole(message)) => with(alloc, b'w', &message),
@@ -75,8 +75,8 @@ fn is_image_right(
     shown: &[u8],
 ) -> Result<bool, NoMemory> {
     let before = slot_of(alloc, word)?;
-    let before = read(alloc, before.bytes())?;
-    let image = read(alloc, image.bytes())?;
+    let before = slot_read(alloc, before.bytes())?;
+    let image = slot_read(alloc, image.bytes())?;
     Ok(is_right(&before, &image, shown))
 }
 
