@@ -58,14 +58,20 @@ fn has_message(text: &[u8], message: &[u8]) -> bool {
     false
 }
 
+// Whether a slot of this kind may be of that one then, with the message that it had.
+fn may_be(before: u8, image: u8) -> bool {
+    if before == b'w' && image == b'a' {
+        return true;
+    }
+    before == image && before != b'b'
+}
+
 // Whether an image of a slot has the message that was there, or the mailer took it.
 fn is_right(before: &Read, image: &Read, shown: &[u8]) -> bool {
-    match (before.mark, image.mark) {
-        (b'w', b'w' | b'a') | (b'a', b'a') => image.message.as_slice() == before.message.as_slice(),
-        (b'w', b'f') => has_message(shown, &before.message),
-        (b'f', b'f') => true,
-        _ => false,
+    if before.mark == b'w' && image.mark == b'f' {
+        return has_message(shown, &before.message);
     }
+    may_be(before.mark, image.mark) && image.message.as_slice() == before.message.as_slice()
 }
 
 fn is_image_right(
