@@ -4,7 +4,7 @@ use crate::asked::{Asked, slot_of};
 use crate::breaking::{Broken, Part};
 use crate::handing::{add_message, answers_of};
 use crate::running::{Ended, run_over};
-use crate::sweep::{DISK_CALLS, IMAGES, count_slots};
+use crate::sweep::{DISK_CALLS, IMAGES, count_slots, pick_of};
 use fw_memory::MemDisk;
 use fw_types::{Message, NoMemory};
 use lines_of_rows::{Told, add, add_number};
@@ -128,7 +128,8 @@ fn wrong_with<H: Threads + Sync>(
 ) -> Result<u64, NoMemory> {
     let mut count = 0u64;
     for number in 0..DISK_CALLS * IMAGES {
-        let (at, pick) = (number / IMAGES, number % IMAGES);
+        let at = number / IMAGES;
+        let pick = pick_of(at, number % IMAGES);
         if !stands(threads, alloc, asked, Broken { part, at }, pick)? {
             count = count.saturating_add(1);
         }
@@ -136,8 +137,9 @@ fn wrong_with<H: Threads + Sync>(
     Ok(count)
 }
 
-/// `rounds WORDS!TABLE!SLOTS!ANSWERS => N lost`: in how many images, behind runs of `smapd` in which a disk fails at one call or from
-/// a call on, or the log at a call, a slot lacks the message that it had, and the mailer didn't take it.
+/// `rounds WORDS!TABLE!SLOTS!ANSWERS => N lost`: how many images, behind runs of `smapd` in which a disk fails at one call or
+/// from a call on, or the log at a call, have a slot that can't be read, or lacks the message that it had and that the mailer
+/// didn't take.
 pub(crate) fn tell_rounds<H: Threads + Sync>(
     threads: &H,
     alloc: Global,
@@ -147,9 +149,9 @@ pub(crate) fn tell_rounds<H: Threads + Sync>(
     let asked = Asked::of(asked);
     let mut count = wrong_with(threads, alloc, asked, Part::Log)?;
     for slot in 0..count_slots(asked.slots).min(64) {
-        for part in [Part::Disk(slot), Part::DiskOnward(slot)] {
-            count = count.saturating_add(wrong_with(threads, alloc, asked, part)?);
-        }
+        let once = wrong_with(threads, alloc, asked, Part::Disk(slot))?;
+        let onward = wrong_with(threads, alloc, asked, Part::DiskOnward(slot))?;
+        count = count.saturating_add(once).saturating_add(onward);
     }
     add_number(out, count);
     add(out, b" lost");
