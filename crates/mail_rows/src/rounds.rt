@@ -119,20 +119,36 @@ fn stands<H: Threads + Sync>(
     }
 }
 
-// In how many runs and images in which the part fails they aren't.
+// How many of so many images, behind a run in which this fails, aren't right.
+fn wrong_images<H: Threads + Sync>(
+    threads: &H,
+    alloc: Global,
+    asked: Asked,
+    broken: Broken,
+    images: u64,
+) -> Result<u64, NoMemory> {
+    let mut count = 0u64;
+    for image in 0..images {
+        let pick = pick_of(broken.at, image);
+        if !stands(threads, alloc, asked, broken, pick)? {
+            count = count.saturating_add(1);
+        }
+    }
+    Ok(count)
+}
+
+// The same for all runs in which the part fails.
 fn wrong_with<H: Threads + Sync>(
     threads: &H,
     alloc: Global,
     asked: Asked,
     part: Part,
+    images: u64,
 ) -> Result<u64, NoMemory> {
     let mut count = 0u64;
-    for number in 0..DISK_CALLS * IMAGES {
-        let at = number / IMAGES;
-        let pick = pick_of(at, number % IMAGES);
-        if !stands(threads, alloc, asked, Broken { part, at }, pick)? {
-            count = count.saturating_add(1);
-        }
+    for at in 0..DISK_CALLS {
+        let wrong = wrong_images(threads, alloc, asked, Broken { part, at }, images)?;
+        count = count.saturating_add(wrong);
     }
     Ok(count)
 }
@@ -147,10 +163,10 @@ pub(crate) fn tell_rounds<H: Threads + Sync>(
     out: &mut Told,
 ) -> Result<(), NoMemory> {
     let asked = Asked::of(asked);
-    let mut count = wrong_with(threads, alloc, asked, Part::Log)?;
+    let mut count = wrong_with(threads, alloc, asked, Part::Log, 1)?;
     for slot in 0..count_slots(asked.slots).min(64) {
-        let once = wrong_with(threads, alloc, asked, Part::Disk(slot))?;
-        let onward = wrong_with(threads, alloc, asked, Part::DiskOnward(slot))?;
+        let once = wrong_with(threads, alloc, asked, Part::Disk(slot), 1)?;
+        let onward = wrong_with(threads, alloc, asked, Part::DiskOnward(slot), IMAGES)?;
         count = count.saturating_add(once).saturating_add(onward);
     }
     add_number(out, count);

@@ -9,16 +9,16 @@ use lines_of_rows::{Told, add, add_number, cut};
 use std::alloc::Global;
 use std::thread::Threads;
 
-/// The client and the output are failed at so many calls, which are more than they get.
-const CALLS: u64 = 24;
+/// What the client says and what it is told are failed at so many calls, which are more than they get.
+const CALLS: u64 = 20;
 
-/// The log and the files are failed at so many calls, which are more than they get.
+/// The log and the files are failed at so many calls, which are more than they get; and at so many nothing comes of the client.
 const FEW_CALLS: u64 = 8;
 
-/// Each disk is failed at so many calls, which are more than it gets.
-pub(crate) const DISK_CALLS: u64 = 12;
+/// Each disk is failed at so many calls, which are more than it gets where no slot is used again.
+pub(crate) const DISK_CALLS: u64 = 9;
 
-/// So many images of each disk are looked at where a disk fails.
+/// So many images of each disk are looked at where a disk fails from a call on.
 pub(crate) const IMAGES: u64 = 4;
 
 /// The number, below 16, that picks an image where a call fails: those of a call are one of each kind that `MemDisk::crash`
@@ -59,14 +59,15 @@ fn stands_whole<H: Threads + Sync>(
     Ok(true)
 }
 
-// How many of the runs in which a disk fails aren't.
-fn unsound_disk<H: Threads + Sync>(
+// How many of the runs in which a disk fails from a call on aren't.
+fn unsound_onward<H: Threads + Sync>(
     threads: &H,
     alloc: Global,
     asked: Asked,
     letters: &[u8],
-    part: Part,
+    slot: u64,
 ) -> Result<u64, NoMemory> {
+    let part = Part::DiskOnward(slot);
     let mut count = 0u64;
     for at in 0..DISK_CALLS {
         if !stands_whole(threads, alloc, asked, letters, Broken { part, at })? {
@@ -76,7 +77,7 @@ fn unsound_disk<H: Threads + Sync>(
     Ok(count)
 }
 
-// How many of the runs in which another part fails, at one of so many calls, aren't in one image.
+// How many of the runs in which a part fails, at one of so many calls, aren't in one image.
 fn unsound<H: Threads + Sync>(
     threads: &H,
     alloc: Global,
@@ -117,9 +118,9 @@ fn unsound_others<H: Threads + Sync>(
     asked: Asked,
     letters: &[u8],
 ) -> Result<u64, NoMemory> {
-    let client = [Part::Client, Part::Idle, Part::Output];
+    let client = [Part::Client, Part::Output];
     let of_client = unsound_parts(threads, alloc, asked, letters, &client, CALLS)?;
-    let other = [Part::Log, Part::Table];
+    let other = [Part::Idle, Part::Log, Part::Table];
     let of_others = unsound_parts(threads, alloc, asked, letters, &other, FEW_CALLS)?;
     Ok(of_client.saturating_add(of_others))
 }
@@ -143,8 +144,9 @@ fn unsound_disks<H: Threads + Sync>(
 ) -> Result<u64, NoMemory> {
     let mut count = 0u64;
     for slot in 0..count_slots(asked.slots).min(64) {
-        let once = unsound_disk(threads, alloc, asked, letters, Part::Disk(slot))?;
-        let onward = unsound_disk(threads, alloc, asked, letters, Part::DiskOnward(slot))?;
+        let part = Part::Disk(slot);
+        let once = unsound(threads, alloc, asked, letters, part, DISK_CALLS)?;
+        let onward = unsound_onward(threads, alloc, asked, letters, slot)?;
         count = count.saturating_add(once).saturating_add(onward);
     }
     Ok(count)
