@@ -66,9 +66,9 @@ fn tell_handed_on(alloc: Global, ended: Option<Ended>, out: &mut Told) -> Result
     Ok(())
 }
 
-/// `round PART SLOT CALL WORDS!TABLE!SLOTS!ANSWERS => STATUS PRINTED LOG LETTERS MESSAGES`: a run in which a part fails as in a row
-/// `broken`, or none for `-`, and the messages that its mailer took. The mailer's answers are letters: `a` accepts, `r` refuses,
-/// `f` fails, `n` has no memory.
+/// `round PART SLOT CALL WORDS!TABLE!SLOTS!ANSWERS => STATUS PRINTED LOG LETTERS MESSAGES`: a run in which a part fails as in a
+/// row `broken`, or none for `-`, and the messages that its mailer took. The mailer's answers are letters: `a` accepts, `r`
+/// refuses, `f` fails, `n` has no memory.
 pub(crate) fn tell_round<H: Threads + Sync>(
     threads: &H,
     alloc: Global,
@@ -92,8 +92,8 @@ fn round_by(words: &[u8]) -> Asked<'_> {
     }
 }
 
-/// `then WORDS!WORDS!TABLE!SLOTS!CLIENT => STATUS PRINTED LOG LETTERS MESSAGES`: what a run of the first words comes to, with a mailer
-/// that accepts, over the disks that the run behind them left.
+/// `then WORDS!WORDS!TABLE!SLOTS!CLIENT => STATUS PRINTED LOG LETTERS MESSAGES`: what a run of the first words comes to, with a
+/// mailer that accepts, over the disks that a run of the other words left.
 pub(crate) fn tell_then<H: Threads + Sync>(
     threads: &H,
     alloc: Global,

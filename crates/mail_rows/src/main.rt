@@ -1,5 +1,5 @@
-//! Rows of runs of `smap` and `smapd` over devices in memory: each row of `data/` says what is told of what is asked, by the kinds that
-//! [`kinds`] knows. `lines_of_rows` says how a row is written.
+//! Rows of runs of `smap` and `smapd` over devices in memory: each row of `data/` says what is told of what is asked, by the
+//! kinds that [`kinds`] knows. `lines_of_rows` says how a row is written.
 #![tactic(auto)]
 
 mod asked;

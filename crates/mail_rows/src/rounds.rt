@@ -4,7 +4,7 @@ use crate::asked::{Asked, slot_of};
 use crate::breaking::{Broken, Part};
 use crate::handing::{add_message, answers_of};
 use crate::running::{Ended, run_over};
-use crate::sweep::{DISK_CALLS, IMAGES, count_slots};
+use crate::sweep::{DISK_CALLS, IMAGES, count_slots, pick_of};
 use fw_memory::MemDisk;
 use fw_types::{Message, NoMemory};
 use lines_of_rows::{Told, add, add_number};
@@ -119,25 +119,43 @@ fn stands<H: Threads + Sync>(
     }
 }
 
-// In how many runs and images in which the part fails they aren't.
-fn wrong_with<H: Threads + Sync>(
+// How many of so many images, behind a run in which this fails, aren't right.
+fn wrong_images<H: Threads + Sync>(
     threads: &H,
     alloc: Global,
     asked: Asked,
-    part: Part,
+    broken: Broken,
+    images: u64,
 ) -> Result<u64, NoMemory> {
     let mut count = 0u64;
-    for number in 0..DISK_CALLS * IMAGES {
-        let (at, pick) = (number / IMAGES, number % IMAGES);
-        if !stands(threads, alloc, asked, Broken { part, at }, pick)? {
+    for image in 0..images {
+        let pick = pick_of(broken.at, image);
+        if !stands(threads, alloc, asked, broken, pick)? {
             count = count.saturating_add(1);
         }
     }
     Ok(count)
 }
 
-/// `rounds WORDS!TABLE!SLOTS!ANSWERS => N lost`: in how many images, behind runs of `smapd` in which a disk fails at one call or from
-/// a call on, or the log at a call, a slot lacks the message that it had, and the mailer didn't take it.
+// The same for all runs in which the part fails.
+fn wrong_with<H: Threads + Sync>(
+    threads: &H,
+    alloc: Global,
+    asked: Asked,
+    part: Part,
+    images: u64,
+) -> Result<u64, NoMemory> {
+    let mut count = 0u64;
+    for at in 0..DISK_CALLS {
+        let wrong = wrong_images(threads, alloc, asked, Broken { part, at }, images)?;
+        count = count.saturating_add(wrong);
+    }
+    Ok(count)
+}
+
+/// `rounds WORDS!TABLE!SLOTS!ANSWERS => N lost`: how many images, behind runs of `smapd` in which a disk fails at one call or
+/// from a call on, or the log at a call, have a slot that can't be read, or lacks the message that it had and that the mailer
+/// didn't take.
 pub(crate) fn tell_rounds<H: Threads + Sync>(
     threads: &H,
     alloc: Global,
@@ -145,11 +163,11 @@ pub(crate) fn tell_rounds<H: Threads + Sync>(
     out: &mut Told,
 ) -> Result<(), NoMemory> {
     let asked = Asked::of(asked);
-    let mut count = wrong_with(threads, alloc, asked, Part::Log)?;
+    let mut count = wrong_with(threads, alloc, asked, Part::Log, 1)?;
     for slot in 0..count_slots(asked.slots).min(64) {
-        for part in [Part::Disk(slot), Part::DiskOnward(slot)] {
-            count = count.saturating_add(wrong_with(threads, alloc, asked, part)?);
-        }
+        let once = wrong_with(threads, alloc, asked, Part::Disk(slot), 1)?;
+        let onward = wrong_with(threads, alloc, asked, Part::DiskOnward(slot), IMAGES)?;
+        count = count.saturating_add(once).saturating_add(onward);
     }
     add_number(out, count);
     add(out, b" lost");
