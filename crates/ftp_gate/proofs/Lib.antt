@@ -1,0 +1,14 @@
+mod AccountLemmas
+mod BaseLemmas
+mod KeepLemmas
+pub mod LawLemmas
+mod LoginLeaves
+mod RowLemmas
+mod ServedLeaves
+mod ServerLemmas
+pub mod SessionLemmas
+mod StartLemmas
+mod TurnLemmas
+mod UserLeaves
+mod UserLemmas
+mod WatchLemmas
