@@ -148,7 +148,7 @@ module _ (Origin : Type 0) (gate : Gate) where
         authorize_leaves Origin gate order silent n state (name_of order.arg) is refl start.since start.base start.knows
     kind_leaves n kinds.Response is start =
         let silent : Silent gate order = record { passes = λ st. ap (λ (kd : Kind). passed_kind gate st order kd) is; asks = λ st. ap (λ (kd : Kind). asked_kind gate st order kd) is } in
-        response_leaves Origin gate order silent n state state.account order.arg refl start.base start.knows
+        response_leaves Origin gate order silent n state state.account is refl start.base start.knows
     kind_leaves n (kinds.Outward asked) is start = outward_leaves asked is n (has_verb gate.options.deny order.verb) refl start
 
   -- ---- what is heard

@@ -24,7 +24,7 @@ use Rattle.session_acts.specs.declared.target.Target.{Target}
 use Rattle.ftp_gate.specs.Dialogue.{ftp_row, ftp_rows, heard_form}
 use Rattle.ftp_gate.specs.Gate.{Gate}
 use Rattle.ftp_gate.specs.Known.{Known, asked_for, begins, dests_in, known, passage, passage_in, saying}
-use Rattle.ftp_gate.specs.Laws.{AreRight, AsksExactly, DenialsLogged, DialsCleared, GivesPassage, IsCleared, IsDone, IsLoggedFirst, IsOwnPair, IsPassable, IsRight, JoinsOwn, PassesUnblocked, given_to_server, main_asked}
+use Rattle.ftp_gate.specs.Laws.{AreRight, AsksDue, AsksExactly, DenialsLogged, DialsCleared, GivesPassage, IsCleared, IsDone, IsLoggedFirst, IsOwnPair, IsPassable, IsRight, JoinsOwn, PassesUnblocked, given_to_server, main_asked}
 use Rattle.ftp_gate.specs.Order.{Order}
 use Rattle.ftp_gate.specs.Passage.{asked_by, passed_as}
 use Rattle.ftp_gate.specs.declared.place.Place.{Place}
@@ -44,7 +44,7 @@ right_by gate n (Say text) may = may.0
 right_by gate n (Try text) may = absurd may
 right_by gate n (Log text) may = tt
 right_by gate n (Note text) may = absurd may
-right_by gate n (Ask request) may = tt
+right_by gate n (Ask request) may = may.0
 right_by gate n (Renew name hash) may = absurd may
 right_by gate n (Dial dest) may = may.0
 right_by gate n (Reach dest) may = absurd may
@@ -104,7 +104,7 @@ stop_behind gate n (Say text) halt may =
 stop_behind gate n (Try text) halt may = absurd may
 stop_behind gate n (Log text) halt may = moved_behind gate n (note gate n (Log text) (Err halt)) refl refl (append-nil n.passed) (append-nil n.calls) may
 stop_behind gate n (Note text) halt may = absurd may
-stop_behind gate n (Ask request) halt may = moved_behind gate n (note gate n (Ask request) (Err halt)) refl refl (append-nil n.passed) (append-nil n.calls) may
+stop_behind gate n (Ask request) halt may = moved_behind gate n (note gate n (Ask request) (Err halt)) refl refl (append-nil n.passed) (append-nil n.calls) may.1
 stop_behind gate n (Renew name hash) halt may = absurd may
 stop_behind gate n (Dial dest) halt may = absurd halt
 stop_behind gate n (Reach dest) halt may = absurd may
@@ -271,3 +271,7 @@ module _ {Origin : Type 0} (gate : Gate) (old new : World Origin) (ending : Endi
 
   pub held_logged : DenialsLogged gate (deeds_of held)
   held_logged before after deed text is act = subst (λ (a : Act). IsRight gate (known gate before) a) act (held_right before after deed is)
+
+  pub held_asked : AsksDue gate (deeds_of held)
+  held_asked before after deed request is act =
+      subst (λ (a : Act). IsRight gate (known gate before) a) act (held_right before after deed is)

@@ -41,7 +41,7 @@ use Rattle.ftp_gate.specs.declared.place.Account.TheVariants.{Unopened, Opened}
 use Rattle.ftp_gate.specs.declared.place.Place.{Place}
 use Rattle.ftp_gate.specs.declared.place.Place.TheVariants.{Listening, Answering, Dropping}
 use Rattle.ftp_gate.specs.declared.place.State.{State}
-use Rattle.ftp_gate.specs.Laws.{EndsWith, IsAbout, IsCleared, IsDisallowed, IsFailure, IsLoggedFirst, IsNoName, IsOwnPair, IsOwnTarget, IsPassable, IsRefusal, IsUnblocked, IsUnpermitted, Wants, asked_so, clearing, fails, granted, granted_if}
+use Rattle.ftp_gate.specs.Laws.{EndsWith, IsAbout, IsCleared, IsDisallowed, IsFailure, IsLoggedFirst, IsNoName, IsOwnPair, IsOwnTarget, IsPassable, IsRefusal, IsUnblocked, IsUnpermitted, Names, Wants, asked_so, clearing, fails, granted, granted_if}
 use Rattle.ftp_gate.specs.Known.{Known, begins, dests_in, known_after, order_in, passage_in}
 use Rattle.ftp_gate.proofs.AccountLemmas.{Noted, at_first, deed_of, named_login, note}
 use Rattle.ftp_gate.proofs.WatchLemmas.{Behind, Even, Holds, IsOwnSetting, IsPlain, IsUser, Knows, May, behind, clash, closed_leaves, ftp_watch, logged_even, logged_holds, logged_knows, plain_first, say_leaves, tell_leaves}
@@ -104,15 +104,15 @@ module _ (Origin : Type 0) (gate : Gate) (order : Order) (silent : Silent gate o
   named_leaves n state name stands (replies.Shown summary) base knows earlier since =
       failed_leaves n name NotIn (with_account (Opened name stands) state) base knows (record { request = requests.Authenticate name; reply = replies.Shown summary; failed = refl; about = refl; earlier = earlier; since = since; reason = refl })
 
-  authenticate_leaves : (n : Noted) (state : State) (name : List ℕ) (stood : Bool) → Base order n → n.k.login ≡ stood → n.k.link ≡ state.dest → n.k.setting ≡ state.setting → IsOwnSetting gate state.setting
+  authenticate_leaves : (n : Noted) (state : State) (name : List ℕ) (stood : Bool) → Names name order → Base order n → n.k.login ≡ stood → n.k.link ≡ state.dest → n.k.setting ≡ state.setting → IsOwnSetting gate state.setting
       → Leaves watch (rows.authenticate_row gate state name stood) n
-  authenticate_leaves n state name stood base login link setting own = (
-    behind gate n (even_of gate order n base silent),
+  authenticate_leaves n state name stood names base login link setting own = (
+    (record { order = order; heard = base.order; asks = names }, behind gate n (even_of gate order n base silent)),
     λ reply. named_leaves (note gate n (Ask (requests.Authenticate name)) (Ok reply)) state name (stood && is_full reply) reply (asked_base gate order n (requests.Authenticate name) reply base)
         (record { login = ap (λ (b : Bool). login_then b (requests.Authenticate name, reply)) login ∙ named_login stood name reply; user = refl; link = link; setting = setting; own = own }) n.k.since refl,
   )
 
-  module _ (state : State) (name : List ℕ) (names : name_of order.arg ≡ Some name) (unopened : state.account ≡ Unopened) where
+  module _ (state : State) (name : List ℕ) (names : Names name order) (unopened : state.account ≡ Unopened) where
     -- behind an opening no login stands
     none_stands : (k : Known) (reply : Reply) → k.login ≡ is_in state.account → login_then k.login (requests.Open false, reply) ≡ false
     none_stands k reply login = ap (λ (b : Bool). login_then b (requests.Open false, reply)) (login ∙ ap is_in unopened)
@@ -130,11 +130,11 @@ module _ (Origin : Type 0) (gate : Gate) (order : Order) (silent : Silent gate o
         → Leaves watch (rows.failed_row gate name denial state) (note gate n (Ask (requests.Open false)) (Ok reply))
     not_opened n reply denial failed reason base knows =
         failed_leaves (note gate n (Ask (requests.Open false)) (Ok reply)) name denial state (asked_base gate order n (requests.Open false) reply base) (still n reply knows)
-        (record { request = requests.Open false; reply = reply; failed = failed; about = names; earlier = n.k.since; since = refl; reason = reason })
+        (record { request = requests.Open false; reply = reply; failed = failed; about = names.is; earlier = n.k.since; since = refl; reason = reason })
 
     opened_leaves : (n : Noted) (reply : Reply) → Base order n → Knows gate state n.k → Leaves watch (rows.opened_row gate state name reply) (note gate n (Ask (requests.Open false)) (Ok reply))
     opened_leaves n (replies.Opened sid) base knows =
-        authenticate_leaves (note gate n (Ask (requests.Open false)) (Ok (replies.Opened sid))) state name false (asked_base gate order n (requests.Open false) (replies.Opened sid) base)
+        authenticate_leaves (note gate n (Ask (requests.Open false)) (Ok (replies.Opened sid))) state name false names (asked_base gate order n (requests.Open false) (replies.Opened sid) base)
         (none_stands n.k (replies.Opened sid) knows.login) knows.link knows.setting knows.own
     opened_leaves n (replies.Denied denial) base knows = not_opened n (replies.Denied denial) denial refl refl base knows
     opened_leaves n replies.Password base knows = not_opened n replies.Password NotIn refl refl base knows
@@ -142,11 +142,13 @@ module _ (Origin : Type 0) (gate : Gate) (order : Order) (silent : Silent gate o
     opened_leaves n replies.Ok base knows = not_opened n replies.Ok NotIn refl refl base knows
     opened_leaves n (replies.Shown summary) base knows = not_opened n (replies.Shown summary) NotIn refl refl base knows
 
-  name_leaves : (n : Noted) (state : State) (account : Account) (name : List ℕ) → state.account ≡ account → name_of order.arg ≡ Some name → Base order n → Knows gate state n.k → Leaves watch (rows.name_row gate state account name) n
-  name_leaves n state Unopened name is names base knows =
-      (behind gate n (even_of gate order n base silent), λ reply. opened_leaves state name names is n reply base knows)
+  name_leaves : (n : Noted) (state : State) (account : Account) (name : List ℕ) → state.account ≡ account → Names name order → Base order n → Knows gate state n.k → Leaves watch (rows.name_row gate state account name) n
+  name_leaves n state Unopened name is names base knows = (
+    (record { order = order; heard = base.order; asks = (refl, name, names) }, behind gate n (even_of gate order n base silent)),
+    λ reply. opened_leaves state name names is n reply base knows,
+  )
   name_leaves n state (Opened other stood) name is names base knows =
-      authenticate_leaves n state name stood base (knows.login ∙ ap is_in is) knows.link knows.setting knows.own
+      authenticate_leaves n state name stood names base (knows.login ∙ ap is_in is) knows.link knows.setting knows.own
 
   pub authorize_leaves : (n : Noted) (state : State) (name : Option (List ℕ)) → kind_of order.verb ≡ kinds.Authorize → name_of order.arg ≡ name → n.k.since ≡ [] → Base order n → Knows gate state n.k
       → Leaves watch (rows.authorize_row gate state name) n
@@ -154,7 +156,7 @@ module _ (Origin : Type 0) (gate : Gate) (order : Order) (silent : Silent gate o
       let none : IsNoName n.k = record { order = order; heard = base.order; kind = kind; none = is; since = since } in
       let first : IsLoggedFirst gate texts.login_denied n.k = record { verb = λ it. clash it; login = λ it. clash it; dest = λ it. clash it; failed = λ it. inr none } in
       say_leaves Origin gate n texts.login_denied state refl first (knows, even_of gate order n base silent)
-  authorize_leaves n state (Some name) kind is since base knows = name_leaves n state state.account name refl is base knows
+  authorize_leaves n state (Some name) kind is since base knows = name_leaves n state state.account name refl (record { kind = kind; is = is }) base knows
 
   -- ---- responses
 
@@ -189,9 +191,9 @@ module _ (Origin : Type 0) (gate : Gate) (order : Order) (silent : Silent gate o
     answered_leaves n (replies.Challenge number word_seed) user base knows = wrong_leaves n (replies.Challenge number word_seed) NotIn refl refl refl user base knows
     answered_leaves n (replies.Shown summary) user base knows = wrong_leaves n (replies.Shown summary) NotIn refl refl refl user base knows
 
-  pub response_leaves : (n : Noted) (state : State) (account : Account) (text : List ℕ) → state.account ≡ account → Base order n → Knows gate state n.k → Leaves watch (rows.response_row gate state account text) n
-  response_leaves n state Unopened text is base knows =
+  pub response_leaves : (n : Noted) (state : State) (account : Account) → kind_of order.verb ≡ kinds.Response → state.account ≡ account → Base order n → Knows gate state n.k → Leaves watch (rows.response_row gate state account order.arg) n
+  response_leaves n state Unopened kind is base knows =
       tell_leaves Origin gate n texts.authorize_first state (record { other = refl; verb = refl; login = refl; dest = refl; failed = refl }) (knows, even_of gate order n base silent)
-  response_leaves n state (Opened name stood) text is base knows =
+  response_leaves n state (Opened name stood) kind is base knows =
       let user : n.k.user ≡ Some name = subst (λ (a : Account). IsUser a n.k.user) is knows.user in
-      (behind gate n (even_of gate order n base silent), λ reply. answered_leaves state name text n reply user base knows)
+      ((record { order = order; heard = base.order; asks = (record { kind = kind; digest = refl; read = refl }, name, user) }, behind gate n (even_of gate order n base silent)), λ reply. answered_leaves state name order.arg n reply user base knows)

@@ -271,8 +271,17 @@ module _ (Origin : Type 0) (gate : Gate) (state : State) (order : Order) (free :
           let w = wanting n start in
           let none : (allows gate.options dest && (not gate.options.extnd || n.k.standing.permitted)) ≡ false =
           ap (λ (b : Bool). allows gate.options dest && (not b || n.k.standing.permitted)) extnd ∙ ap (λ (b : Bool). allows gate.options dest && b) start.permitted ∙ and_false (allows gate.options dest) in
-          let even = even_at gate order n w.base (passes_none [] n w) (asks_one name dest names [] n false none w) in
-          (behind gate n even, λ reply. operated_leaves n reply allowed extnd start)
+          let even = even_at gate order n w.base (passes_none [] n w) (asks_one name dest names [] n false none w) in (
+            (
+              record {
+                order = order;
+                heard = start.base.order;
+                asks = (refl, unblocked gate state order User free n.k start.base.order start.knows.login, record { dest = dest; wants = record { kind = free.kind; name = name; names = names }; is = refl; allowed = allowed; extnd = extnd });
+              },
+              behind gate n even,
+            ),
+            λ reply. operated_leaves n reply allowed extnd start,
+          )
       permitted_leaves n false extnd allowed start =
           connect_leaves name dest names [] n allowed (ap (λ (b : Bool). not b || n.k.standing.permitted) extnd) (ap (λ (b : Bool). granted_if b dest.host) (sym extnd)) (wanting n start)
 

@@ -12,8 +12,10 @@ use Rattle.fw_types.specs.declared.ending.Ending.{Ending}
 use Rattle.fw_types.specs.declared.host.Host.{Host}
 use Rattle.fw_types.specs.declared.peer.Peer.{Peer}
 use Rattle.gate_rules.specs.Verdict.{allows}
+use Rattle.md5.specs.Md5.{md5}
+use Rattle.otp_md5.specs.Hexadecimal.{read_of}
 use Rattle.session_acts.specs.Acts.{Act, Outcome}
-use Rattle.session_acts.specs.Acts.Act.{Ask, Dial, Join, Log, Pass, Reach, Say}
+use Rattle.session_acts.specs.Acts.Act.{Ask, Dial, Join, Log, Pass, Reach, Renew, Say}
 use Rattle.session_acts.specs.Client.{line_logged}
 use Rattle.session_acts.specs.Deeds.{Deed, gives}
 use Rattle.session_acts.specs.Laws.{got}
@@ -236,6 +238,51 @@ abbrev pub DenialsLogged : Gate → List Deed → Type 0
 DenialsLogged gate deeds =
     (before after : List Deed) (deed : Deed) (text : List ℕ) → deeds ≡ before ++ deed ∷ after → deed.act ≡ Say text → IsLoggedFirst gate text (known gate before)
 
+-- ---- each request
+
+-- the command names this user
+pub record Names (name : List ℕ) (order : Order) : Type 0 where
+  pub kind : kind_of order.verb ≡ kinds.Authorize
+  pub is : name_of order.arg ≡ Some name
+
+-- the command gives this response
+pub record Responds (hash : List ℕ) (word : Option ℕ) (order : Order) : Type 0 where
+  pub kind : kind_of order.verb ≡ kinds.Response
+  pub digest : hash ≡ md5 order.arg
+  pub read : word ≡ read_of order.arg
+
+-- the command wants a destination at this host, which the permission line lets pass; and the rules on operations decide, too
+pub record Reaches (gate : Gate) (host : Host) (order : Order) : Type 0 where
+  pub dest : Dest
+  pub wants : Wants dest order
+  pub is : host ≡ dest.host
+  pub allowed : allows gate.options dest ≡ true
+  pub extnd : gate.options.extnd ≡ true
+
+-- The request is asked for this command: where a user is named, whether there is one, and before that, if no session was
+-- opened, to open one; where a response is given, whether it is right, if a user was named before; and where a destination is
+-- wanted, for permission to reach its host.
+abbrev pub IsAskedFor : Gate → Request → Order → Known → Type 0
+IsAskedFor gate (requests.Open console) order k = (console ≡ false) × (name : List ℕ) × Names name order
+IsAskedFor gate (requests.Authenticate name) order k = Names name order
+IsAskedFor gate (requests.Response hash word) order k = Responds hash word order × (name : List ℕ) × (k.user ≡ Some name)
+IsAskedFor gate (requests.Operation service host) order k = (service ≡ services.Ftp) × IsUnblocked gate order k × Reaches gate host order
+IsAskedFor gate request order k = ⊥
+
+-- the command that was heard last asks for the request; the session may be closed at any time
+pub record IsAskedOf (gate : Gate) (request : Request) (k : Known) : Type 0 where
+  pub order : Order
+  pub heard : k.order ≡ Some order
+  pub asks : IsAskedFor gate request order k
+
+abbrev pub IsDueAsk : Gate → Request → Known → Type 0
+IsDueAsk gate requests.Close k = Unit {0}
+IsDueAsk gate request k = IsAskedOf gate request k
+
+abbrev pub AsksDue : Gate → List Deed → Type 0
+AsksDue gate deeds =
+    (before after : List Deed) (deed : Deed) (request : Request) → deeds ≡ before ++ deed ∷ after → deed.act ≡ Ask request → IsDueAsk gate request (known gate before)
+
 -- ---- each act
 
 -- what an act says and does comes where it may
@@ -244,6 +291,8 @@ IsRight gate k (Say text) = IsLoggedFirst gate text k
 IsRight gate k (Dial dest) = IsCleared gate dest k
 IsRight gate k (Pass text) = IsPassable gate k
 IsRight gate k (Join dest target) = IsOwnPair gate dest target k
+IsRight gate k (Ask request) = IsDueAsk gate request k
+IsRight gate k (Renew name hash) = ⊥
 IsRight gate k (Reach dest) = ⊥
 IsRight gate k act = Unit {0}
 

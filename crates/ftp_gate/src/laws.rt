@@ -5,7 +5,7 @@ ghost use Rattle.session_acts.specs.Session.{Held, deeds_of};
 ghost use Rattle.session_acts.specs.World.{World};
 ghost use Rattle.ftp_gate.specs.Dialogue.{ftp_row, ftp_rows};
 ghost use Rattle.ftp_gate.specs.Gate.{Gate};
-ghost use Rattle.ftp_gate.specs.Laws.{AsksExactly, DenialsLogged, DialsCleared, GivesPassage, JoinsOwn, PassesUnblocked};
+ghost use Rattle.ftp_gate.specs.Laws.{AsksDue, AsksExactly, DenialsLogged, DialsCleared, GivesPassage, JoinsOwn, PassesUnblocked};
 
 /// Where a destination is asked for, the command that was heard last is a USER that names it, whose verb isn't denied, and a
 /// login stands, if one is asked for before it; no link is up; the permission line's `-dest` lets the destination pass. Since
@@ -45,4 +45,12 @@ pub fn what_the_server_is_given<Origin>()
 pub fn data_links_are_the_sessions_own<Origin>()
     ensures { (gate : Gate) (old new : World Origin) (ending : Ending) (held : Held (ftp_rows gate) ftp_row old new ending) →
         JoinsOwn gate (deeds_of held) }
+{}
+
+/// Each request that is asked is one that the command which was heard last asks for, but for the close: for a user who is named,
+/// who that is, and before that an opening; for a response whether it is right, where a user was named before; for a
+/// destination that `-dest` lets pass, with `-extnd`, permission to reach its host.
+pub fn each_request_is_asked_for<Origin>()
+    ensures { (gate : Gate) (old new : World Origin) (ending : Ending) (held : Held (ftp_rows gate) ftp_row old new ending) →
+        AsksDue gate (deeds_of held) }
 {}
