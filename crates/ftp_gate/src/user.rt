@@ -88,7 +88,7 @@ fn read_dest(text: &[u8]) -> Option<Dest>
 /// name isn't empty, and the port is 21 where none is named.
 #[tactic(auto, unfolding(crate::specs::User::user_of))]
 pub fn read_user(arg: &[u8]) -> Option<UserAt<'_>>
-    ensures { MatchOption result (user_of arg.now ≡ None) (λ user. user_of arg.now ≡ Some (user.name.now, user.dest)) }
+    ensures is { MatchOption result (user_of arg.now ≡ None) (λ user. user_of arg.now ≡ Some (user.name.now, user.dest)) }
     ensures short { IfSome result (λ user. length user.name.now ≤ length arg.now) }
 {
     match cut_at_last(arg) {
