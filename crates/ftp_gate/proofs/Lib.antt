@@ -1,6 +1,7 @@
 mod AccountLemmas
 mod BaseLemmas
 mod KeepLemmas
+mod KnownLemmas
 pub mod LawLemmas
 mod LoginLeaves
 mod RowLemmas

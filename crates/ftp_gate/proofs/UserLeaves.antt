@@ -295,7 +295,7 @@ module _ (Origin : Type 0) (gate : Gate) (state : State) (order : Order) (free :
         let w = wanting n start in
         let even = even_at gate order n w.base (passes_none [] n w) (asks_dest n.k.standing w.login w.link ∙ ap (λ (u : Option (List ℕ × Dest)). asked_dest gate n.k.standing u) is) in
         tell_leaves Origin gate n texts.no_destination state (record { other = refl; verb = refl; login = refl; dest = refl; failed = refl }) (start.knows, even)
-    wanted_leaves n (Some user) is start = dest_leaves user.0 user.1 is n (allows gate.options user.1) refl start
+    wanted_leaves n (Some (name, dest)) is start = dest_leaves name dest is n (allows gate.options dest) refl start
 
   -- where a link to this destination is up
   module _ (main : Dest) (linked : state.dest ≡ Some main) where

@@ -6,7 +6,7 @@ ghost use Rattle.ftp_gate.specs.User.{name_there, user_of};
 ghost use Rattle.fw_acts.specs.Acts.Row.{At, Do};
 ghost use Rattle.fw_acts.specs.Ran.{Ran};
 ghost use Rattle.gate_rules.specs.Verdict.{allows};
-ghost use Rattle.session_acts.specs.Acts.Act.{Pass};
+ghost use Rattle.session_acts.specs.Acts.Act.{HangUp, Pass};
 ghost use Rattle.session_acts.specs.Session.{leads};
 
 use crate::log_lines::{command_line, connect_line, refuse_line};
@@ -138,13 +138,11 @@ fn unwelcome_row<D: Stage>(
     stage: &mut D,
     script: &FtpScript,
     state: State,
-    name: &[u8],
-    dest: &Dest,
 ) -> Result<Option<Place>, Cause>
-    ensures { Ran (ftp_rows script.now) (welcomed_row script.now state name.now dest.now false) leads
-        (D.world stage.old) (D.world stage.new) result }
+    ensures { Ran (ftp_rows script.now) (Do HangUp (λ done. At (Place.Listening state))) leads (D.world stage.old)
+        (D.world stage.new) result }
 {
-    let _ = (script.line, name, dest);
+    let _ = script.line;
     stage.hang_up();
     Ok(Some(Place::Listening { state }))
 }
@@ -181,7 +179,7 @@ fn welcomed_row<D: Stage>(
     if is_well(code) {
         return pass_user_row(stage, script, with_dest(dest, state), name);
     }
-    unwelcome_row(stage, script, state, name, &dest)
+    unwelcome_row(stage, script, state)
 }
 
 // What follows the server's greeting.

@@ -1,10 +1,14 @@
 //! What holds of every session of the FTP gateway.
-ghost use Rattle.std.specs.Prelude.{◌≡◌};
+ghost use Rattle.std.specs.Prelude.{◌≡◌, List};
+ghost use Rattle.auth_events.specs.Login.{login_in};
 ghost use Rattle.fw_types.specs.declared.ending.Ending.{Ending};
+ghost use Rattle.session_acts.specs.Deeds.{Deed, gives};
 ghost use Rattle.session_acts.specs.Session.{Held, deeds_of};
+ghost use Rattle.session_acts.specs.Talk.{answered, asked};
 ghost use Rattle.session_acts.specs.World.{World};
 ghost use Rattle.ftp_gate.specs.Dialogue.{ftp_row, ftp_rows};
 ghost use Rattle.ftp_gate.specs.Gate.{Gate};
+ghost use Rattle.ftp_gate.specs.Known.{known};
 ghost use Rattle.ftp_gate.specs.Laws.{AsksDue, AsksExactly, DenialsLogged, DialsCleared, GivesPassage, JoinsOwn, PassesUnblocked};
 
 /// Where a destination is asked for, the command that was heard last is a USER that names it, whose verb isn't denied, and a
@@ -53,4 +57,9 @@ pub fn data_links_are_the_sessions_own<Origin>()
 pub fn each_request_is_asked_for<Origin>()
     ensures { (gate : Gate) (old new : World Origin) (ending : Ending) (held : Held (ftp_rows gate) ftp_row old new ending) →
         AsksDue gate (deeds_of held) }
+{}
+
+/// Whether a login is known to stand is what the session's requests and their answers tell.
+pub fn a_login_is_told_by_the_talk()
+    ensures { (gate : Gate) (deeds : List Deed) → (known gate deeds).login ≡ login_in (answered (gives asked deeds)) }
 {}

@@ -115,7 +115,10 @@ fn doored_row<D: Stage>(
     ensures { Ran (ftp_rows script.now) (door_row state door) leads (D.world stage.old) (D.world stage.new) result }
 {
     match door {
-        Some((addr, port)) => opened_row(stage, script, state, addr, port),
+        Some(place) => {
+            let (addr, port) = place;
+            opened_row(stage, script, state, addr, port)
+        }
         None => tell_row(stage, script, b"425 No door\r\n", state),
     }
 }
