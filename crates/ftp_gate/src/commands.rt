@@ -1,5 +1,5 @@
 //! What follows a line of the client.
-ghost use Rattle.std.specs.Prelude.{◌≡◌, ◌&&◌, not, Some, None, IfOk};
+ghost use Rattle.std.specs.Prelude.{◌≡◌, ◌&&◌, false, not, true, IfOk};
 ghost use Rattle.ftp_gate.specs.Dialogue.{allowed_row, blocked_row, command_row, ftp_rows, heard_row, is_in, kind_row, linked_row, login_row, outward_row, pass_row, served_row, unlinked_row};
 ghost use Rattle.ftp_gate.specs.Distance.{IsNext};
 ghost use Rattle.ftp_gate.specs.Gate.{asks_login, has_verb};
@@ -230,7 +230,7 @@ fn command_row<D: Stage>(
     state: State,
     order: Option<Order>,
 ) -> Result<Option<Place>, Cause>
-    ensures { Ran (ftp_rows script.now) (command_row script.now state order) leads (D.world stage.old)
+    ensures { Ran (ftp_rows script.now) (command_row script.now state order.entry) leads (D.world stage.old)
         (D.world stage.new) result }
 {
     match order {

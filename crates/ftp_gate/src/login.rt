@@ -2,6 +2,7 @@
 ghost use Rattle.std.specs.Prelude.{◌≡◌, false, true, Some, ◌&&◌};
 ghost use Rattle.auth_events.specs.Login.{is_full};
 ghost use Rattle.ftp_gate.specs.Dialogue.{answered_row, authenticate_row, authorize_row, failed_row, ftp_rows, name_row, named_row, opened_row, response_row, tell_row, with_account};
+ghost use Rattle.ftp_gate.specs.Texts.{challenge_asked};
 ghost use Rattle.fw_acts.specs.Acts.Row.{Do};
 ghost use Rattle.fw_acts.specs.Ran.{Ran};
 ghost use Rattle.fw_types.specs.Name.{name_of};

@@ -1,5 +1,5 @@
 //! What follows a reply of the server.
-ghost use Rattle.std.specs.Prelude.{◌≡◌, ◌<◌, ◌≤◌, Some, None, IfOk, IfSome};
+ghost use Rattle.std.specs.Prelude.{◌≡◌, ◌<◌, ◌≤◌, false, IfOk, IfSome};
 ghost use Rattle.ftp_gate.specs.Dialogue.{after_row, answering_row, dropped_row, dropping_row, ftp_rows, goes_on, passed_row};
 ghost use Rattle.ftp_gate.specs.Distance.{IsBehind, distance};
 ghost use Rattle.fw_acts.specs.Acts.Row.{At};
@@ -14,7 +14,7 @@ use session_acts::{Cause, Replied, ReplyUse, Stage};
 
 // Where the session waits behind a reply that was passed.
 fn place_behind(state: State, quits: bool, code: u16) -> Option<Place>
-    ensures { leads result ≡ passed_row state quits (goes_on code) }
+    ensures { (Origin : Type 0) → leads {Origin = Origin} result ≡ passed_row {Origin = Origin} state quits (goes_on code) }
 {
     if goes_on(code) {
         return Some(Place::Answering { state, quits });
@@ -24,7 +24,7 @@ fn place_behind(state: State, quits: bool, code: u16) -> Option<Place>
 
 // And behind the last one.
 fn place_after(state: State, quits: bool) -> Option<Place>
-    ensures { leads result ≡ after_row state quits }
+    ensures { (Origin : Type 0) → leads {Origin = Origin} result ≡ after_row {Origin = Origin} state quits }
 {
     if quits {
         None
