@@ -12,25 +12,39 @@ use crate::transfers::goes_on;
 use crate::{FtpScript, Place, State};
 use session_acts::{Cause, Replied, ReplyUse, Stage};
 
-// Where the session waits behind a reply that was passed.
-fn place_behind(state: State, quits: bool, code: u16) -> Option<Place>
-    ensures { (Origin : Type 0) → leads {Origin = Origin} result ≡ passed_row {Origin = Origin} state quits (goes_on code) }
+// Comes to the end behind the last reply, or hears the client again.
+fn after_row<D: Stage>(
+    stage: &mut D,
+    script: &FtpScript,
+    state: State,
+    quits: bool,
+) -> Result<Option<Place>, Cause>
+    ensures ran { Ran (ftp_rows script.now) (after_row state quits) leads (D.world stage.old) (D.world stage.new) result }
+    ensures near { ahead_of_server (D.world stage.new) ≤ ahead_of_server (D.world stage.old) }
 {
-    if goes_on(code) {
-        return Some(Place::Answering { state, quits });
+    let _ = script.line;
+    if quits {
+        return Ok(None);
     }
-    place_after(state, quits)
+    Ok(Some(Place::Listening { state }))
 }
 
-// And behind the last one.
-fn place_after(state: State, quits: bool) -> Option<Place>
-    ensures { (Origin : Type 0) → leads {Origin = Origin} result ≡ after_row {Origin = Origin} state quits }
+// What follows a whole reply that was passed.
+fn passed_row<D: Stage>(
+    stage: &mut D,
+    script: &FtpScript,
+    state: State,
+    quits: bool,
+    code: u16,
+) -> Result<Option<Place>, Cause>
+    ensures ran { Ran (ftp_rows script.now) (passed_row state quits (goes_on code)) leads (D.world stage.old)
+        (D.world stage.new) result }
+    ensures near { ahead_of_server (D.world stage.new) ≤ ahead_of_server (D.world stage.old) }
 {
-    if quits {
-        None
-    } else {
-        Some(Place::Listening { state })
+    if goes_on(code) {
+        return Ok(Some(Place::Answering { state, quits }));
     }
+    after_row(stage, script, state, quits)
 }
 
 // What follows a reply that was passed.
@@ -46,7 +60,7 @@ fn answered_row<D: Stage>(
     ensures near { IfOk result (IsBehind replied (ahead_of_server (D.world stage.old)) (ahead_of_server (D.world stage.new))) }
 {
     match replied {
-        Replied::Whole { code, .. } => Ok(place_behind(state, quits, code)),
+        Replied::Whole { code, .. } => passed_row(stage, script, state, quits, code),
         Replied::Ended => closed_row(stage, script),
     }
 }
