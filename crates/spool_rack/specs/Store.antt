@@ -22,9 +22,14 @@ pub record Loan : Type 0 where
   pub was_full : Bool
   pub taken : Option FullView
 
--- what was put: the slots that it was first given full; those that it took full and was given free; those that were
--- set aside; and those that broke and came from a `Full`
+-- Of a store whose queues are shared: which pool it is of, how many of the pool's 2^64 parts it has, and the slots that
+-- the pool was made of, none of which any call on slots changes; and what was put: the slots that it was first given
+-- full; those that it took full and was given free; those that were set aside; and those that broke and came from a
+-- `Full`.
 pub record Handed : Type 0 where
+  pub home : List (List ℕ)
+  pub parts : ℕ
+  pub began : Queues
   pub put : List FullView
   pub released : List Loan
   pub aside : List SlotView
