@@ -1,14 +1,15 @@
 -- Steps of one slot are events of the spool.
-use Rattle.std.proofs.Common.{◌≡◌, ℕ, ◌+◌, false, nat_eq, List, [], ◌∷◌, ◌++◌, refl, sym, ap, subst, ◌∙◌, arith, inl, inr}
+use Rattle.std.proofs.Common.{◌≡◌, ℕ, ◌+◌, Bool, false, nat_eq, List, [], ◌∷◌, ◌++◌, refl, sym, ap, subst, ◌∙◌, arith, inl, inr}
 use Rattle.std.proofs.lemmas.List.{append-nil}
 use Rattle.std.proofs.lemmas.Bool.Decides.{nat_tests}
 use Rattle.fw_disk.specs.Medium.{Medium}
 use Rattle.fw_disk.specs.DiskView.{Tape}
 use Rattle.spool_law.specs.World.{Letter, Use, Slot, World}
+use Rattle.std.specs.Prelude.{map, if◌then◌else◌}
 use Rattle.spool_law.specs.Events.{Step, IsPossibleAt, begins, accepts, stepped, after}
 use Rattle.spool_law.specs.Events.Event.{At}
 use Rattle.spool_law.specs.Events.Step.{Start, Add, Write, Sync, OpenGate, Answer, Accept, CloseGate, SetAside}
-use Rattle.spool_law.specs.Runs.{Known, slot_of, known_in, begun_after, accepted_after, known_after, tape_after, Does, AreEvents}
+use Rattle.spool_law.specs.Runs.{Known, slot_of, known_in, begun_after, accepted_after, known_after, tape_after, tape_on, taped, Does, AreEvents}
 use Rattle.spool_law.proofs.WorldLemmas.{here_is, away_is, itself, either}
 
 begun_same : (step : Step) (n : ℕ) → begun_after step n ≡ n + begins step
@@ -86,12 +87,21 @@ differs k n other =
       | inr e ↦ e
     ]
 
-pub are_events : (steps : List Step) (w : World) (n : ℕ) (old new : Tape) (l : Known) → (w.slots n).medium ≡ old.now → Does steps (known_in w n) old l new → AreEvents steps w n l new
+-- the tape of the slot itself, and that of another
+tape_here : (step : Step) (w : World) (n : ℕ) (old : Tape) → tape_on n (At n step) w old ≡ tape_after step (known_in w n) old
+tape_here step w n old = ap (λ (b : Bool). if b then tape_after step (known_in w n) old else old) (itself n)
+
+tape_away : (step : Step) (w : World) (k n : ℕ) (tape : Tape) → nat_eq k n ≡ false → tape_on k (At n step) w tape ≡ tape
+tape_away step w k n tape e = ap (λ (b : Bool). if b then tape_after step (known_in w k) tape else tape) e
+
+pub are_events : (steps : List Step) (w : World) (n : ℕ) (old new : Tape) (l : Known) → (w.slots n).medium ≡ old.now → Does steps (known_in w n) old l new → AreEvents steps w n old l new
 are_events [] w n old new l e d = record {
   possible = tt;
   known = sym d.0;
   slot = slot_same w n old e ∙ ap (λ (t : Tape). slot_of (known_in w n) t) (sym d.1) ∙ ap (λ (k : Known). slot_of k new) (sym d.0);
+  tape = sym d.1;
   others = λ k other. refl;
+  other_tapes = λ k tape other. refl;
 }
 are_events (step ∷ steps) w n old new l e d =
     let next : World = after (At n step) w in
@@ -103,5 +113,7 @@ are_events (step ∷ steps) w n old new l e d =
       possible = (can, rest.possible);
       known = rest.known;
       slot = rest.slot;
+      tape = ap (λ (t : Tape). taped n (map (At n) steps) next t) (tape_here step w n old) ∙ rest.tape;
       others = λ k other. rest.others k other ∙ away_is k n (stepped w.begun step (w.slots n)) w.slots (differs k n other);
+      other_tapes = λ k tape other. ap (λ (t : Tape). taped k (map (At n) steps) next t) (tape_away step w k n tape (differs k n other)) ∙ rest.other_tapes k tape other;
     }

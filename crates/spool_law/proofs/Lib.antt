@@ -3,5 +3,6 @@ mod ImageLemmas
 mod SlotLemmas
 mod WorldLemmas
 pub mod RunLemmas
-mod EventLemmas
+pub mod EventLemmas
 mod ExampleLemmas
+pub mod WholeLemmas

@@ -358,3 +358,6 @@ safe_of w s = record {
 
 pub always_safe : (events : List Event) → ArePossible events formatted → IsSafe (after_all events formatted)
 always_safe events can = safe_of (after_all events formatted) (sound_all events formatted sound_formatted can)
+
+pub sound_always : (events : List Event) → ArePossible events formatted → IsSound (after_all events formatted)
+sound_always events can = sound_all events formatted sound_formatted can

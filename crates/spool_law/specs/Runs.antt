@@ -1,10 +1,10 @@
 -- What a call does to the disk of a slot, as steps of that slot.
-use Rattle.std.specs.Prelude.{◌≡◌, ℕ, ◌+◌, Bool, true, false, List, [], ◌∷◌, ◌++◌, map, Option, Some, None, if◌then◌else◌}
+use Rattle.std.specs.Prelude.{◌≡◌, ℕ, ◌+◌, ◌==◌, Bool, true, false, List, [], ◌∷◌, ◌++◌, map, Option, Some, None, if◌then◌else◌}
 use Rattle.fw_disk.specs.Medium.{Medium}
 use Rattle.fw_disk.specs.DiskView.{Tape, DiskView, onward}
 use Rattle.spool_law.specs.World.{Letter, Use, Slot, World, letters}
-use Rattle.spool_law.specs.Events.{Step, IsPossibleAt, ArePossible, stepped, after_all}
-use Rattle.spool_law.specs.Events.Event.{At}
+use Rattle.spool_law.specs.Events.{Step, Event, IsPossibleAt, ArePossible, stepped, after, after_all}
+use Rattle.spool_law.specs.Events.Event.{At, Crash}
 use Rattle.spool_law.specs.Events.Step.{Start, Write, Sync, OpenGate, Accept, CloseGate, SetAside}
 
 -- What is known of a slot beside its disk: how many messages were begun in the spool, which were accepted, and what the
@@ -91,10 +91,22 @@ pub record IsReached (steps : List Step) (k : Known) (old : Tape) (m : Medium) :
 
 -- ---- in a spool
 
+-- the tape of the disk with the slot of this number after an event; a crash begins another tape
+abbrev pub tape_on : ℕ → Event → World → Tape → Tape
+tape_on n (At k step) w tape = if n == k then tape_after step (known_in w n) tape else tape
+tape_on n (Crash images) w tape = tape
+
+abbrev pub taped : ℕ → List Event → World → Tape → Tape
+taped n [] w tape = tape
+taped n (e ∷ events) w tape = taped n events (after e w) (tape_on n e w tape)
+
 -- These steps of one slot, as events of the spool, are each possible when they come. They lead to what is known after
--- them, and the slot to where its tape went, and leave the other slots alone. So the steps of a further call can follow.
-pub record AreEvents (steps : List Step) (w : World) (n : ℕ) (l : Known) (new : Tape) : Type 0 where
+-- them, and the slot to where its tape went, and leave the other slots and their tapes alone. So the steps of a further
+-- call can follow.
+pub record AreEvents (steps : List Step) (w : World) (n : ℕ) (old : Tape) (l : Known) (new : Tape) : Type 0 where
   pub possible : ArePossible (map (At n) steps) w
   pub known : known_in (after_all (map (At n) steps) w) n ≡ l
   pub slot : (after_all (map (At n) steps) w).slots n ≡ slot_of l new
+  pub tape : taped n (map (At n) steps) w old ≡ new
   pub others : (k : ℕ) → (k ≡ n → ⊥) → (after_all (map (At n) steps) w).slots k ≡ w.slots k
+  pub other_tapes : (k : ℕ) (tape : Tape) → (k ≡ n → ⊥) → taped k (map (At n) steps) w tape ≡ tape

@@ -3,7 +3,7 @@ use Rattle.std.specs.Prelude.{◌≡◌, ℕ, ◌⊎◌}
 use Rattle.std.specs.List.{Contains}
 use Rattle.fw_disk.specs.Medium.{IsImage}
 use Rattle.fw_disk.specs.Moments.{EachImage}
-use Rattle.spool_law.specs.World.{Letter, World}
+use Rattle.spool_law.specs.World.{Letter, Slot, World}
 use Rattle.spool_law.specs.World.Use.{Opened}
 use Rattle.spool_law.specs.Images.{IsFree, IsKept, IsOneOf}
 
@@ -20,3 +20,9 @@ pub record IsSafe (w : World) : Type 0 where
   pub answered : (l : Letter) → Contains w.answered l → Contains w.accepted l ⊎ Stands l w
   pub images : (n : ℕ) → EachImage (λ image. IsFree image ⊎ IsOneOf w.finished image) (w.slots n).medium
   pub sound : (n : ℕ) → IsImage (w.slots n).medium (w.slots n).medium.seen
+
+-- the slot's message is one whose gate was opened, and whatever a crash leaves of the slot is this message, set aside or not
+pub record HasItsMessage (s : Slot) : Type 0 where
+  pub letter : Letter
+  pub is : s.use_of ≡ Opened letter
+  pub kept : EachImage (IsKept letter.mail) s.medium

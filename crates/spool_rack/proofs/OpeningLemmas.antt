@@ -53,7 +53,7 @@ pub record IsSoFar (X : Type 0) (view : X → DiskView) (disks : List DiskView) 
   pub rest_room : rest.room ≡ length disks
   pub found_room : length disks ≤ found.room
   pub slots : (more : List (Opened X)) → AreSlotsOf X number (map view rest.items) more → AreSlotsOf X 0 disks (found.items ++ more)
-  pub back : (k : ℕ) (why : SlotWhy) (news : List DiskView) → CameBack k why (map view rest.items) news → CameBack (number + k) why disks (map (disk_of {D = X}) found.items ++ news)
+  pub back : (k : ℕ) (why : SlotWhy) (news : List DiskView) → CameBack X number k why (map view rest.items) news → CameBack X 0 (number + k) why disks (map (disk_of {D = X}) found.items ++ news)
 
 front_of : (X : Type 0) (disk : X) (items : List X) → take 1 items ≡ disk ∷ [] → items ≡ disk ∷ drop 1 items
 front_of X disk [] e = absurd cc
@@ -75,8 +75,8 @@ so_far_first X view disks found rest none room is len =
       slots = λ more h. subst (λ (l : List (Opened X)). AreSlotsOf X 0 (map view disks) (l ++ more)) (sym none) h;
       back = λ k why news h.
           let zero_more : k ≡ 0 + k = omega arith in
-          subst (λ (n : ℕ). CameBack n why (map view disks) (map of found.items ++ news)) zero_more
-          (subst (λ (l : List (Opened X)). CameBack k why (map view disks) (map of l ++ news)) (sym none) h);
+          subst (λ (n : ℕ). CameBack X 0 n why (map view disks) (map of found.items ++ news)) zero_more
+          (subst (λ (l : List (Opened X)). CameBack X 0 k why (map view disks) (map of l ++ news)) (sym none) h);
     } in
     subst (IsSoFar X view (map view disks) 0 found) (sym is) first
 
@@ -103,13 +103,13 @@ so_far_next X view disks number found next rest left disk slot s e l n one =
           let all : AreSlotsOf X number (map view rest.items) (slot ∷ more) = subst (λ (x : List X). AreSlotsOf X number (map view x) (slot ∷ more)) (sym items) front in
           subst (AreSlotsOf X 0 disks) (sym (append_assoc found.items (slot ∷ []) more)) (s.slots (slot ∷ more) all);
       back = λ k why news h.
-          let front : CameBack (suc k) why (map view (disk ∷ drop 1 rest.items)) (of slot ∷ news) = (record { faults = one.onward.faults; events = one.events }, h) in
-          let all : CameBack (suc k) why (map view rest.items) (of slot ∷ news) = subst (λ (x : List X). CameBack (suc k) why (map view x) (of slot ∷ news)) (sym items) front in
+          let front : CameBack X number (suc k) why (map view (disk ∷ drop 1 rest.items)) (of slot ∷ news) = (record { slot = slot; is = one; disk = refl }, h) in
+          let all : CameBack X number (suc k) why (map view rest.items) (of slot ∷ news) = subst (λ (x : List X). CameBack X number (suc k) why (map view x) (of slot ∷ news)) (sym items) front in
           let sum : number + suc k ≡ number + 1 + k = omega arith in
           let lists : map of found.items ++ (of slot ∷ news) ≡ map of (found.items ++ slot ∷ []) ++ news =
           sym (append_assoc (map of found.items) (of slot ∷ []) news) ∙ ap (λ (x : List DiskView). x ++ news) (sym (map-append of found.items (slot ∷ []))) in
-          subst (λ (x : List DiskView). CameBack (number + 1 + k) why disks x) lists
-          (subst (λ (m : ℕ). CameBack m why disks (map of found.items ++ (of slot ∷ news))) sum (s.back (suc k) why (of slot ∷ news) all));
+          subst (λ (x : List DiskView). CameBack X 0 (number + 1 + k) why disks x) lists
+          (subst (λ (m : ℕ). CameBack X 0 m why disks (map of found.items ++ (of slot ∷ news))) sum (s.back (suc k) why (of slot ∷ news) all));
     } in
     subst (λ (x : QueueView (Opened X)). IsSoFar X view disks (number + 1) x left) (sym n) (subst (IsSoFar X view disks (number + 1) next_is) (sym l) is)
 
@@ -125,16 +125,16 @@ pub so_far_stopped : (X : Type 0) (view : X → DiskView) (disks : List DiskView
     (back : List DiskView)
     → IsSoFar X view disks number found rest → take 1 rest.items ≡ disk ∷ [] → HasBroken why (view disk) broken.disk
     → back ≡ map (disk_of {D = X}) found.items ++ (broken.disk ∷ map view (drop 1 rest.items))
-    → CameBack number why disks back
+    → CameBack X 0 number why disks back
 so_far_stopped X view disks number found rest disk broken why back s e one b =
     let of : Opened X → DiskView = disk_of {D = X} in
     let items : rest.items ≡ disk ∷ drop 1 rest.items = front_of X disk rest.items e in
-    let front : CameBack 0 why (map view (disk ∷ drop 1 rest.items)) (broken.disk ∷ map view (drop 1 rest.items)) = (one, refl) in
-    let all : CameBack 0 why (map view rest.items) (broken.disk ∷ map view (drop 1 rest.items)) =
-    subst (λ (x : List X). CameBack 0 why (map view x) (broken.disk ∷ map view (drop 1 rest.items))) (sym items) front in
+    let front : CameBack X number 0 why (map view (disk ∷ drop 1 rest.items)) (broken.disk ∷ map view (drop 1 rest.items)) = (one, refl) in
+    let all : CameBack X number 0 why (map view rest.items) (broken.disk ∷ map view (drop 1 rest.items)) =
+    subst (λ (x : List X). CameBack X number 0 why (map view x) (broken.disk ∷ map view (drop 1 rest.items))) (sym items) front in
     let none : number + 0 ≡ number = omega arith in
-    subst (CameBack number why disks) (sym b)
-    (subst (λ (m : ℕ). CameBack m why disks (map of found.items ++ (broken.disk ∷ map view (drop 1 rest.items)))) none
+    subst (CameBack X 0 number why disks) (sym b)
+    (subst (λ (m : ℕ). CameBack X 0 m why disks (map of found.items ++ (broken.disk ∷ map view (drop 1 rest.items)))) none
     (s.back 0 why (broken.disk ∷ map view (drop 1 rest.items)) all))
 
 pub back_first : (X : Type 0) (view : X → DiskView) (first : QueueView (Opened X)) (rest : QueueView X)

@@ -67,20 +67,22 @@ pub record HasBroken (why : SlotWhy) (old new : DiskView) : Type 0 where
   pub good : (tape : Tape) → old.told ≡ Some tape → EachImage IsGoodImage tape.now → IsBadSlot why → ⊥
   pub disk : new ≡ slot.disk
 
--- the slot on a disk was opened
-pub record WasOpened (old new : DiskView) : Type 0 where
-  pub faults : new.faults ≡ old.faults
-  pub events : RunsOn old new
+-- the slot of this number that stands on a disk was opened, and the disk came back
+pub record WasOpened (D : Type 0) (n : ℕ) (old new : DiskView) : Type 0 where
+  pub slot : Opened D
+  pub is : IsSlotOf D n old slot
+  pub disk : new ≡ disk_of slot
 
--- The slots on so many disks were opened; the next wasn't, for this cause; the disks behind it weren't called.
-abbrev pub CameBack : ℕ → SlotWhy → List DiskView → List DiskView → Type 0
-CameBack zero why (old ∷ olds) (new ∷ news) = HasBroken why old new × (news ≡ olds)
-CameBack (suc k) why (old ∷ olds) (new ∷ news) = WasOpened old new × CameBack k why olds news
-CameBack k why _ _ = ⊥
+-- The slots on so many disks, numbered in their order from a number on, were opened; the next wasn't, for this cause; the
+-- disks behind it weren't called.
+abbrev pub CameBack : (D : Type 0) → ℕ → ℕ → SlotWhy → List DiskView → List DiskView → Type 0
+CameBack D n zero why (old ∷ olds) (new ∷ news) = HasBroken why old new × (news ≡ olds)
+CameBack D n (suc k) why (old ∷ olds) (new ∷ news) = WasOpened D n old new × CameBack D (n + 1) k why olds news
+CameBack D n k why _ _ = ⊥
 
 -- want of memory before any call; or a slot that wasn't opened
-abbrev pub IsRackFault : List DiskView → ℕ → SlotWhy → List DiskView → Type 0
-IsRackFault disks slot why back = ((back ≡ disks) × (why ≡ NoMemory)) ⊎ CameBack slot why disks back
+abbrev pub IsRackFault : (D : Type 0) → List DiskView → ℕ → SlotWhy → List DiskView → Type 0
+IsRackFault D disks slot why back = ((back ≡ disks) × (why ≡ NoMemory)) ⊎ CameBack D 0 slot why disks back
 
 -- ---- closing
 

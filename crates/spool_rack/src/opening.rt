@@ -52,7 +52,7 @@ pub(crate) fn open_all<D: Disk>(
     requires room { length disks.items ≤ found.room }
     ensures ok { IfOk result (λ all. AreSlotsOf D 0 (map D.disk_view disks.items) all.items) }
     ensures err { IfErr result (λ fault.
-        CameBack fault.slot fault.why (map D.disk_view disks.items) (map D.disk_view fault.disks.items)) }
+        CameBack D 0 fault.slot fault.why (map D.disk_view disks.items) (map D.disk_view fault.disks.items)) }
 {
     let mut rest = Queue::of(disks);
     let mut found = found;

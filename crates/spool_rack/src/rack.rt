@@ -103,7 +103,7 @@ fn open_with<D: Disk>(alloc: Global, bare: Bare<D>, disks: Vec<D>) -> Result<Rac
     requires spare { IsSpare bare.held bare.home (length disks.items) }
     ensures ok { IfOk result (λ rack. IsRackOf D (map D.disk_view disks.items) rack) }
     ensures err { IfErr result (λ fault.
-        CameBack fault.slot fault.why (map D.disk_view disks.items) (map D.disk_view fault.disks.items)) }
+        CameBack D 0 fault.slot fault.why (map D.disk_view disks.items) (map D.disk_view fault.disks.items)) }
 {
     let room = disks.len();
     let Bare {
@@ -127,7 +127,7 @@ impl<D: Disk> Rack<D> {
         requires { length disks.items ≤ 64 }
         ensures ok { IfOk result (λ rack. IsRackOf D (map D.disk_view disks.items) rack) }
         ensures err { IfErr result (λ fault.
-            IsRackFault (map D.disk_view disks.items) fault.slot fault.why (map D.disk_view fault.disks.items)) }
+            IsRackFault D (map D.disk_view disks.items) fault.slot fault.why (map D.disk_view fault.disks.items)) }
     {
         match make_room(alloc, disks.len()) {
             Ok(room) => match open_with(alloc, room, disks) {
