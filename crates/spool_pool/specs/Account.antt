@@ -53,14 +53,14 @@ pub record OfTaken (P : Mail → Type 0) (loan : Loan) : Type 0 where
   pub told : loan.taken ≡ Some slot
   pub keeps : (m : Mail) → Keeps m slot → P m
 
--- a slot that was taken full had the same message when it was put
+-- a slot that was taken full had the same message when it was put, and one that broke came from a `Full` exactly then
 abbrev pub IsTrue : Event → Type 0
 IsTrue (kept slot) = Unit {0}
-IsTrue (spoilt slot) = Unit {0}
+IsTrue (spoilt slot) = slot.from_full ≡ false
 IsTrue (back loan slot) = OfTaken (λ m. Keeps m slot) loan
 IsTrue (freed loan) = OfTaken (λ m. Unit {0}) loan
 IsTrue (shelved loan slot) = OfTaken (λ m. KeepsAside m slot) loan
-IsTrue (broke loan slot) = OfTaken (λ m. Now (EachImage (HasMessageBehind m)) slot.disk) loan
+IsTrue (broke loan slot) = (slot.from_full ≡ true) × OfTaken (λ m. Now (EachImage (HasMessageBehind m)) slot.disk) loan
 
 -- a loan tells the slot exactly if it was taken full
 abbrev pub IsTold : Bool → Option FullView → Type 0

@@ -1,0 +1,8 @@
+pub mod Counts
+mod Perms
+mod Fates
+mod Tallies
+mod Accounts
+mod Passes
+mod Settles
+mod Drains
