@@ -8,7 +8,7 @@ use Rattle.spool_rack.specs.Stock.{StockView, count_of}
 use Rattle.shared_queue.specs.Moves.{Moves, HasAll, StandIn, taken_out}
 use Rattle.spool_pool.specs.Closing.{Drains, with_all}
 
-module _ {T : Type 0} (homed : T → Queues → Queues) (one_more : (slot : T) (q : Queues) → count_of (homed slot q) ≡ count_of q + 1) where
+module _ {T : Type 0} (homed : T → Queues → Queues) where
   -- what was taken so far, and what is left of the room
   pub record Draining (room left : ℕ) (first m : Moves T) (old stock : StockView) : Type 0 where
     pub slots : List T
@@ -34,9 +34,9 @@ module _ {T : Type 0} (homed : T → Queues → Queues) (one_more : (slot : T) (
       append-nil' [] = refl
       append-nil' (x ∷ l) = ap (λ k. x ∷ k) (append-nil' l)
 
-  pub drain_next : (room left : ℕ) (first m new : Moves T) (old stock more : StockView) (slot : T) → 0 < left → Draining room left first m old stock → new ≡ taken_out slot m
+  pub drain_next : (one_more : (slot : T) (q : Queues) → count_of (homed slot q) ≡ count_of q + 1) (room left : ℕ) (first m new : Moves T) (old stock more : StockView) (slot : T) → 0 < left → Draining room left first m old stock → new ≡ taken_out slot m
       → more ≡ record { queues = homed slot stock.queues; room = stock.room } → (less : ℕ) → less + 1 ≡ left → Draining room less first new old more
-  drain_next room left first m new old stock more slot some_left d takes puts less e = record {
+  drain_next one_more room left first m new old stock more slot some_left d takes puts less e = record {
     slots = d.slots ++ slot ∷ [];
     rest = omega (arith, d.rest, e, length-append d.slots (slot ∷ []));
     moves = takes ∙ ap (taken_out slot) d.moves ∙ (λ i. record { home = first.home; parts = first.parts; began = first.began; put = first.put; taken = append_assoc first.taken d.slots (slot ∷ []) i });

@@ -3,6 +3,8 @@ mod Perms
 mod Fates
 mod Tallies
 mod Accounts
+mod Begins
 mod Passes
+mod Seats
 mod Settles
 mod Drains

@@ -2,7 +2,7 @@
 use Rattle.std.proofs.Common.{◌≡◌, ℕ, zero, suc, ◌<◌, ◌⊎◌, inl, inr, List, [], ◌∷◌, ◌++◌, map, length, get_or, set, refl, ap, sym, subst, ◌∙◌, arith}
 use mathlib.Core.List.Defs.PermD.{Permᴰ}
 use mathlib.Core.List.Defs.PermD as Permᴰ
-use mathlib.Core.List.{cons≢nil, head-eq_of_cons-eq, tail-eq_of_cons-eq}
+use mathlib.Core.List.Basic.{cons≢nil, head-eq_of_cons-eq, tail-eq_of_cons-eq}
 use Rattle.std.specs.List.{flat_map}
 use Rattle.std.specs.List.Sorted.{IsPermutation, apply_swaps, SwapsInRange}
 use Rattle.std_alloc.proofs.Permutation.{which}
@@ -62,18 +62,14 @@ module _ {X : Type 0} where
       record { front = g.front; behind = g.behind; is = g.is; others = Permᴰ.trans f.others g.others }
 
   -- the same item is taken from both
-  less : (x : X) {s t : List X} → Permᴰ (x ∷ s) (x ∷ t) → Permᴰ s t
-  less x {s} {t} p = by_place (find p x [] s refl)
-    where
-      by_place : Found x s (x ∷ t) → Permᴰ s t
-      by_place f = at_place f.front f.behind f.is f.others
-        where
-          at_place : (l r : List X) → l ++ x ∷ r ≡ x ∷ t → Permᴰ s (l ++ r) → Permᴰ s t
-          at_place [] r is p = subst (Permᴰ s) (tail-eq_of_cons-eq is) p
-          at_place (u ∷ l) r is p =
-              let back = Permᴰ.symm (Permᴰ.middle u l r) in
-              let there = subst (λ y. l ++ y ∷ r ≡ t) (sym (head-eq_of_cons-eq is)) (tail-eq_of_cons-eq is) in
-              subst (Permᴰ s) there (Permᴰ.trans p back)
+  less_at : (x : X) (s t l r : List X) → l ++ x ∷ r ≡ x ∷ t → Permᴰ s (l ++ r) → Permᴰ s t
+  less_at x s t [] r is p = subst (Permᴰ s) (tail-eq_of_cons-eq is) p
+  less_at x s t (u ∷ l) r is p =
+      let there = subst (λ y. l ++ y ∷ r ≡ t) (sym (head-eq_of_cons-eq is)) (tail-eq_of_cons-eq is) in
+      subst (Permᴰ s) there (Permᴰ.trans p (Permᴰ.symm (Permᴰ.middle u l r)))
+
+  less : (x : X) (s t : List X) → Permᴰ (x ∷ s) (x ∷ t) → Permᴰ s t
+  less x s t p = let f = find p x [] s refl in less_at x s t f.front f.behind f.is f.others
 
   put_at : (l : List X) (i : ℕ) (d y : X) → i < length l → Permᴰ (get_or l i d ∷ set l i y) (y ∷ l)
   put_at [] i d y lt = absurd (omega (arith, lt))
@@ -88,7 +84,7 @@ module _ {X : Type 0} where
       let one : Permᴰ (b ∷ m) (a ∷ l) = put_at l i d a p in
       let two : Permᴰ (get_or m j d ∷ set m j b) (b ∷ m) = put_at m j d b (omega (arith, q, length-set l i a)) in
       let is : get_or m j d ≡ a = get_or-set_other l i j a d apart in
-      less a (Permᴰ.symm (Permᴰ.trans (subst (λ y. Permᴰ (y ∷ set m j b) (b ∷ m)) is two) one))
+      less a l (set m j b) (Permᴰ.symm (Permᴰ.trans (subst (λ y. Permᴰ (y ∷ set m j b) (b ∷ m)) is two) one))
 
   swapped : (l : List X) (i j : ℕ) → i < length l → j < length l → Permᴰ l (swap l i j)
   swapped [] i j p q = absurd (omega (arith, p))
@@ -126,19 +122,16 @@ module _ {X : Type 0} where
     pub here : IsPermutation xs (y ∷ rest)
     pub there : IsPermutation ys (x ∷ rest)
 
-  pub heads : (x y : X) (xs ys : List X) → IsPermutation (x ∷ xs) (y ∷ ys) → ((x ≡ y) × IsPermutation xs ys) ⊎ Crossed x y xs ys
-  heads x y xs ys p = at_place (taken x xs (y ∷ ys) p)
-    where
-      by_front : (l r : List X) → l ++ x ∷ r ≡ y ∷ ys → IsPermutation xs (l ++ r) → ((x ≡ y) × IsPermutation xs ys) ⊎ Crossed x y xs ys
-      by_front [] r is p = inl (head-eq_of_cons-eq is, subst (IsPermutation xs) (tail-eq_of_cons-eq is) p)
-      by_front (u ∷ l) r is p = inr (record {
-        rest = l ++ r;
-        here = subst (λ z. IsPermutation xs (z ∷ (l ++ r))) (head-eq_of_cons-eq is) p;
-        there = subst (λ k. IsPermutation k (x ∷ (l ++ r))) (tail-eq_of_cons-eq is) (IsPermutation-middle l x r);
-      })
+  heads_at : (x y : X) (xs ys l r : List X) → l ++ x ∷ r ≡ y ∷ ys → IsPermutation xs (l ++ r) → ((x ≡ y) × IsPermutation xs ys) ⊎ Crossed x y xs ys
+  heads_at x y xs ys [] r is p = inl (head-eq_of_cons-eq is, subst (IsPermutation xs) (tail-eq_of_cons-eq is) p)
+  heads_at x y xs ys (u ∷ l) r is p = inr record {
+    rest = l ++ r;
+    here = subst (λ z. IsPermutation xs (z ∷ (l ++ r))) (head-eq_of_cons-eq is) p;
+    there = subst (λ k. IsPermutation k (x ∷ (l ++ r))) (tail-eq_of_cons-eq is) (IsPermutation-middle l x r);
+  }
 
-      at_place : Taken x xs (y ∷ ys) → ((x ≡ y) × IsPermutation xs ys) ⊎ Crossed x y xs ys
-      at_place f = by_front f.front f.behind f.is f.others
+  pub heads : (x y : X) (xs ys : List X) → IsPermutation (x ∷ xs) (y ∷ ys) → ((x ≡ y) × IsPermutation xs ys) ⊎ Crossed x y xs ys
+  heads x y xs ys p = let f = taken x xs (y ∷ ys) p in heads_at x y xs ys f.front f.behind f.is f.others
 
 module _ {X Y : Type 0} where
   -- what is made of each, one after the other, of lists that are one up to order

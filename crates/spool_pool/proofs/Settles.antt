@@ -32,19 +32,16 @@ asides_put (e ∷ events) = flat_map-append aside_of (shelf_of e) (flat_map shel
     one (shelved loan slot) = refl
     one (broke loan slot) = refl
 
-is_from : BrokenView → Bool
-is_from slot = slot.from_full
-
 alone_if : BrokenView → List BrokenView
 alone_if slot = if slot.from_full then slot ∷ [] else []
 
+made_at : (slot : BrokenView) (w : Bool) (kept rest : List BrokenView) → kept ≡ rest → (if w then slot ∷ kept else kept) ≡ (if w then slot ∷ [] else []) ++ rest
+made_at slot true kept rest e = ap (λ l. slot ∷ l) e
+made_at slot false kept rest e = e
+
 from_full_made : (slots : List BrokenView) → from_full slots ≡ flat_map alone_if slots
 from_full_made [] = refl
-from_full_made (slot ∷ slots) = by_flag slot.from_full
-  where
-    by_flag : (w : Bool) → (if w then slot ∷ from_full slots else from_full slots) ≡ (if w then slot ∷ [] else []) ++ flat_map alone_if slots
-    by_flag true = ap (λ l. slot ∷ l) (from_full_made slots)
-    by_flag false = from_full_made slots
+from_full_made (slot ∷ slots) = made_at slot slot.from_full (from_full slots) (flat_map alone_if slots) (from_full_made slots)
 
 from_full_both : (xs ys : List BrokenView) → from_full (xs ++ ys) ≡ from_full xs ++ from_full ys
 from_full_both xs ys = from_full_made (xs ++ ys) ∙ flat_map-append alone_if xs ys ∙ (λ i. sym (from_full_made xs) i ++ sym (from_full_made ys) i)

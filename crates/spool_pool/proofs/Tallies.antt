@@ -1,6 +1,6 @@
 -- The lists of a pass after one event more.
 use Rattle.std.proofs.Common.{◌≡◌, ℕ, Bool, true, false, List, [], ◌∷◌, ◌++◌, Option, Some, None, refl, ap, sym, subst, ◌∙◌}
-use Rattle.std.specs.Prelude.{if◌then◌else◌}
+use Rattle.std.specs.Prelude.{◌==◌, if◌then◌else◌}
 use Rattle.std.specs.List.{flat_map, AllByRecursion, find}
 use Rattle.std.specs.List.Sorted.{IsPermutation}
 use Rattle.std.proofs.lemmas.List.{append-nil}
@@ -109,27 +109,29 @@ loan_here P n out h = by_option (loan_of n out) refl h
 some_is : (a b : Loan) → Some a ≡ Some b → a ≡ b
 some_is a b e = cc
 
+-- by whether the first has the number
+told_at : (x loan : Loan) (xs kept : List Loan) (w : Bool) (there : Option Loan) → (if w then Some x else there) ≡ Some loan
+    → (there ≡ Some loan → IsPermutation (flat_map told_of xs) (told_of loan ++ flat_map told_of kept))
+    → IsPermutation (told_of x ++ flat_map told_of xs) (told_of loan ++ flat_map told_of (if w then xs else x ∷ kept))
+told_at x loan xs kept true there e rest = subst (λ y. IsPermutation (told_of x ++ flat_map told_of xs) (told_of y ++ flat_map told_of xs)) (some_is x loan e) (IsPermutation-refl _)
+told_at x loan xs kept false there e rest = IsPermutation-trans _ _ _ (IsPermutation-append_right (told_of x) _ _ (rest e)) (over (told_of x) (told_of loan) (flat_map told_of kept))
+
 pub struck_told : (n : ℕ) (out : List Loan) (loan : Loan) → loan_of n out ≡ Some loan → IsPermutation (flat_map told_of out) (told_of loan ++ flat_map told_of (struck n out))
 struck_told n [] loan e = absurd cc
-struck_told n (x ∷ xs) loan e = by_flag (x.number == n) e
-  where
-    by_flag : (w : Bool) → (if w then Some x else loan_of n xs) ≡ Some loan
-        → IsPermutation (told_of x ++ flat_map told_of xs) (told_of loan ++ flat_map told_of (if w then xs else x ∷ struck n xs))
-    by_flag true e = subst (λ y. IsPermutation (told_of x ++ flat_map told_of xs) (told_of y ++ flat_map told_of xs)) (some_is x loan e) (IsPermutation-refl _)
-    by_flag false e = IsPermutation-trans _ _ _ (IsPermutation-append_right (told_of x) _ _ (struck_told n xs loan e)) (over (told_of x) (told_of loan) (flat_map told_of (struck n xs)))
+struck_told n (x ∷ xs) loan e = told_at x loan xs (struck n xs) (x.number == n) (loan_of n xs) e (struck_told n xs loan)
+
+all_at : (P : Loan → Type 0) (x : Loan) (xs kept : List Loan) (w : Bool) → P x → AllByRecursion P xs → AllByRecursion P kept → AllByRecursion P (if w then xs else x ∷ kept)
+all_at P x xs kept true here all rest = all
+all_at P x xs kept false here all rest = (here, rest)
 
 pub struck_all : (P : Loan → Type 0) (n : ℕ) (out : List Loan) → AllByRecursion P out → AllByRecursion P (struck n out)
 struck_all P n [] h = h
-struck_all P n (x ∷ xs) h = by_flag (x.number == n)
-  where
-    by_flag : (w : Bool) → AllByRecursion P (if w then xs else x ∷ struck n xs)
-    by_flag true = h.1
-    by_flag false = (h.0, struck_all P n xs h.1)
+struck_all P n (x ∷ xs) h = all_at P x xs (struck n xs) (x.number == n) h.0 h.1 (struck_all P n xs h.1)
+
+holds_at : (P : Loan → Type 0) (x loan : Loan) (w : Bool) (there : Option Loan) → (if w then Some x else there) ≡ Some loan → P x → (there ≡ Some loan → P loan) → P loan
+holds_at P x loan true there e here rest = subst P (some_is x loan e) here
+holds_at P x loan false there e here rest = rest e
 
 pub loan_holds : (P : Loan → Type 0) (n : ℕ) (out : List Loan) (loan : Loan) → AllByRecursion P out → loan_of n out ≡ Some loan → P loan
 loan_holds P n [] loan h e = absurd cc
-loan_holds P n (x ∷ xs) loan h e = by_flag (x.number == n) e
-  where
-    by_flag : (w : Bool) → (if w then Some x else loan_of n xs) ≡ Some loan → P loan
-    by_flag true e = subst P (some_is x loan e) h.0
-    by_flag false e = loan_holds P n xs loan h.1 e
+loan_holds P n (x ∷ xs) loan h e = holds_at P x loan (x.number == n) (loan_of n xs) e h.0 (loan_holds P n xs loan h.1)

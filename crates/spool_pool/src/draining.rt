@@ -15,11 +15,11 @@ use std::sync::Wait;
 pub(crate) trait Homing<D: Disk>: Drop {
     ghost homed: { Self → Queues → Queues };
 
-    ghost one_more: { (slot : Self) (q : Queues) → count_of (homed slot q) ≡ count_of q + 1 };
-
     fn go_home(self, stock: &mut Stock<D>)
         requires { count_of stock.old.queues < stock.old.room }
         ensures { stock.new ≡ record { queues = homed self stock.old.queues; room = stock.old.room } };
+
+    ghost one_more: { (slot : Self) (q : Queues) → count_of (homed slot q) ≡ count_of q + 1 };
 }
 
 impl<T: Disk> Homing<T> for Free<T> {
@@ -62,6 +62,7 @@ impl<T: Disk> Homing<T> for Shelved<T> {
 }
 
 /// Takes what stands in a queue, at most as many as there is room for, and puts it into the stock.
+#[tactic(auto, using(crate::proofs::Drains::drain_first, crate::proofs::Drains::drain_none, crate::proofs::Drains::drain_full))]
 pub(crate) fn drain<D: Disk, T: Homing<D>, R: Wait>(
     rt: &R,
     queue: &SharedQueue<T>,

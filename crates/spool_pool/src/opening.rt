@@ -46,6 +46,7 @@ fn make_room<D: Disk>(alloc: Global, room: usize) -> Result<(Pool<D>, Lanes<D>),
     ))
 }
 
+#[tactic(auto, using(crate::proofs::Begins::begin_first, crate::proofs::Begins::begin_next, crate::proofs::Begins::begin_last))]
 fn begin_free<D: Disk, R: Wait>(
     rt: &R,
     queue: &SharedQueue<Free<D>>,
@@ -62,6 +63,7 @@ fn begin_free<D: Disk, R: Wait>(
     }
 }
 
+#[tactic(auto, using(crate::proofs::Begins::begin_first, crate::proofs::Begins::begin_next, crate::proofs::Begins::begin_last))]
 fn begin_full<D: Disk, R: Wait>(
     rt: &R,
     queue: &SharedQueue<Letter<D>>,
@@ -78,6 +80,7 @@ fn begin_full<D: Disk, R: Wait>(
     }
 }
 
+#[tactic(auto, using(crate::proofs::Begins::begin_first, crate::proofs::Begins::begin_next, crate::proofs::Begins::begin_last))]
 fn begin_aside<D: Disk, R: Wait>(
     rt: &R,
     queue: &SharedQueue<Shelved<D>>,
@@ -94,6 +97,7 @@ fn begin_aside<D: Disk, R: Wait>(
     }
 }
 
+#[tactic(auto, using(crate::proofs::Begins::begin_first, crate::proofs::Begins::begin_next, crate::proofs::Begins::begin_last))]
 fn begin_broken<D: Disk, R: Wait>(
     rt: &R,
     queue: &SharedQueue<Shelved<D>>,
