@@ -15,6 +15,7 @@ module _ {T : Type 0} (homed : T → Queues → Queues) where
     pub rest : length slots + left ≡ room
     pub moves : m ≡ record { home = first.home; parts = first.parts; began = first.began; put = first.put; taken = first.taken ++ slots }
     pub is : stock ≡ record { queues = with_all homed slots old.queues; room = old.room }
+    pub counted : count_of stock.queues ≡ count_of old.queues + length slots
     pub space : count_of stock.queues + left ≤ stock.room
 
   snoc : (slots : List T) (slot : T) (q : Queues) → with_all homed (slots ++ slot ∷ []) q ≡ homed slot (with_all homed slots q)
@@ -27,6 +28,7 @@ module _ {T : Type 0} (homed : T → Queues → Queues) where
     rest = refl;
     moves = λ i. record { home = m.home; parts = m.parts; began = m.began; put = m.put; taken = sym (append-nil' m.taken) i };
     is = refl;
+    counted = omega arith;
     space = space;
   }
     where
@@ -41,6 +43,7 @@ module _ {T : Type 0} (homed : T → Queues → Queues) where
     rest = omega (arith, d.rest, e, length-append d.slots (slot ∷ []));
     moves = takes ∙ ap (taken_out slot) d.moves ∙ (λ i. record { home = first.home; parts = first.parts; began = first.began; put = first.put; taken = append_assoc first.taken d.slots (slot ∷ []) i });
     is = puts ∙ ap (λ (s : StockView). let r : StockView = record { queues = homed slot s.queues; room = s.room } in r) d.is ∙ (λ i. record { queues = sym (snoc d.slots slot old.queues) i; room = old.room });
+    counted = subst (λ (s : StockView). count_of s.queues ≡ count_of old.queues + length (d.slots ++ slot ∷ [])) (sym puts) (omega (arith, one_more slot stock.queues, d.counted, length-append d.slots (slot ∷ [])));
     space = subst (λ (s : StockView). count_of s.queues + less ≤ s.room) (sym puts) (omega (arith, one_more slot stock.queues, d.space, e));
   }
 
@@ -50,6 +53,7 @@ module _ {T : Type 0} (homed : T → Queues → Queues) where
     slots = d.slots;
     few = omega (arith, d.rest);
     is = d.is;
+    counted = omega (arith, d.counted, d.rest);
     all = λ all. IsPermutation-trans _ _ _ (subst (λ (k : Moves T). HasAll k → StandIn k []) d.moves none all) (IsPermutation-append_comm first.taken d.slots);
   }
 

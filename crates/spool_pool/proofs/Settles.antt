@@ -1,5 +1,5 @@
 -- The account of a pool that is closed by the pass with all parts.
-use Rattle.std.proofs.Common.{◌≡◌, ℕ, Bool, true, false, List, [], ◌∷◌, ◌++◌, map, refl, ap, sym, subst, ◌∙◌}
+use Rattle.std.proofs.Common.{◌≡◌, ℕ, ◌^◌, Bool, true, false, List, [], ◌∷◌, ◌++◌, map, refl, ap, sym, subst, ◌∙◌}
 use Rattle.std.specs.Prelude.{filter, if◌then◌else◌}
 use Rattle.std.specs.List.{flat_map, AllByRecursion}
 use Rattle.std.specs.List.Sorted.{IsPermutation}
@@ -8,13 +8,14 @@ use Rattle.std.proofs.lemmas.Grind.{flat_map-append}
 use Rattle.std.proofs.lemmas.List.Sorted.{IsPermutation-sym, IsPermutation-trans, IsPermutation-append_left, IsPermutation-append_right, IsPermutation-append_comm}
 use Rattle.spool_slots.specs.States.{SlotView, FullView, BrokenView}
 use Rattle.spool_rack.specs.Store.{Queues, with_aside, with_broken, with_free, with_full}
+use Rattle.spool_rack.specs.Stock.{StockView, no_slots}
 use Rattle.shared_queue.specs.Moves.{Moves}
 use Rattle.spool_pool.specs.declared.lanes.Lanes.{Lanes}
 use Rattle.spool_pool.specs.Shelf.{ShelvedView, is_aside, is_broken, aside_of, broken_of}
 use Rattle.spool_pool.specs.Ends.{Became, IsSettled, from_full, stands}
 use Rattle.spool_pool.specs.Events.{Event, TallyView, kept, spoilt, back, freed, shelved, broke, first_of, set_aside_of, broke_of, full_of, shelf_of, taken_of, told_of}
-use Rattle.spool_pool.specs.Account.{Account, IsTrue, handed_in}
-use Rattle.spool_pool.specs.Closing.{with_all, with_shelved}
+use Rattle.spool_pool.specs.Account.{Account, IsSound, IsTrue, handed_in}
+use Rattle.spool_pool.specs.Closing.{Drains, with_all, with_shelved}
 use Rattle.spool_pool.proofs.Perms.{same, flat_map_permuted}
 use Rattle.spool_pool.proofs.Fates.{all_turned, both, cancel_all, ends_of, over, permuted, stand}
 
@@ -127,3 +128,15 @@ settles l t frees fulls items a none p q =
       broken = subst (λ k. IsPermutation k (from_full (flat_map broken_of items)))
           (from_full_both (flat_map broken_of l.shelf.began) (flat_map broken_of l.shelf.put) ∙ ap (λ k. from_full (flat_map broken_of l.shelf.began) ++ k) put_broken) brokens;
     }
+
+-- the three queues, one after the other
+pub emptied : {D : Type 0} (l : Lanes D) (t : TallyView) (room : ℕ) (first second third last : StockView) → IsSound l t → t.out ≡ [] → first.queues ≡ no_slots
+    → Drains with_free room l.free first second → Drains with_full room l.full second third → Drains with_shelved room l.shelf third last → l.full.parts ≡ 2 ^ 64 → IsSettled (handed_in l t.events) last.queues
+emptied l t room first second third last s none bare a b c all =
+    let q = ap (λ (k : StockView). k.queues) c.is ∙ shelf_home c.slots third.queues in
+    let p = ap (λ (k : StockView). k.queues) b.is ∙ fulls_home b.slots second.queues in
+    let o = ap (λ (k : StockView). k.queues) a.is ∙ frees_home a.slots first.queues in
+    let one = ap (λ (k : Queues). let r : Queues = record { free = k.free ++ a.slots; full = k.full; aside = k.aside; broken = k.broken } in r) bare in
+    let two = ap (λ (k : Queues). let r : Queues = record { free = k.free; full = k.full ++ b.slots; aside = k.aside; broken = k.broken } in r) (o ∙ one) in
+    let three = ap (λ (k : Queues). let r : Queues = record { free = k.free; full = k.full; aside = k.aside ++ flat_map aside_of c.slots; broken = k.broken ++ flat_map broken_of c.slots } in r) (p ∙ two) in
+    subst (IsSettled (handed_in l t.events)) (sym (q ∙ three)) (settles l t a.slots b.slots c.slots s.account none (b.all all) (c.all (s.even.shelf ∙ all)))

@@ -7,7 +7,7 @@ use Rattle.slot_bytes.specs.Layout.{Mail}
 use Rattle.spool_slots.specs.Images.{HasMessageBehind}
 use Rattle.spool_slots.specs.States.{SlotView, FullView, BrokenView, Keeps, KeepsAside}
 use Rattle.spool_rack.specs.Store.{Handed, Loan, Queues}
-use Rattle.shared_queue.specs.Moves.{Moves}
+use Rattle.shared_queue.specs.Moves.{Moves, less_one, met, split_off}
 use Rattle.spool_pool.specs.declared.lanes.Lanes.{Lanes}
 use Rattle.spool_pool.specs.Shelf.{ShelvedView, aside_of, broken_of}
 use Rattle.spool_pool.specs.Events.{Event, kept, spoilt, back, freed, shelved, broke, TallyView, first_of, released_of, set_aside_of, broke_of, full_of, shelf_of, told_of, taken_of}
@@ -89,6 +89,19 @@ pub record AreEven {D : Type 0} (l : Lanes D) : Type 0 where
 pub record IsSound {D : Type 0} (l : Lanes D) (t : TallyView) : Type 0 where
   pub even : AreEven l
   pub account : Account l.full l.shelf t
+
+-- ---- cutting and joining
+
+abbrev pub one_less : {D : Type 0} → Lanes D → Lanes D
+one_less l = record { free = less_one l.free; full = less_one l.full; shelf = less_one l.shelf }
+
+abbrev pub one_off : {D : Type 0} → Lanes D → Lanes D
+one_off l = record { free = split_off l.free; full = split_off l.full; shelf = split_off l.shelf }
+
+abbrev pub all_met : {D : Type 0} → Lanes D → Lanes D → Lanes D
+all_met l other = record { free = met l.free other.free; full = met l.full other.full; shelf = met l.shelf other.shelf }
+
+-- ---- passes and seats
 
 abbrev pub IsSoundUnless : {D : Type 0} → Bool → Lanes D → TallyView → Type 0
 IsSoundUnless true l t = Unit {0}

@@ -2,7 +2,7 @@
 use Rattle.std.specs.Prelude.{◌≡◌, ℕ, ◌+◌, ◌≤◌, List, [], ◌∷◌, ◌++◌, length}
 use Rattle.std.specs.List.Sorted.{IsPermutation}
 use Rattle.spool_rack.specs.Store.{Queues, with_aside, with_broken}
-use Rattle.spool_rack.specs.Stock.{StockView}
+use Rattle.spool_rack.specs.Stock.{StockView, count_of}
 use Rattle.shared_queue.specs.Moves.{Moves, HasAll}
 use Rattle.spool_pool.specs.Shelf.{ShelvedView, is_aside, is_broken}
 
@@ -21,4 +21,5 @@ pub record Drains {T : Type 0} (homed : T → Queues → Queues) (room : ℕ) (m
   pub slots : List T
   pub few : length slots ≤ room
   pub is : new ≡ record { queues = with_all homed slots old.queues; room = old.room }
+  pub counted : count_of new.queues ≤ count_of old.queues + room
   pub all : HasAll m → IsPermutation (m.began ++ m.put) (slots ++ m.taken)

@@ -1,4 +1,5 @@
 ghost use Rattle.std.specs.Prelude.{◌≡◌, ◌<◌, Ok};
+ghost use Rattle.spool_pool.specs.Account.{AreEven, all_met, homes_of, one_less, one_off};
 ghost use Rattle.spool_pool.specs.Known.{IsPassOf, less_one, met, split_off};
 
 use crate::lanes::Lanes;
@@ -75,7 +76,13 @@ impl<D: Disk> Pool<D> {
         pass.breaks = pass.breaks.saturating_add(breaks);
     }
 
-    fn split_lanes(&self, lanes: &mut Lanes<D>) -> Lanes<D> {
+    fn split_lanes(&self, lanes: &mut Lanes<D>) -> Lanes<D>
+        requires home { homes_of lanes.old ≡ self.now.home }
+        requires even { AreEven lanes.old }
+        requires parts { 1 < lanes.old.full.parts }
+        ensures old { lanes.new ≡ one_less lanes.old }
+        ensures new { result ≡ one_off lanes.old }
+    {
         Lanes {
             free: self.free.split(&mut lanes.free),
             full: self.full.split(&mut lanes.full),
@@ -83,7 +90,12 @@ impl<D: Disk> Pool<D> {
         }
     }
 
-    fn meet_lanes(&self, lanes: &mut Lanes<D>, other: Lanes<D>) {
+    fn meet_lanes(&self, lanes: &mut Lanes<D>, other: Lanes<D>)
+        requires home { homes_of lanes.old ≡ self.now.home }
+        requires other { homes_of other ≡ self.now.home }
+        requires even { AreEven lanes.old }
+        ensures { lanes.new ≡ all_met lanes.old other }
+    {
         let Lanes { free, full, shelf } = other;
         self.free.meet(&mut lanes.free, free);
         self.full.meet(&mut lanes.full, full);
