@@ -85,10 +85,10 @@ pub record TallyView : Type 0 where
   pub steps : ℕ
 
 abbrev pub lent : Loan → TallyView → TallyView
-lent loan t = record { events = t.events; out = loan ∷ t.out; steps = t.steps + 1 }
+lent loan t = record { events = t.events; out = loan ∷ t.out; steps = t.steps + 0 + 1 }
 
 abbrev pub given : ℕ → List Event → TallyView → TallyView
-given number events t = record { events = t.events ++ events; out = struck number t.out; steps = t.steps + 1 }
+given number events t = record { events = t.events ++ events; out = struck number t.out; steps = t.steps + 0 + 1 }
 
 abbrev pub joined : TallyView → TallyView → TallyView
 joined t other = record { events = t.events ++ other.events; out = t.out; steps = t.steps + other.steps + 1 }
