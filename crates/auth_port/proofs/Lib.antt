@@ -1,1 +1,4 @@
+pub mod AskingLemmas
 pub mod FaultyLemmas
+pub mod SharedAsks
+pub mod SharedLemmas
