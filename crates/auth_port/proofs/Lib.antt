@@ -1,4 +1,3 @@
-pub mod AskingLemmas
 pub mod FaultyLemmas
 pub mod SharedAsks
 pub mod SharedLemmas

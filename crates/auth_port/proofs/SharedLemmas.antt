@@ -1,5 +1,5 @@
 -- What a turn does to a shared book as a port.
-use Rattle.std.proofs.Common.{arith, ◌≡◌, refl, sym, ap, ap₂, subst, ◌∙◌, ℕ, ◌+◌, ◌<◌, ◌≤◌, ◌==◌, ◌⊎◌, inl, inr, Bool, true, false, cond, List, [], ◌∷◌, ◌++◌, length, Option, Some, None, Ok, Err, append_assoc, length-append, rules}
+use Rattle.std.proofs.Common.{arith, ◌≡◌, refl, sym, ap, ap₂, subst, ◌∙◌, ℕ, ◌+◌, ◌≤◌, ◌==◌, inl, inr, Bool, true, false, cond, List, [], ◌∷◌, ◌++◌, length, Option, Some, None, append_assoc, rules}
 use Rattle.std.proofs.lemmas.List.{length_push}
 use mathlib.Core.List.{IsPrefix}
 use Rattle.fw_outside.specs.Counts.{Grew}
