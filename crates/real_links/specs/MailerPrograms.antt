@@ -10,8 +10,8 @@ use Rattle.real_links.specs.Programs.{RanAs}
 use Rattle.real_links.specs.declared.ran.Ran.{Ran}
 
 -- a mailer that tells only its counts
-abbrev pub untold_mailer : ℕ → ℕ → MailerView
-untold_mailer refusals faults = record { accepted = None; refusals = refusals; faults = faults }
+abbrev pub untold_mailer : ℕ → ℕ → ℕ → MailerView
+untold_mailer accepts refusals faults = record { accepted = None; accepts = accepts; refusals = refusals; faults = faults }
 
 -- the word for a sender: `<>` where there is none
 abbrev pub sender_word : List ℕ → List ℕ

@@ -1,7 +1,7 @@
 ghost use Rattle.std.specs.Prelude.{◌≡◌, true, pos, Some, [], IfOk, IfSome};
 ghost use Rattle.std.specs.List.{list_any};
 ghost use Rattle.std.specs.Process.{exit_code};
-ghost use Rattle.fw_outside.specs.Counts.{Rose, counted};
+ghost use Rattle.fw_outside.specs.Counts.{Grew, Rose, counted};
 ghost use Rattle.fw_mail.specs.MailerView.{Hands};
 ghost use Rattle.fw_types.specs.declared.message.Message.{Message};
 ghost use Rattle.real_links.specs.Programs.{Runs, is_slash};
@@ -27,6 +27,7 @@ pub struct MailerProgram {
     folder: Octets,
     seconds: u32,
     last: Option<Ran>,
+    accepts: u64,
     refusals: u64,
     faults: u64,
 }
@@ -41,6 +42,7 @@ impl MailerProgram {
         seconds: u32,
     ) -> Result<MailerProgram, NoMemory>
         ensures program { IfOk result (λ mailer. mailer.program ≡ program.now) }
+        ensures accepts { IfOk result (λ mailer. mailer.accepts ≡ 0) }
         ensures refusals { IfOk result (λ mailer. mailer.refusals ≡ 0) }
         ensures faults { IfOk result (λ mailer. mailer.faults ≡ 0) }
     {
@@ -52,6 +54,7 @@ impl MailerProgram {
             folder,
             seconds,
             last: None,
+            accepts: 0,
             refusals: 0,
             faults: 0,
         })
@@ -95,6 +98,15 @@ impl MailerProgram {
         }
     }
 
+    fn accept(&mut self) -> Handed
+        ensures answer { result ≡ Handed.Accepted }
+        ensures grew { Grew 1 self.old.accepts self.new.accepts }
+        ensures is { self.new ≡ record self.old { accepts = counted self.old.accepts } }
+    {
+        self.accepts = self.accepts.saturating_add(1);
+        Handed::Accepted
+    }
+
     fn refuse(&mut self) -> Handed
         ensures answer { result ≡ Handed.Refused }
         ensures rose { Rose self.old.refusals self.new.refusals }
@@ -116,13 +128,13 @@ impl MailerProgram {
     // What the status says.
     fn judge(&mut self, ending: u8) -> Handed
         ensures means { Means result ending }
-        ensures hands { (message : Message) → Hands result message (untold_mailer self.old.refusals self.old.faults)
-            (untold_mailer self.new.refusals self.new.faults) }
+        ensures hands { (message : Message) → Hands result message (untold_mailer self.old.accepts self.old.refusals self.old.faults)
+            (untold_mailer self.new.accepts self.new.refusals self.new.faults) }
         ensures program { self.new.program ≡ self.old.program }
         ensures last { self.new.last ≡ self.old.last }
     {
         match ending {
-            0 => Handed::Accepted,
+            0 => self.accept(),
             75 => self.fail(),
             _ => self.refuse(),
         }
@@ -130,13 +142,13 @@ impl MailerProgram {
 }
 
 impl Mailer for MailerProgram {
-    ghost mailer_view = { λ m. untold_mailer m.refusals m.faults };
+    ghost mailer_view = { λ m. untold_mailer m.accepts m.refusals m.faults };
 
     /// Not started for a message whose sender or recipient begins with `-` or has a byte 0.
     #[tactic(auto, using(crate::proofs::ProgramLemmas::said_so))]
     fn hand(&mut self, message: &Message) -> Handed
-        ensures hands { Hands result message.now (untold_mailer self.old.refusals self.old.faults)
-            (untold_mailer self.new.refusals self.new.faults) }
+        ensures hands { Hands result message.now (untold_mailer self.old.accepts self.old.refusals self.old.faults)
+            (untold_mailer self.new.accepts self.new.refusals self.new.faults) }
         ensures unfit { is_unfit_message message.now ≡ true → result ≡ Handed.Failed }
         ensures said { SaidSo result self.old.program message.now self.new.last }
     {
