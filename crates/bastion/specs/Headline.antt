@@ -165,7 +165,8 @@ pub record HeadlineFor (name : List ℕ) (command : Command) (status : ℕ) (old
   -- of its law, by which whatever list of such runs and crashes loses no message that was answered
   pub answered_stands : AnswersStand name command status old new
 
--- a job without a table asks for no destination; and `smapd` hands on the messages that stand, and no part of one
+-- a job without a table asks for no destination; and what `smapd` did to the spool on the disks are events of its law, by which just
+-- those messages were accepted that the mailer accepted, so each of them is one that was finished
 pub record HeadlineAlone (post : Post) (job : Job) (status : ℕ) (old new : WorldView) : Type 0 where
   pub unasked : new.inputs.dialer ≡ old.inputs.dialer
   pub answered_stands : HandsStand post job status old new

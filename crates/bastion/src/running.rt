@@ -65,7 +65,7 @@ where
     // `spool-init` ends with 0 only after each disk is a free slot, whatever a crash leaves of it. Behind `smap` a slot that
     // was opened with a message has it, and behind `smapd` one that was opened set aside. Any other command leaves the disks as they were, their counts too.
     ensures disks { LeavesDisks (line_of words.now) result world.old.inputs.disks world.new.inputs.disks }
-    // Any command but `smapd` calls no mailer.
+    // Any command but `smapd` leaves the mailers as they were: none accepted a message, refused one or failed.
     ensures mailers { LeavesMailers (post_of (map (λ m. mailer_view m) mailers.old.items) (map (λ m. mailer_view m) mailers.new.items))
         (line_of words.now) }
     // Each source that the run got was given back: as many are out as before.
