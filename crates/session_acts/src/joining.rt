@@ -101,7 +101,7 @@ fn join_back<D: Dialer>(
 // Asks for the server's data link, and then waits for the client's at a door.
 fn join_at<D: Dialer>(
     dest: &Dest,
-    mut door: D::Door,
+    door: &mut D::Door,
     dialer: &mut D,
     pair: &mut Option<DataPair<D::DataIn, D::DataOut>>,
 ) -> Joined
@@ -110,7 +110,7 @@ fn join_at<D: Dialer>(
 {
     match dialer.side(dest) {
         Dialed::Refused => Joined::NoSide,
-        Dialed::Up(far_from, far_to) => match dialer.accept(&mut door) {
+        Dialed::Up(far_from, far_to) => match dialer.accept(door) {
             Dialed::Refused => {
                 dialer.let_go(far_from, far_to);
                 Joined::NoNear
@@ -133,10 +133,10 @@ fn join_door<D: Dialer>(
     ensures { JoinsAtDoor dest.now result (is_some door.old) (is_some door.new) (D.dialer_view dialer.old) (D.dialer_view dialer.new)
         (pair_view D.DataIn.source_view D.DataOut.sink_view pair.old) (pair_view D.DataIn.source_view D.DataOut.sink_view pair.new) }
 {
-    let Some(stood) = door.take() else {
+    let Some(mut stood) = door.take() else {
         return Joined::Unready;
     };
-    join_at(dest, stood, dialer, pair)
+    join_at(dest, &mut stood, dialer, pair)
 }
 
 // The same at a target.
@@ -214,10 +214,10 @@ pub(crate) fn copy_over<D: Dialer>(
     ensures { CopiesOver toward result (D.dialer_view dialer.old) (D.dialer_view dialer.new)
         (pair_view D.DataIn.source_view D.DataOut.sink_view pair.old) (pair_view D.DataIn.source_view D.DataOut.sink_view pair.new) }
 {
-    let Some(mut up) = pair.take() else {
+    let Some(mut both) = pair.take() else {
         return None;
     };
-    let end = carry(toward, &mut up);
-    let_both_go(dialer, up);
+    let end = carry(toward, &mut both);
+    let_both_go(dialer, both);
     Some(end)
 }
