@@ -53,4 +53,5 @@ pub mod ReplyPassLemmas
 pub mod ReplyDeskLemmas
 pub mod GreetingLemmas
 pub mod GreetedLemmas
+pub mod GreetsLemmas
 pub mod RefusalLemmas

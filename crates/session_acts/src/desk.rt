@@ -8,13 +8,13 @@ ghost use Rattle.session_acts.specs.Met.{Asking, opened_then, reply_of};
 
 use crate::causes::silence_cause;
 use crate::depositing::deposit;
-use crate::joining::{copy_over, join_over, let_pair_go, put_door};
-use crate::link::{Link, hang_link, heed, pass_text, put_up, take_line};
+use crate::joining::{carry, put_pair};
+use crate::link::{Link, heed, pass_text, put_up, take_line};
 use crate::pair::DataPair;
 use crate::replying::take_reply;
 use crate::{Cause, Deposited, Form, Joined, Replied, ReplyUse, Stage, Target, Toward};
 use auth_events::{AuthPort, PortFault, Reply, Request};
-use fw_outside::{Clock, Dialer, Dice, Failed, Heard, LineReader, Sink, Source};
+use fw_outside::{Clock, Dialed, Dialer, Dice, Failed, Heard, LineReader, Sink, Source};
 use fw_types::{Dest, Name, OctetsList};
 use relay_ways::WayEnd;
 use spool_rack::MailStore;
@@ -214,7 +214,9 @@ where
     fn hang_up(&mut self) {
         self.part();
         *self.door = None;
-        hang_link(self.dialer, self.link);
+        if let Some(up) = self.link.take() {
+            self.dialer.hang_up(up.from, up.to);
+        }
     }
 
     fn deposit(
@@ -243,21 +245,65 @@ where
     }
 
     fn open_door(&mut self) -> Option<([u8; 4], u16)> {
-        put_door(self.dialer, self.door)
+        let (door, addr, port) = self.dialer.door()?;
+        let place = addr;
+        *self.door = Some(door);
+        Some((place, port))
     }
 
     fn join(&mut self, dest: &Dest, target: Target) -> Joined {
         self.part();
-        let linked = self.is_linked();
-        join_over(linked, dest, target, self.dialer, self.door, self.pair)
+        if !self.is_linked() {
+            return Joined::Unready;
+        }
+        match target {
+            Target::Addr { addr, port } => match self.dialer.side(dest) {
+                Dialed::Refused => Joined::NoSide,
+                Dialed::Up(far_from, far_to) => match self.dialer.back(addr, port) {
+                    Dialed::Refused => {
+                        self.dialer.let_go(far_from, far_to);
+                        Joined::NoNear
+                    }
+                    Dialed::Up(from, to) => {
+                        put_pair(self.pair, far_from, far_to, from, to);
+                        Joined::Up
+                    }
+                },
+            },
+            Target::AtDoor => match self.door.take() {
+                None => Joined::Unready,
+                Some(mut door) => match self.dialer.side(dest) {
+                    Dialed::Refused => Joined::NoSide,
+                    Dialed::Up(far_from, far_to) => match self.dialer.accept(&mut door) {
+                        Dialed::Refused => {
+                            self.dialer.let_go(far_from, far_to);
+                            Joined::NoNear
+                        }
+                        Dialed::Up(from, to) => {
+                            put_pair(self.pair, far_from, far_to, from, to);
+                            Joined::Up
+                        }
+                    },
+                },
+            },
+        }
     }
 
     fn copy(&mut self, toward: Toward) -> Option<WayEnd> {
-        copy_over(toward, self.dialer, self.pair)
+        let Some(mut both) = self.pair.take() else {
+            return None;
+        };
+        let end = carry(toward, &mut both);
+        self.dialer.let_go(both.far_from, both.far_to);
+        self.dialer.let_go(both.near_from, both.near_to);
+        Some(end)
     }
 
     fn part(&mut self) {
-        let_pair_go(self.dialer, self.pair);
+        if let Some(up) = self.pair.take() {
+            self.dialer.let_go(up.far_from, up.far_to);
+            self.dialer.let_go(up.near_from, up.near_to);
+        }
     }
 
     fn allot(&mut self, lacks: bool) -> Result<(), Cause> {

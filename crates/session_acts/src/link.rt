@@ -1,13 +1,13 @@
 //! The link to a server, while it is up.
-ghost use Rattle.std.specs.Prelude.{◌≡◌, None};
+ghost use Rattle.std.specs.Prelude.{◌≡◌};
 ghost use Rattle.fw_outside.specs.SinkView.{SinkView};
 ghost use Rattle.session_acts.specs.Link.{IsPutUp, PassesSo, link_view, outcome_of};
-ghost use Rattle.session_acts.specs.Met.{Clears, Hears, Takes};
+ghost use Rattle.session_acts.specs.Met.{Hears, Takes};
 ghost use Rattle.session_acts.specs.World.{Server};
 ghost use Rattle.session_acts.specs.declared.form.Form.TheVariants.{Lines, Telnet};
 
 use crate::{Form, Silence};
-use fw_outside::{Dialed, Dialer, Failed, Heard, LineReader, Sink, Source, Stop};
+use fw_outside::{Dialed, Failed, Heard, LineReader, Sink, Source, Stop};
 use telnet_hearing::hear_line;
 
 // No more bytes than these are taken from a client, or from a server over one link.
@@ -122,14 +122,4 @@ pub(crate) fn pass_text<I: Source, O: Sink>(
     let passed = up.to.give(text);
     *link = Some(up);
     passed
-}
-
-// Hangs up a link that is up.
-pub(crate) fn hang_link<D: Dialer>(dialer: &mut D, link: &mut Option<Link<D::In, D::Out>>)
-    ensures clears { Clears (link_view D.In.source_view D.Out.sink_view link.old) (D.dialer_view dialer.old) (D.dialer_view dialer.new) }
-    ensures none { link_view D.In.source_view D.Out.sink_view link.new ≡ None }
-{
-    if let Some(up) = link.take() {
-        dialer.hang_up(up.from, up.to);
-    }
 }
