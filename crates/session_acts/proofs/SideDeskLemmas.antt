@@ -1,20 +1,20 @@
 -- What was done to data links, as acts.
 use Rattle.std.proofs.Common.{◌≡◌, refl, sym, ap, subst, ◌∙◌, ℕ, Bool, true, false, is_some, List, [], Option, Some, None, Result, Ok, Err}
 use Rattle.std.specs.Option.{option_map}
-use Rattle.fw_outside.specs.DialerView.{ComesUp, DialerView, LetsGo, LinkView, Opens, Refuses}
+use Rattle.fw_outside.specs.DialerView.{ComesUp, DialerView, LetsGo, LinkView, Refuses}
 use Rattle.fw_outside.specs.declared.ask.Ask.TheVariants as asks
 use Rattle.fw_types.specs.declared.dest.Dest.{Dest}
 use Rattle.relay_ways.specs.Carried.{Way}
 use Rattle.relay_ways.specs.declared.way_end.WayEnd.{WayEnd}
-use Rattle.session_acts.specs.Acts.Act.{Copy, HangUp, Join, OpenDoor, Part}
-use Rattle.session_acts.specs.Joining.{CopiesBy, JoinsSo, LetsBothGo, LetsPairGo, NearRefused, NearUp, Parting, door_after, is_unready, no_door, pair_after}
-use Rattle.session_acts.specs.Met.{Clears, CopyDone, Met}
+use Rattle.session_acts.specs.Acts.Act.{Copy, Join, Part}
+use Rattle.session_acts.specs.Joining.{CopiesBy, JoinsSo, LetsBothGo, NearRefused, NearUp, door_after, is_unready, no_door, pair_after}
+use Rattle.session_acts.specs.Met.{CopyDone, Met}
 use Rattle.session_acts.specs.Side.{CarriedSo}
 use Rattle.session_acts.specs.World.{Pair, Server, Speaker, World}
 use Rattle.session_acts.specs.declared.joined.Joined.{Joined}
 use Rattle.session_acts.specs.declared.joined.Joined.TheVariants.{Up, NoSide, NoNear, Unready}
 use Rattle.session_acts.specs.declared.target.Target.{Target}
-use Rattle.session_acts.specs.declared.target.Target.TheVariants.{AtDoor}
+use Rattle.session_acts.specs.declared.target.Target.TheVariants.{Addr, AtDoor}
 use Rattle.session_acts.specs.declared.toward.Toward.{Toward}
 
 -- ---- what was asked for
@@ -61,58 +61,7 @@ ready_by : (target : Target) (door : Bool) (link : Option Speaker) → is_some l
 ready_by target door None linked stands = absurd (cc)
 ready_by target door (Some link) linked stands = stands
 
-unlinked_by : (target : Target) (door : Bool) (link : Option Speaker) → is_some link ≡ false → is_unready target door link ≡ true
-unlinked_by target door None none = refl
-unlinked_by target door (Some link) none = absurd (cc)
-
-undoored_by : (link : Option Speaker) → is_unready AtDoor false link ≡ true
-undoored_by None = refl
-undoored_by (Some link) = refl
-
-abbrev hung_server : DialerView → Option Speaker → Option Pair → Server
-hung_server dialer link pair = record { dialer = dialer; link = link; door = false; pair = pair }
-
 module _ {Origin : Type 0} where
-  -- links were let go
-  pub parts_done : (old : World Origin) (dialer : DialerView) (pair : Option Pair) → LetsPairGo old.server.pair old.server.dialer dialer → pair ≡ None → Met Part (Ok tt) old (record old { server = record (old.server) { dialer = dialer; pair = pair } })
-  parts_done old dialer pair lets none = record {
-    client = refl;
-    logs = refl;
-    office = refl;
-    server = record { dialer = dialer; lets = lets; is = ap (λ (p : Option Pair). record (old.server) { dialer = dialer; pair = p }) none };
-    store = refl;
-    names = refl;
-    may = tt;
-  }
-
-  -- and then a main link was hung up
-  pub hangs_done : (old mid : World Origin) (dialer : DialerView) (link : Option Speaker) → Met Part (Ok tt) old mid → Clears mid.server.link mid.server.dialer dialer → link ≡ None
-      → Met HangUp (Ok tt) old (record mid { server = hung_server dialer link mid.server.pair })
-  hangs_done old mid dialer link parts clears none =
-      let parting : Parting old.server mid.server = parts.server in
-      record {
-        client = parts.client;
-        logs = parts.logs;
-        office = parts.office;
-        server = record {
-          apart = parting.dialer;
-          lets = parting.lets;
-          dialer = dialer;
-          clears = subst (λ (s : Server). Clears s.link s.dialer dialer) parting.is clears;
-          is = ap (λ (l : Option Speaker). hung_server dialer l mid.server.pair) none ∙ ap (λ (s : Server). hung_server dialer None s.pair) parting.is;
-        };
-        store = parts.store;
-        names = parts.names;
-        may = tt;
-      }
-
-  -- a door was asked for
-  pub opens_none : (old : World Origin) (dialer : DialerView) → Refuses (asks.Door None) old.server.dialer dialer → Met OpenDoor (Ok None) old (record old { server = record (old.server) { dialer = dialer } })
-  opens_none old dialer refused = record { client = refl; logs = refl; office = refl; server = record { dialer = dialer; refused = refused; is = refl }; store = refl; names = refl; may = tt }
-
-  pub opens_door : (old : World Origin) (dialer : DialerView) (addr : List ℕ) (port : ℕ) → Opens addr port old.server.dialer dialer → Met OpenDoor (Ok (Some (addr, port))) old (record old { server = record (old.server) { dialer = dialer; door = true } })
-  opens_door old dialer addr port opens = record { client = refl; logs = refl; office = refl; server = record { dialer = dialer; opens = opens; is = refl }; store = refl; names = refl; may = tt }
-
   -- a pair was let go, and then links were asked for
   joins_on : (dest : Dest) (target : Target) (joined : Joined) (old mid : World Origin) (server : Server) → Met Part (Ok tt) old mid → JoinsSo dest target joined mid.server server → Met (Join dest target) (Ok joined) old (record mid { server = server })
   joins_on dest target joined old mid server parts joins = record {
@@ -125,26 +74,33 @@ module _ {Origin : Type 0} where
     may = tt;
   }
 
-  pub joins_asked : (dest : Dest) (target : Target) (joined : Joined) (old mid : World Origin) (dialer : DialerView) (pair : Option Pair) → Met Part (Ok tt) old mid → is_some mid.server.link ≡ true → no_door target mid.server.door ≡ false
+  joins_asked : (dest : Dest) (target : Target) (joined : Joined) (old mid : World Origin) (dialer : DialerView) (pair : Option Pair) → Met Part (Ok tt) old mid → is_some mid.server.link ≡ true → no_door target mid.server.door ≡ false
       → JoinsOver dest target joined mid.server.dialer dialer mid.server.pair pair → Met (Join dest target) (Ok joined) old (record mid { server = after_asking mid.server target dialer pair })
   joins_asked dest target joined old mid dialer pair parts linked stands h =
       joins_on dest target joined old mid (after_asking mid.server target dialer pair) parts (asks_so dest target joined mid.server dialer pair (ready_by target mid.server.door mid.server.link linked stands) h)
 
-  -- none was
-  pub joins_unlinked : (dest : Dest) (target : Target) (old mid : World Origin) → Met Part (Ok tt) old mid → is_some mid.server.link ≡ false → Met (Join dest target) (Ok Unready) old mid
-  joins_unlinked dest target old mid parts none = joins_on dest target Unready old mid mid.server parts (record { unready = unlinked_by target mid.server.door mid.server.link none; is = refl })
+  -- at an address
+  pub joins_back : (dest : Dest) (target : Target) (addr : List ℕ) (port : ℕ) (joined : Joined) (old mid : World Origin) (dialer : DialerView) (pair : Option Pair) → target ≡ Addr addr port → Met Part (Ok tt) old mid → is_some mid.server.link ≡ true
+      → JoinsOver dest (Addr addr port) joined mid.server.dialer dialer mid.server.pair pair → Met (Join dest target) (Ok joined) old (record mid { server = record (mid.server) { dialer = dialer; pair = pair } })
+  joins_back dest target addr port joined old mid dialer pair is parts linked h =
+      subst (λ (t : Target). Met (Join dest t) (Ok joined) old (record mid { server = record (mid.server) { dialer = dialer; pair = pair } })) (sym is) (joins_asked dest (Addr addr port) joined old mid dialer pair parts linked refl h)
 
-  pub joins_undoored : (dest : Dest) (old mid : World Origin) → Met Part (Ok tt) old mid → mid.server.door ≡ false → Met (Join dest AtDoor) (Ok Unready) old (record mid { server = record (mid.server) { door = false } })
-  joins_undoored dest old mid parts none =
-      joins_on dest AtDoor Unready old mid (record (mid.server) { door = false }) parts (record {
-        unready = subst (λ (d : Bool). is_unready AtDoor d mid.server.link ≡ true) (sym none) (undoored_by mid.server.link);
-        is = ap (λ (d : Bool). record (mid.server) { door = d }) (sym none);
-      })
+  -- or at a door, which is closed then
+  stood_open : (door : Bool) → door ≡ true → no_door AtDoor door ≡ false
+  stood_open true is = refl
+  stood_open false is = absurd (cc)
+
+  pub joins_door : (dest : Dest) (target : Target) (joined : Joined) (old mid : World Origin) (dialer : DialerView) (door : Bool) (pair : Option Pair) → target ≡ AtDoor → Met Part (Ok tt) old mid → is_some mid.server.link ≡ true → mid.server.door ≡ true → door ≡ false
+      → JoinsOver dest AtDoor joined mid.server.dialer dialer mid.server.pair pair → Met (Join dest target) (Ok joined) old (record mid { server = record (mid.server) { dialer = dialer; door = door; pair = pair } })
+  joins_door dest target joined old mid dialer door pair is parts linked stood closed h =
+      let here = joins_asked dest AtDoor joined old mid dialer pair parts linked (stood_open mid.server.door stood) h in
+      let shut = subst (λ (d : Bool). Met (Join dest AtDoor) (Ok joined) old (record mid { server = record (mid.server) { dialer = dialer; door = d; pair = pair } })) (sym closed) here in
+      subst (λ (t : Target). Met (Join dest t) (Ok joined) old (record mid { server = record (mid.server) { dialer = dialer; door = door; pair = pair } })) (sym is) shut
 
   -- a copy was made, and both links let go
-  pub copies_on : (toward : Toward) (how : WayEnd) (pair after : Pair) (old : World Origin) (dialer : DialerView) → old.server.pair ≡ Some pair → CarriedSo toward how pair after → LetsBothGo after old.server.dialer dialer
+  copied : (toward : Toward) (how : WayEnd) (pair after : Pair) (old : World Origin) (dialer : DialerView) → old.server.pair ≡ Some pair → CarriedSo toward how pair after → LetsBothGo after old.server.dialer dialer
       → CopyDone toward (Some how) old (record old { server = record (old.server) { dialer = dialer; pair = None } })
-  copies_on toward how pair after old dialer up c lets = record {
+  copied toward how pair after old dialer up c lets = record {
     carried = Some c.way;
     is = ap (λ (e : WayEnd). Some e) (sym c.is);
     met = record {
@@ -167,18 +123,7 @@ module _ {Origin : Type 0} where
     };
   }
 
-  -- nothing was
-  pub copies_none : (toward : Toward) (world : World Origin) → world.server.pair ≡ None → CopyDone toward None world (record world { server = record (world.server) { pair = None } })
-  copies_none toward world none = record {
-    carried = None;
-    is = refl;
-    met = record {
-      client = refl;
-      logs = refl;
-      office = refl;
-      server = subst (λ (p : Option Pair). CopiesBy toward None p world.server (record (world.server) { pair = None })) (sym none) (ap (λ (p : Option Pair). record (world.server) { pair = p }) (sym none));
-      store = refl;
-      names = refl;
-      may = tt;
-    };
-  }
+  pub copies_on : (toward : Toward) (how : WayEnd) (pair after : Pair) (old : World Origin) (dialer : DialerView) (new_pair : Option Pair) → old.server.pair ≡ Some pair → new_pair ≡ None → CarriedSo toward how pair after → LetsBothGo after old.server.dialer dialer
+      → CopyDone toward (Some how) old (record old { server = record (old.server) { dialer = dialer; pair = new_pair } })
+  copies_on toward how pair after old dialer new_pair up none c lets =
+      subst (λ (p : Option Pair). CopyDone toward (Some how) old (record old { server = record (old.server) { dialer = dialer; pair = p } })) (sym none) (copied toward how pair after old dialer up c lets)
