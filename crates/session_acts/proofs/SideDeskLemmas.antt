@@ -61,6 +61,10 @@ ready_by : (target : Target) (door : Bool) (link : Option Speaker) → is_some l
 ready_by target door None linked stands = absurd (cc)
 ready_by target door (Some link) linked stands = stands
 
+stood_open : (door : Bool) → door ≡ true → no_door AtDoor door ≡ false
+stood_open true is = refl
+stood_open false is = absurd (cc)
+
 module _ {Origin : Type 0} where
   -- a pair was let go, and then links were asked for
   joins_on : (dest : Dest) (target : Target) (joined : Joined) (old mid : World Origin) (server : Server) → Met Part (Ok tt) old mid → JoinsSo dest target joined mid.server server → Met (Join dest target) (Ok joined) old (record mid { server = server })
@@ -86,10 +90,6 @@ module _ {Origin : Type 0} where
       subst (λ (t : Target). Met (Join dest t) (Ok joined) old (record mid { server = record (mid.server) { dialer = dialer; pair = pair } })) (sym is) (joins_asked dest (Addr addr port) joined old mid dialer pair parts linked refl h)
 
   -- or at a door, which is closed then
-  stood_open : (door : Bool) → door ≡ true → no_door AtDoor door ≡ false
-  stood_open true is = refl
-  stood_open false is = absurd (cc)
-
   pub joins_door : (dest : Dest) (target : Target) (joined : Joined) (old mid : World Origin) (dialer : DialerView) (door : Bool) (pair : Option Pair) → target ≡ AtDoor → Met Part (Ok tt) old mid → is_some mid.server.link ≡ true → mid.server.door ≡ true → door ≡ false
       → JoinsOver dest AtDoor joined mid.server.dialer dialer mid.server.pair pair → Met (Join dest target) (Ok joined) old (record mid { server = record (mid.server) { dialer = dialer; door = door; pair = pair } })
   joins_door dest target joined old mid dialer door pair is parts linked stood closed h =
