@@ -1,0 +1,15 @@
+mod AccountLemmas
+mod BaseLemmas
+mod KeepLemmas
+mod KnownLemmas
+pub mod LawLemmas
+mod LoginLeaves
+mod RowLemmas
+mod ServedLeaves
+mod ServerLemmas
+pub mod SessionLemmas
+mod StartLemmas
+mod TurnLemmas
+mod UserLeaves
+mod UserLemmas
+mod WatchLemmas

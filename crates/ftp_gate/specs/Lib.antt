@@ -1,0 +1,12 @@
+pub mod Dialogue
+pub mod Distance
+pub mod Dummies
+pub mod Gate
+pub mod Kind
+pub mod Known
+pub mod Laws
+pub mod LogLines
+pub mod Order
+pub mod Passage
+pub mod Texts
+pub mod User

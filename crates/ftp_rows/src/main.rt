@@ -1,0 +1,28 @@
+//! Rows of sessions of FTP over devices in memory and a book: each row of `data/` says what is told of what is asked, by the
+//! kinds that [`kinds`] knows. `lines_of_rows` says how a row is written.
+#![tactic(auto)]
+
+mod asked;
+mod kinds;
+mod play;
+mod setup;
+mod tellings;
+
+use kinds::Kinds;
+use lines_of_rows::compare;
+use std::io;
+use std::process::ExitCode;
+
+fn call_laws() {
+    ftp_gate::laws::each_dial_is_cleared::<()>();
+    ftp_gate::laws::each_denial_is_logged::<()>();
+    ftp_gate::laws::the_destinations_are_those_asked_for::<()>();
+    ftp_gate::laws::what_the_server_is_given::<()>();
+    ftp_gate::laws::data_links_are_the_sessions_own::<()>();
+}
+
+fn main(rt: HostRuntime) -> io::Result<ExitCode> {
+    call_laws();
+    let mut kinds = Kinds { threads: rt };
+    compare(rt, &mut kinds)
+}
