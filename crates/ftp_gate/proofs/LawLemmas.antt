@@ -2,6 +2,7 @@
 use Rattle.std.proofs.Common.{◌≡◌, refl, sym, ap, subst, ◌∙◌, ℕ, List, [], ◌∷◌, ◌++◌, map, Option, Some, None, Result, Ok, Err, Bool, true, false, append_assoc, append-nil}
 use Rattle.ftp_gate.specs.Texts.{port_ok}
 use Rattle.auth_events.specs.declared.port.PortFault.{PortFault}
+use Rattle.auth_events.specs.declared.request.Request.{Request}
 use Rattle.auth_events.specs.declared.request.Request.TheVariants as requests
 use Rattle.fw_acts.specs.Acts.{Row, Step, PlaceTable}
 use Rattle.fw_acts.specs.Acts.Row.{Do, At, Over}
@@ -24,7 +25,7 @@ use Rattle.session_acts.specs.declared.target.Target.{Target}
 use Rattle.ftp_gate.specs.Dialogue.{ftp_row, ftp_rows, heard_form}
 use Rattle.ftp_gate.specs.Gate.{Gate}
 use Rattle.ftp_gate.specs.Known.{Known, asked_for, begins, dests_in, known, passage, passage_in, saying}
-use Rattle.ftp_gate.specs.Laws.{AreRight, AsksDue, AsksExactly, DenialsLogged, DialsCleared, GivesPassage, IsCleared, IsDone, IsLoggedFirst, IsOwnPair, IsPassable, IsRight, JoinsOwn, PassesUnblocked, given_to_server, main_asked}
+use Rattle.ftp_gate.specs.Laws.{AreRight, AsksDue, AsksExactly, DenialsLogged, DialsCleared, GivesPassage, IsAskedOf, IsCleared, IsDone, IsDueAsk, IsLoggedFirst, IsOwnPair, IsPassable, IsRight, JoinsOwn, PassesUnblocked, given_to_server, main_asked}
 use Rattle.ftp_gate.specs.Order.{Order}
 use Rattle.ftp_gate.specs.Passage.{asked_by, passed_as}
 use Rattle.ftp_gate.specs.declared.place.Place.{Place}
@@ -38,13 +39,17 @@ abbrev AllRight : Gate → Noted → List Deed → Type 0
 AllRight gate n [] = Unit {0}
 AllRight gate n (deed ∷ deeds) = IsRight gate n.k deed.act × AllRight gate (note gate n deed.act deed.outcome) deeds
 
+due_ask : (gate : Gate) (request : Request) (k : Known) → IsAskedOf gate request k → IsDueAsk gate request k
+due_ask gate requests.Close k asks = tt
+due_ask gate request k asks = asks
+
 right_by : (gate : Gate) (n : Noted) (act : Act) → May gate n act → IsRight gate n.k act
 right_by gate n (Hear form) may = tt
 right_by gate n (Say text) may = may.0
 right_by gate n (Try text) may = absurd may
 right_by gate n (Log text) may = tt
 right_by gate n (Note text) may = absurd may
-right_by gate n (Ask request) may = may.0
+right_by gate n (Ask request) may = due_ask gate request n.k may.0
 right_by gate n (Renew name hash) may = absurd may
 right_by gate n (Dial dest) may = may.0
 right_by gate n (Reach dest) may = absurd may

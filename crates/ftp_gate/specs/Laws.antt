@@ -283,6 +283,20 @@ abbrev pub AsksDue : Gate → List Deed → Type 0
 AsksDue gate deeds =
     (before after : List Deed) (deed : Deed) (request : Request) → deeds ≡ before ++ deed ∷ after → deed.act ≡ Ask request → IsDueAsk gate request (known gate before)
 
+-- ---- the login
+
+-- asks for a destination, or gives the server something
+abbrev pub IsOutward : Act → Type 0
+IsOutward (Dial dest) = Unit {0}
+IsOutward (Pass text) = Unit {0}
+IsOutward act = ⊥
+
+-- a login is asked for before the command that was heard last
+pub record NeedsLogin (gate : Gate) (k : Known) : Type 0 where
+  pub order : Order
+  pub heard : k.order ≡ Some order
+  pub asks : asks_login gate.options order.verb ≡ true
+
 -- ---- each act
 
 -- what an act says and does comes where it may

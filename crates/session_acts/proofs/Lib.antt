@@ -54,3 +54,5 @@ pub mod ReplyDeskLemmas
 pub mod GreetingLemmas
 pub mod GreetedLemmas
 pub mod RefusalLemmas
+pub mod OnceLemmas
+pub mod OwnLoginLemmas
