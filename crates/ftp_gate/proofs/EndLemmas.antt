@@ -402,18 +402,17 @@ record IsFound (order : Option Order) (deeds : List Deed) : Type 0 where
   is : deeds ≡ before ++ deed ∷ after
   ends : ends_dialogue (order_from order before) deed.act deed.outcome ≡ true
 
-found : (order : Option Order) (ended : Bool) (deeds : List Deed) → ended ≡ false → (reached (record { order = order; ended = ended }) deeds).ended ≡ true → IsFound order deeds
 found_by : (order : Option Order) (deed : Deed) (deeds : List Deed) (here : Bool) → ends_dialogue order deed.act deed.outcome ≡ here
+    → ((reached (going (order_after order deed.act deed.outcome)) deeds).ended ≡ true → IsFound (order_after order deed.act deed.outcome) deeds)
     → (reached (record { order = order_after order deed.act deed.outcome; ended = here }) deeds).ended ≡ true → IsFound order (deed ∷ deeds)
-
-found order true deeds not is = absurd (true≢false not)
-found order false [] not is = absurd (true≢false (sym is))
-found order false (deed ∷ deeds) not is = found_by order deed deeds (ends_dialogue order deed.act deed.outcome) refl is
-
-found_by order deed deeds true here is = record { before = []; deed = deed; after = deeds; is = refl; ends = here }
-found_by order deed deeds false here is =
-    let rest = found (order_after order deed.act deed.outcome) false deeds refl is in
+found_by order deed deeds true here later is = record { before = []; deed = deed; after = deeds; is = refl; ends = here }
+found_by order deed deeds false here later is =
+    let rest = later is in
     record { before = deed ∷ rest.before; deed = rest.deed; after = rest.after; is = ap (λ (d : List Deed). deed ∷ d) rest.is; ends = rest.ends }
+
+found : (order : Option Order) (deeds : List Deed) → (reached (going order) deeds).ended ≡ true → IsFound order deeds
+found order [] is = absurd (true≢false (sym is))
+found order (deed ∷ deeds) is = found_by order deed deeds (ends_dialogue order deed.act deed.outcome) refl (λ more. found (order_after order deed.act deed.outcome) deeds more) is
 
 -- ---- a dialogue
 
@@ -484,7 +483,7 @@ module _ {Origin : Type 0} (gate : Gate) (old new : World Origin) (ending : Endi
 
   pub held_ended : IsDone held.dialogue → HasEnd gate (deeds_ran held.ran)
   held_ended done =
-      let one = found None false (deeds_ran held.ran) refl (talked.ended done) in
+      let one = found None (deeds_ran held.ran) (talked.ended done) in
       record {
         before = one.before;
         deed = one.deed;

@@ -25,13 +25,13 @@ use Rattle.session_acts.specs.declared.target.Target.{Target}
 use Rattle.ftp_gate.specs.Dialogue.{ftp_row, ftp_rows, heard_form}
 use Rattle.ftp_gate.specs.Gate.{Gate}
 use Rattle.ftp_gate.specs.Known.{Known, asked_for, begins, dests_in, known, passage, passage_in, saying}
-use Rattle.ftp_gate.specs.Laws.{AreRight, AsksDue, AsksExactly, DenialsLogged, DialsCleared, GivesPassage, IsAskedOf, IsCleared, IsDone, IsDueAsk, IsLoggedFirst, IsOwnPair, IsPassable, IsRight, JoinsOwn, PassesUnblocked, given_to_server, main_asked}
+use Rattle.ftp_gate.specs.Laws.{AreRight, AsksDue, AsksExactly, CopiesOwn, DenialsLogged, DialsCleared, FailuresToldOf, GivesPassage, IsAskedOf, IsCleared, IsDone, IsDueAsk, IsLoggedFirst, IsOwnPair, IsPassable, IsRight, JoinsOwn, OpensOwn, PassesUnblocked, given_to_server, main_asked}
 use Rattle.ftp_gate.specs.Order.{Order}
 use Rattle.ftp_gate.specs.Passage.{asked_by, passed_as}
 use Rattle.ftp_gate.specs.declared.place.Place.{Place}
 use Rattle.ftp_gate.proofs.AccountLemmas.{Noted, all_calls, all_known, all_passed, at_first, deed_of, note, noted_after, noted_both}
 use Rattle.ftp_gate.proofs.KeepLemmas.{first_keeps, rows_keep}
-use Rattle.ftp_gate.proofs.WatchLemmas.{Behind, Even, May, behind, ftp_watch}
+use Rattle.ftp_gate.proofs.WatchLemmas.{Behind, Even, May, ftp_watch}
 
 -- ---- deeds that come where they may
 
@@ -44,7 +44,7 @@ due_ask gate requests.Close k asks = tt
 due_ask gate request k asks = asks
 
 right_by : (gate : Gate) (n : Noted) (act : Act) → May gate n act → IsRight gate n.k act
-right_by gate n (Hear form) may = tt
+right_by gate n (Hear form) may = may.0
 right_by gate n (Say text) may = may.0
 right_by gate n (Try text) may = absurd may
 right_by gate n (Log text) may = tt
@@ -60,9 +60,9 @@ right_by gate n Relay may = absurd may
 right_by gate n (Deposit sender rcpts words most) may = absurd may
 right_by gate n Allot may = absurd may
 right_by gate n (TakeReply how) may = tt
-right_by gate n OpenDoor may = tt
+right_by gate n OpenDoor may = may.0
 right_by gate n (Join dest target) may = may.0
-right_by gate n (Copy toward) may = tt
+right_by gate n (Copy toward) may = may.0
 right_by gate n Part may = tt
 
 right_both : (gate : Gate) (n : Noted) (first more : List Deed) → AllRight gate n first → AllRight gate (noted_after gate n first) more → AllRight gate n (first ++ more)
@@ -189,8 +189,7 @@ module _ {Origin : Type 0} (gate : Gate) where
   over_ends : (n : Noted) (left : Row (acts Origin) Place) → left ≡ Over → Leaves (ftp_watch Origin gate) left n → Ends gate (Ok tt) n []
   over_ends n left is leaves =
       let even : Even gate n = subst (λ (r : Row (acts Origin) Place). Leaves (ftp_watch Origin gate) r n) is leaves in
-      let b = behind gate n even in
-      record { right = tt; rest = []; is = b.is; more = []; asks = b.asks; whole = λ ended. refl; all = λ ended. refl }
+      record { right = tt; rest = []; is = even.is ∙ sym (append-nil n.passed); more = []; asks = even.asks ∙ sym (append-nil n.calls); whole = λ ended. refl; all = λ ended. refl }
 
   last_ends : (dialogue : Result (Unit {0}) Cause) (new : World Origin) (left : Row (acts Origin) Place) (mid : World Origin) (comes : Comes own over dialogue new left mid) (n : Noted) → Leaves (ftp_watch Origin gate) left n
       → Ends gate dialogue n (deed_last own over dialogue new left mid comes)
@@ -275,7 +274,16 @@ module _ {Origin : Type 0} (gate : Gate) (old new : World Origin) (ending : Endi
   held_unblocked before after deed text is act = subst (λ (a : Act). IsRight gate (known gate before) a) act (held_right before after deed is)
 
   pub held_logged : DenialsLogged gate (deeds_of held)
-  held_logged before after deed text is act = subst (λ (a : Act). IsRight gate (known gate before) a) act (held_right before after deed is)
+  held_logged before after deed text is act = (subst (λ (a : Act). IsRight gate (known gate before) a) act (held_right before after deed is)).0
+
+  pub held_caused : FailuresToldOf gate (deeds_of held)
+  held_caused before after deed text is act = (subst (λ (a : Act). IsRight gate (known gate before) a) act (held_right before after deed is)).1
+
+  pub held_doors : OpensOwn gate (deeds_of held)
+  held_doors before after deed is act = subst (λ (a : Act). IsRight gate (known gate before) a) act (held_right before after deed is)
+
+  pub held_copies : CopiesOwn gate (deeds_of held)
+  held_copies before after deed toward is act = subst (λ (a : Act). IsRight gate (known gate before) a) act (held_right before after deed is)
 
   pub held_asked : AsksDue gate (deeds_of held)
   held_asked before after deed request is act =

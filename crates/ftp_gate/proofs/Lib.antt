@@ -1,6 +1,7 @@
 mod AccountLemmas
 mod BaseLemmas
 pub mod CourseLemmas
+pub mod DueLemmas
 pub mod EndLemmas
 mod KeepLemmas
 mod KindLemmas

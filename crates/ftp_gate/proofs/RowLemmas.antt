@@ -8,10 +8,13 @@ use Rattle.fw_acts.specs.Acts.{Row, PlaceTable}
 use Rattle.fw_acts.specs.Acts.Row.{Do}
 use Rattle.fw_acts.specs.Ran.{Ran}
 use Rattle.fw_types.specs.declared.dest.Dest.{Dest}
-use Rattle.session_acts.specs.Acts.Act.{Ask, Log, Pass}
+use Rattle.fw_types.specs.declared.host.Host.{Host}
+use Rattle.session_acts.specs.Acts.Act.{Ask, Join, Log, Pass}
 use Rattle.session_acts.specs.Met.{Met, Stops, acts}
 use Rattle.session_acts.specs.World.{World}
 use Rattle.session_acts.specs.declared.cause.Cause.{Cause}
+use Rattle.session_acts.specs.declared.joined.Joined.{Joined}
+use Rattle.session_acts.specs.declared.target.Target.{Target}
 use Rattle.session_acts.proofs.Acting.{did, halted}
 use Rattle.ftp_gate.specs.Dialogue.{operated_row, refuse_row, refusing_line}
 use Rattle.ftp_gate.specs.Gate.{Gate}
@@ -45,6 +48,12 @@ module _ {Origin P T : Type 0} {rows : PlaceTable (acts Origin) P} {at : T → R
 
   pub ask_halted : {request other : Request} {cause : Cause} → request ≡ other → Stops (Ask request) cause old new → IsErrAnd result (λ e. e ≡ cause) → Ran rows (Do (Ask other) go) at old new result
   ask_halted {request} {other} same stops is = subst (λ (r : Request). Ran rows (Do (Ask r) go) at old new result) same (halted stops is)
+
+module _ {Origin P T : Type 0} {rows : PlaceTable (acts Origin) P} {at : T → Row (acts Origin) P} {old new : World Origin} {result : Result T Cause} {go : Joined → Row (acts Origin) P} where
+  -- data links were asked for at a host that is the same as another
+  pub joined_as : {host other : Host} {port : ℕ} {target : Target} {joined : Joined} {mid : World Origin} → host ≡ other → Met (Join (record { host = host; port = port }) target) (Ok joined) old mid → Ran rows (go joined) at mid new result
+      → Ran rows (Do (Join (record { host = other; port = port }) target) go) at old new result
+  joined_as {host} {other} {port} {target} {joined} {mid} same met rest = subst (λ (h : Host). Ran rows (Do (Join (record { host = h; port = port }) target) go) at old new result) same (did met rest)
 
 -- a destination to which no operation is permitted is refused
 pub refused_as : {Origin T : Type 0} {rows : PlaceTable (acts Origin) Place} {at : T → Row (acts Origin) Place} {old new : World Origin} {result : Result T Cause} (gate : Gate) (state : State) (name : List ℕ) (dest : Dest) (reply : Reply)

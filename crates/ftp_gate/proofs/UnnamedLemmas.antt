@@ -181,11 +181,11 @@ no_user : (name : List ℕ) (user : Option (List ℕ)) → user ≡ Some name �
 no_user name user is none = not_none name (sym is ∙ none)
 
 none_asked : (gate : Gate) (request : Request) (k : Known) (order : Order) → k.order ≡ Some order → IsAskedFor gate request order k → Alone k → ⊥
-none_asked gate (requests.Open console) k order heard asks alone = no_names asks.1 order asks.2 (ap named_in (sym heard) ∙ alone.order)
-none_asked gate (requests.Authenticate name) k order heard asks alone = no_names name order asks (ap named_in (sym heard) ∙ alone.order)
-none_asked gate (requests.Response hash word) k order heard asks alone = no_user asks.1 k.user asks.2 alone.user
+none_asked gate (requests.Open console) k order heard asks alone = no_names asks.2 order asks.3 (ap named_in (sym heard) ∙ alone.order)
+none_asked gate (requests.Authenticate name) k order heard asks alone = no_names name order asks.0 (ap named_in (sym heard) ∙ alone.order)
+none_asked gate (requests.Response hash word) k order heard asks alone = no_user asks.2 k.user asks.3 alone.user
 none_asked gate (requests.Operation service host) k order heard asks alone =
-    true≢false (sym (asks.1.login (user_asks gate.options order.verb asks.2.wants.kind asks.2.extnd)) ∙ alone.login)
+    true≢false (sym (asks.3.login (user_asks gate.options order.verb asks.4.wants.kind asks.4.extnd)) ∙ alone.login)
 none_asked gate request k order heard asks alone = absurd asks
 
 -- ---- what was asked

@@ -1,5 +1,6 @@
 pub mod Dialogue
 pub mod Distance
+pub mod Due
 pub mod Dummies
 pub mod Ends
 pub mod Gate

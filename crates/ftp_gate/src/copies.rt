@@ -21,7 +21,7 @@ fn is_done(end: Option<WayEnd>) -> bool
 {
     match end {
         Some(end) => matches!(end, WayEnd::Done),
-        None => true,
+        None => false,
     }
 }
 

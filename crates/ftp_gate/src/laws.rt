@@ -11,10 +11,11 @@ ghost use Rattle.session_acts.specs.Session.{Held, deeds_of};
 ghost use Rattle.session_acts.specs.Talk.{Entered, answered, asked};
 ghost use Rattle.session_acts.specs.World.{World};
 ghost use Rattle.ftp_gate.specs.Dialogue.{ftp_row, ftp_rows};
+ghost use Rattle.ftp_gate.specs.Due.{LogsWhatIsDue};
 ghost use Rattle.ftp_gate.specs.Ends.{EndsThere, HasEnd};
 ghost use Rattle.ftp_gate.specs.Gate.{Gate};
 ghost use Rattle.ftp_gate.specs.Known.{known};
-ghost use Rattle.ftp_gate.specs.Laws.{AsksDue, AsksExactly, DenialsLogged, DialsCleared, GivesPassage, IsDone, IsOutward, JoinsOwn, NeedsLogin, PassesUnblocked};
+ghost use Rattle.ftp_gate.specs.Laws.{AreRight, AsksDue, AsksExactly, CopiesOwn, DenialsLogged, DialsCleared, FailuresToldOf, GivesPassage, IsDone, IsOutward, JoinsOwn, NeedsLogin, OpensOwn, PassesUnblocked};
 ghost use Rattle.ftp_gate.specs.Naming.{names};
 
 /// Where a destination is asked for, the command that was heard last is a USER that names it, whose verb isn't denied, and a
@@ -50,16 +51,48 @@ pub fn what_the_server_is_given<Origin>()
         PassesUnblocked gate (deeds_of held) }
 {}
 
-/// Data links are asked for at the host of the server to which a link is up, and at the client's own address, at a port from
-/// 1,024 on, or at a door.
+/// Data links are asked for by a transfer that was heard last and isn't blocked: one at the host of the server to which a link
+/// is up, and at the port that the server told since in a reply of 227 to PASV; and the other as it was set, which is at the
+/// client's own address, at a port from 1,024 on, or at a door (`joins`). A door is opened for a PASV that was heard last and
+/// isn't blocked, where a link is up (`doors`). Data are copied the way of a transfer that was heard last and isn't blocked,
+/// where both data links came up, and the server's last reply to it says that it transfers (`copies`).
 pub fn data_links_are_the_sessions_own<Origin>()
-    ensures { (gate : Gate) (old new : World Origin) (ending : Ending) (held : Held (ftp_rows gate) ftp_row old new ending) →
+    ensures joins { (gate : Gate) (old new : World Origin) (ending : Ending) (held : Held (ftp_rows gate) ftp_row old new ending) →
         JoinsOwn gate (deeds_of held) }
+    ensures doors { (gate : Gate) (old new : World Origin) (ending : Ending) (held : Held (ftp_rows gate) ftp_row old new ending) →
+        OpensOwn gate (deeds_of held) }
+    ensures copies { (gate : Gate) (old new : World Origin) (ending : Ending) (held : Held (ftp_rows gate) ftp_row old new ending) →
+        CopiesOwn gate (deeds_of held) }
 {}
 
-/// Each request that is asked is one that the command which was heard last asks for, but for the close: for a user who is named,
-/// who that is, and before that an opening; for a response whether it is right, where a user was named before; for a
-/// destination that `-dest` lets pass, with `-extnd`, permission to reach its host.
+/// The log is given each line that is due, right behind what it is due for, and no other: for a command that is blocked, for a
+/// destination that is refused or asked for, for a login and one that failed, and for a command in `-log` that is passed, where
+/// that is a transfer once both data links are up.
+pub fn the_log_is_given_what_is_due<Origin>()
+    ensures { (gate : Gate) (old new : World Origin) (ending : Ending) (held : Held (ftp_rows gate) ftp_row old new ending) →
+        LogsWhatIsDue gate (deeds_of held) }
+{}
+
+/// Where the client is told that there is no route, no door, no data link or no data port, that the server closed, or that a
+/// transfer ended early, that was so: right before, the dial, the door or the data links were refused, the server told no data
+/// port, or came to its end; or a copy wasn't done to its end, and behind it the server's replies were dropped, up to its last.
+pub fn each_failure_has_its_cause<Origin>()
+    ensures { (gate : Gate) (old new : World Origin) (ending : Ending) (held : Held (ftp_rows gate) ftp_row old new ending) →
+        FailuresToldOf gate (deeds_of held) }
+{}
+
+/// Each act is one of these, where it may come: lines are heard in one form, and what is said, asked, dialed, passed, joined and
+/// copied is so as the other laws say; beside that the log is given a line, a reply of the server is heard, data links are let
+/// go, and a link is hung up.
+pub fn only_these_acts_come<Origin>()
+    ensures { (gate : Gate) (old new : World Origin) (ending : Ending) (held : Held (ftp_rows gate) ftp_row old new ending) →
+        AreRight gate (deeds_of held) }
+{}
+
+/// Each request that is asked is one that the command which was heard last asks for, and nothing was done since, but for the
+/// close: for a user who is named an opening, or, at once or behind an opening, who that is; for a response whether it is right,
+/// where a user was named before; for a destination that `-dest` lets pass, with `-extnd`, while no link is up, permission to
+/// reach its host.
 pub fn each_request_is_asked_for<Origin>()
     ensures { (gate : Gate) (old new : World Origin) (ending : Ending) (held : Held (ftp_rows gate) ftp_row old new ending) →
         AsksDue gate (deeds_of held) }

@@ -1,5 +1,6 @@
 -- Only dialing brings more bytes of a server, and a whole reply takes some.
 use Rattle.std.proofs.Common.{arith, ◌≡◌, refl, sym, ap, subst, ◌∙◌, ℕ, ◌+◌, ◌<◌, ◌≤◌, Bool, true, false, List, [], ◌∷◌, length, Option, Some, None, Result, Ok, Err}
+use mathlib.Core.Bool.{true≢false}
 use Rattle.ftp_lines.proofs.ReplyLemmas.{first_reply-empty}
 use Rattle.ftp_lines.specs.Reply.{first_reply}
 use Rattle.fw_acts.specs.Acts.{Row, PlaceTable}
@@ -18,7 +19,7 @@ use Rattle.session_acts.specs.World.{Server, Speaker, World, most_taken}
 use Rattle.session_acts.specs.declared.cause.Cause.{Cause}
 use Rattle.session_acts.specs.declared.form.Form.TheVariants.{Lines}
 use Rattle.session_acts.specs.declared.replied.Replied.{Replied}
-use Rattle.session_acts.specs.declared.replied.Replied.TheVariants.{Whole}
+use Rattle.session_acts.specs.declared.replied.Replied.TheVariants.{Whole, Ended}
 use Rattle.session_acts.specs.declared.reply_use.ReplyUse.{ReplyUse}
 use Rattle.session_acts.specs.declared.silence.Silence.{Silence}
 use Rattle.session_acts.proofs.AheadLemmas.{carrying_nearer, hears_nearer, told_nearer}
@@ -116,8 +117,13 @@ some_reply : (text : List ℕ) (code : ℕ) → first_reply text ≡ Some (lengt
 some_reply [] code is = let none = first_reply-empty in let clash : None ≡ Some (0, code) = sym none ∙ is in absurd (cc)
 some_reply (byte ∷ text) code is = omega (arith)
 
+is_whole : (how : ReplyUse) → Result (Replied × List ℕ) (Unreplied how) → Bool
+is_whole how (Ok (Whole code six, text)) = true
+is_whole how (Ok (Ended, text)) = false
+is_whole how (Err halt) = false
+
 whole_nearer : (how : ReplyUse) (code : ℕ) (six : Option (List ℕ × ℕ)) (text : List ℕ) (link : Option Speaker) (old new : Server) → old.link ≡ link → ServerReplies {how = how} (Ok (Whole code six, text)) link old new → ahead_of_link new.link < ahead_of_link old.link
-whole_nearer how code six text None old new up h = let clash = h.0 in absurd (cc)
+whole_nearer how code six text None old new up h = absurd (true≢false (ap (is_whole how) h.0))
 whole_nearer how code six text (Some link) old new up h =
     let is = draws_ahead None text link h.speaker h.draws in
     let some = some_reply text code h.of_text.0 in
