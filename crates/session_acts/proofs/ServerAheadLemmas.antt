@@ -117,7 +117,7 @@ some_reply : (text : List ℕ) (code : ℕ) → first_reply text ≡ Some (lengt
 some_reply [] code is = let none = first_reply-empty in let clash : None ≡ Some (0, code) = sym none ∙ is in absurd (cc)
 some_reply (byte ∷ text) code is = omega (arith)
 
-is_whole : (how : ReplyUse) → Result (Replied × List ℕ) (Unreplied how) → Bool
+abbrev is_whole : (how : ReplyUse) → Result (Replied × List ℕ) (Unreplied how) → Bool
 is_whole how (Ok (Whole code six, text)) = true
 is_whole how (Ok (Ended, text)) = false
 is_whole how (Err halt) = false
