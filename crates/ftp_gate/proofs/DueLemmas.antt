@@ -617,5 +617,5 @@ module _ {Origin : Type 0} (gate : Gate) (old new : World Origin) (ending : Endi
     first = logged_so None gate begin (deeds_of held) refl all_fit none_due;
     each = λ before after deed is.
         subst (λ (k : Known). IsLogged (due_after gate k deed.act deed.outcome) after) (known_by gate begin before)
-            (logged_each gate begin before after deed (subst (λ (d : List Deed). AllFit gate begin d) is all_fit) (subst (λ (d : List Deed). (traced gate begin d).due ≡ None) is none_due));
+        (logged_each gate begin before after deed (subst (λ (d : List Deed). AllFit gate begin d) is all_fit) (subst (λ (d : List Deed). (traced gate begin d).due ≡ None) is none_due));
   }

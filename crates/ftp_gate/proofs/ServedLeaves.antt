@@ -213,10 +213,10 @@ module _ (Origin : Type 0) (gate : Gate) (state : State) (order : Order) (main :
     started_leaves n true may knows even = (
       (may refl, behind gate n even),
       λ carried. copied_leaves (rows.is_done (option_map (λ way. way.end) carried)) (note gate n (Copy toward) (Ok carried))
-      (λ lacks. record { toward = toward; carried = carried; lacks = lacks; earlier = n.k.since; drops = []; are_drops = tt; is = refl }) (
-        record { login = knows.login; user = knows.user; link = knows.link; setting = knows.setting; own = knows.own },
-        record { is = even.is ∙ sym (append-nil n.passed); asks = even.asks ∙ sym (append-nil n.calls) },
-      ),
+          (λ lacks. record { toward = toward; carried = carried; lacks = lacks; earlier = n.k.since; drops = []; are_drops = tt; is = refl }) (
+            record { login = knows.login; user = knows.user; link = knows.link; setting = knows.setting; own = knows.own },
+            record { is = even.is ∙ sym (append-nil n.passed); asks = even.asks ∙ sym (append-nil n.calls) },
+          ),
     )
     started_leaves n false may knows even = (
       behind gate n even,
