@@ -255,9 +255,9 @@ module _ (Origin : Type 0) (gate : Gate) where
   pub rows_keep : Keeps own (ftp_watch Origin gate)
   rows_keep (Listening state) n holds = ((refl, behind gate n holds.1), λ heard. heard_leaves n heard state holds)
   rows_keep (Answering state quits) n holds =
-      (behind gate n holds.1, λ heard. answering_leaves n state quits heard holds)
+      ((tt, behind gate n holds.1), λ heard. answering_leaves n state quits heard holds)
   rows_keep (Dropping state) n holds =
-      (behind gate n holds.0.1, λ heard. dropping_leaves n state heard holds.1 holds.0)
+      ((inr holds.1, behind gate n holds.0.1), λ heard. dropping_leaves n state heard holds.1 holds.0)
 
   pub first_keeps : Leaves (ftp_watch Origin gate) rows.ftp_row at_first
   first_keeps =

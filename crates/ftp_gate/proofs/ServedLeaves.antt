@@ -268,7 +268,7 @@ module _ (Origin : Type 0) (gate : Gate) (state : State) (order : Order) (main :
         let even = due_even gate text n due in
         let given = note gate n (Pass text) (Ok tt) in
         let passed : Given given = record { order_is = order_is; joined = joined; knows = given_knows Origin gate bare text n kept knows; even = even } in
-        ((may, due), λ done. (behind gate given even, λ heard. commanded_leaves given heard passed))
+        ((may, due), λ done. ((tt, behind gate given even), λ heard. commanded_leaves given heard passed))
 
     command_leaves : (b : Bool) (n : Noted) → Due gate (texts.passed_line order.line) n → IsPassable gate n.k → set_by (λ o kind s. used_up kind s) n.k.order n.k.setting ≡ n.k.setting → n.k.order ≡ Some order → n.k.standing.joined ≡ true → Knows gate bare n.k
         → Leaves watch (rows.logged_row gate order.verb b (Do (Pass (texts.passed_line order.line)) (λ done. Do (TakeReply Passed) (λ heard. rows.commanded_row bare toward heard.0)))) n
@@ -397,7 +397,7 @@ module _ (Origin : Type 0) (gate : Gate) (state : State) (order : Order) (main :
         let own : IsOwnTarget gate.peer target = subst (λ (t : Option Target). IsOwnSetting gate t) set start.knows.own in (
           (passable (Transfer toward) free n start, due),
           λ done.
-              (behind gate given (asked_even given a), λ heard. passive_leaves target set own given heard (ap (λ (d : List Deed). d ++ deed_of (Pass texts.pasv_text) (Ok tt) ∷ []) start.since) a),
+              ((inl (n.k.since, refl), behind gate given (asked_even given a)), λ heard. passive_leaves target set own given heard (ap (λ (d : List Deed). d ++ deed_of (Pass texts.pasv_text) (Ok tt) ∷ []) start.since) a),
         )
 
   pub linked_leaves : (n : Noted) (asked : served.Served) → FreeFor asked → Start gate state order n → Leaves watch (rows.linked_row gate state main order asked) n

@@ -188,7 +188,7 @@ module _ (Origin : Type 0) (gate : Gate) (state : State) (order : Order) (free :
             link = link;
             greeted = greeted;
           } in
-          (behind gate after (dialed_even after d), λ heard. greeted_leaves after heard refl d)
+          (((dest, (n.k.since, refl)), behind gate after (dialed_even after d)), λ heard. greeted_leaves after heard refl d)
       dialed_leaves n false order_is knows passed asks login link greeted =
           let after = note gate n (Dial dest) (Ok false) in
           let d : Dialed gate state order after = record {

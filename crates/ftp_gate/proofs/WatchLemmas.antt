@@ -31,7 +31,7 @@ use Rattle.ftp_gate.specs.Dialogue.{heard_form, is_in, reason_of, with_account}
 use Rattle.ftp_gate.specs.Gate.{Gate, asks_login, has_verb}
 use Rattle.ftp_gate.specs.Kind.{kind_of}
 use Rattle.ftp_gate.specs.Known.{Known, begins, dests_in, passage_in, saying, with_deed}
-use Rattle.ftp_gate.specs.Laws.{HasCause, IsAskedOf, IsCleared, IsClosed, IsCutShort, IsFailure, IsLoggedFirst, IsNoName, IsOwnCopy, IsOwnDoor, IsOwnPair, IsOwnTarget, IsPassable, IsUnblocked, asked_so}
+use Rattle.ftp_gate.specs.Laws.{HasCause, IsAskedOf, IsCleared, IsClosed, IsCutShort, IsDueReply, IsFailure, IsLoggedFirst, IsNoName, IsOwnCopy, IsOwnDoor, IsOwnPair, IsOwnTarget, IsPassable, IsUnblocked, asked_so}
 use Rattle.ftp_gate.specs.LogLines.{blocked_line, command_line, connect_line, fail_line, login_line, refuse_line}
 use Rattle.ftp_gate.specs.Order.{Order}
 use Rattle.ftp_gate.specs.Passage.{Standing, asked_by, passed_as}
@@ -74,7 +74,7 @@ May gate n (Log text) = Behind gate n
 May gate n (Ask request) = IsAskedOf gate request n.k × Behind gate n
 May gate n (Dial dest) = IsCleared gate dest n.k × Behind gate n
 May gate n (Pass text) = IsPassable gate n.k × Due gate text n
-May gate n (TakeReply how) = Behind gate n
+May gate n (TakeReply how) = IsDueReply how n.k.since × Behind gate n
 May gate n OpenDoor = IsOwnDoor gate n.k × Behind gate n
 May gate n (Join dest target) = IsOwnPair gate dest target n.k × Behind gate n
 May gate n (Copy toward) = IsOwnCopy gate toward n.k × Behind gate n

@@ -27,7 +27,7 @@ use Rattle.session_acts.specs.World.{World}
 use Rattle.session_acts.specs.declared.joined.Joined.{Joined}
 use Rattle.session_acts.specs.declared.replied.Replied.TheVariants.{Whole, Ended}
 use Rattle.session_acts.specs.declared.reply_use.ReplyUse.{ReplyUse}
-use Rattle.session_acts.specs.declared.reply_use.ReplyUse.TheVariants.{Passed, Dropped}
+use Rattle.session_acts.specs.declared.reply_use.ReplyUse.TheVariants.{Passed, Dropped, Greeting}
 use Rattle.session_acts.specs.declared.target.Target.{Target}
 use Rattle.session_acts.specs.declared.target.Target.TheVariants.{Addr, AtDoor}
 use Rattle.session_acts.specs.declared.toward.Toward.{Toward}
@@ -160,14 +160,19 @@ pub record IsPassable (gate : Gate) (k : Known) : Type 0 where
   pub main : Dest
   pub link : k.link ≡ Some main
 
-abbrev pub PassesUnblocked : Gate → List Deed → Type 0
-PassesUnblocked gate deeds =
-    (before after : List Deed) (deed : Deed) (text : List ℕ) → deeds ≡ before ++ deed ∷ after → deed.act ≡ Pass text → IsPassable gate (known gate before)
-
 -- the texts that the server is given
 abbrev pub given_to_server : (act : Act) → Outcome act → List ℕ
 given_to_server (Pass text) outcome = got outcome
 given_to_server act outcome = []
+
+-- it may be given this text, which is what is due of the commands so far
+pub record IsDuePassage (gate : Gate) (text : List ℕ) (before : List Deed) : Type 0 where
+  pub passable : IsPassable gate (known gate before)
+  pub due : passage gate before ≡ gives given_to_server before ++ text
+
+abbrev pub PassesUnblocked : Gate → List Deed → Type 0
+PassesUnblocked gate deeds =
+    (before after : List Deed) (deed : Deed) (text : List ℕ) → deeds ≡ before ++ deed ∷ after → deed.act ≡ Pass text → IsDuePassage gate text before
 
 -- the destinations that the dialer is asked for
 abbrev pub main_asked : (act : Act) → Outcome act → List Dest
@@ -349,6 +354,15 @@ abbrev pub FailuresToldOf : Gate → List Deed → Type 0
 FailuresToldOf gate deeds =
     (before after : List Deed) (deed : Deed) (text : List ℕ) → deeds ≡ before ++ deed ∷ after → deed.act ≡ Say text → HasCause text (known gate before).since
 
+-- ---- each reply
+
+-- The greeting is heard behind a dial that came up. A reply is heard and not passed where the server was asked for its data port
+-- last, or behind a copy that was cut short.
+abbrev pub IsDueReply : ReplyUse → List Deed → Type 0
+IsDueReply Greeting since = (dest : Dest) × EndsWith (record { act = Dial dest; outcome = Ok true }) since
+IsDueReply Dropped since = EndsWith (record { act = Pass pasv_text; outcome = Ok tt }) since ⊎ IsCutShort since
+IsDueReply Passed since = Unit {0}
+
 -- ---- each request
 
 -- the command names this user
@@ -423,7 +437,7 @@ IsRight gate k (Log text) = Unit {0}
 IsRight gate k (Ask request) = IsDueAsk gate request k
 IsRight gate k (Dial dest) = IsCleared gate dest k
 IsRight gate k (Pass text) = IsPassable gate k
-IsRight gate k (TakeReply how) = Unit {0}
+IsRight gate k (TakeReply how) = IsDueReply how k.since
 IsRight gate k OpenDoor = IsOwnDoor gate k
 IsRight gate k (Join dest target) = IsOwnPair gate dest target k
 IsRight gate k (Copy toward) = IsOwnCopy gate toward k
