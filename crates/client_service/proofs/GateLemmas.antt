@@ -185,6 +185,8 @@ module _ {Origin : Type 0} where
         refusals = same_low old.dialer.refusals new.dialer.refusals (ap (λ (d : Devices Origin). d.dialer.refusals) fails.same);
         link_faults = same_low old.dialer.link_faults new.dialer.link_faults (ap (λ (d : Devices Origin). d.dialer.link_faults) fails.same);
         link_idles = same_low old.dialer.link_idles new.dialer.link_idles (ap (λ (d : Devices Origin). d.dialer.link_idles) fails.same);
+        data_faults = same_low old.dialer.data_faults new.dialer.data_faults (ap (λ (d : Devices Origin). d.dialer.data_faults) fails.same);
+        data_idles = same_low old.dialer.data_idles new.dialer.data_idles (ap (λ (d : Devices Origin). d.dialer.data_idles) fails.same);
         waits = ap (λ (d : Devices Origin). d.inlet.waits) fails.same;
         link_waits = ap (λ (d : Devices Origin). d.dialer.waits) fails.same;
         shut = inl shut;
@@ -209,6 +211,8 @@ module _ {Origin : Type 0} where
         refusals = h.refusals;
         link_faults = h.link_faults;
         link_idles = h.link_idles;
+        data_faults = h.data_faults;
+        data_idles = h.data_idles;
         waits = h.waits;
         link_waits = h.link_waits;
         shut = h.shut;

@@ -53,6 +53,7 @@ pub mod ReplyPassLemmas
 pub mod ReplyDeskLemmas
 pub mod GreetingLemmas
 pub mod GreetedLemmas
+pub mod GreetsLemmas
 pub mod RefusalLemmas
 pub mod OnceLemmas
 pub mod OwnLoginLemmas

@@ -35,7 +35,7 @@ pub adds_none : {A : Type 0} (all : Option (List A)) → Adds [] all all
 adds_none None = tt
 adds_none {A} (Some all) = ap (λ (z : List A). Some z) (append-nil all)
 
-grown_both : {A : Type 0} (all : Option (List A)) (first more : List A) → grown (grown all first) more ≡ grown all (first ++ more)
+pub grown_both : {A : Type 0} (all : Option (List A)) (first more : List A) → grown (grown all first) more ≡ grown all (first ++ more)
 grown_both None first more = refl
 grown_both {A} (Some all) first more = ap (λ (z : List A). Some z) (append_assoc all first more)
 

@@ -98,6 +98,7 @@ some_more (one ∷ kept) byte = λ none. cc
 pub passed_whole : (earlier fed first_kept kept now_kept : List ℕ) (byte code : ℕ) (heard : Option (List ℕ)) (old now new : LineReaderView) (first at next : SourceView) (outlet : SinkView) (client : Speaker) (sink_old sink_now sink_new : SinkView)
     → (c : Coming earlier fed old now first at) → Passing first_kept c.more kept sink_old sink_now → ReadsByte (Ok byte) now new at next → length new.pending ≤ 4096 → EndsReply fed byte code heard → Keeps kept byte now_kept sink_now sink_new → (byte ≡ 10 → now_kept ≡ [])
     → PassesRest earlier first_kept (Ok (Whole code (six_in heard))) (record { inlet = first; reader = old; outlet = outlet }) (record { inlet = next; reader = new; outlet = outlet }) (record client { outlet = sink_old }) (record client { outlet = sink_new })
+unfolding came_whole
 passed_whole earlier fed first_kept kept now_kept byte code heard old now new first at next outlet client sink_old sink_now sink_new c p read near ends k at_end =
     let on = passing_more first_kept c.more kept now_kept byte sink_old sink_now sink_new p k in
     record {
@@ -122,6 +123,7 @@ passed_cut earlier fed first_kept kept byte old now new first at next outlet cli
 ended_said : (earlier fed first_kept kept : List ℕ) (result : Result Replied Miss) (old now new : LineReaderView) (first at next : SourceView) (outlet : SinkView) (client : Speaker) (sink_old sink_now sink_new : SinkView)
     → (c : Coming earlier fed old now first at) → Passing first_kept c.more kept sink_old sink_now → ReadsByte (Err stops.End) now new at next → length new.pending ≤ 4096 → StopsPassing stops.End kept result sink_now sink_new
     → PassesRest earlier first_kept result (record { inlet = first; reader = old; outlet = outlet }) (record { inlet = next; reader = new; outlet = outlet }) (record client { outlet = sink_old }) (record client { outlet = sink_new })
+unfolding came_stop
 ended_said earlier fed first_kept kept (Ok is_replied) old now new first at next outlet client sink_old sink_now sink_new c p read near h =
     let rest : RestReplied earlier Ended (record { inlet = first; reader = old; outlet = outlet }) (record { inlet = next; reader = new; outlet = outlet }) = came_stop stops.End earlier fed old now new first at next outlet c read near in
     let all : Passing first_kept c.more [] sink_old sink_new = record { said = p.said ++ kept; split = p.split ∙ sym (append-nil (p.said ++ kept)); is = said_more sink_old p.said kept sink_now sink_new p.is h.1 } in
@@ -151,6 +153,7 @@ begun_by earlier first_kept more kept silence link new_link client sink_old sink
 pub passed_stop : (stop : Stop) (earlier fed first_kept kept : List ℕ) (result : Result Replied Miss) (old now new : LineReaderView) (first at next : SourceView) (outlet : SinkView) (client : Speaker) (sink_old sink_now sink_new : SinkView)
     → (c : Coming earlier fed old now first at) → Passing first_kept c.more kept sink_old sink_now → ReadsByte (Err stop) now new at next → length new.pending ≤ 4096 → StopsPassing stop kept result sink_now sink_new
     → PassesRest earlier first_kept result (record { inlet = first; reader = old; outlet = outlet }) (record { inlet = next; reader = new; outlet = outlet }) (record client { outlet = sink_old }) (record client { outlet = sink_new })
+unfolding came_stop
 passed_stop stops.End earlier fed first_kept kept result old now new first at next outlet client sink_old sink_now sink_new c p read near h =
     ended_said earlier fed first_kept kept result old now new first at next outlet client sink_old sink_now sink_new c p read near h
 passed_stop stops.Idle earlier fed first_kept kept result old now new first at next outlet client sink_old sink_now sink_new c p read near h =
@@ -166,7 +169,7 @@ passed_stop stops.Spent earlier fed first_kept kept result old now new first at 
 -- ---- whole replies
 
 -- one that is passed from its beginning on
-pub passed_by : (result : Result Replied Miss) (link new_link client new_client : Speaker) → PassesRest [] [] result link new_link client new_client → HearsBy Passed result link new_link client new_client
+passed_by : (result : Result Replied Miss) (link new_link client new_client : Speaker) → PassesRest [] [] result link new_link client new_client → HearsBy Passed result link new_link client new_client
 passed_by (Ok is_replied) link new_link client new_client h = record { text = h.rest.more; is = h.rest.is; draws = h.rest.draws; told = h.told }
 passed_by (Err (Silent silence)) link new_link client new_client h = record { text = h.rest.more; none = h.rest.none; draws = h.rest.draws; begun = h.begun; told = h.told }
 passed_by (Err Unsaid) link new_link client new_client h = record { text = h.more; draws = h.draws; front = h.front; told = h.told }
@@ -176,10 +179,19 @@ pub untold : (client : Speaker) → IsTold [] (Ok tt) client client
 untold client = record { outlet = client.outlet; gets = ap (λ (g : Option (List ℕ)). record (client.outlet) { given = g }) (by_nothing client.outlet.given); is = refl }
 
 -- one that is dropped
-pub dropped_by : (result : Result Replied Miss) (link new_link client : Speaker) → DropsRest [] result link new_link → HearsBy Dropped result link new_link client client
+dropped_by : (result : Result Replied Miss) (link new_link client : Speaker) → DropsRest [] result link new_link → HearsBy Dropped result link new_link client client
 dropped_by (Ok is_replied) link new_link client h = record { text = h.more; is = h.is; draws = h.draws; told = untold client }
 dropped_by (Err (Silent silence)) link new_link client h = record { text = h.more; none = h.none; draws = h.draws; begun = record { part = []; rest = []; cut = refl }; told = untold client }
 dropped_by (Err Unsaid) link new_link client h = absurd h
+
+-- a reader that begins
+pub passed_first : (earlier kept : List ℕ) (result : Result Replied Miss) (link new_link client new_client : Speaker) → earlier ≡ [] → kept ≡ [] → PassesRest earlier kept result link new_link client new_client → HearsBy Passed result link new_link client new_client
+passed_first earlier kept result link new_link client new_client first none h =
+    let here = subst (λ (e : List ℕ). PassesRest e kept result link new_link client new_client) first h in
+    passed_by result link new_link client new_client (subst (λ (k : List ℕ). PassesRest [] k result link new_link client new_client) none here)
+
+pub dropped_first : (earlier : List ℕ) (result : Result Replied Miss) (link new_link client : Speaker) → earlier ≡ [] → DropsRest earlier result link new_link → HearsBy Dropped result link new_link client client
+dropped_first earlier result link new_link client first h = dropped_by result link new_link client (subst (λ (e : List ℕ). DropsRest e result link new_link) first h)
 
 -- what a session sees of it
 pub hears_reply : (how : ReplyUse) (heard : Result Replied Miss) (result : Result Replied Cause) (link new_link client new_client : Speaker) → result ≡ caused_by heard → HearsBy how heard link new_link client new_client → HearsReply how result link new_link client new_client
@@ -196,11 +208,13 @@ pub record ComingBy (earlier first_kept fed kept : List ℕ) (old now : LineRead
   pub room : length kept < 512
 
 pub coming_first : (earlier kept : List ℕ) (old : LineReaderView) (first : SourceView) (sink : SinkView) → first_reply earlier ≡ None → length kept < 512 → ComingBy earlier kept earlier kept old old first first sink sink
+unfolding coming_none
 coming_first earlier kept old first sink unended room = record { coming = coming_none earlier old first unended; passing = passing_none kept sink; room = room }
 
 pub coming_next : (earlier first_kept fed now_fed kept now_kept : List ℕ) (byte : ℕ) (step : ReplyStep) (old now new : LineReaderView) (first at next : SourceView) (sink_old sink_now sink_new : SinkView)
     → ComingBy earlier first_kept fed kept old now first at sink_old sink_now → ReadsByte (Ok byte) now new at next → ((code : ℕ) → step ≡ Last code → ⊥) → now_fed ≡ fed_after step (fed ++ byte ∷ []) → first_reply now_fed ≡ None
     → Keeps kept byte now_kept sink_now sink_new → length now_kept < 512 → ComingBy earlier first_kept now_fed now_kept old new first next sink_old sink_new
+unfolding coming_more
 coming_next earlier first_kept fed now_fed kept now_kept byte step old now new first at next sink_old sink_now sink_new c read other is unended k room = record {
   coming = coming_more earlier fed now_fed byte step old now new first at next c.coming read other is unended;
   passing = passing_more first_kept c.coming.more kept now_kept byte sink_old sink_now sink_new c.passing k;

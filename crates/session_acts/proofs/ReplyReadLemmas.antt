@@ -63,7 +63,7 @@ pub record Coming (earlier : List ℕ) (fed : List ℕ) (old now : LineReaderVie
   pub is_fed : fed ≡ earlier ++ more
   pub unended : first_reply (earlier ++ more) ≡ None
 
-pub coming_none : (earlier : List ℕ) (old : LineReaderView) (first : SourceView) → first_reply earlier ≡ None → Coming earlier earlier old old first first
+unfoldable pub coming_none : (earlier : List ℕ) (old : LineReaderView) (first : SourceView) → first_reply earlier ≡ None → Coming earlier earlier old old first first
 coming_none earlier old first unended = record {
   more = [];
   reading = reading_none old first;
@@ -72,19 +72,19 @@ coming_none earlier old first unended = record {
 }
 
 -- a byte that doesn't end it
-goes_on : (step : ReplyStep) (bytes now : List ℕ) → ((code : ℕ) → step ≡ Last code → ⊥) → now ≡ fed_after step bytes → now ≡ bytes
+pub goes_on : (step : ReplyStep) (bytes now : List ℕ) → ((code : ℕ) → step ≡ Last code → ⊥) → now ≡ fed_after step bytes → now ≡ bytes
 goes_on More bytes now other is = is
 goes_on Line bytes now other is = is
 goes_on (Last code) bytes now other is = absurd (other code refl)
 
-pub coming_more : (earlier fed now_fed : List ℕ) (byte : ℕ) (step : ReplyStep) (old now new : LineReaderView) (first at next : SourceView) → (c : Coming earlier fed old now first at) → ReadsByte (Ok byte) now new at next
+unfoldable pub coming_more : (earlier fed now_fed : List ℕ) (byte : ℕ) (step : ReplyStep) (old now new : LineReaderView) (first at next : SourceView) → (c : Coming earlier fed old now first at) → ReadsByte (Ok byte) now new at next
     → ((code : ℕ) → step ≡ Last code → ⊥) → now_fed ≡ fed_after step (fed ++ byte ∷ []) → first_reply now_fed ≡ None → Coming earlier now_fed old new first next
 coming_more earlier fed now_fed byte step old now new first at next c read other is unended =
     let here : now_fed ≡ earlier ++ (c.more ++ byte ∷ []) = goes_on step (fed ++ byte ∷ []) now_fed other is ∙ ap (λ (f : List ℕ). f ++ byte ∷ []) c.is_fed ∙ append_assoc earlier c.more (byte ∷ []) in
     record { more = c.more ++ byte ∷ []; reading = reading_more c.more byte old now new first at next c.reading read; is_fed = here; unended = ap first_reply (sym here) ∙ unended }
 
 -- a byte that does
-pub came_whole : (earlier fed : List ℕ) (byte code : ℕ) (heard : Option (List ℕ)) (old now new : LineReaderView) (first at next : SourceView) (outlet : SinkView) → Coming earlier fed old now first at → ReadsByte (Ok byte) now new at next → length new.pending ≤ 4096
+unfoldable pub came_whole : (earlier fed : List ℕ) (byte code : ℕ) (heard : Option (List ℕ)) (old now new : LineReaderView) (first at next : SourceView) (outlet : SinkView) → Coming earlier fed old now first at → ReadsByte (Ok byte) now new at next → length new.pending ≤ 4096
     → EndsReply fed byte code heard → DropsRest earlier (Ok (Whole code (six_in heard))) (record { inlet = first; reader = old; outlet = outlet }) (record { inlet = next; reader = new; outlet = outlet })
 came_whole earlier fed byte code heard old now new first at next outlet c read near ends = record {
   more = c.more ++ byte ∷ [];
@@ -93,7 +93,7 @@ came_whole earlier fed byte code heard old now new first at next outlet c read n
 }
 
 -- or the source stopped
-pub came_stop : (stop : Stop) (earlier fed : List ℕ) (old now new : LineReaderView) (first at next : SourceView) (outlet : SinkView) → Coming earlier fed old now first at → ReadsByte (Err stop) now new at next → length new.pending ≤ 4096
+unfoldable pub came_stop : (stop : Stop) (earlier fed : List ℕ) (old now new : LineReaderView) (first at next : SourceView) (outlet : SinkView) → Coming earlier fed old now first at → ReadsByte (Err stop) now new at next → length new.pending ≤ 4096
     → DropsRest earlier (miss_of stop) (record { inlet = first; reader = old; outlet = outlet }) (record { inlet = next; reader = new; outlet = outlet })
 came_stop stops.End earlier fed old now new first at next outlet c read near = record { more = c.more; is = c.unended; draws = drawn_stop stops.End c.more old now new first at next outlet c.reading read near }
 came_stop stops.Idle earlier fed old now new first at next outlet c read near = record { more = c.more; none = c.unended; draws = drawn_stop stops.Idle c.more old now new first at next outlet c.reading read near }

@@ -19,9 +19,10 @@ use Rattle.session_acts.specs.Link.{IsPutUp, PassesSo, link_view, outcome_of, pa
 use Rattle.session_acts.specs.declared.link.Link.{Link}
 use Rattle.session_acts.specs.declared.pair.DataPair.{DataPair}
 use Rattle.session_acts.proofs.OwedLemmas.{unlinked_server}
-use Rattle.session_acts.specs.Met.{Clears, ConnectsIf, CutAt, Gets, Hanging, Hears, Heeds, Met, Passes}
+use Rattle.session_acts.specs.Met.{Clears, ConnectsIf, CutAt, Gets, Hanging, Hears, Heeds, Met, Passes, Takes}
 use Rattle.session_acts.specs.World.{Pair, Server, Speaker, World}
 use Rattle.session_acts.specs.declared.form.Form.{Form}
+use Rattle.session_acts.specs.declared.silence.Silence.{Silence}
 use Rattle.session_acts.specs.declared.form.Form.TheVariants.{Lines, Telnet}
 use Rattle.telnet_hearing.specs.Hearing.{ListensTelnet}
 
@@ -53,6 +54,11 @@ passes text failed dialer (Some link) new passed door pair = record {
   halt = front_of passed.gives;
   passes = record { speaker = record link { outlet = passed.outlet }; told = record { outlet = passed.outlet; gets = cut_at passed.gives; is = refl }; is = ap (λ (l : Option Speaker). record { dialer = dialer; link = l; door = door; pair = pair }) passed.is };
 }
+
+-- what was heard of a server, beside what else there is of it
+pub takes_on : (outcome : Result Heard Silence) (dialer : DialerView) (link new : Option Speaker) (door : Bool) (pair : Option Pair) → ((server : Server) → Takes outcome link (record server { link = link }) (record server { link = new }))
+    → Takes outcome link (record { dialer = dialer; link = link; door = door; pair = pair }) (record { dialer = dialer; link = new; door = door; pair = pair })
+takes_on outcome dialer link new door pair h = h (record { dialer = dialer; link = link; door = door; pair = pair })
 
 -- what a reader of lines hears is heard in the form of lines
 pub listens_lines : (heard : Heard) (old new : LineReaderView) (before after : SourceView) → Listens heard old new before after → ListensIn Lines heard old new before after

@@ -2,6 +2,8 @@
 -- No public clause cites these: they say what private functions answer.
 use Rattle.std.specs.Prelude.{◌≡◌, ℕ, Bool, true, false, List, [], ◌∷◌, ◌++◌, take, Option, Some, None, Result, Ok, Err}
 use Rattle.ftp_lines.specs.Reply.{ending_code, first_code}
+use Rattle.ftp_lines.specs.declared.reply_step.ReplyStep.{ReplyStep}
+use Rattle.ftp_lines.specs.declared.reply_step.ReplyStep.TheVariants.{Last, Line, More}
 use Rattle.fw_outside.specs.SinkView.{Cut, SinkView}
 use Rattle.fw_outside.specs.ToldList.{grown}
 use Rattle.session_acts.specs.Replying.{or_code, six_in, unless_welcome}
@@ -19,6 +21,18 @@ code_told fed head = or_code (first_code fed) (ending_code head)
 -- the first bytes of a line, of which at most five are kept
 abbrev pub head_after : List ℕ → ℕ → List ℕ
 head_after head byte = take 5 (head ++ byte ∷ [])
+
+-- the code that is told where no line ended
+abbrev pub told_by : ReplyStep → List ℕ → List ℕ → Option ℕ
+told_by More fed head = code_told fed head
+told_by Line fed head = None
+told_by (Last code) fed head = None
+
+-- behind the end of a line nothing is kept
+abbrev pub head_behind : ReplyStep → List ℕ → List ℕ
+head_behind More head = head
+head_behind Line head = []
+head_behind (Last code) head = head
 
 -- the rest of a greeting: of a welcome the client is given nothing
 pub record DropsSo (earlier : List ℕ) (result : Result Replied Miss) (link new_link client new_client : Speaker) : Type 0 where

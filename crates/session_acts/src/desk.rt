@@ -253,7 +253,7 @@ where
 
     fn join(&mut self, dest: &Dest, target: Target) -> Joined {
         self.part();
-        if self.link.is_none() {
+        if !self.is_linked() {
             return Joined::Unready;
         }
         match target {
@@ -270,11 +270,9 @@ where
                     }
                 },
             },
-            Target::AtDoor => {
-                let Some(mut door) = self.door.take() else {
-                    return Joined::Unready;
-                };
-                match self.dialer.side(dest) {
+            Target::AtDoor => match self.door.take() {
+                None => Joined::Unready,
+                Some(mut door) => match self.dialer.side(dest) {
                     Dialed::Refused => Joined::NoSide,
                     Dialed::Up(far_from, far_to) => match self.dialer.accept(&mut door) {
                         Dialed::Refused => {
@@ -286,16 +284,18 @@ where
                             Joined::Up
                         }
                     },
-                }
-            }
+                },
+            },
         }
     }
 
     fn copy(&mut self, toward: Toward) -> Option<WayEnd> {
-        let mut pair = self.pair.take()?;
-        let end = carry(toward, &mut pair);
-        self.dialer.let_go(pair.far_from, pair.far_to);
-        self.dialer.let_go(pair.near_from, pair.near_to);
+        let Some(mut both) = self.pair.take() else {
+            return None;
+        };
+        let end = carry(toward, &mut both);
+        self.dialer.let_go(both.far_from, both.far_to);
+        self.dialer.let_go(both.near_from, both.near_to);
         Some(end)
     }
 

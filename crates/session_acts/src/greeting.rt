@@ -5,14 +5,14 @@ ghost use Rattle.std.specs.Prelude.{◌≡◌, ◌≤◌, None};
 ghost use Rattle.ftp_lines.specs.Reply.{first_reply};
 ghost use Rattle.arrayvec.specs.ArrayVec.{array_vec_len};
 ghost use Rattle.fw_outside.specs.SinkView.{Gives, SinkView};
-ghost use Rattle.session_acts.specs.Greeting.{GivesHead, PassesBy, code_told, head_after};
+ghost use Rattle.session_acts.specs.Greeting.{GivesHead, PassesBy, code_told, head_after, head_behind, told_by};
 ghost use Rattle.session_acts.specs.ReplyRest.{HearsBy};
 ghost use Rattle.session_acts.specs.Replying.{is_welcome, unless_welcome};
 ghost use Rattle.session_acts.specs.World.{Speaker};
 ghost use Rattle.session_acts.specs.declared.reply_use.ReplyUse.TheVariants.{Greeting};
 
 use crate::Replied;
-use crate::replying::{KEPT, Miss, drop_rest, miss_of, pass_rest, six_in};
+use crate::replying::{KEPT, Miss, drop_rest, last_code, miss_of, pass_rest, six_in};
 use arrayvec::ArrayVec;
 use ftp_lines::{ReplyReader, ReplyStep, ending_code};
 use fw_outside::{Failed, LineReader, Sink, Source};
@@ -33,6 +33,17 @@ fn code_told(replies: &ReplyReader, head: &[u8]) -> Option<u16>
     }
 }
 
+// The code that is told where no line ended.
+fn told_by(step: ReplyStep, replies: &ReplyReader, head: &ArrayVec<u8, KEPT>) -> Option<u16>
+    ensures { result ≡ told_by step replies.now.fed head.now.items }
+{
+    match step {
+        ReplyStep::More => code_told(replies, head),
+        ReplyStep::Line => None,
+        ReplyStep::Last { .. } => None,
+    }
+}
+
 // Keeps the first five bytes of a line.
 fn keep_head(head: &mut ArrayVec<u8, KEPT>, byte: u8)
     requires { array_vec_len head.old ≤ 5 }
@@ -41,6 +52,17 @@ fn keep_head(head: &mut ArrayVec<u8, KEPT>, byte: u8)
 {
     if head.len() < 5 {
         head.push(byte);
+    }
+}
+
+// Behind the end of a line nothing is kept.
+fn pass_line(step: ReplyStep, head: &mut ArrayVec<u8, KEPT>)
+    ensures { head.new.items ≡ head_behind step head.old.items }
+{
+    match step {
+        ReplyStep::Line => head.clear(),
+        ReplyStep::More => {}
+        ReplyStep::Last { .. } => {}
     }
 }
 
@@ -80,10 +102,10 @@ fn pass_by<I: Source, K: Sink>(
 fn greeted<K: Sink>(
     code: u16,
     replies: &ReplyReader,
-    head: &[u8],
+    head: &ArrayVec<u8, KEPT>,
     to: &mut K,
 ) -> Result<Replied, Miss>
-    ensures { GivesHead code replies.now.heard head.now result (K.sink_view to.old) (K.sink_view to.new) }
+    ensures { GivesHead code replies.now.heard head.now.items result (K.sink_view to.old) (K.sink_view to.new) }
 {
     match give_head(code, head, to) {
         Ok(()) => {
@@ -112,15 +134,15 @@ pub(crate) fn hear_greeting<I: Source, K: Sink>(
             Ok(byte) => {
                 let step = replies.feed(byte);
                 keep_head(&mut head, byte);
-                match step {
-                    ReplyStep::Last { code } => return greeted(code, &replies, &head, to),
-                    ReplyStep::Line => head.clear(),
-                    ReplyStep::More => {
-                        if let Some(code) = code_told(&replies, &head) {
-                            return pass_by(code, replies, head, reader, from, to);
-                        }
-                    }
+                match last_code(step) {
+                    Some(code) => return greeted(code, &replies, &head, to),
+                    None => {}
                 }
+                match told_by(step, &replies, &head) {
+                    Some(code) => return pass_by(code, replies, head, reader, from, to),
+                    None => {}
+                }
+                pass_line(step, &mut head);
             }
             Err(stop) => return miss_of(stop),
         }

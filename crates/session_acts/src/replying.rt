@@ -40,8 +40,8 @@ pub(crate) fn miss_of(stop: Stop) -> Result<Replied, Miss>
     }
 }
 
-// The code of the reply that a step ended.
-fn last_code(step: ReplyStep) -> Option<u16>
+/// The code of the reply that a step ended.
+pub(crate) fn last_code(step: ReplyStep) -> Option<u16>
     ensures { result ≡ last_code step }
 {
     match step {
@@ -80,10 +80,13 @@ fn say_kept<K: Sink>(kept: &mut ArrayVec<u8, KEPT>, to: &mut K) -> Result<(), Fa
 fn keep<K: Sink>(kept: &mut ArrayVec<u8, KEPT>, byte: u8, to: &mut K) -> Result<(), Failed>
     requires { array_vec_len kept.old < 512 }
     ensures keeps { KeepsByte kept.old.items byte result kept.new.items (K.sink_view to.old) (K.sink_view to.new) }
-    ensures room { array_vec_len kept.new < 512 }
+    ensures room { OnOk result (array_vec_len kept.new < 512) }
 {
     kept.push(byte);
-    if byte == b'\n' || kept.is_full() {
+    if byte == b'\n' {
+        return say_kept(kept, to);
+    }
+    if kept.is_full() {
         return say_kept(kept, to);
     }
     Ok(())

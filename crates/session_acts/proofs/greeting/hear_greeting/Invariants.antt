@@ -1,5 +1,5 @@
 use Rattle.std.proofs.Common.{◌+◌, length}
-use Rattle.session_acts.proofs.GreetedLemmas.{Greets}
+use Rattle.session_acts.proofs.GreetsLemmas.{Greets}
 use Rattle.session_acts.proofs.greeting.hear_greeting.Given as goal
 
 abbrev pub invariant-loop-byte : goal.invariant-loop-byte
