@@ -53,22 +53,22 @@ pub record Silent (gate : Gate) (order : Order) : Type 0 where
 
 -- nothing of this command, which was heard last, was passed or asked for yet
 pub record Base (order : Order) (n : Noted) : Type 0 where
-  pub order : n.k.order ≡ Some order
+  pub heard : n.k.order ≡ Some order
   pub passed : n.passed ≡ n.k.earlier
   pub calls : n.calls ≡ n.k.before
 
 -- where it is to be nothing, that is all
 pub even_at : (gate : Gate) (order : Order) (n : Noted) → Base order n → passed_as gate n.k.standing (Some order) ≡ [] → asked_by gate n.k.standing (Some order) ≡ [] → Even gate n
 even_at gate order n base passes asks = record {
-  is = ap (λ (o : Option Order). n.k.earlier ++ passed_as gate n.k.standing o) base.order ∙ ap (λ (z : List ℕ). n.k.earlier ++ z) passes ∙ append-nil n.k.earlier ∙ sym base.passed;
-  asks = ap (λ (o : Option Order). n.k.before ++ asked_by gate n.k.standing o) base.order ∙ ap (λ (z : List Dest). n.k.before ++ z) asks ∙ append-nil n.k.before ∙ sym base.calls;
+  is = ap (λ (o : Option Order). n.k.earlier ++ passed_as gate n.k.standing o) base.heard ∙ ap (λ (z : List ℕ). n.k.earlier ++ z) passes ∙ append-nil n.k.earlier ∙ sym base.passed;
+  asks = ap (λ (o : Option Order). n.k.before ++ asked_by gate n.k.standing o) base.heard ∙ ap (λ (z : List Dest). n.k.before ++ z) asks ∙ append-nil n.k.before ∙ sym base.calls;
 }
 
 pub even_of : (gate : Gate) (order : Order) (n : Noted) → Base order n → Silent gate order → Even gate n
 even_of gate order n base silent = even_at gate order n base (silent.passes n.k.standing) (silent.asks n.k.standing)
 
 pub asked_base : (gate : Gate) (order : Order) (n : Noted) (request : Request) (reply : Reply) → Base order n → Base order (note gate n (Ask request) (Ok reply))
-asked_base gate order n request reply base = record { order = base.order; passed = append-nil n.passed ∙ base.passed; calls = append-nil n.calls ∙ base.calls }
+asked_base gate order n request reply base = record { heard = base.heard; passed = append-nil n.passed ∙ base.passed; calls = append-nil n.calls ∙ base.calls }
 
 pub logged_base : (gate : Gate) (order : Order) (n : Noted) (line : List ℕ) → Base order n → Base order (note gate n (Log line) (Ok tt))
-logged_base gate order n line base = record { order = base.order; passed = append-nil n.passed ∙ base.passed; calls = append-nil n.calls ∙ base.calls }
+logged_base gate order n line base = record { heard = base.heard; passed = append-nil n.passed ∙ base.passed; calls = append-nil n.calls ∙ base.calls }

@@ -2,6 +2,7 @@
 use Rattle.std.proofs.Common.{◌≡◌, ◌≤◌, refl, sym, ap, subst, ◌∙◌, ℕ, Bool, true, false, not, ◌&&◌, ◌||◌, List, [], ◌∷◌, ◌++◌, Option, Some, None, Result, Ok, Err, inl, inr, codes, append_assoc, append-nil}
 use mathlib.Core.Bool.{true≢false}
 use Rattle.std.specs.Prelude.{◌/◌, ◌==◌, nat_le, if◌then◌else◌}
+use Rattle.std.specs.List.{AllByRecursion}
 use Rattle.std.specs.Option.{option_map}
 use Rattle.std.specs.Str.{bytes_eq}
 use Rattle.std.proofs.lemmas.Slice.Eq.{bytes_eq-Decides}
@@ -41,10 +42,10 @@ use Rattle.ftp_gate.specs.declared.place.Account.TheVariants.{Unopened, Opened}
 use Rattle.ftp_gate.specs.declared.place.Place.{Place}
 use Rattle.ftp_gate.specs.declared.place.Place.TheVariants.{Listening, Answering, Dropping}
 use Rattle.ftp_gate.specs.declared.place.State.{State}
-use Rattle.ftp_gate.specs.Laws.{EndsWith, IsAbout, IsCleared, IsDisallowed, IsFailure, IsLoggedFirst, IsNoName, IsOwnPair, IsOwnTarget, IsPassable, IsRefusal, IsUnblocked, IsUnpermitted, Wants, asked_so, clearing, fails, granted, granted_if}
+use Rattle.ftp_gate.specs.Laws.{EndsWith, HasCause, IsAbout, IsCleared, IsCutShort, IsDisallowed, IsEarly, IsFailure, IsLoggedFirst, IsNoName, IsOwnPair, IsOwnTarget, IsPassable, IsRefusal, IsUnblocked, IsUnpermitted, Wants, asked_so, clearing, fails, granted, granted_if}
 use Rattle.ftp_gate.specs.Known.{Known, begins, dests_in, greeted_with, greeting_by, joined_with, known_after, order_in, passage_in, port_set, set_by, used_up, with_deed}
 use Rattle.ftp_gate.proofs.AccountLemmas.{Noted, at_first, deed_of, named_login, note}
-use Rattle.ftp_gate.proofs.WatchLemmas.{Behind, Due, Even, Holds, IsOwnSetting, IsPlain, IsUser, Knows, May, behind, clash, closed_leaves, ftp_watch, logged_even, logged_holds, logged_knows, plain_first, say_leaves, tell_leaves}
+use Rattle.ftp_gate.proofs.WatchLemmas.{Behind, Due, Even, Holds, IsOwnSetting, IsPlain, IsUser, Knows, May, behind, calm, clash, closed_leaves, ftp_watch, logged_even, logged_holds, logged_knows, plain_first, say_leaves, tell_leaves}
 use Rattle.fw_types.specs.Name.{name_of}
 use Rattle.ftp_gate.proofs.BaseLemmas.{Base, Silent, asked_base, even_at, even_of, logged_base}
 use Rattle.fw_types.specs.declared.host.Host.{Host}
@@ -87,8 +88,8 @@ module _ (Origin : Type 0) (gate : Gate) where
     unlinked_leaves : (n : Noted) (b : Bool) → Knows gate state n.k → Even gate n → Leaves watch (rows.unlinked_row state b) n
     unlinked_leaves n true knows even =
         let plain : IsPlain texts.goodbye = record { other = refl; verb = refl; login = refl; dest = refl; failed = refl } in
-        ((plain_first gate texts.goodbye n.k plain, behind gate n even), λ done. record { is = even.is ∙ sym (append-nil n.passed); asks = even.asks ∙ sym (append-nil n.calls) })
-    unlinked_leaves n false knows even = tell_leaves Origin gate n texts.user_first state (record { other = refl; verb = refl; login = refl; dest = refl; failed = refl }) (knows, even)
+        (((plain_first gate texts.goodbye n.k plain, calm refl refl refl refl refl refl), behind gate n even), λ done. record { is = even.is ∙ sym (append-nil n.passed); asks = even.asks ∙ sym (append-nil n.calls) })
+    unlinked_leaves n false knows even = tell_leaves Origin gate n texts.user_first state (record { other = refl; verb = refl; login = refl; dest = refl; failed = refl }) (calm refl refl refl refl refl refl) (knows, even)
 
     served_leaves : (n : Noted) (asked : served.Served) (dest : Option Dest) → state.dest ≡ dest → Free gate state order (Served asked) → Start gate state order n → Leaves watch (rows.served_row gate state dest order asked) n
     served_leaves n asked None is free start =
@@ -102,12 +103,12 @@ module _ (Origin : Type 0) (gate : Gate) where
     allowed_leaves n User free start = user_leaves Origin gate state order free n state.dest refl start
     allowed_leaves n (Served asked) free start = served_leaves n asked state.dest refl free start
 
-    blocked_leaves : (n : Noted) (words : List ℕ) → begins words texts.port_ok ≡ false → ((k : Known) → k.order ≡ Some order → k.login ≡ n.k.login → EndsWith (line_logged (blocked_line gate order.verb)) k.since → IsLoggedFirst gate words k) → n.k.order ≡ Some order → Knows gate state n.k → Even gate n
+    blocked_leaves : (n : Noted) (words : List ℕ) → begins words texts.port_ok ≡ false → ((since : List Deed) → HasCause words since) → ((k : Known) → k.order ≡ Some order → k.login ≡ n.k.login → EndsWith (line_logged (blocked_line gate order.verb)) k.since → IsLoggedFirst gate words k) → n.k.order ≡ Some order → Knows gate state n.k → Even gate n
         → Leaves watch (rows.blocked_row gate state order.verb words) n
-    blocked_leaves n words other first heard knows even =
+    blocked_leaves n words other cause first heard knows even =
         let line = blocked_line gate order.verb in
         let after = note gate n (Log line) (Ok tt) in
-        (behind gate n even, λ logged. say_leaves Origin gate after words state other (first after.k heard refl (n.k.since, refl)) (logged_holds Origin gate n line state (knows, even)))
+        (behind gate n even, λ logged. say_leaves Origin gate after words state other (first after.k heard refl (n.k.since, refl)) (cause after.k.since) (logged_holds Origin gate n line state (knows, even)))
 
     module _ (asked : Outward) (kind : kind_of order.verb ≡ kinds.Outward asked) where
       login_leaves : (n : Noted) (b : Bool) → has_verb gate.options.deny order.verb ≡ false → (asks_login gate.options order.verb && not (is_in state.account)) ≡ b → Start gate state order n → Leaves watch (rows.login_row gate state order asked b) n
@@ -118,13 +119,13 @@ module _ (Origin : Type 0) (gate : Gate) where
           let asks : asked_by gate n.k.standing (Some order) ≡ [] =
           ap (λ (kd : Kind). asked_kind gate n.k.standing order kd) kind ∙ ap (λ (b : Bool). asked_outward gate b n.k.standing order asked) denied ∙ ap (λ (b : Bool). asked_unless gate b n.k.standing order asked) lacks in
           let parts = missing_of (asks_login gate.options order.verb) (is_in state.account) is in
-          blocked_leaves n (texts.log_in_first gate.line) refl
+          blocked_leaves n (texts.log_in_first gate.line) refl (λ since. calm refl refl refl refl refl refl)
           (λ k heard login logged. record {
             verb = λ it. clash it;
             login = λ it. record { order = order; heard = heard; asks = parts.0; none = login ∙ start.knows.login ∙ parts.1; is = refl; logged = logged };
             dest = λ it. clash it;
             failed = λ it. clash it;
-          }) start.base.order start.knows (even_at gate order n start.base passes asks)
+          }) start.base.heard start.knows (even_at gate order n start.base passes asks)
       login_leaves n false denied is start = allowed_leaves n asked (record { kind = kind; denied = denied; missing = is }) start
 
       outward_leaves : (n : Noted) (b : Bool) → has_verb gate.options.deny order.verb ≡ b → Start gate state order n → Leaves watch (rows.outward_row gate state order asked b) n
@@ -133,13 +134,13 @@ module _ (Origin : Type 0) (gate : Gate) where
           ap (λ (kd : Kind). passed_kind gate n.k.standing order kd) kind ∙ ap (λ (b : Bool). passed_outward gate b n.k.standing order asked) denied in
           let asks : asked_by gate n.k.standing (Some order) ≡ [] =
           ap (λ (kd : Kind). asked_kind gate n.k.standing order kd) kind ∙ ap (λ (b : Bool). asked_outward gate b n.k.standing order asked) denied in
-          blocked_leaves n (texts.verb_denied gate.line) refl
+          blocked_leaves n (texts.verb_denied gate.line) refl (λ since. calm refl refl refl refl refl refl)
           (λ k heard login logged. record {
             verb = λ it. record { order = order; heard = heard; denied = denied; is = refl; logged = logged };
             login = λ it. clash it;
             dest = λ it. clash it;
             failed = λ it. clash it;
-          }) start.base.order start.knows (even_at gate order n start.base passes asks)
+          }) start.base.heard start.knows (even_at gate order n start.base passes asks)
       outward_leaves n false denied start = login_leaves n (asks_login gate.options order.verb && not (is_in state.account)) denied refl start
 
     kind_leaves : (n : Noted) (kind : Kind) → kind_of order.verb ≡ kind → Start gate state order n → Leaves watch (rows.kind_row gate state order kind) n
@@ -148,7 +149,7 @@ module _ (Origin : Type 0) (gate : Gate) where
         authorize_leaves Origin gate order silent n state (name_of order.arg) is refl start.since start.base start.knows
     kind_leaves n kinds.Response is start =
         let silent : Silent gate order = record { passes = λ st. ap (λ (kd : Kind). passed_kind gate st order kd) is; asks = λ st. ap (λ (kd : Kind). asked_kind gate st order kd) is } in
-        response_leaves Origin gate order silent n state state.account is refl start.base start.knows
+        response_leaves Origin gate order silent n state state.account is refl start.since start.base start.knows
     kind_leaves n (kinds.Outward asked) is start = outward_leaves asked is n (has_verb gate.options.deny order.verb) refl start
 
   -- ---- what is heard
@@ -167,12 +168,12 @@ module _ (Origin : Type 0) (gate : Gate) where
 
   command_leaves : (n : Noted) (heard : Heard) (state : State) (order : Option Order) → order_in heard ≡ order → Holds gate n state → Leaves watch (rows.command_row gate state order) (note gate n (Hear heard_form) (Ok heard))
   command_leaves n heard state None is holds =
-      tell_leaves Origin gate (note gate n (Hear heard_form) (Ok heard)) texts.syntax_error state (record { other = refl; verb = refl; login = refl; dest = refl; failed = refl })
+      tell_leaves Origin gate (note gate n (Hear heard_form) (Ok heard)) texts.syntax_error state (record { other = refl; verb = refl; login = refl; dest = refl; failed = refl }) (calm refl refl refl refl refl refl)
       (heard_knows n heard state holds.0, none_even n heard is holds.1)
   command_leaves n heard state (Some order) is holds =
       let after = note gate n (Hear heard_form) (Ok heard) in
       let start : Start gate state order after = record {
-        base = record { order = is; passed = append-nil n.passed ∙ sym holds.1.is; calls = append-nil n.calls ∙ sym holds.1.asks };
+        base = record { heard = is; passed = append-nil n.passed ∙ sym holds.1.is; calls = append-nil n.calls ∙ sym holds.1.asks };
         knows = heard_knows n heard state holds.0;
         since = refl;
         login = holds.0.login;
@@ -208,28 +209,57 @@ module _ (Origin : Type 0) (gate : Gate) where
   passed_leaves n state quits true holds = holds
   passed_leaves n state quits false holds = after_leaves n state quits holds
 
-  answering_leaves : (n : Noted) (state : State) (quits : Bool) (is_replied : Replied) → Holds gate n state → Leaves watch (rows.answering_row state quits is_replied) n
-  answering_leaves n state quits (replied.Whole code six) holds = passed_leaves n state quits (rows.goes_on code) holds
-  answering_leaves n state quits replied.Ended holds = closed_leaves Origin gate n holds.1
+  answering_leaves : (n : Noted) (state : State) (quits : Bool) (heard : Replied × List ℕ) → Holds gate n state → Leaves watch (rows.answering_row state quits heard.0) (behind_reply n (deed_of (TakeReply Passed) (Ok heard)))
+  answering_leaves n state quits (replied.Whole code six, text) holds =
+      let deed = deed_of (TakeReply Passed) (Ok (replied.Whole code six, text)) in
+      passed_leaves (behind_reply n deed) state quits (rows.goes_on code) (reply_holds n deed state holds)
+  answering_leaves n state quits (replied.Ended, text) holds =
+      let deed = deed_of (TakeReply Passed) (Ok (replied.Ended, text)) in
+      closed_leaves Origin gate (behind_reply n deed) (record { how = Passed; text = text; last = (n.k.since, refl) }) (reply_holds n deed state holds).1
 
-  dropped_leaves : (n : Noted) (state : State) (b : Bool) → Holds gate n state → Leaves watch (rows.dropped_row state b) n
-  dropped_leaves n state true holds = holds
-  dropped_leaves n state false holds = tell_leaves Origin gate n texts.ended_early state (record { other = refl; verb = refl; login = refl; dest = refl; failed = refl }) holds
+  -- one reply more was dropped
+  more_drops : (drops : List Deed) (deed : Deed) → AllByRecursion (λ (d : Deed). d.act ≡ TakeReply Dropped) drops → deed.act ≡ TakeReply Dropped → AllByRecursion (λ (d : Deed). d.act ≡ TakeReply Dropped) (drops ++ deed ∷ [])
+  more_drops [] deed all one = (one, tt)
+  more_drops (first ∷ drops) deed all one = (all.0, more_drops drops deed all.1 one)
 
-  dropping_leaves : (n : Noted) (state : State) (is_replied : Replied) → Holds gate n state → Leaves watch (rows.dropping_row state is_replied) n
-  dropping_leaves n state (replied.Whole code six) holds = dropped_leaves n state (rows.goes_on code) holds
-  dropping_leaves n state replied.Ended holds = closed_leaves Origin gate n holds.1
+  cut_more : (since : List Deed) (heard : Replied × List ℕ) → IsCutShort since → IsCutShort (since ++ deed_of (TakeReply Dropped) (Ok heard) ∷ [])
+  cut_more since heard cut =
+      let deed = deed_of (TakeReply Dropped) (Ok heard) in
+      record {
+        toward = cut.toward;
+        carried = cut.carried;
+        lacks = cut.lacks;
+        earlier = cut.earlier;
+        drops = cut.drops ++ deed ∷ [];
+        are_drops = more_drops cut.drops deed cut.are_drops refl;
+        is = ap (λ (d : List Deed). d ++ deed ∷ []) cut.is ∙ append_assoc cut.earlier (deed_of (Copy cut.toward) (Ok cut.carried) ∷ cut.drops) (deed ∷ []);
+      }
+
+  dropped_leaves : (n : Noted) (state : State) (b : Bool) → IsCutShort n.k.since → (b ≡ false → IsEarly n.k.since) → Holds gate n state → Leaves watch (rows.dropped_row state b) n
+  dropped_leaves n state true cut early holds = (holds, cut)
+  dropped_leaves n state false cut early holds =
+      tell_leaves Origin gate n texts.ended_early state (record { other = refl; verb = refl; login = refl; dest = refl; failed = refl })
+      (record { route = λ is. clash is; door = λ is. clash is; pair = λ is. clash is; port = λ is. clash is; closed = λ is. clash is; early = λ is. early refl }) holds
+
+  dropping_leaves : (n : Noted) (state : State) (heard : Replied × List ℕ) → IsCutShort n.k.since → Holds gate n state → Leaves watch (rows.dropping_row state heard.0) (behind_reply n (deed_of (TakeReply Dropped) (Ok heard)))
+  dropping_leaves n state (replied.Whole code six, text) cut holds =
+      let deed = deed_of (TakeReply Dropped) (Ok (replied.Whole code six, text)) in
+      let more = cut_more n.k.since (replied.Whole code six, text) cut in
+      dropped_leaves (behind_reply n deed) state (rows.goes_on code) more (λ ends. record { cut = more; code = code; six = six; text = text; ends = ends; last = (n.k.since, refl) }) (reply_holds n deed state holds)
+  dropping_leaves n state (replied.Ended, text) cut holds =
+      let deed = deed_of (TakeReply Dropped) (Ok (replied.Ended, text)) in
+      closed_leaves Origin gate (behind_reply n deed) (record { how = Dropped; text = text; last = (n.k.since, refl) }) (reply_holds n deed state holds).1
 
   -- ---- the table
 
   pub rows_keep : Keeps own (ftp_watch Origin gate)
   rows_keep (Listening state) n holds = ((refl, behind gate n holds.1), λ heard. heard_leaves n heard state holds)
   rows_keep (Answering state quits) n holds =
-      (behind gate n holds.1, λ heard. answering_leaves (behind_reply n (deed_of (TakeReply Passed) (Ok heard))) state quits heard.0 (reply_holds n (deed_of (TakeReply Passed) (Ok heard)) state holds))
+      ((tt, behind gate n holds.1), λ heard. answering_leaves n state quits heard holds)
   rows_keep (Dropping state) n holds =
-      (behind gate n holds.1, λ heard. dropping_leaves (behind_reply n (deed_of (TakeReply Dropped) (Ok heard))) state heard.0 (reply_holds n (deed_of (TakeReply Dropped) (Ok heard)) state holds))
+      ((inr holds.1, behind gate n holds.0.1), λ heard. dropping_leaves n state heard holds.1 holds.0)
 
   pub first_keeps : Leaves (ftp_watch Origin gate) rows.ftp_row at_first
   first_keeps =
-      tell_leaves Origin gate at_first texts.ready (record { account = Unopened; dest = None; setting = None }) (record { other = refl; verb = refl; login = refl; dest = refl; failed = refl })
+      tell_leaves Origin gate at_first texts.ready (record { account = Unopened; dest = None; setting = None }) (record { other = refl; verb = refl; login = refl; dest = refl; failed = refl }) (calm refl refl refl refl refl refl)
       (record { login = refl; user = tt; link = refl; setting = refl; own = tt }, record { is = refl; asks = refl })

@@ -2,6 +2,7 @@
 use Rattle.std.proofs.Common.{◌≡◌, refl, sym, ap, subst, ◌∙◌, ℕ, List, [], ◌∷◌, ◌++◌, map, Option, Some, None, Result, Ok, Err, Bool, true, false, append_assoc, append-nil}
 use Rattle.ftp_gate.specs.Texts.{port_ok}
 use Rattle.auth_events.specs.declared.port.PortFault.{PortFault}
+use Rattle.auth_events.specs.declared.request.Request.{Request}
 use Rattle.auth_events.specs.declared.request.Request.TheVariants as requests
 use Rattle.fw_acts.specs.Acts.{Row, Step, PlaceTable}
 use Rattle.fw_acts.specs.Acts.Row.{Do, At, Over}
@@ -24,27 +25,36 @@ use Rattle.session_acts.specs.declared.target.Target.{Target}
 use Rattle.ftp_gate.specs.Dialogue.{ftp_row, ftp_rows, heard_form}
 use Rattle.ftp_gate.specs.Gate.{Gate}
 use Rattle.ftp_gate.specs.Known.{Known, asked_for, begins, dests_in, known, passage, passage_in, saying}
-use Rattle.ftp_gate.specs.Laws.{AreRight, AsksDue, AsksExactly, DenialsLogged, DialsCleared, GivesPassage, IsCleared, IsDone, IsLoggedFirst, IsOwnPair, IsPassable, IsRight, JoinsOwn, PassesUnblocked, given_to_server, main_asked}
+use Rattle.ftp_gate.specs.Laws.{AreRight, AsksDue, AsksExactly, CopiesOwn, DenialsLogged, DialsCleared, FailuresToldOf, GivesPassage, IsAskedOf, IsCleared, IsDone, IsDueAsk, IsLoggedFirst, IsOwnPair, IsPassable, IsRight, JoinsOwn, OpensOwn, PassesUnblocked, given_to_server, main_asked}
 use Rattle.ftp_gate.specs.Order.{Order}
 use Rattle.ftp_gate.specs.Passage.{asked_by, passed_as}
 use Rattle.ftp_gate.specs.declared.place.Place.{Place}
 use Rattle.ftp_gate.proofs.AccountLemmas.{Noted, all_calls, all_known, all_passed, at_first, deed_of, note, noted_after, noted_both}
 use Rattle.ftp_gate.proofs.KeepLemmas.{first_keeps, rows_keep}
-use Rattle.ftp_gate.proofs.WatchLemmas.{Behind, Even, May, behind, ftp_watch}
+use Rattle.ftp_gate.proofs.WatchLemmas.{Behind, Even, May, ftp_watch}
 
 -- ---- deeds that come where they may
 
+-- what is passed is what is due
+abbrev IsDueText : Gate → Noted → Act → Type 0
+IsDueText gate n (Pass text) = passage_in gate n.k ≡ n.passed ++ text
+IsDueText gate n act = Unit {0}
+
 abbrev AllRight : Gate → Noted → List Deed → Type 0
 AllRight gate n [] = Unit {0}
-AllRight gate n (deed ∷ deeds) = IsRight gate n.k deed.act × AllRight gate (note gate n deed.act deed.outcome) deeds
+AllRight gate n (deed ∷ deeds) = (IsRight gate n.k deed.act × IsDueText gate n deed.act) × AllRight gate (note gate n deed.act deed.outcome) deeds
+
+due_ask : (gate : Gate) (request : Request) (k : Known) → IsAskedOf gate request k → IsDueAsk gate request k
+due_ask gate requests.Close k asks = tt
+due_ask gate request k asks = asks
 
 right_by : (gate : Gate) (n : Noted) (act : Act) → May gate n act → IsRight gate n.k act
-right_by gate n (Hear form) may = tt
+right_by gate n (Hear form) may = may.0
 right_by gate n (Say text) may = may.0
 right_by gate n (Try text) may = absurd may
 right_by gate n (Log text) may = tt
 right_by gate n (Note text) may = absurd may
-right_by gate n (Ask request) may = may.0
+right_by gate n (Ask request) may = due_ask gate request n.k may.0
 right_by gate n (Renew name hash) may = absurd may
 right_by gate n (Dial dest) may = may.0
 right_by gate n (Reach dest) may = absurd may
@@ -54,17 +64,21 @@ right_by gate n HangUp may = tt
 right_by gate n Relay may = absurd may
 right_by gate n (Deposit sender rcpts words most) may = absurd may
 right_by gate n Allot may = absurd may
-right_by gate n (TakeReply how) may = tt
-right_by gate n OpenDoor may = tt
+right_by gate n (TakeReply how) may = may.0
+right_by gate n OpenDoor may = may.0
 right_by gate n (Join dest target) may = may.0
-right_by gate n (Copy toward) may = tt
+right_by gate n (Copy toward) may = may.0
 right_by gate n Part may = tt
+
+due_text : (gate : Gate) (n : Noted) (act : Act) → May gate n act → IsDueText gate n act
+due_text gate n (Pass text) may = may.1.is
+due_text gate n act may = tt
 
 right_both : (gate : Gate) (n : Noted) (first more : List Deed) → AllRight gate n first → AllRight gate (noted_after gate n first) more → AllRight gate n (first ++ more)
 right_both gate n [] more a b = b
 right_both gate n (deed ∷ first) more a b = (a.0, right_both gate (note gate n deed.act deed.outcome) first more a.1 b)
 
-right_each : (gate : Gate) (n : Noted) (before after : List Deed) (deed : Deed) → AllRight gate n (before ++ deed ∷ after) → IsRight gate (noted_after gate n before).k deed.act
+right_each : (gate : Gate) (n : Noted) (before after : List Deed) (deed : Deed) → AllRight gate n (before ++ deed ∷ after) → IsRight gate (noted_after gate n before).k deed.act × IsDueText gate (noted_after gate n before) deed.act
 right_each gate n [] after deed all = all.0
 right_each gate n (other ∷ before) after deed all = right_each gate (note gate n other.act other.outcome) before after deed all.1
 
@@ -119,9 +133,9 @@ stop_behind gate n HangUp halt may = absurd halt
 stop_behind gate n Relay halt may = absurd may
 stop_behind gate n (Deposit sender rcpts words most) halt may = absurd may
 stop_behind gate n Allot halt may = absurd may
-stop_behind gate n (TakeReply Passed) halt may = moved_behind gate n (note gate n (TakeReply Passed) (Err halt)) refl refl (append-nil n.passed) (append-nil n.calls) may
-stop_behind gate n (TakeReply Dropped) halt may = moved_behind gate n (note gate n (TakeReply Dropped) (Err halt)) refl refl (append-nil n.passed) (append-nil n.calls) may
-stop_behind gate n (TakeReply Greeting) halt may = moved_behind gate n (note gate n (TakeReply Greeting) (Err halt)) refl refl (append-nil n.passed) (append-nil n.calls) may
+stop_behind gate n (TakeReply Passed) halt may = moved_behind gate n (note gate n (TakeReply Passed) (Err halt)) refl refl (append-nil n.passed) (append-nil n.calls) may.1
+stop_behind gate n (TakeReply Dropped) halt may = moved_behind gate n (note gate n (TakeReply Dropped) (Err halt)) refl refl (append-nil n.passed) (append-nil n.calls) may.1
+stop_behind gate n (TakeReply Greeting) halt may = moved_behind gate n (note gate n (TakeReply Greeting) (Err halt)) refl refl (append-nil n.passed) (append-nil n.calls) may.1
 stop_behind gate n OpenDoor halt may = absurd halt
 stop_behind gate n (Join dest target) halt may = absurd halt
 stop_behind gate n (Copy toward) halt may = absurd halt
@@ -137,8 +151,8 @@ record IsQuiet (gate : Gate) (n : Noted) (deeds : List Deed) : Type 0 where
   calls : (noted_after gate n deeds).calls ≡ n.calls
 
 close_quiet : (gate : Gate) (n : Noted) (answer : Result Reply PortFault) → IsQuiet gate n (deed_of (Ask requests.Close) answer ∷ [])
-close_quiet gate n (Ok reply) = record { right = (tt, tt); passes = refl; asks = refl; passed = append-nil n.passed; calls = append-nil n.calls }
-close_quiet gate n (Err fault) = record { right = (tt, tt); passes = refl; asks = refl; passed = append-nil n.passed; calls = append-nil n.calls }
+close_quiet gate n (Ok reply) = record { right = ((tt, tt), tt); passes = refl; asks = refl; passed = append-nil n.passed; calls = append-nil n.calls }
+close_quiet gate n (Err fault) = record { right = ((tt, tt), tt); passes = refl; asks = refl; passed = append-nil n.passed; calls = append-nil n.calls }
 
 closing_quiet : (gate : Gate) (n : Noted) (opened : Option ℕ) (answer : Result Reply PortFault) → IsQuiet gate n (closing opened answer)
 closing_quiet gate n None answer = record { right = tt; passes = refl; asks = refl; passed = refl; calls = refl }
@@ -148,7 +162,7 @@ owed_quiet : (gate : Gate) (n : Noted) (link : Option Speaker) (opened : Option 
 owed_quiet gate n None opened answer = closing_quiet gate n opened answer
 owed_quiet gate n (Some up) opened answer =
     let rest = closing_quiet gate (note gate n HangUp (Ok tt)) opened answer in
-    record { right = (tt, rest.right); passes = rest.passes; asks = rest.asks; passed = rest.passed ∙ append-nil n.passed; calls = rest.calls ∙ append-nil n.calls }
+    record { right = ((tt, tt), rest.right); passes = rest.passes; asks = rest.asks; passed = rest.passed ∙ append-nil n.passed; calls = rest.calls ∙ append-nil n.calls }
 
 -- ---- a dialogue
 
@@ -164,7 +178,7 @@ record Ends (gate : Gate) (dialogue : Result (Unit {0}) Cause) (n : Noted) (deed
 stop_ends : (gate : Gate) (n : Noted) (act : Act) (halt : Halt act) (cause : Cause) → May gate n act → Ends gate (Err cause) n (deed_of act (Err halt) ∷ [])
 stop_ends gate n act halt cause may =
     let b = stop_behind gate n act halt may in
-    record { right = (right_by gate n act may, tt); rest = b.rest; is = b.is; more = b.more; asks = b.asks; whole = λ never. absurd never; all = λ never. absurd never }
+    record { right = ((right_by gate n act may, due_text gate n act may), tt); rest = b.rest; is = b.is; more = b.more; asks = b.asks; whole = λ never. absurd never; all = λ never. absurd never }
 
 module _ {Origin : Type 0} (gate : Gate) where
   abbrev own : PlaceTable (acts Origin) Place
@@ -175,7 +189,7 @@ module _ {Origin : Type 0} (gate : Gate) where
 
   steps_right : (n : Noted) (steps : List (Step (acts Origin))) → AllMay (ftp_watch Origin gate) n steps → AllRight gate n (map done steps)
   steps_right n [] all = tt
-  steps_right n (step ∷ steps) all = (right_by gate n step.act all.0, steps_right (note gate n step.act (Ok step.answer)) steps all.1)
+  steps_right n (step ∷ steps) all = ((right_by gate n step.act all.0, due_text gate n step.act all.0), steps_right (note gate n step.act (Ok step.answer)) steps all.1)
 
   steps_noted : (n : Noted) (steps : List (Step (acts Origin))) → history (ftp_watch Origin gate) n steps ≡ noted_after gate n (map done steps)
   steps_noted n [] = refl
@@ -184,8 +198,7 @@ module _ {Origin : Type 0} (gate : Gate) where
   over_ends : (n : Noted) (left : Row (acts Origin) Place) → left ≡ Over → Leaves (ftp_watch Origin gate) left n → Ends gate (Ok tt) n []
   over_ends n left is leaves =
       let even : Even gate n = subst (λ (r : Row (acts Origin) Place). Leaves (ftp_watch Origin gate) r n) is leaves in
-      let b = behind gate n even in
-      record { right = tt; rest = []; is = b.is; more = []; asks = b.asks; whole = λ ended. refl; all = λ ended. refl }
+      record { right = tt; rest = []; is = even.is ∙ sym (append-nil n.passed); more = []; asks = even.asks ∙ sym (append-nil n.calls); whole = λ ended. refl; all = λ ended. refl }
 
   last_ends : (dialogue : Result (Unit {0}) Cause) (new : World Origin) (left : Row (acts Origin) Place) (mid : World Origin) (comes : Comes own over dialogue new left mid) (n : Noted) → Leaves (ftp_watch Origin gate) left n
       → Ends gate dialogue n (deed_last own over dialogue new left mid comes)
@@ -237,10 +250,13 @@ module _ {Origin : Type 0} (gate : Gate) (old new : World Origin) (ending : Endi
   joined : noted_after gate at_first (deeds_of held) ≡ noted_after gate middle last
   joined = noted_both gate at_first talk last
 
+  right_there : (before after : List Deed) (deed : Deed) → deeds_of held ≡ before ++ deed ∷ after
+      → IsRight gate (noted_after gate at_first before).k deed.act × IsDueText gate (noted_after gate at_first before) deed.act
+  right_there before after deed is =
+      right_each gate at_first before after deed (subst (λ (d : List Deed). AllRight gate at_first d) is (right_both gate at_first talk last ends.right quiet.right))
+
   pub held_right : AreRight gate (deeds_of held)
-  held_right before after deed is =
-      let all = subst (λ (d : List Deed). AllRight gate at_first d) is (right_both gate at_first talk last ends.right quiet.right) in
-      subst (λ (k : Known). IsRight gate k deed.act) (all_known gate before) (right_each gate at_first before after deed all)
+  held_right before after deed is = subst (λ (k : Known). IsRight gate k deed.act) (all_known gate before) (right_there before after deed is).0
 
   pub held_gives : GivesPassage gate held
   held_gives = record {
@@ -267,10 +283,25 @@ module _ {Origin : Type 0} (gate : Gate) (old new : World Origin) (ending : Endi
   held_own before after deed dest target is act = subst (λ (a : Act). IsRight gate (known gate before) a) act (held_right before after deed is)
 
   pub held_unblocked : PassesUnblocked gate (deeds_of held)
-  held_unblocked before after deed text is act = subst (λ (a : Act). IsRight gate (known gate before) a) act (held_right before after deed is)
+  held_unblocked before after deed text is act =
+      let n = noted_after gate at_first before in
+      let due : passage_in gate n.k ≡ n.passed ++ text = subst (λ (a : Act). IsDueText gate n a) act (right_there before after deed is).1 in
+      record {
+        passable = subst (λ (a : Act). IsRight gate (known gate before) a) act (held_right before after deed is);
+        due = ap (λ (k : Known). passage_in gate k) (sym (all_known gate before)) ∙ due ∙ ap (λ (z : List ℕ). z ++ text) (all_passed gate before);
+      }
 
   pub held_logged : DenialsLogged gate (deeds_of held)
-  held_logged before after deed text is act = subst (λ (a : Act). IsRight gate (known gate before) a) act (held_right before after deed is)
+  held_logged before after deed text is act = (subst (λ (a : Act). IsRight gate (known gate before) a) act (held_right before after deed is)).0
+
+  pub held_caused : FailuresToldOf gate (deeds_of held)
+  held_caused before after deed text is act = (subst (λ (a : Act). IsRight gate (known gate before) a) act (held_right before after deed is)).1
+
+  pub held_doors : OpensOwn gate (deeds_of held)
+  held_doors before after deed is act = subst (λ (a : Act). IsRight gate (known gate before) a) act (held_right before after deed is)
+
+  pub held_copies : CopiesOwn gate (deeds_of held)
+  held_copies before after deed toward is act = subst (λ (a : Act). IsRight gate (known gate before) a) act (held_right before after deed is)
 
   pub held_asked : AsksDue gate (deeds_of held)
   held_asked before after deed request is act =

@@ -1,6 +1,5 @@
 -- Rows whose parts are written in buffers, or chosen by tests.
-use Rattle.std.proofs.Common.{◌≡◌, subst, ℕ, Bool, false, List, Option, Result, Ok, Err, IsErrAnd}
-use Rattle.std.specs.Option.{option_map}
+use Rattle.std.proofs.Common.{◌≡◌, subst, ℕ, false, List, Result, Ok, IsErrAnd}
 use Rattle.auth_events.specs.Login.{is_ok}
 use Rattle.auth_events.specs.declared.reply.Reply.{Reply}
 use Rattle.auth_events.specs.declared.reply.Reply.TheVariants as replies
@@ -9,14 +8,13 @@ use Rattle.fw_acts.specs.Acts.{Row, PlaceTable}
 use Rattle.fw_acts.specs.Acts.Row.{Do}
 use Rattle.fw_acts.specs.Ran.{Ran}
 use Rattle.fw_types.specs.declared.dest.Dest.{Dest}
-use Rattle.relay_ways.specs.declared.way_end.WayEnd.{WayEnd}
-use Rattle.session_acts.specs.Acts.Act.{Ask, Copy, Log, Pass, TakeReply}
-use Rattle.session_acts.specs.Met.{CopyDone, Met, ReplyDone, Stops, acts}
+use Rattle.fw_types.specs.declared.host.Host.{Host}
+use Rattle.session_acts.specs.Acts.Act.{Ask, Join, Log, Pass}
+use Rattle.session_acts.specs.Met.{Met, Stops, acts}
 use Rattle.session_acts.specs.World.{World}
 use Rattle.session_acts.specs.declared.cause.Cause.{Cause}
-use Rattle.session_acts.specs.declared.replied.Replied.{Replied}
-use Rattle.session_acts.specs.declared.reply_use.ReplyUse.{ReplyUse}
-use Rattle.session_acts.specs.declared.toward.Toward.{Toward}
+use Rattle.session_acts.specs.declared.joined.Joined.{Joined}
+use Rattle.session_acts.specs.declared.target.Target.{Target}
 use Rattle.session_acts.proofs.Acting.{did, halted}
 use Rattle.ftp_gate.specs.Dialogue.{operated_row, refuse_row, refusing_line}
 use Rattle.ftp_gate.specs.Gate.{Gate}
@@ -51,6 +49,12 @@ module _ {Origin P T : Type 0} {rows : PlaceTable (acts Origin) P} {at : T → R
   pub ask_halted : {request other : Request} {cause : Cause} → request ≡ other → Stops (Ask request) cause old new → IsErrAnd result (λ e. e ≡ cause) → Ran rows (Do (Ask other) go) at old new result
   ask_halted {request} {other} same stops is = subst (λ (r : Request). Ran rows (Do (Ask r) go) at old new result) same (halted stops is)
 
+module _ {Origin P T : Type 0} {rows : PlaceTable (acts Origin) P} {at : T → Row (acts Origin) P} {old new : World Origin} {result : Result T Cause} {go : Joined → Row (acts Origin) P} where
+  -- data links were asked for at a host that is the same as another
+  pub joined_as : {host other : Host} {port : ℕ} {target : Target} {joined : Joined} {mid : World Origin} → host ≡ other → Met (Join (record { host = host; port = port }) target) (Ok joined) old mid → Ran rows (go joined) at mid new result
+      → Ran rows (Do (Join (record { host = other; port = port }) target) go) at old new result
+  joined_as {host} {other} {port} {target} {joined} {mid} same met rest = subst (λ (h : Host). Ran rows (Do (Join (record { host = h; port = port }) target) go) at old new result) same (did met rest)
+
 -- a destination to which no operation is permitted is refused
 pub refused_as : {Origin T : Type 0} {rows : PlaceTable (acts Origin) Place} {at : T → Row (acts Origin) Place} {old new : World Origin} {result : Result T Cause} (gate : Gate) (state : State) (name : List ℕ) (dest : Dest) (reply : Reply)
     → is_ok reply ≡ false → Ran rows (refuse_row gate state dest (refusing_line gate.line reply)) at old new result → Ran rows (operated_row gate state name dest reply) at old new result
@@ -60,13 +64,3 @@ refused_as gate state name dest (replies.Opened sid) bad ran = ran
 refused_as gate state name dest replies.Password bad ran = ran
 refused_as gate state name dest (replies.Challenge number word_seed) bad ran = ran
 refused_as gate state name dest (replies.Shown summary) bad ran = ran
-
-module _ {Origin P T : Type 0} {rows : PlaceTable (acts Origin) P} {at : T → Row (acts Origin) P} {old mid new : World Origin} {result : Result T Cause} where
-  -- a reply was taken, whatever its bytes are
-  pub replied_as : {how : ReplyUse} {replied : Replied} {go : Replied → Row (acts Origin) P} → ReplyDone how replied old mid → Ran rows (go replied) at mid new result → Ran rows (Do (TakeReply how) (λ heard. go heard.0)) at old new result
-  replied_as reply rest = did reply.met rest
-
-  -- data were copied, however that ended
-  pub copied_as : {toward : Toward} {ended : Option WayEnd} {go : Option WayEnd → Row (acts Origin) P} → CopyDone toward ended old mid → Ran rows (go ended) at mid new result
-      → Ran rows (Do (Copy toward) (λ carried. go (option_map (λ way. way.end) carried))) at old new result
-  copied_as {go = go} copy rest = did copy.met (subst (λ (e : Option WayEnd). Ran rows (go e) at mid new result) copy.is rest)

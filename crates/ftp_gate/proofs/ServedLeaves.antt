@@ -42,10 +42,10 @@ use Rattle.ftp_gate.specs.declared.place.Account.TheVariants.{Unopened, Opened}
 use Rattle.ftp_gate.specs.declared.place.Place.{Place}
 use Rattle.ftp_gate.specs.declared.place.Place.TheVariants.{Listening, Answering, Dropping}
 use Rattle.ftp_gate.specs.declared.place.State.{State}
-use Rattle.ftp_gate.specs.Laws.{EndsWith, IsAbout, IsCleared, IsDisallowed, IsFailure, IsLoggedFirst, IsNoName, IsOwnPair, IsOwnTarget, IsPassable, IsRefusal, IsUnblocked, IsUnpermitted, Wants, asked_so, clearing, fails, granted, granted_if}
+use Rattle.ftp_gate.specs.Laws.{EndsWith, HasCause, IsAbout, IsCleared, IsCutShort, IsDisallowed, IsFailure, IsLoggedFirst, IsNoName, IsOwnCopy, IsOwnDoor, IsOwnPair, IsOwnTarget, IsPassable, IsPortless, IsRefusal, IsUnblocked, IsUnjoined, IsUnpermitted, Wants, asked_so, clearing, fails, granted, granted_if, port_asked}
 use Rattle.ftp_gate.specs.Known.{Known, begins, dests_in, greeted_with, greeting_by, joined_with, known_after, order_in, passage_in, port_set, set_by, used_up, with_deed}
 use Rattle.ftp_gate.proofs.AccountLemmas.{Noted, at_first, deed_of, named_login, note}
-use Rattle.ftp_gate.proofs.WatchLemmas.{Behind, Due, Even, Holds, IsOwnSetting, IsPlain, IsUser, Knows, May, behind, clash, closed_leaves, ftp_watch, logged_even, logged_holds, logged_knows, plain_first, say_leaves, tell_leaves}
+use Rattle.ftp_gate.proofs.WatchLemmas.{Behind, Due, Even, Holds, IsOwnSetting, IsPlain, IsUser, Knows, May, behind, calm, clash, closed_leaves, ftp_watch, logged_even, logged_holds, logged_knows, plain_first, say_leaves, tell_leaves}
 use Rattle.fw_types.specs.Name.{name_of}
 use Rattle.ftp_gate.proofs.BaseLemmas.{Base, Silent, asked_base, even_at, even_of, logged_base}
 use Rattle.fw_types.specs.declared.host.Host.{Host}
@@ -69,7 +69,7 @@ use Rattle.ftp_gate.proofs.StartLemmas.{Free, Start, asks_allowed, due_behind, d
 abbrev none_set : Option Target
 none_set = None
 
-target_or : Target → Option Target → Target
+abbrev target_or : Target → Option Target → Target
 target_or other None = other
 target_or other (Some target) = target
 
@@ -100,6 +100,7 @@ record Asked (gate : Gate) (state : State) (order : Order) (n : Noted) : Type 0 
   calls : n.calls ≡ n.k.before
   due : (joined : Bool) → passed_as gate (record (n.k.standing) { joined = joined }) (Some order) ≡ texts.pasv_text ++ line_if joined order.line
   joined : n.k.standing.joined ≡ false
+  setting : n.k.standing.setting ≡ state.setting
 
 module _ (Origin : Type 0) (gate : Gate) (state : State) (order : Order) (main : Dest) (linked : state.dest ≡ Some main) where
   abbrev watch : Watch (acts Origin) Place
@@ -116,7 +117,7 @@ module _ (Origin : Type 0) (gate : Gate) (state : State) (order : Order) (main :
   asks_none asked free st login = asks_allowed gate state order (Served asked) free st login
 
   passable : (asked : served.Served) → FreeFor asked → (n : Noted) → Start gate state order n → IsPassable gate n.k
-  passable asked free n start = record { order = order; unblocked = unblocked gate state order (Served asked) free n.k start.base.order start.knows.login; main = main; link = start.knows.link ∙ linked }
+  passable asked free n start = record { order = order; unblocked = unblocked gate state order (Served asked) free n.k start.base.heard start.knows.login; main = main; link = start.knows.link ∙ linked }
 
   even_start : (asked : served.Served) → (free : FreeFor asked) → (n : Noted) → Start gate state order n → passed_served n.k.standing order asked ≡ [] → Even gate n
   even_start asked free n start none = even_at gate order n start.base (passes asked free n start ∙ none) (asks_none asked free n.k.standing start.login)
@@ -125,13 +126,13 @@ module _ (Origin : Type 0) (gate : Gate) (state : State) (order : Order) (main :
 
   port_leaves : FreeFor Port → (n : Noted) (target : Option Target) → rows.own_target gate.peer.addr (six_of order.arg) ≡ target → Start gate state order n → Leaves watch (rows.port_row state target) n
   port_leaves free n None is start =
-      tell_leaves Origin gate n texts.foreign_address state (record { other = refl; verb = refl; login = refl; dest = refl; failed = refl }) (start.knows, even_start Port free n start refl)
+      tell_leaves Origin gate n texts.foreign_address state (record { other = refl; verb = refl; login = refl; dest = refl; failed = refl }) (calm refl refl refl refl refl refl) (start.knows, even_start Port free n start refl)
   port_leaves free n (Some target) is start =
       let even = even_start Port free n start refl in
       let first : IsLoggedFirst gate texts.port_ok n.k = record { verb = λ it. clash it; login = λ it. clash it; dest = λ it. clash it; failed = λ it. clash it } in
       let sets : set_by (port_set gate) n.k.order n.k.setting ≡ Some target =
-      ap (λ (o : Option Order). set_by (port_set gate) o n.k.setting) start.base.order ∙ ap (λ (kind : Kind). port_set gate order kind n.k.setting) free.kind ∙ is in (
-        (first, behind gate n even),
+      ap (λ (o : Option Order). set_by (port_set gate) o n.k.setting) start.base.heard ∙ ap (λ (kind : Kind). port_set gate order kind n.k.setting) free.kind ∙ is in (
+        ((first, calm refl refl refl refl refl refl), behind gate n even),
         λ done. (
           record { login = start.knows.login; user = start.knows.user; link = start.knows.link; setting = sets; own = own_of gate (six_of order.arg) target is },
           record { is = even.is ∙ sym (append-nil n.passed); asks = even.asks ∙ sym (append-nil n.calls) },
@@ -141,15 +142,24 @@ module _ (Origin : Type 0) (gate : Gate) (state : State) (order : Order) (main :
   opened_leaves : (n : Noted) (door : Option (List ℕ × ℕ)) → Knows gate state n.k → Even gate n → Leaves watch (rows.door_row state door) (note gate n OpenDoor (Ok door))
   opened_leaves n None knows even =
       tell_leaves Origin gate (note gate n OpenDoor (Ok None)) texts.no_door state (record { other = refl; verb = refl; login = refl; dest = refl; failed = refl })
+      (record { route = λ is. clash is; door = λ is. (n.k.since, refl); pair = λ is. clash is; port = λ is. clash is; closed = λ is. clash is; early = λ is. clash is })
       (record { login = knows.login; user = knows.user; link = knows.link; setting = knows.setting; own = knows.own }, record { is = even.is ∙ sym (append-nil n.passed); asks = even.asks ∙ sym (append-nil n.calls) })
   opened_leaves n (Some place) knows even =
-      tell_leaves Origin gate (note gate n OpenDoor (Ok (Some place))) (texts.passive_mode place.0 place.1) (rows.with_setting (Some AtDoor) state) (record { other = refl; verb = refl; login = refl; dest = refl; failed = refl })
+      tell_leaves Origin gate (note gate n OpenDoor (Ok (Some place))) (texts.passive_mode place.0 place.1) (rows.with_setting (Some AtDoor) state) (record { other = refl; verb = refl; login = refl; dest = refl; failed = refl }) (calm refl refl refl refl refl refl)
       (record { login = knows.login; user = knows.user; link = knows.link; setting = refl; own = tt }, record { is = even.is ∙ sym (append-nil n.passed); asks = even.asks ∙ sym (append-nil n.calls) })
 
   door_leaves : FreeFor Pasv → (n : Noted) → Start gate state order n → Leaves watch (Do OpenDoor (rows.door_row state)) n
   door_leaves free n start =
       let even = even_start Pasv free n start refl in
-      (behind gate n even, λ door. opened_leaves n door start.knows even)
+      let may : IsOwnDoor gate n.k = record {
+        order = order;
+        unblocked = unblocked gate state order (Served Pasv) free n.k start.base.heard start.knows.login;
+        kind = free.kind;
+        main = main;
+        link = start.knows.link ∙ linked;
+        since = start.since;
+      } in
+      ((may, behind gate n even), λ door. opened_leaves n door start.knows even)
 
   -- ---- what is passed as it came
 
@@ -158,12 +168,12 @@ module _ (Origin : Type 0) (gate : Gate) (state : State) (order : Order) (main :
   line_leaves asked free quits n is keeps start =
       let due : Due gate (texts.passed_line order.line) n = record {
         is =
-            ap (λ (o : Option Order). n.k.earlier ++ passed_as gate n.k.standing o) start.base.order ∙ ap (λ (z : List ℕ). n.k.earlier ++ z) (passes asked free n start ∙ is)
+            ap (λ (o : Option Order). n.k.earlier ++ passed_as gate n.k.standing o) start.base.heard ∙ ap (λ (z : List ℕ). n.k.earlier ++ z) (passes asked free n start ∙ is)
             ∙ ap (λ (z : List ℕ). z ++ texts.passed_line order.line) (sym start.base.passed);
-        asks = ap (λ (o : Option Order). n.k.before ++ asked_by gate n.k.standing o) start.base.order ∙ ap (λ (z : List Dest). n.k.before ++ z) (asks_none asked free n.k.standing start.login) ∙ append-nil n.k.before ∙ sym start.base.calls;
+        asks = ap (λ (o : Option Order). n.k.before ++ asked_by gate n.k.standing o) start.base.heard ∙ ap (λ (z : List Dest). n.k.before ++ z) (asks_none asked free n.k.standing start.login) ∙ append-nil n.k.before ∙ sym start.base.calls;
       } in
       pass_leaves Origin gate state order.verb (texts.passed_line order.line) quits (has_verb gate.options.log order.verb) n due (passable asked free n start)
-      (keeps_set gate state order (Served asked) free n.k start.base.order keeps) start.knows
+      (keeps_set gate state order (Served asked) free n.k start.base.heard keeps) start.knows
 
   -- ---- transfers
 
@@ -191,19 +201,24 @@ module _ (Origin : Type 0) (gate : Gate) (state : State) (order : Order) (main :
 
     -- ---- behind the command
 
-    copied_leaves : (b : Bool) (n : Noted) → Holds gate n bare → Leaves watch (rows.copied_row bare b) n
-    copied_leaves true n holds = holds
-    copied_leaves false n holds = holds
+    -- behind an act that changed nothing
+    abbrev passed_by : Noted → Deed → Noted
+    passed_by n deed = record { k = with_deed deed n.k.since n.k; passed = n.passed ++ []; calls = n.calls ++ [] }
 
-    started_leaves : (n : Noted) (b : Bool) → Knows gate bare n.k → Even gate n → Leaves watch (rows.started_row bare toward b) n
-    started_leaves n true knows even = (
-      behind gate n even,
-      λ carried. copied_leaves (rows.is_done (option_map (λ way. way.end) carried)) (note gate n (Copy toward) (Ok carried)) (
-        record { login = knows.login; user = knows.user; link = knows.link; setting = knows.setting; own = knows.own },
-        record { is = even.is ∙ sym (append-nil n.passed); asks = even.asks ∙ sym (append-nil n.calls) },
-      ),
+    copied_leaves : (b : Bool) (n : Noted) → (b ≡ false → IsCutShort n.k.since) → Holds gate n bare → Leaves watch (rows.copied_row bare b) n
+    copied_leaves true n cut holds = holds
+    copied_leaves false n cut holds = (holds, cut refl)
+
+    started_leaves : (n : Noted) (b : Bool) → (b ≡ true → IsOwnCopy gate toward n.k) → Knows gate bare n.k → Even gate n → Leaves watch (rows.started_row bare toward b) n
+    started_leaves n true may knows even = (
+      (may refl, behind gate n even),
+      λ carried. copied_leaves (rows.is_done (option_map (λ way. way.end) carried)) (note gate n (Copy toward) (Ok carried))
+          (λ lacks. record { toward = toward; carried = carried; lacks = lacks; earlier = n.k.since; drops = []; are_drops = tt; is = refl }) (
+            record { login = knows.login; user = knows.user; link = knows.link; setting = knows.setting; own = knows.own },
+            record { is = even.is ∙ sym (append-nil n.passed); asks = even.asks ∙ sym (append-nil n.calls) },
+          ),
     )
-    started_leaves n false knows even = (
+    started_leaves n false may knows even = (
       behind gate n even,
       λ done. (
         record { login = knows.login; user = knows.user; link = knows.link; setting = knows.setting; own = knows.own },
@@ -211,42 +226,61 @@ module _ (Origin : Type 0) (gate : Gate) (state : State) (order : Order) (main :
       ),
     )
 
-    commanded_leaves : (n : Noted) (is_replied : Replied) → Knows gate bare n.k → Even gate n → Leaves watch (rows.commanded_row bare toward is_replied) n
-    commanded_leaves n (replied.Whole code six) knows even = started_leaves n (rows.goes_on code) knows even
-    commanded_leaves n replied.Ended knows even = closed_leaves Origin gate n even
+    -- the command was passed
+    record Given (n : Noted) : Type 0 where
+      order_is : n.k.order ≡ Some order
+      joined : n.k.standing.joined ≡ true
+      knows : Knows gate bare n.k
+      even : Even gate n
+
+    answered_knows : (n : Noted) (deed : Deed) → Given n → Knows gate bare (passed_by n deed).k
+    answered_knows n deed given = record { login = given.knows.login; user = given.knows.user; link = given.knows.link; setting = given.knows.setting; own = given.knows.own }
+
+    answered_even : (n : Noted) (deed : Deed) → Given n → Even gate (passed_by n deed)
+    answered_even n deed given = record { is = given.even.is ∙ sym (append-nil n.passed); asks = given.even.asks ∙ sym (append-nil n.calls) }
+
+    commanded_leaves : (n : Noted) (heard : Replied × List ℕ) → Given n → Leaves watch (rows.commanded_row bare toward heard.0) (note gate n (TakeReply Passed) (Ok heard))
+    commanded_leaves n (replied.Whole code six, text) given =
+        let deed = deed_of (TakeReply Passed) (Ok (replied.Whole code six, text)) in
+        let after = passed_by n deed in
+        let may : rows.goes_on code ≡ true → IsOwnCopy gate toward after.k = λ starts. record {
+          order = order;
+          unblocked = unblocked gate state order (Served (Transfer toward)) free after.k given.order_is given.knows.login;
+          kind = free.kind;
+          joined = given.joined;
+          code = code;
+          six = six;
+          text = text;
+          earlier = n.k.since;
+          since = refl;
+          starts = starts;
+        } in
+        started_leaves after (rows.goes_on code) may (answered_knows n deed given) (answered_even n deed given)
+    commanded_leaves n (replied.Ended, text) given =
+        let deed = deed_of (TakeReply Passed) (Ok (replied.Ended, text)) in
+        closed_leaves Origin gate (passed_by n deed) (record { how = Passed; text = text; last = (n.k.since, refl) }) (answered_even n deed given)
 
     -- both data links are up, and the command is to be passed
-    give_leaves : (n : Noted) → Due gate (texts.passed_line order.line) n → IsPassable gate n.k → set_by (λ o kind s. used_up kind s) n.k.order n.k.setting ≡ n.k.setting → Knows gate bare n.k
+    give_leaves : (n : Noted) → Due gate (texts.passed_line order.line) n → IsPassable gate n.k → set_by (λ o kind s. used_up kind s) n.k.order n.k.setting ≡ n.k.setting → n.k.order ≡ Some order → n.k.standing.joined ≡ true → Knows gate bare n.k
         → Leaves watch (Do (Pass (texts.passed_line order.line)) (λ done. Do (TakeReply Passed) (λ heard. rows.commanded_row bare toward heard.0))) n
-    give_leaves n due may kept knows =
+    give_leaves n due may kept order_is joined knows =
         let text = texts.passed_line order.line in
         let even = due_even gate text n due in
         let given = note gate n (Pass text) (Ok tt) in
-        let knows_then = given_knows Origin gate bare text n kept knows in (
-          (may, due),
-          λ done. (
-            behind gate given even,
-            λ heard. commanded_leaves (note gate given (TakeReply Passed) (Ok heard)) heard.0
-                (record { login = knows_then.login; user = knows_then.user; link = knows_then.link; setting = knows_then.setting; own = knows_then.own })
-                (record { is = even.is ∙ sym (append-nil given.passed); asks = even.asks ∙ sym (append-nil given.calls) }),
-          ),
-        )
+        let passed : Given given = record { order_is = order_is; joined = joined; knows = given_knows Origin gate bare text n kept knows; even = even } in
+        ((may, due), λ done. ((tt, behind gate given even), λ heard. commanded_leaves given heard passed))
 
-    command_leaves : (b : Bool) (n : Noted) → Due gate (texts.passed_line order.line) n → IsPassable gate n.k → set_by (λ o kind s. used_up kind s) n.k.order n.k.setting ≡ n.k.setting → Knows gate bare n.k
+    command_leaves : (b : Bool) (n : Noted) → Due gate (texts.passed_line order.line) n → IsPassable gate n.k → set_by (λ o kind s. used_up kind s) n.k.order n.k.setting ≡ n.k.setting → n.k.order ≡ Some order → n.k.standing.joined ≡ true → Knows gate bare n.k
         → Leaves watch (rows.logged_row gate order.verb b (Do (Pass (texts.passed_line order.line)) (λ done. Do (TakeReply Passed) (λ heard. rows.commanded_row bare toward heard.0)))) n
-    command_leaves true n due may kept knows =
+    command_leaves true n due may kept order_is joined knows =
         let line = command_line gate order.verb in
-        (due_behind gate (texts.passed_line order.line) n due, λ logged. give_leaves (note gate n (Log line) (Ok tt)) (due_logged gate (texts.passed_line order.line) line n due) (still_passable gate line n may) kept (logged_knows Origin gate n line bare knows))
-    command_leaves false n due may kept knows = give_leaves n due may kept knows
+        (due_behind gate (texts.passed_line order.line) n due, λ logged. give_leaves (note gate n (Log line) (Ok tt)) (due_logged gate (texts.passed_line order.line) line n due) (still_passable gate line n may) kept order_is joined (logged_knows Origin gate n line bare knows))
+    command_leaves false n due may kept order_is joined knows = give_leaves n due may kept order_is joined knows
 
     used : (k : Known) → k.order ≡ Some order → set_by (λ o kind s. used_up kind s) k.order k.setting ≡ None
     used k is = ap (λ (o : Option Order). set_by (λ o kind s. used_up kind s) o k.setting) is ∙ ap (λ (kind : Kind). used_up kind k.setting) free.kind
 
     -- ---- joining
-
-    -- behind an act that changed nothing
-    abbrev passed_by : Noted → Deed → Noted
-    passed_by n deed = record { k = with_deed deed n.k.since n.k; passed = n.passed ++ []; calls = n.calls ++ [] }
 
     asked_still : (n : Noted) (deed : Deed) → Asked gate state order n → Asked gate state order (passed_by n deed)
     asked_still n deed a = record {
@@ -257,14 +291,19 @@ module _ (Origin : Type 0) (gate : Gate) (state : State) (order : Order) (main :
       calls = append-nil n.calls ∙ a.calls;
       due = a.due;
       joined = a.joined;
+      setting = a.setting;
     }
 
-    told_leaves : (n : Noted) (words : List ℕ) → IsPlain words → Asked gate state order n → Leaves watch (rows.tell_row words bare) n
-    told_leaves n words plain a = tell_leaves Origin gate n words bare plain (a.knows, asked_even n a)
+    told_leaves : (n : Noted) (words : List ℕ) → IsPlain words → HasCause words n.k.since → Asked gate state order n → Leaves watch (rows.tell_row words bare) n
+    told_leaves n words plain cause a = tell_leaves Origin gate n words bare plain cause (a.knows, asked_even n a)
 
-    module _ (target : Target) (own : IsOwnTarget gate.peer target) where
-      unjoined : (n : Noted) (deed : Deed) → Asked gate state order n → Leaves watch (rows.tell_row texts.no_data_link bare) (passed_by n deed)
-      unjoined n deed a = told_leaves (passed_by n deed) texts.no_data_link (record { other = refl; verb = refl; login = refl; dest = refl; failed = refl }) (asked_still n deed a)
+    module _ (target : Target) (set : state.setting ≡ Some target) (own : IsOwnTarget gate.peer target) where
+      unjoined : (n : Noted) (side : Dest) (joined : Joined) → rows.is_up joined ≡ false → Asked gate state order n → Leaves watch (rows.tell_row texts.no_data_link bare) (passed_by n (deed_of (Join side target) (Ok joined)))
+      unjoined n side joined missed a =
+          let deed = deed_of (Join side target) (Ok joined) in
+          let cause : IsUnjoined (n.k.since ++ deed ∷ []) = record { dest = side; target = target; joined = joined; missed = missed; last = (n.k.since, refl) } in
+          told_leaves (passed_by n deed) texts.no_data_link (record { other = refl; verb = refl; login = refl; dest = refl; failed = refl })
+          (record { route = λ is. clash is; door = λ is. clash is; pair = λ is. cause; port = λ is. clash is; closed = λ is. clash is; early = λ is. clash is }) (asked_still n deed a)
 
       joined_leaves : (n : Noted) (side : Dest) (joined : Joined) → Asked gate state order n → Leaves watch (rows.joined_row gate bare toward order (rows.is_up joined)) (note gate n (Join side target) (Ok joined))
       joined_leaves n side joins.Up a =
@@ -282,22 +321,46 @@ module _ (Origin : Type 0) (gate : Gate) (state : State) (order : Order) (main :
             main = main;
             link = a.knows.link ∙ linked;
           } in
-          command_leaves (has_verb gate.options.log order.verb) after due may (used after.k a.order_is ∙ sym a.knows.setting)
+          command_leaves (has_verb gate.options.log order.verb) after due may (used after.k a.order_is ∙ sym a.knows.setting) a.order_is refl
           (record { login = a.knows.login; user = a.knows.user; link = a.knows.link; setting = a.knows.setting; own = tt })
-      joined_leaves n side joins.NoSide a = unjoined n (deed_of (Join side target) (Ok joins.NoSide)) a
-      joined_leaves n side joins.NoNear a = unjoined n (deed_of (Join side target) (Ok joins.NoNear)) a
-      joined_leaves n side joins.Unready a = unjoined n (deed_of (Join side target) (Ok joins.Unready)) a
+      joined_leaves n side joins.NoSide a = unjoined n side joins.NoSide refl a
+      joined_leaves n side joins.NoNear a = unjoined n side joins.NoNear refl a
+      joined_leaves n side joins.Unready a = unjoined n side joins.Unready refl a
 
-      ported_leaves : (n : Noted) (port : Option ℕ) → Asked gate state order n → Leaves watch (rows.ported_row gate bare main target toward order port) n
-      ported_leaves n None a = told_leaves n texts.no_data_port (record { other = refl; verb = refl; login = refl; dest = refl; failed = refl }) a
-      ported_leaves n (Some port) a =
+      ported_leaves : (n : Noted) (code : ℕ) (six : Option (List ℕ × ℕ)) (text : List ℕ) (port : Option ℕ) → rows.data_port code six ≡ port → n.k.since ≡ port_asked code six text → Asked gate state order n
+          → Leaves watch (rows.ported_row gate bare main target toward order port) n
+      ported_leaves n code six text None is since a =
+          let none : IsPortless n.k.since = record { code = code; six = six; text = text; none = is; last = (deed_of (Pass texts.pasv_text) (Ok tt) ∷ [], since) } in
+          told_leaves n texts.no_data_port (record { other = refl; verb = refl; login = refl; dest = refl; failed = refl })
+          (record { route = λ it. clash it; door = λ it. clash it; pair = λ it. clash it; port = λ it. none; closed = λ it. clash it; early = λ it. clash it }) a
+      ported_leaves n code six text (Some port) is since a =
           let side : Dest = record { host = main.host; port = port } in
-          let pair : IsOwnPair gate side target n.k = record { main = main; link = a.knows.link ∙ linked; host = refl; own = own } in
+          let pair : IsOwnPair gate side target n.k = record {
+            order = order;
+            unblocked = unblocked gate state order (Served (Transfer toward)) free n.k a.order_is a.knows.login;
+            toward = toward;
+            kind = free.kind;
+            main = main;
+            link = a.knows.link ∙ linked;
+            host = refl;
+            code = code;
+            six = six;
+            text = text;
+            since = since;
+            port = is;
+            set = a.setting ∙ set;
+            own = own;
+          } in
           ((pair, behind gate n (asked_even n a)), λ joined. joined_leaves n side joined a)
 
-      passive_leaves : (n : Noted) (is_replied : Replied) → Asked gate state order n → Leaves watch (rows.passive_row gate bare main target toward order is_replied) n
-      passive_leaves n (replied.Whole code six) a = ported_leaves n (rows.data_port code six) a
-      passive_leaves n replied.Ended a = closed_leaves Origin gate n (asked_even n a)
+      passive_leaves : (n : Noted) (heard : Replied × List ℕ) → n.k.since ≡ deed_of (Pass texts.pasv_text) (Ok tt) ∷ [] → Asked gate state order n
+          → Leaves watch (rows.passive_row gate bare main target toward order heard.0) (note gate n (TakeReply Dropped) (Ok heard))
+      passive_leaves n (replied.Whole code six, text) since a =
+          let deed = deed_of (TakeReply Dropped) (Ok (replied.Whole code six, text)) in
+          ported_leaves (passed_by n deed) code six text (rows.data_port code six) refl (ap (λ (d : List Deed). d ++ deed ∷ []) since) (asked_still n deed a)
+      passive_leaves n (replied.Ended, text) since a =
+          let deed = deed_of (TakeReply Dropped) (Ok (replied.Ended, text)) in
+          closed_leaves Origin gate (passed_by n deed) (record { how = Dropped; text = text; last = (n.k.since, refl) }) (asked_even (passed_by n deed) (asked_still n deed a))
 
     due_as : (n : Noted) (target : Target) → state.setting ≡ Some target → Start gate state order n → (joined : Bool) → passed_as gate (record (n.k.standing) { joined = joined }) (Some order) ≡ texts.pasv_text ++ line_if joined order.line
     due_as n target set start joined =
@@ -307,40 +370,41 @@ module _ (Origin : Type 0) (gate : Gate) (state : State) (order : Order) (main :
 
     asked_first : (n : Noted) (target : Target) → state.setting ≡ Some target → Start gate state order n → Asked gate state order (note gate n (Pass texts.pasv_text) (Ok tt))
     asked_first n target set start = record {
-      order_is = start.base.order;
-      knows = record { login = start.knows.login; user = start.knows.user; link = start.knows.link; setting = used n.k start.base.order; own = tt };
+      order_is = start.base.heard;
+      knows = record { login = start.knows.login; user = start.knows.user; link = start.knows.link; setting = used n.k start.base.heard; own = tt };
       login = start.login;
       passed = ap (λ (z : List ℕ). z ++ texts.pasv_text) start.base.passed;
       calls = append-nil n.calls ∙ start.base.calls;
       due = due_as n target set start;
       joined = start.joined;
+      setting = start.setting;
     }
 
     transfer_leaves : (n : Noted) (setting : Option Target) → state.setting ≡ setting → Start gate state order n → Leaves watch (rows.transfer_row gate state main toward order setting) n
     transfer_leaves n None set start =
         let none : passed_served n.k.standing order (Transfer toward) ≡ [] = ap (λ (t : Option Target). passed_transfer t n.k.standing.joined order.line) (start.setting ∙ set) in
-        tell_leaves Origin gate n texts.port_first state (record { other = refl; verb = refl; login = refl; dest = refl; failed = refl }) (start.knows, even_start (Transfer toward) free n start none)
+        tell_leaves Origin gate n texts.port_first state (record { other = refl; verb = refl; login = refl; dest = refl; failed = refl }) (calm refl refl refl refl refl refl) (start.knows, even_start (Transfer toward) free n start none)
     transfer_leaves n (Some target) set start =
         let same = standing_as n.k.standing start.joined in
         let due : Due gate texts.pasv_text n = record {
           is =
-              ap (λ (st : Standing). n.k.earlier ++ passed_as gate st n.k.order) (sym same) ∙ ap (λ (o : Option Order). n.k.earlier ++ passed_as gate (record (n.k.standing) { joined = false }) o) start.base.order
+              ap (λ (st : Standing). n.k.earlier ++ passed_as gate st n.k.order) (sym same) ∙ ap (λ (o : Option Order). n.k.earlier ++ passed_as gate (record (n.k.standing) { joined = false }) o) start.base.heard
               ∙ ap (λ (z : List ℕ). n.k.earlier ++ z) (due_as n target set start false ∙ append-nil texts.pasv_text) ∙ ap (λ (z : List ℕ). z ++ texts.pasv_text) (sym start.base.passed);
-          asks = ap (λ (o : Option Order). n.k.before ++ asked_by gate n.k.standing o) start.base.order ∙ ap (λ (z : List Dest). n.k.before ++ z) (asks_none (Transfer toward) free n.k.standing start.login) ∙ append-nil n.k.before ∙ sym start.base.calls;
+          asks = ap (λ (o : Option Order). n.k.before ++ asked_by gate n.k.standing o) start.base.heard ∙ ap (λ (z : List Dest). n.k.before ++ z) (asks_none (Transfer toward) free n.k.standing start.login) ∙ append-nil n.k.before ∙ sym start.base.calls;
         } in
         let given = note gate n (Pass texts.pasv_text) (Ok tt) in
         let a = asked_first n target set start in
         let own : IsOwnTarget gate.peer target = subst (λ (t : Option Target). IsOwnSetting gate t) set start.knows.own in (
           (passable (Transfer toward) free n start, due),
           λ done.
-              (behind gate given (asked_even given a), λ heard. passive_leaves target own (note gate given (TakeReply Dropped) (Ok heard)) heard.0 (asked_still given (deed_of (TakeReply Dropped) (Ok heard)) a)),
+              ((inl (n.k.since, refl), behind gate given (asked_even given a)), λ heard. passive_leaves target set own given heard (ap (λ (d : List Deed). d ++ deed_of (Pass texts.pasv_text) (Ok tt) ∷ []) start.since) a),
         )
 
   pub linked_leaves : (n : Noted) (asked : served.Served) → FreeFor asked → Start gate state order n → Leaves watch (rows.linked_row gate state main order asked) n
   linked_leaves n Port free start = port_leaves free n (rows.own_target gate.peer.addr (six_of order.arg)) refl start
   linked_leaves n Pasv free start = door_leaves free n start
   linked_leaves n Extended free start =
-      tell_leaves Origin gate n texts.not_implemented state (record { other = refl; verb = refl; login = refl; dest = refl; failed = refl }) (start.knows, even_start Extended free n start refl)
+      tell_leaves Origin gate n texts.not_implemented state (record { other = refl; verb = refl; login = refl; dest = refl; failed = refl }) (calm refl refl refl refl refl refl) (start.knows, even_start Extended free n start refl)
   linked_leaves n (Transfer toward) free start = transfer_leaves toward free n state.setting refl start
   linked_leaves n Quit free start = line_leaves Quit free true n refl (λ s. refl) start
   linked_leaves n Other free start = line_leaves Other free false n refl (λ s. refl) start

@@ -49,12 +49,12 @@ pub near_reply : {Origin : Type 0} {how : ReplyUse} (is_replied : Replied) (old 
     → IfSome next (λ p. far (ahead_of_client new) (ahead_of_server new) < far (ahead_of_client old) (ahead_of_server old))
 near_reply {how = how} (Whole code six) old mid new next done less behind =
     let fewer = met_ahead (TakeReply how) (Ok (Whole code six, done.text)) old mid done.met in
-    let taken = reply_nearer code six old mid done in
+    let taken = reply_nearer how code six old mid done in
     some_near next old new (reply_far (ahead_of_client old) (ahead_of_client new) (ahead_of_server old) (ahead_of_server new) (omega (arith, fewer, less)) (omega (arith, taken, behind)))
 near_reply Ended old mid new next done less none = rw none tt
 
 -- behind a whole reply
-pub behind_whole : {code : ℕ} {six : Option (List ℕ × ℕ)} {before behind : ℕ} (result : Result (Option Place) Cause) → behind ≤ before → IfOk result (IsBehind (Whole code six) before behind)
+pub behind_whole : {before behind : ℕ} (result : Result (Option Place) Cause) → behind ≤ before → IfOk result (λ (next : Option Place). behind ≤ before)
 behind_whole (Ok next) less = less
 behind_whole (Err cause) less = tt
 

@@ -44,7 +44,7 @@ use Rattle.ftp_gate.specs.declared.place.State.{State}
 use Rattle.ftp_gate.specs.Laws.{EndsWith, IsAbout, IsCleared, IsDisallowed, IsFailure, IsLoggedFirst, IsNoName, IsOwnPair, IsOwnTarget, IsPassable, IsRefusal, IsUnblocked, IsUnpermitted, Wants, asked_so, clearing, fails, granted, granted_if}
 use Rattle.ftp_gate.specs.Known.{Known, begins, dests_in, greeted_with, greeting_by, joined_with, known_after, order_in, passage_in, port_set, set_by, used_up, with_deed}
 use Rattle.ftp_gate.proofs.AccountLemmas.{Noted, at_first, deed_of, named_login, note}
-use Rattle.ftp_gate.proofs.WatchLemmas.{Behind, Due, Even, Holds, IsOwnSetting, IsPlain, IsUser, Knows, May, behind, clash, closed_leaves, ftp_watch, logged_even, logged_holds, logged_knows, plain_first, say_leaves, tell_leaves}
+use Rattle.ftp_gate.proofs.WatchLemmas.{Behind, Due, Even, Holds, IsOwnSetting, IsPlain, IsUser, Knows, May, behind, calm, clash, closed_leaves, ftp_watch, logged_even, logged_holds, logged_knows, plain_first, say_leaves, tell_leaves}
 use Rattle.fw_types.specs.Name.{name_of}
 use Rattle.ftp_gate.proofs.BaseLemmas.{Base, Silent, asked_base, even_at, even_of, logged_base}
 use Rattle.fw_types.specs.declared.host.Host.{Host}
@@ -118,7 +118,7 @@ module _ (Origin : Type 0) (gate : Gate) (state : State) (order : Order) (free :
           let after = note gate n (Log text) (Ok tt) in
           let refusal : IsRefusal gate (texts.dest_denied line) after.k = record {
             order = order;
-            heard = w.base.order;
+            heard = w.base.heard;
             dest = dest;
             wants = wants;
             line = line;
@@ -128,7 +128,7 @@ module _ (Origin : Type 0) (gate : Gate) (state : State) (order : Order) (free :
             cause = cause;
           } in
           let first : IsLoggedFirst gate (texts.dest_denied line) after.k = record { verb = λ it. clash it; login = λ it. clash it; dest = λ it. refusal; failed = λ it. clash it } in
-          (behind gate n even, λ logged. say_leaves Origin gate after (texts.dest_denied line) state refl first (logged_holds Origin gate n text state (w.knows, even)))
+          (behind gate n even, λ logged. say_leaves Origin gate after (texts.dest_denied line) state refl first (calm refl refl refl refl refl refl) (logged_holds Origin gate n text state (w.knows, even)))
 
       -- ---- behind the dial
 
@@ -164,7 +164,7 @@ module _ (Origin : Type 0) (gate : Gate) (state : State) (order : Order) (free :
           let here : Even gate now = record { is = even.is ∙ sym (append-nil n.passed); asks = even.asks ∙ sym (append-nil n.calls) } in (
             behind gate now here,
             λ done. (
-              record { login = d.knows.login; user = d.knows.user; link = sym unlinked; setting = d.knows.setting; own = d.knows.own },
+              record { login = d.knows.login; user = d.knows.user; link = d.knows.link; setting = d.knows.setting; own = d.knows.own },
               record { is = here.is ∙ sym (append-nil now.passed); asks = here.asks ∙ sym (append-nil now.calls) },
             ),
           )
@@ -173,7 +173,7 @@ module _ (Origin : Type 0) (gate : Gate) (state : State) (order : Order) (free :
       greeted_leaves n (replied.Whole code six, text) up d = welcomed_leaves n (deed_of (TakeReply Greeting) (Ok (replied.Whole code six, text))) (rows.is_well code) up d
       greeted_leaves n (replied.Ended, text) up d =
           let even = dialed_even n d in
-          closed_leaves Origin gate (note gate n (TakeReply Greeting) (Ok (replied.Ended, text))) (record { is = even.is ∙ sym (append-nil n.passed); asks = even.asks ∙ sym (append-nil n.calls) })
+          closed_leaves Origin gate (note gate n (TakeReply Greeting) (Ok (replied.Ended, text))) (record { how = Greeting; text = text; last = (n.k.since, refl) }) (record { is = even.is ∙ sym (append-nil n.passed); asks = even.asks ∙ sym (append-nil n.calls) })
 
       dialed_leaves : (n : Noted) (up : Bool) → n.k.order ≡ Some order → Knows gate state n.k → n.passed ≡ n.k.earlier → dests_in gate n.k ≡ n.calls ++ dest ∷ [] → n.k.standing.login ≡ is_in state.account → n.k.standing.link ≡ None → n.k.standing.greeted ≡ false
           → Leaves watch (rows.dialed_row gate state name dest up) (note gate n (Dial dest) (Ok up))
@@ -181,26 +181,27 @@ module _ (Origin : Type 0) (gate : Gate) (state : State) (order : Order) (free :
           let after = note gate n (Dial dest) (Ok true) in
           let d : Dialed gate state order after = record {
             order_is = order_is;
-            knows = record { login = knows.login; user = knows.user; link = sym unlinked; setting = knows.setting; own = knows.own };
+            knows = record { login = knows.login; user = knows.user; link = knows.link; setting = knows.setting; own = knows.own };
             passed = append-nil n.passed ∙ passed;
             asks = asks;
             login = login;
             link = link;
             greeted = greeted;
           } in
-          (behind gate after (dialed_even after d), λ heard. greeted_leaves after heard refl d)
+          (((dest, (n.k.since, refl)), behind gate after (dialed_even after d)), λ heard. greeted_leaves after heard refl d)
       dialed_leaves n false order_is knows passed asks login link greeted =
           let after = note gate n (Dial dest) (Ok false) in
           let d : Dialed gate state order after = record {
             order_is = order_is;
-            knows = record { login = knows.login; user = knows.user; link = sym unlinked; setting = knows.setting; own = knows.own };
+            knows = record { login = knows.login; user = knows.user; link = knows.link; setting = knows.setting; own = knows.own };
             passed = append-nil n.passed ∙ passed;
             asks = asks;
             login = login;
             link = link;
             greeted = greeted;
           } in
-          tell_leaves Origin gate after texts.no_route state (record { other = refl; verb = refl; login = refl; dest = refl; failed = refl }) (d.knows, dialed_even after d)
+          tell_leaves Origin gate after texts.no_route state (record { other = refl; verb = refl; login = refl; dest = refl; failed = refl })
+          (record { route = λ is. (dest, (n.k.since, refl)); door = λ is. clash is; pair = λ is. clash is; port = λ is. clash is; closed = λ is. clash is; early = λ is. clash is }) (d.knows, dialed_even after d)
 
       connect_leaves : (since : List Deed) (n : Noted) → allows gate.options dest ≡ true → (not gate.options.extnd || n.k.standing.permitted) ≡ true → since ≡ granted_if gate.options.extnd dest.host → Wanting gate state order since n
           → Leaves watch (rows.connect_row gate state name dest) n
@@ -208,14 +209,14 @@ module _ (Origin : Type 0) (gate : Gate) (state : State) (order : Order) (free :
           let test : (allows gate.options dest && (not gate.options.extnd || n.k.standing.permitted)) ≡ true = rw (allowed, clear) refl in
           let passes = passes_none since n w in
           let asks : dests_in gate n.k ≡ n.calls ++ dest ∷ [] =
-          ap (λ (o : Option Order). n.k.before ++ asked_by gate n.k.standing o) w.base.order ∙ ap (λ (z : List Dest). n.k.before ++ z) (asks_one since n true test w) ∙ ap (λ (z : List Dest). z ++ dest ∷ []) (sym w.base.calls) in
+          ap (λ (o : Option Order). n.k.before ++ asked_by gate n.k.standing o) w.base.heard ∙ ap (λ (z : List Dest). n.k.before ++ z) (asks_one since n true test w) ∙ ap (λ (z : List Dest). z ++ dest ∷ []) (sym w.base.calls) in
           let whole : passage_in gate n.k ≡ n.passed =
-          ap (λ (o : Option Order). n.k.earlier ++ passed_as gate n.k.standing o) w.base.order ∙ ap (λ (z : List ℕ). n.k.earlier ++ z) passes ∙ append-nil n.k.earlier ∙ sym w.base.passed in
+          ap (λ (o : Option Order). n.k.earlier ++ passed_as gate n.k.standing o) w.base.heard ∙ ap (λ (z : List ℕ). n.k.earlier ++ z) passes ∙ append-nil n.k.earlier ∙ sym w.base.passed in
           let line = connect_line gate dest in
           let logged : Noted = note gate n (Log line) (Ok tt) in
           let cleared : IsCleared gate dest logged.k = record {
             order = order;
-            unblocked = unblocked gate state order User free logged.k w.base.order w.knows.login;
+            unblocked = unblocked gate state order User free logged.k w.base.heard w.knows.login;
             wants = wants;
             unlinked = w.knows.link ∙ unlinked;
             allowed = allowed;
@@ -228,7 +229,7 @@ module _ (Origin : Type 0) (gate : Gate) (state : State) (order : Order) (free :
             more = dest ∷ [];
             asks = asks ∙ ap (λ (z : List Dest). z ++ dest ∷ []) (sym (append-nil n.calls));
           } in
-          (near, λ done. ((cleared, near_now), λ up. dialed_leaves logged up w.base.order (logged_knows Origin gate n line state w.knows) (append-nil n.passed ∙ w.base.passed) near_now.asks w.login w.link w.greeted))
+          (near, λ done. ((cleared, near_now), λ up. dialed_leaves logged up w.base.heard (logged_knows Origin gate n line state w.knows) (append-nil n.passed ∙ w.base.passed) near_now.asks w.login w.link w.greeted))
 
     wanting : (n : Noted) → Start gate state order n → Wanting gate state order [] n
     wanting n start = record { base = start.base; knows = start.knows; done = start.since; login = start.login; link = start.link ∙ unlinked; greeted = start.greeted }
@@ -275,8 +276,8 @@ module _ (Origin : Type 0) (gate : Gate) (state : State) (order : Order) (free :
             (
               record {
                 order = order;
-                heard = start.base.order;
-                asks = (refl, unblocked gate state order User free n.k start.base.order start.knows.login, record { dest = dest; wants = record { kind = free.kind; name = name; names = names }; is = refl; allowed = allowed; extnd = extnd });
+                heard = start.base.heard;
+                asks = (refl, start.since, start.knows.link ∙ unlinked, unblocked gate state order User free n.k start.base.heard start.knows.login, record { dest = dest; wants = record { kind = free.kind; name = name; names = names }; is = refl; allowed = allowed; extnd = extnd });
               },
               behind gate n even,
             ),
@@ -294,7 +295,7 @@ module _ (Origin : Type 0) (gate : Gate) (state : State) (order : Order) (free :
     wanted_leaves n None is start =
         let w = wanting n start in
         let even = even_at gate order n w.base (passes_none [] n w) (asks_dest n.k.standing w.login w.link ∙ ap (λ (u : Option (List ℕ × Dest)). asked_dest gate n.k.standing u) is) in
-        tell_leaves Origin gate n texts.no_destination state (record { other = refl; verb = refl; login = refl; dest = refl; failed = refl }) (start.knows, even)
+        tell_leaves Origin gate n texts.no_destination state (record { other = refl; verb = refl; login = refl; dest = refl; failed = refl }) (calm refl refl refl refl refl refl) (start.knows, even)
     wanted_leaves n (Some (name, dest)) is start = dest_leaves name dest is n (allows gate.options dest) refl start
 
   -- where a link to this destination is up
@@ -309,16 +310,16 @@ module _ (Origin : Type 0) (gate : Gate) (state : State) (order : Order) (free :
     again_leaves : (n : Noted) (name : Option (List ℕ)) → name_there main order.arg ≡ name → Start gate state order n → Leaves watch (rows.again_row gate state name) n
     again_leaves n None is start =
         let even = even_at gate order n start.base (passes_there n start ∙ ap name_text is) (asks_none n start) in
-        tell_leaves Origin gate n texts.already_connected state (record { other = refl; verb = refl; login = refl; dest = refl; failed = refl }) (start.knows, even)
+        tell_leaves Origin gate n texts.already_connected state (record { other = refl; verb = refl; login = refl; dest = refl; failed = refl }) (calm refl refl refl refl refl refl) (start.knows, even)
     again_leaves n (Some name) is start =
         let due : Due gate (texts.user_text name) n = record {
           is =
-              ap (λ (o : Option Order). n.k.earlier ++ passed_as gate n.k.standing o) start.base.order ∙ ap (λ (z : List ℕ). n.k.earlier ++ z) (passes_there n start ∙ ap name_text is)
+              ap (λ (o : Option Order). n.k.earlier ++ passed_as gate n.k.standing o) start.base.heard ∙ ap (λ (z : List ℕ). n.k.earlier ++ z) (passes_there n start ∙ ap name_text is)
               ∙ ap (λ (z : List ℕ). z ++ texts.user_text name) (sym start.base.passed);
-          asks = ap (λ (o : Option Order). n.k.before ++ asked_by gate n.k.standing o) start.base.order ∙ ap (λ (z : List Dest). n.k.before ++ z) (asks_none n start) ∙ append-nil n.k.before ∙ sym start.base.calls;
+          asks = ap (λ (o : Option Order). n.k.before ++ asked_by gate n.k.standing o) start.base.heard ∙ ap (λ (z : List Dest). n.k.before ++ z) (asks_none n start) ∙ append-nil n.k.before ∙ sym start.base.calls;
         } in
-        let may : IsPassable gate n.k = record { order = order; unblocked = unblocked gate state order User free n.k start.base.order start.knows.login; main = main; link = start.knows.link ∙ linked } in
-        pass_leaves Origin gate state (codes "USER") (texts.user_text name) false (has_verb gate.options.log (codes "USER")) n due may (keeps_set gate state order User free n.k start.base.order (λ s. refl)) start.knows
+        let may : IsPassable gate n.k = record { order = order; unblocked = unblocked gate state order User free n.k start.base.heard start.knows.login; main = main; link = start.knows.link ∙ linked } in
+        pass_leaves Origin gate state (codes "USER") (texts.user_text name) false (has_verb gate.options.log (codes "USER")) n due may (keeps_set gate state order User free n.k start.base.heard (λ s. refl)) start.knows
 
   pub user_leaves : (n : Noted) (dest : Option Dest) → state.dest ≡ dest → Start gate state order n → Leaves watch (rows.user_row gate state dest order.arg) n
   user_leaves n None is start = wanted_leaves is n (user_of order.arg) refl start

@@ -18,3 +18,9 @@ some_cut (b ∷ rest) zero within after is =
     ap (λ (cut : Option (List ℕ × List ℕ)). behind_byte b rest cut) later ∙ ap (λ (t : Bool). if t then Some ([], rest) else None) is
 some_cut (b ∷ rest) (suc at) within after is =
     ap (λ (cut : Option (List ℕ × List ℕ)). behind_byte b rest cut) (some_cut rest at (omega (arith, within)) (λ k more less. after (suc k) (omega (arith, more)) (omega (arith, less))) is)
+
+-- the same, as the code says it
+pub last_cut : (text : List ℕ) (at : ℕ) → at < length text → ((k : ℕ) → at < k → k < length text → ¬ (is_at (slice_index text k) ≡ true)) → is_at (slice_index text at) ≡ true → cut_at_last text ≡ Some (take at text, drop (at + 1) text)
+last_cut text at within after is =
+    let next : suc at ≡ at + 1 = omega (arith) in
+    some_cut text at within after is ∙ ap (λ (k : ℕ). Some (take at text, drop k text)) next

@@ -31,7 +31,7 @@ use Rattle.ftp_gate.specs.Dialogue.{heard_form, is_in, reason_of, with_account}
 use Rattle.ftp_gate.specs.Gate.{Gate, asks_login, has_verb}
 use Rattle.ftp_gate.specs.Kind.{kind_of}
 use Rattle.ftp_gate.specs.Known.{Known, begins, dests_in, passage_in, saying, with_deed}
-use Rattle.ftp_gate.specs.Laws.{IsCleared, IsDueAsk, IsFailure, IsLoggedFirst, IsNoName, IsOwnPair, IsOwnTarget, IsPassable, IsUnblocked, asked_so}
+use Rattle.ftp_gate.specs.Laws.{HasCause, IsAskedOf, IsCleared, IsClosed, IsCutShort, IsDueReply, IsFailure, IsLoggedFirst, IsNoName, IsOwnCopy, IsOwnDoor, IsOwnPair, IsOwnTarget, IsPassable, IsUnblocked, asked_so}
 use Rattle.ftp_gate.specs.LogLines.{blocked_line, command_line, connect_line, fail_line, login_line, refuse_line}
 use Rattle.ftp_gate.specs.Order.{Order}
 use Rattle.ftp_gate.specs.Passage.{Standing, asked_by, passed_as}
@@ -69,15 +69,15 @@ pub record Due (gate : Gate) (text : List ℕ) (n : Noted) : Type 0 where
 
 abbrev pub May : Gate → Noted → Act → Type 0
 May gate n (Hear form) = (form ≡ heard_form) × Behind gate n
-May gate n (Say text) = IsLoggedFirst gate text n.k × Behind gate n
+May gate n (Say text) = (IsLoggedFirst gate text n.k × HasCause text n.k.since) × Behind gate n
 May gate n (Log text) = Behind gate n
-May gate n (Ask request) = IsDueAsk gate request n.k × Behind gate n
+May gate n (Ask request) = IsAskedOf gate request n.k × Behind gate n
 May gate n (Dial dest) = IsCleared gate dest n.k × Behind gate n
 May gate n (Pass text) = IsPassable gate n.k × Due gate text n
-May gate n (TakeReply how) = Behind gate n
-May gate n OpenDoor = Behind gate n
+May gate n (TakeReply how) = IsDueReply how n.k.since × Behind gate n
+May gate n OpenDoor = IsOwnDoor gate n.k × Behind gate n
 May gate n (Join dest target) = IsOwnPair gate dest target n.k × Behind gate n
-May gate n (Copy toward) = Behind gate n
+May gate n (Copy toward) = IsOwnCopy gate toward n.k × Behind gate n
 May gate n Part = Behind gate n
 May gate n HangUp = Behind gate n
 May gate n act = ⊥
@@ -107,12 +107,17 @@ state_of (Dropping state) = state
 abbrev pub Holds : Gate → Noted → State → Type 0
 Holds gate n state = Knows gate state n.k × Even gate n
 
+abbrev pub HoldsAt : Gate → Noted → Place → Type 0
+HoldsAt gate n (Listening state) = Holds gate n state
+HoldsAt gate n (Answering state quits) = Holds gate n state
+HoldsAt gate n (Dropping state) = Holds gate n state × IsCutShort n.k.since
+
 abbrev pub ftp_watch : (Origin : Type 0) → Gate → Watch (acts Origin) Place
 ftp_watch Origin gate = record {
   Noted = Noted;
   note = λ n act answer. note gate n act (Ok answer);
   may = λ n act. May gate n act;
-  holds = λ n place. Holds gate n (state_of place);
+  holds = λ n place. HoldsAt gate n place;
   over = λ n. Even gate n;
 }
 
@@ -137,6 +142,18 @@ plain_first gate text k plain = record {
   failed = λ is. clash (sym plain.failed ∙ is);
 }
 
+-- words that say of nothing that it failed
+pub calm : {text : List ℕ} {since : List Deed} → begins text (codes "425 No route") ≡ false → begins text (codes "425 No door") ≡ false → begins text (codes "425 No data") ≡ false → begins text (codes "425 Server") ≡ false
+    → begins text (codes "421") ≡ false → begins text (codes "426") ≡ false → HasCause text since
+calm route door pair port closed early = record {
+  route = λ is. clash (sym route ∙ is);
+  door = λ is. clash (sym door ∙ is);
+  pair = λ is. clash (sym pair ∙ is);
+  port = λ is. clash (sym port ∙ is);
+  closed = λ is. clash (sym closed ∙ is);
+  early = λ is. clash (sym early ∙ is);
+}
+
 -- ---- rows of any line
 
 module _ (Origin : Type 0) (gate : Gate) where
@@ -155,17 +172,19 @@ module _ (Origin : Type 0) (gate : Gate) where
   said_knows n text state other knows =
       subst (λ (b : Bool). Knows gate state (said n text b).k) (sym other) (record { login = knows.login; user = knows.user; link = knows.link; setting = knows.setting; own = knows.own })
 
-  pub say_leaves : (n : Noted) (words : List ℕ) (state : State) → begins words texts.port_ok ≡ false → IsLoggedFirst gate words n.k → Holds gate n state → Leaves watch (rows.tell_row words state) n
-  say_leaves n words state other first holds =
-      ((first, behind gate n holds.1), λ done. (said_knows n words state other holds.0, said_even n words other holds.1))
+  pub say_leaves : (n : Noted) (words : List ℕ) (state : State) → begins words texts.port_ok ≡ false → IsLoggedFirst gate words n.k → HasCause words n.k.since → Holds gate n state → Leaves watch (rows.tell_row words state) n
+  say_leaves n words state other first cause holds =
+      (((first, cause), behind gate n holds.1), λ done. (said_knows n words state other holds.0, said_even n words other holds.1))
 
-  pub tell_leaves : (n : Noted) (words : List ℕ) (state : State) → IsPlain words → Holds gate n state → Leaves watch (rows.tell_row words state) n
-  tell_leaves n words state plain holds = say_leaves n words state plain.other (plain_first gate words n.k plain) holds
+  pub tell_leaves : (n : Noted) (words : List ℕ) (state : State) → IsPlain words → HasCause words n.k.since → Holds gate n state → Leaves watch (rows.tell_row words state) n
+  tell_leaves n words state plain cause holds = say_leaves n words state plain.other (plain_first gate words n.k plain) cause holds
 
-  pub closed_leaves : (n : Noted) → Even gate n → Leaves watch rows.closed_row n
-  closed_leaves n even =
+  -- behind the server's end
+  pub closed_leaves : (n : Noted) → IsClosed n.k.since → Even gate n → Leaves watch rows.closed_row n
+  closed_leaves n closed even =
       let plain : IsPlain texts.server_closed = record { other = refl; verb = refl; login = refl; dest = refl; failed = refl } in
-      ((plain_first gate texts.server_closed n.k plain, behind gate n even), λ done. said_even n texts.server_closed refl even)
+      let cause : HasCause texts.server_closed n.k.since = record { route = λ is. clash is; door = λ is. clash is; pair = λ is. clash is; port = λ is. clash is; closed = λ is. closed; early = λ is. clash is } in
+      (((plain_first gate texts.server_closed n.k plain, cause), behind gate n even), λ done. said_even n texts.server_closed refl even)
 
   pub logged_even : (n : Noted) (line : List ℕ) → Even gate n → Even gate (note gate n (Log line) (Ok tt))
   logged_even n line even = record { is = even.is ∙ sym (append-nil n.passed); asks = even.asks ∙ sym (append-nil n.calls) }

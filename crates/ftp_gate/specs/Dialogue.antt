@@ -113,7 +113,6 @@ data_port code six = if code == 227 then port_in six else None
 -- the transfer was done to its end
 abbrev pub is_done : Option WayEnd → Bool
 is_done (Some ways.Done) = true
-is_done None = true
 is_done end = false
 
 -- both data links are up

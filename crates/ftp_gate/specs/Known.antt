@@ -33,7 +33,7 @@ use Rattle.ftp_gate.specs.declared.kind.Outward.TheVariants.{Served}
 use Rattle.ftp_gate.specs.declared.kind.Served.TheVariants.{Port, Transfer}
 
 -- The command that was heard last, if that was one; what was done since; whether a login stands; the user who was asked about
--- last, if one was; to which destination a link is up whose server greeted well; what is set for a transfer; how it stood with
+-- last, if one was; to which destination a link came up whose server greeted well; what is set for a transfer; how it stood with
 -- the last command when it was heard, and what came of it; and what was to be passed of all commands before it, and which
 -- destinations they asked for.
 pub record Known : Type 0 where
@@ -108,8 +108,8 @@ asking request (Some reply) k = record k {
 }
 
 abbrev pub dialing : {Never : Type 0} → Dest → Result Bool Never → Known → Known
-dialing dest (Ok true) k = record k { dialed = Some dest; link = None }
-dialing dest (Ok false) k = record k { dialed = None; link = None }
+dialing dest (Ok true) k = record k { dialed = Some dest }
+dialing dest (Ok false) k = record k { dialed = None }
 dialing dest (Err never) k = k
 
 abbrev pub greeted_with : Standing → Standing
@@ -177,7 +177,7 @@ noting gate k (TakeReply Dropped) outcome = k
 noting gate k (Pass text) outcome = using k
 noting gate k OpenDoor outcome = opening outcome k
 noting gate k (Join dest target) outcome = joining outcome k
-noting gate k HangUp outcome = record k { dialed = None; link = None }
+noting gate k HangUp outcome = record k { dialed = None }
 noting gate k act outcome = k
 
 abbrev pub known_after : Gate → Known → (act : Act) → Outcome act → Known

@@ -8,12 +8,14 @@ ghost use Rattle.ftp_gate.specs.Texts.{passed_line};
 ghost use Rattle.fw_acts.specs.Ran.{Ran};
 ghost use Rattle.session_acts.specs.Session.{leads};
 
-use crate::destinations::{pass_row, user_row};
+use crate::destinations::user_row;
 use crate::kind::{Kind, Outward, Served, is_quit, kind_of};
 use crate::log_lines::blocked_line;
 use crate::login::{authorize_row, response_row, tell_row};
+use crate::passing::pass_row;
+use crate::settings::{door_row, port_row};
 use crate::texts::{log_in_first, passed_line, verb_denied};
-use crate::transfers::{door_row, port_row, transfer_row};
+use crate::transfers::transfer_row;
 use crate::verbs::{asks_login, has_verb};
 use crate::{Account, FtpScript, Order, Place, State};
 use fw_outside::Heard;

@@ -1,119 +1,25 @@
-//! The rows of `USER`: a link to a server, and a user who is named to it.
-ghost use Rattle.std.specs.Prelude.{◌≡◌, ◌<◌, ◌≤◌, codes, length, Some, None, true, false, IfOk};
-ghost use Rattle.ftp_gate.specs.Dialogue.{again_row, closed_row, connect_row, dest_row, dialed_row, ftp_rows, greeted_row, is_well, line_of_denial, logged_row, operated_row, pass_row, pass_user_row, permitted_row, refuse_row, refusing_line, user_row, wanted_row, welcomed_row, with_dest};
-ghost use Rattle.ftp_gate.specs.Gate.{has_verb};
+//! The rows of `USER`: a server is asked for, or a user named to one.
+ghost use Rattle.std.specs.Prelude.{◌≡◌, ◌<◌, ◌≤◌, length, Some, None, true};
+ghost use Rattle.ftp_gate.specs.Dialogue.{again_row, connect_row, dest_row, ftp_rows, line_of_denial, operated_row, pass_user_row, permitted_row, refuse_row, refusing_line, user_row, wanted_row};
 ghost use Rattle.ftp_gate.specs.User.{name_there, user_of};
-ghost use Rattle.fw_acts.specs.Acts.Row.{At, Do};
 ghost use Rattle.fw_acts.specs.Ran.{Ran};
 ghost use Rattle.gate_rules.specs.Verdict.{allows};
-ghost use Rattle.session_acts.specs.Acts.Act.{HangUp, Pass};
 ghost use Rattle.session_acts.specs.Session.{leads};
 
-use crate::log_lines::{command_line, connect_line, refuse_line};
+use crate::greeting::connect_row;
+use crate::log_lines::refuse_line;
 use crate::login::tell_row;
-use crate::texts::{dest_denied, user_text};
+use crate::passing::pass_user_row;
+use crate::texts::dest_denied;
 use crate::user::{name_there, read_user};
-use crate::verbs::has_verb;
 use crate::{FtpScript, Place, State};
 use auth_events::{Denial, OpService, Reply, Request};
-use fw_types::{Dest, Verb};
+use fw_types::Dest;
 use gate_rules::{Options, destination};
 use host_pattern::Steps;
-use session_acts::{Cause, Replied, ReplyUse, Stage, tell};
+use session_acts::{Cause, Stage};
 use std::marker::Brand;
 use std::sync::ledger::{Blank, Ledger};
-
-/// Tells that the server ended, which ends the session.
-pub(crate) fn closed_row<D: Stage>(
-    stage: &mut D,
-    script: &FtpScript,
-) -> Result<Option<Place>, Cause>
-    ensures ran { Ran (ftp_rows script.now) closed_row leads (D.world stage.old) (D.world stage.new) result }
-    ensures over { IfOk result (λ next. next ≡ None) }
-{
-    let _ = script.line;
-    tell(stage, b"421 Server closed\r\n", None)
-}
-
-// Gives the server a line, whose replies are heard then.
-#[tactic(auto, using(session_acts::proofs::Acting::acting))]
-fn give_row<D: Stage>(
-    stage: &mut D,
-    script: &FtpScript,
-    state: State,
-    text: &[u8],
-    quits: bool,
-) -> Result<Option<Place>, Cause>
-    ensures { Ran (ftp_rows script.now) (Do (Pass text.now) (λ done. At (Place.Answering state quits))) leads
-        (D.world stage.old) (D.world stage.new) result }
-{
-    let _ = script.line;
-    stage.pass(text)?;
-    Ok(Some(Place::Answering { state, quits }))
-}
-
-// Logs the verb, and gives the server a line.
-#[tactic(auto, using(session_acts::proofs::Acting::acting))]
-fn log_row<D: Stage>(
-    stage: &mut D,
-    script: &FtpScript,
-    state: State,
-    verb: &Verb,
-    text: &[u8],
-    quits: bool,
-) -> Result<Option<Place>, Cause>
-    ensures { Ran (ftp_rows script.now)
-        (logged_row script.now verb.now true (Do (Pass text.now) (λ done. At (Place.Answering state quits)))) leads
-        (D.world stage.old) (D.world stage.new) result }
-{
-    let line = command_line(script, verb);
-    stage.log(line.as_slice())?;
-    give_row(stage, script, state, text, quits)
-}
-
-/// Passes a line of this verb to the server, whose replies are heard then.
-pub(crate) fn pass_row<D: Stage>(
-    stage: &mut D,
-    script: &FtpScript,
-    state: State,
-    verb: &Verb,
-    text: &[u8],
-    quits: bool,
-) -> Result<Option<Place>, Cause>
-    ensures { Ran (ftp_rows script.now) (pass_row script.now state verb.now text.now quits) leads
-        (D.world stage.old) (D.world stage.new) result }
-{
-    if has_verb(&script.options().log, verb) {
-        return log_row(stage, script, state, verb, text, quits);
-    }
-    give_row(stage, script, state, text, quits)
-}
-
-// The verb of a user.
-fn user_verb() -> Verb
-    ensures { result ≡ codes "USER" }
-{
-    let Some(verb) = Verb::read(b"USER") else {
-        unreachable!();
-    };
-    verb
-}
-
-// Names a user to the server.
-fn pass_user_row<D: Stage>(
-    stage: &mut D,
-    script: &FtpScript,
-    state: State,
-    name: &[u8],
-) -> Result<Option<Place>, Cause>
-    requires { length name.now ≤ 512 }
-    ensures { Ran (ftp_rows script.now) (pass_user_row script.now state name.now) leads (D.world stage.old)
-        (D.world stage.new) result }
-{
-    let verb = user_verb();
-    let text = user_text(name);
-    pass_row(stage, script, state, &verb, text.as_slice(), false)
-}
 
 // Logs that a destination is denied by the line with this number, and then tells so.
 #[tactic(auto, using(session_acts::proofs::Acting::acting))]
@@ -131,129 +37,6 @@ fn refuse_row<D: Stage>(
     stage.log(line.as_slice())?;
     let words = dest_denied(number);
     tell_row(stage, script, words.as_slice(), state)
-}
-
-// Hangs up a link to a server that isn't well.
-fn unwelcome_row<D: Stage>(
-    stage: &mut D,
-    script: &FtpScript,
-    state: State,
-) -> Result<Option<Place>, Cause>
-    ensures { Ran (ftp_rows script.now) (Do HangUp (λ done. At (Place.Listening state))) leads (D.world stage.old)
-        (D.world stage.new) result }
-{
-    let _ = script.line;
-    stage.hang_up();
-    Ok(Some(Place::Listening { state }))
-}
-
-fn with_dest(dest: Dest, state: State) -> State
-    ensures { result ≡ with_dest dest state }
-{
-    State {
-        account: state.account,
-        dest: Some(dest),
-        setting: state.setting,
-    }
-}
-
-fn is_well(code: u16) -> bool
-    ensures { result ≡ is_well code }
-{
-    code / 100 == 2
-}
-
-// Names the user to a server that is well.
-fn welcomed_row<D: Stage>(
-    stage: &mut D,
-    script: &FtpScript,
-    state: State,
-    name: &[u8],
-    dest: Dest,
-    code: u16,
-) -> Result<Option<Place>, Cause>
-    requires { length name.now ≤ 512 }
-    ensures { Ran (ftp_rows script.now) (welcomed_row script.now state name.now dest (is_well code)) leads
-        (D.world stage.old) (D.world stage.new) result }
-{
-    if is_well(code) {
-        return pass_user_row(stage, script, with_dest(dest, state), name);
-    }
-    unwelcome_row(stage, script, state)
-}
-
-// What follows the server's greeting.
-fn greeted_row<D: Stage>(
-    stage: &mut D,
-    script: &FtpScript,
-    state: State,
-    name: &[u8],
-    dest: Dest,
-    replied: Replied,
-) -> Result<Option<Place>, Cause>
-    requires { length name.now ≤ 512 }
-    ensures { Ran (ftp_rows script.now) (greeted_row script.now state name.now dest replied) leads
-        (D.world stage.old) (D.world stage.new) result }
-{
-    match replied {
-        Replied::Whole { code, .. } => welcomed_row(stage, script, state, name, dest, code),
-        Replied::Ended => closed_row(stage, script),
-    }
-}
-
-// Waits for the server's greeting.
-#[tactic(auto, using(session_acts::proofs::Acting::acting))]
-fn greeting_row<D: Stage>(
-    stage: &mut D,
-    script: &FtpScript,
-    state: State,
-    name: &[u8],
-    dest: Dest,
-) -> Result<Option<Place>, Cause>
-    requires { length name.now ≤ 512 }
-    ensures { Ran (ftp_rows script.now) (dialed_row script.now state name.now dest true) leads
-        (D.world stage.old) (D.world stage.new) result }
-{
-    let replied = stage.take_reply(ReplyUse::Greeting)?;
-    greeted_row(stage, script, state, name, dest, replied)
-}
-
-// Goes on where the link came up.
-fn dialed_row<D: Stage>(
-    stage: &mut D,
-    script: &FtpScript,
-    state: State,
-    name: &[u8],
-    dest: Dest,
-    up: bool,
-) -> Result<Option<Place>, Cause>
-    requires { length name.now ≤ 512 }
-    ensures { Ran (ftp_rows script.now) (dialed_row script.now state name.now dest up) leads (D.world stage.old)
-        (D.world stage.new) result }
-{
-    if up {
-        return greeting_row(stage, script, state, name, dest);
-    }
-    tell_row(stage, script, b"425 No route\r\n", state)
-}
-
-// Logs that the client is linked to a destination, and asks for it.
-#[tactic(auto, using(session_acts::proofs::Acting::acting))]
-fn connect_row<D: Stage>(
-    stage: &mut D,
-    script: &FtpScript,
-    state: State,
-    name: &[u8],
-    dest: Dest,
-) -> Result<Option<Place>, Cause>
-    requires { length name.now ≤ 512 }
-    ensures { Ran (ftp_rows script.now) (connect_row script.now state name.now dest) leads (D.world stage.old)
-        (D.world stage.new) result }
-{
-    let line = connect_line(script, &dest);
-    stage.log(line.as_slice())?;
-    let up = stage.dial(&dest);
-    dialed_row(stage, script, state, name, dest, up)
 }
 
 fn line_of_denial(line: u32, denial: &Denial) -> u32

@@ -1,15 +1,22 @@
 //! What holds of every session of the FTP gateway.
-ghost use Rattle.std.specs.Prelude.{◌≡◌, List};
+ghost use Rattle.std.specs.Prelude.{◌≡◌, ◌≢◌, List, [], ◌∷◌, ◌++◌, length, None};
 ghost use Rattle.auth_events.specs.Login.{login_in};
+ghost use Rattle.auth_events.specs.Port.{places};
 ghost use Rattle.fw_types.specs.declared.ending.Ending.{Ending};
-ghost use Rattle.session_acts.specs.Deeds.{Deed, gives};
+ghost use Rattle.fw_types.specs.declared.ending.Ending.TheVariants.{AuthFault, NoMemory, NoRoute};
+ghost use Rattle.session_acts.specs.Deeds.{Deed, deeds_ran, gives};
+ghost use Rattle.session_acts.specs.Once.{OpensOnce};
+ghost use Rattle.session_acts.specs.OwnLogin.{LoginStandsIn, number_opened};
 ghost use Rattle.session_acts.specs.Session.{Held, deeds_of};
-ghost use Rattle.session_acts.specs.Talk.{answered, asked};
+ghost use Rattle.session_acts.specs.Talk.{Entered, answered, asked};
 ghost use Rattle.session_acts.specs.World.{World};
 ghost use Rattle.ftp_gate.specs.Dialogue.{ftp_row, ftp_rows};
+ghost use Rattle.ftp_gate.specs.Due.{LogsWhatIsDue};
+ghost use Rattle.ftp_gate.specs.Ends.{EndsThere, HasEnd};
 ghost use Rattle.ftp_gate.specs.Gate.{Gate};
 ghost use Rattle.ftp_gate.specs.Known.{known};
-ghost use Rattle.ftp_gate.specs.Laws.{AsksDue, AsksExactly, DenialsLogged, DialsCleared, GivesPassage, JoinsOwn, PassesUnblocked};
+ghost use Rattle.ftp_gate.specs.Laws.{AreRight, AsksDue, AsksExactly, CopiesOwn, DenialsLogged, DialsCleared, FailuresToldOf, GivesPassage, IsDone, IsOutward, JoinsOwn, NeedsLogin, OpensOwn, PassesUnblocked};
+ghost use Rattle.ftp_gate.specs.Naming.{names};
 
 /// Where a destination is asked for, the command that was heard last is a USER that names it, whose verb isn't denied, and a
 /// login stands, if one is asked for before it; no link is up; the permission line's `-dest` lets the destination pass. Since
@@ -44,16 +51,48 @@ pub fn what_the_server_is_given<Origin>()
         PassesUnblocked gate (deeds_of held) }
 {}
 
-/// Data links are asked for at the host of the server to which a link is up, and at the client's own address, at a port from
-/// 1,024 on, or at a door.
+/// Data links are asked for by a transfer that was heard last and isn't blocked: one at the host of the server to which a link
+/// is up, and at the port that the server told since in a reply of 227 to PASV; and the other as it was set, which is at the
+/// client's own address, at a port from 1,024 on, or at a door (`joins`). A door is opened for a PASV that was heard last and
+/// isn't blocked, where a link is up (`doors`). Data are copied the way of a transfer that was heard last and isn't blocked,
+/// where both data links came up, and the server's last reply to it says that it transfers (`copies`).
 pub fn data_links_are_the_sessions_own<Origin>()
-    ensures { (gate : Gate) (old new : World Origin) (ending : Ending) (held : Held (ftp_rows gate) ftp_row old new ending) →
+    ensures joins { (gate : Gate) (old new : World Origin) (ending : Ending) (held : Held (ftp_rows gate) ftp_row old new ending) →
         JoinsOwn gate (deeds_of held) }
+    ensures doors { (gate : Gate) (old new : World Origin) (ending : Ending) (held : Held (ftp_rows gate) ftp_row old new ending) →
+        OpensOwn gate (deeds_of held) }
+    ensures copies { (gate : Gate) (old new : World Origin) (ending : Ending) (held : Held (ftp_rows gate) ftp_row old new ending) →
+        CopiesOwn gate (deeds_of held) }
 {}
 
-/// Each request that is asked is one that the command which was heard last asks for, but for the close: for a user who is named,
-/// who that is, and before that an opening; for a response whether it is right, where a user was named before; for a
-/// destination that `-dest` lets pass, with `-extnd`, permission to reach its host.
+/// The log is given each line that is due, right behind what it is due for, and no other: for a command that is blocked, for a
+/// destination that is refused or asked for, for a login and one that failed, and for a command in `-log` that is passed, where
+/// that is a transfer once both data links are up.
+pub fn the_log_is_given_what_is_due<Origin>()
+    ensures { (gate : Gate) (old new : World Origin) (ending : Ending) (held : Held (ftp_rows gate) ftp_row old new ending) →
+        LogsWhatIsDue gate (deeds_of held) }
+{}
+
+/// Where the client is told that there is no route, no door, no data link or no data port, that the server closed, or that a
+/// transfer ended early, that was so: right before, the dial, the door or the data links were refused, the server told no data
+/// port, or came to its end; or a copy wasn't done to its end, and behind it the server's replies were dropped, up to its last.
+pub fn each_failure_has_its_cause<Origin>()
+    ensures { (gate : Gate) (old new : World Origin) (ending : Ending) (held : Held (ftp_rows gate) ftp_row old new ending) →
+        FailuresToldOf gate (deeds_of held) }
+{}
+
+/// Each act is one of these, where it may come: lines are heard in one form, and what is said, asked, dialed, passed, joined and
+/// copied is so as the other laws say; beside that the log is given a line, a reply of the server is heard, data links are let
+/// go, and a link is hung up.
+pub fn only_these_acts_come<Origin>()
+    ensures { (gate : Gate) (old new : World Origin) (ending : Ending) (held : Held (ftp_rows gate) ftp_row old new ending) →
+        AreRight gate (deeds_of held) }
+{}
+
+/// Each request that is asked is one that the command which was heard last asks for, and nothing was done since, but for the
+/// close: for a user who is named an opening, or, at once or behind an opening, who that is; for a response whether it is right,
+/// where a user was named before; for a destination that `-dest` lets pass, with `-extnd`, while no link is up, permission to
+/// reach its host.
 pub fn each_request_is_asked_for<Origin>()
     ensures { (gate : Gate) (old new : World Origin) (ending : Ending) (held : Held (ftp_rows gate) ftp_row old new ending) →
         AsksDue gate (deeds_of held) }
@@ -62,4 +101,51 @@ pub fn each_request_is_asked_for<Origin>()
 /// Whether a login is known to stand is what the session's requests and their answers tell.
 pub fn a_login_is_told_by_the_talk()
     ensures { (gate : Gate) (deeds : List Deed) → (known gate deeds).login ≡ login_in (answered (gives asked deeds)) }
+{}
+
+/// Where a login is asked for before the command that was heard last, whatever asks for a destination or gives the server
+/// something comes after a login that stands in what this session entered: what it had asked by then and was entered is a front
+/// of that, and in this front a login stands for the number that this session's opening was given (`own`). If the port's own
+/// entries are the whole history, they are a front of it (`whole`).
+pub fn the_login_is_this_sessions<Origin>()
+    ensures own { (gate : Gate) (old new : World Origin) (ending : Ending) (held : Held (ftp_rows gate) ftp_row old new ending) →
+        old.office.opened ≡ None → (entered : Entered (gives asked (deeds_of held)) old.office new.office) →
+        (before after : List Deed) (deed : Deed) → deeds_of held ≡ before ++ deed ∷ after → IsOutward deed.act →
+        NeedsLogin gate (known gate before) →
+        LoginStandsIn (number_opened (gives asked (deeds_of held))) (gives asked before) entered.port.entries }
+    ensures whole { (gate : Gate) (old new : World Origin) (ending : Ending) (held : Held (ftp_rows gate) ftp_row old new ending) →
+        old.office.opened ≡ None → old.office.port.mine ≡ [] →
+        new.office.port.mine ≡ places (length new.office.port.seen) → (before after : List Deed) (deed : Deed) →
+        deeds_of held ≡ before ++ deed ∷ after → IsOutward deed.act → NeedsLogin gate (known gate before) →
+        LoginStandsIn (number_opened (gives asked (deeds_of held))) (gives asked before) new.office.port.seen }
+{}
+
+/// Where no session was open before: openings that opened none, and then nothing is asked, or Open once more; where that is
+/// answered `Opened`, Close is asked once, as the last, and Open not again.
+pub fn a_session_is_opened_once<Origin>()
+    ensures { (gate : Gate) (old new : World Origin) (ending : Ending) (held : Held (ftp_rows gate) ftp_row old new ending) →
+        old.office.opened ≡ None → OpensOnce (gives asked (deeds_of held)) }
+{}
+
+/// Behind the end of what the client says, the end of what the server says, the last reply to QUIT that was passed, and the
+/// goodbye to a client without a server, at most these are done: the client is told that the server closed, a link is hung up,
+/// a session at the port is closed (`there`). A dialogue that comes to its end ends with one of these (`ended`).
+pub fn the_dialogue_ends<Origin>()
+    ensures there { (gate : Gate) (old new : World Origin) (ending : Ending) (held : Held (ftp_rows gate) ftp_row old new ending) →
+        EndsThere gate (deeds_of held) }
+    ensures ended { (gate : Gate) (old new : World Origin) (ending : Ending) (held : Held (ftp_rows gate) ftp_row old new ending) →
+        IsDone held.dialogue → HasEnd gate (deeds_ran held.ran) }
+{}
+
+/// Where no line that was heard is AUTHORIZE with a name, nothing is asked of the port (`unasked`), and so no session ends for
+/// want of memory (`ample`) or by the port (`unfailed`). None ends since a destination couldn't be reached (`routed`).
+pub fn what_ends_no_session<Origin>()
+    ensures unasked { (gate : Gate) (old new : World Origin) (ending : Ending) (held : Held (ftp_rows gate) ftp_row old new ending) →
+        old.office.opened ≡ None → gives names (deeds_of held) ≡ [] → gives asked (deeds_of held) ≡ [] }
+    ensures ample { (gate : Gate) (old new : World Origin) (ending : Ending) (held : Held (ftp_rows gate) ftp_row old new ending) →
+        old.office.opened ≡ None → gives names (deeds_of held) ≡ [] → ending ≢ NoMemory }
+    ensures unfailed { (gate : Gate) (old new : World Origin) (ending : Ending) (held : Held (ftp_rows gate) ftp_row old new ending) →
+        old.office.opened ≡ None → gives names (deeds_of held) ≡ [] → ending ≢ AuthFault }
+    ensures routed { (gate : Gate) (old new : World Origin) (ending : Ending) →
+        Held (ftp_rows gate) ftp_row old new ending → ending ≢ NoRoute }
 {}

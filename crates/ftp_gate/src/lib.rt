@@ -7,17 +7,21 @@
 #![tactic(auto)]
 
 mod commands;
+mod copies;
 mod destinations;
 mod dummies;
+mod greeting;
 mod kind;
 pub mod laws;
 mod log_lines;
 mod login;
 mod order;
+mod passing;
 mod place;
 mod replies;
 mod script;
 mod session;
+mod settings;
 mod texts;
 mod transfers;
 mod user;

@@ -7,8 +7,8 @@ ghost use Rattle.fw_acts.specs.Ran.{Ran};
 ghost use Rattle.session_acts.specs.Distance.{ahead_of_server};
 ghost use Rattle.session_acts.specs.Session.{leads};
 
-use crate::destinations::closed_row;
-use crate::transfers::goes_on;
+use crate::copies::goes_on;
+use crate::passing::closed_row;
 use crate::{FtpScript, Place, State};
 use session_acts::{Cause, Replied, ReplyUse, Stage};
 

@@ -19,6 +19,15 @@ fn call_laws() {
     ftp_gate::laws::the_destinations_are_those_asked_for::<()>();
     ftp_gate::laws::what_the_server_is_given::<()>();
     ftp_gate::laws::data_links_are_the_sessions_own::<()>();
+    ftp_gate::laws::the_log_is_given_what_is_due::<()>();
+    ftp_gate::laws::each_failure_has_its_cause::<()>();
+    ftp_gate::laws::only_these_acts_come::<()>();
+    ftp_gate::laws::each_request_is_asked_for::<()>();
+    ftp_gate::laws::a_login_is_told_by_the_talk();
+    ftp_gate::laws::the_login_is_this_sessions::<()>();
+    ftp_gate::laws::a_session_is_opened_once::<()>();
+    ftp_gate::laws::the_dialogue_ends::<()>();
+    ftp_gate::laws::what_ends_no_session::<()>();
 }
 
 fn main(rt: HostRuntime) -> io::Result<ExitCode> {

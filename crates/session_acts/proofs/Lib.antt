@@ -55,3 +55,5 @@ pub mod GreetingLemmas
 pub mod GreetedLemmas
 pub mod GreetsLemmas
 pub mod RefusalLemmas
+pub mod OnceLemmas
+pub mod OwnLoginLemmas

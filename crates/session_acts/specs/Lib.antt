@@ -34,3 +34,5 @@ pub mod LastStop
 pub mod Dummies
 pub mod Serverless
 pub mod Side
+pub mod Once
+pub mod OwnLogin

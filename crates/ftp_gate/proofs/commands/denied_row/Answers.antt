@@ -5,4 +5,4 @@ use Rattle.ftp_gate.proofs.RowLemmas.{row_as}
 use Rattle.ftp_gate.proofs.commands.denied_row.Goals as goal
 
 pub returns : goal.returns
-returns g c = row_as (λ (v : List ℕ). blocked_row c.args.script.now c.args.state v _) c.verb.ensures (row_as (λ (t : List ℕ). blocked_row c.args.script.now c.args.state c.verb.result.now t) (c.as_slice.ensures.value ∙ c.verb_denied-words.ensures ∙ ap verb_denied c.line.ensures) c.blocked_row.ensures)
+returns g c = row_as (λ (v : List ℕ). blocked_row c.args.script.now c.args.state v (verb_denied c.args.script.now.line)) c.verb.ensures (row_as (λ (t : List ℕ). blocked_row c.args.script.now c.args.state c.verb.result.now t) (c.as_slice.ensures.value ∙ c.verb_denied-words.ensures ∙ ap verb_denied c.line.ensures) c.blocked_row.ensures)

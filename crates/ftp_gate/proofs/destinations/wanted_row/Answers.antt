@@ -5,4 +5,4 @@ pub returns-in-Some : goal.returns-in-Some
 returns-in-Some g c = rw c.in-Some.ensures.is c.dest_row.ensures
 
 pub returns-in-None : goal.returns-in-None
-returns-in-None g c = rw c.in-None.ensures c.tell_row.ensures
+returns-in-None g c = rw c.in-None.ensures.is c.tell_row.ensures

@@ -8,7 +8,7 @@ pub returns-in-Password : goal.returns-in-Password
 returns-in-Password g c = rw c.in-Password.is (row_as (λ (s : State). tell_row password_asked s) c.with_account.ensures c.tell_row.ensures)
 
 pub returns-in-Challenge : goal.returns-in-Challenge
-returns-in-Challenge g c = rw c.in-Challenge.is (row_as (λ (s : State). tell_row (challenge_asked c.in-Challenge.number.now c.in-Challenge.word_seed.now) s) c.with_account-in-Challenge.ensures c.challenged_row.ensures)
+returns-in-Challenge g c = rw c.in-Challenge.is (row_as (λ (s : State). tell_row (challenge_asked c.in-Challenge.number c.in-Challenge.word_seed) s) c.with_account-in-Challenge.ensures c.challenged_row.ensures)
 
 pub returns-in-Denied : goal.returns-in-Denied
 returns-in-Denied g c = rw c.in-Denied.is c.denied_row.ensures

@@ -7,4 +7,4 @@ pub returns-in-Unopened : goal.returns-in-Unopened
 returns-in-Unopened g c = rw c.in-Unopened.is c.tell_row.ensures
 
 pub returns-in-Opened : goal.returns-in-Opened
-returns-in-Opened g c = rw (c.in-Opened.is, sym c.twin.ensures) c.respond_row.ensures
+returns-in-Opened g c = rw (c.in-Opened.is, sym c.twin-name.ensures) c.respond_row.ensures

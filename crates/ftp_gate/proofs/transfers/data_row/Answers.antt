@@ -1,5 +1,5 @@
-use Rattle.ftp_gate.proofs.RowLemmas.{replied_as}
+use Rattle.session_acts.proofs.Acting.{did}
 use Rattle.ftp_gate.proofs.transfers.data_row.Goals as goal
 
 pub returns : goal.returns
-returns g c = replied_as c.in_ok-replied.ensures c.passive_row.ensures
+returns g c = did c.in_ok-replied.ensures.met c.passive_row.ensures

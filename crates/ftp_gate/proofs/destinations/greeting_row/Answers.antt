@@ -1,5 +1,0 @@
-use Rattle.ftp_gate.proofs.RowLemmas.{replied_as}
-use Rattle.ftp_gate.proofs.destinations.greeting_row.Goals as goal
-
-pub returns : goal.returns
-returns g c = replied_as c.in_ok-replied.ensures c.greeted_row.ensures

@@ -1,7 +1,0 @@
-use Rattle.std.proofs.Common.{◌∙◌, ℕ, List, codes}
-use Rattle.ftp_gate.specs.Dialogue.{pass_row}
-use Rattle.ftp_gate.proofs.RowLemmas.{row_as}
-use Rattle.ftp_gate.proofs.destinations.pass_user_row.Goals as goal
-
-pub returns : goal.returns
-returns g c = row_as (λ (v : List ℕ). pass_row c.args.script.now c.args.state v _ _) c.user_verb-verb.ensures (row_as (λ (t : List ℕ). pass_row c.args.script.now c.args.state c.user_verb-verb.result t _) (c.as_slice.ensures.value ∙ c.user_text-text.ensures) c.pass_row.ensures)

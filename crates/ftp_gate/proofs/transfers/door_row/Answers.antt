@@ -1,5 +1,0 @@
-use Rattle.session_acts.proofs.Acting.{did}
-use Rattle.ftp_gate.proofs.transfers.door_row.Goals as goal
-
-pub returns : goal.returns
-returns g c = did c.open_door-door.ensures c.doored_row.ensures

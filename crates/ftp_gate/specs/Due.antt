@@ -1,0 +1,191 @@
+-- Which line the log is given next. No place and no row is named here.
+use Rattle.std.specs.Prelude.{◌≡◌, ℕ, Bool, true, false, ◌&&◌, not, List, [], ◌∷◌, ◌++◌, Option, Some, None, Result, Ok, Err, codes}
+use Rattle.std.specs.Option.{option_map}
+use Rattle.auth_events.specs.declared.reply.Reply.{Reply}
+use Rattle.auth_events.specs.declared.reply.Reply.TheVariants as replies
+use Rattle.auth_events.specs.declared.request.Request.{Request}
+use Rattle.auth_events.specs.declared.request.Request.TheVariants as requests
+use Rattle.fw_types.specs.Name.{name_of}
+use Rattle.fw_types.specs.declared.dest.Dest.{Dest}
+use Rattle.gate_rules.specs.Verdict.{allows}
+use Rattle.session_acts.specs.Acts.{Act, Outcome}
+use Rattle.session_acts.specs.Acts.Act.{Ask, Hear, Join, Log, Note, TakeReply}
+use Rattle.session_acts.specs.Deeds.{Deed}
+use Rattle.session_acts.specs.Hearing.{heard_by}
+use Rattle.session_acts.specs.Met.{reply_of}
+use Rattle.session_acts.specs.declared.joined.Joined.{Joined}
+use Rattle.session_acts.specs.declared.joined.Joined.TheVariants.{Up}
+use Rattle.session_acts.specs.declared.replied.Replied.{Replied}
+use Rattle.session_acts.specs.declared.replied.Replied.TheVariants.{Whole}
+use Rattle.session_acts.specs.declared.reply_use.ReplyUse.TheVariants.{Passed, Dropped, Greeting}
+use Rattle.ftp_gate.specs.Dialogue.{is_well, reason_of, refusing_line}
+use Rattle.ftp_gate.specs.Gate.{Gate, asks_login, has_verb}
+use Rattle.ftp_gate.specs.Kind.{kind_of}
+use Rattle.ftp_gate.specs.Known.{Known, known, order_in}
+use Rattle.ftp_gate.specs.LogLines.{blocked_line, command_line, connect_line, fail_line, login_line, refuse_line}
+use Rattle.ftp_gate.specs.Order.{Order}
+use Rattle.ftp_gate.specs.User.{name_there, user_of}
+use Rattle.ftp_gate.specs.declared.kind.Kind.{Kind}
+use Rattle.ftp_gate.specs.declared.kind.Kind.TheVariants as kinds
+use Rattle.ftp_gate.specs.declared.kind.Outward.{Outward}
+use Rattle.ftp_gate.specs.declared.kind.Outward.TheVariants.{User, Served}
+use Rattle.ftp_gate.specs.declared.kind.Served as served
+use Rattle.ftp_gate.specs.declared.kind.Served.TheVariants.{Port, Pasv, Extended, Transfer, Quit, Other}
+
+-- ---- behind a command
+
+-- its verb is in `-log`, or isn't
+abbrev pub command_if : Bool → Gate → List ℕ → Option (List ℕ)
+command_if true gate verb = Some (command_line gate verb)
+command_if false gate verb = None
+
+abbrev pub command_due : Gate → List ℕ → Option (List ℕ)
+command_due gate verb = command_if (has_verb gate.options.log verb) gate verb
+
+-- with `-extnd` permission is asked first
+abbrev pub connect_due : Bool → Gate → Dest → Option (List ℕ)
+connect_due true gate dest = None
+connect_due false gate dest = Some (connect_line gate dest)
+
+-- a destination that the permission line lets pass, or doesn't
+abbrev pub dest_due : Bool → Gate → Dest → Option (List ℕ)
+dest_due true gate dest = connect_due gate.options.extnd gate dest
+dest_due false gate dest = Some (refuse_line gate dest gate.line)
+
+abbrev pub wanted_due : Gate → Option (List ℕ × Dest) → Option (List ℕ)
+wanted_due gate None = None
+wanted_due gate (Some user) = dest_due (allows gate.options user.1) gate user.1
+
+-- a user is named to the server to which a link is up
+abbrev pub named_due : Gate → Option (List ℕ) → Option (List ℕ)
+named_due gate None = None
+named_due gate (Some name) = command_due gate (codes "USER")
+
+abbrev pub user_due : Gate → Option Dest → List ℕ → Option (List ℕ)
+user_due gate None arg = wanted_due gate (user_of arg)
+user_due gate (Some dest) arg = named_due gate (name_there dest arg)
+
+-- a transfer is logged once its data links are up
+abbrev pub served_due : Gate → Order → served.Served → Option (List ℕ)
+served_due gate order Port = None
+served_due gate order Pasv = None
+served_due gate order Extended = None
+served_due gate order (Transfer toward) = None
+served_due gate order Quit = command_due gate order.verb
+served_due gate order Other = command_due gate order.verb
+
+abbrev pub linked_due : Gate → Option Dest → Order → served.Served → Option (List ℕ)
+linked_due gate None order asked = None
+linked_due gate (Some dest) order asked = served_due gate order asked
+
+abbrev pub allowed_due : Gate → Option Dest → Order → Outward → Option (List ℕ)
+allowed_due gate link order User = user_due gate link order.arg
+allowed_due gate link order (Served asked) = linked_due gate link order asked
+
+-- where a login is asked for that doesn't stand, or isn't
+abbrev pub unless_due : Bool → Gate → Option Dest → Order → Outward → Option (List ℕ)
+unless_due true gate link order asked = Some (blocked_line gate order.verb)
+unless_due false gate link order asked = allowed_due gate link order asked
+
+-- where the verb is denied, or isn't
+abbrev pub outward_due : Bool → Gate → Bool → Option Dest → Order → Outward → Option (List ℕ)
+outward_due true gate login link order asked = Some (blocked_line gate order.verb)
+outward_due false gate login link order asked = unless_due (asks_login gate.options order.verb && not login) gate link order asked
+
+abbrev pub kind_due : Gate → Bool → Option Dest → Order → Kind → Option (List ℕ)
+kind_due gate login link order kinds.Authorize = None
+kind_due gate login link order kinds.Response = None
+kind_due gate login link order (kinds.Outward asked) = outward_due (has_verb gate.options.deny order.verb) gate login link order asked
+
+-- a login stands, or not, and a link is up to this destination, or none
+abbrev pub heard_due : Gate → Bool → Option Dest → Option Order → Option (List ℕ)
+heard_due gate login link None = None
+heard_due gate login link (Some order) = kind_due gate login link order (kind_of order.verb)
+
+-- ---- behind an answer of the port
+
+abbrev pub name_by : Option Order → Option (List ℕ)
+name_by None = None
+name_by (Some order) = name_of order.arg
+
+abbrev pub dest_by : Option Order → Option Dest
+dest_by None = None
+dest_by (Some order) = option_map (λ user. user.1) (user_of order.arg)
+
+-- a login failed, of this user
+abbrev pub failure_due : Gate → Option (List ℕ) → Reply → Option (List ℕ)
+failure_due gate user reply = option_map (λ name. fail_line gate name (reason_of reply)) user
+
+abbrev pub opened_due : Gate → Option (List ℕ) → Reply → Option (List ℕ)
+opened_due gate name (replies.Opened sid) = None
+opened_due gate name reply = failure_due gate name reply
+
+abbrev pub authenticated_due : Gate → List ℕ → Reply → Option (List ℕ)
+authenticated_due gate name replies.Password = None
+authenticated_due gate name (replies.Challenge number word_seed) = None
+authenticated_due gate name reply = failure_due gate (Some name) reply
+
+abbrev pub responded_due : Gate → Option (List ℕ) → Reply → Option (List ℕ)
+responded_due gate user replies.Ok = option_map (λ name. login_line gate name) user
+responded_due gate user reply = failure_due gate user reply
+
+abbrev pub operated_due : Gate → Option Dest → Reply → Option (List ℕ)
+operated_due gate dest replies.Ok = option_map (λ one. connect_line gate one) dest
+operated_due gate dest reply = option_map (λ one. refuse_line gate one (refusing_line gate.line reply)) dest
+
+abbrev pub replied_due : Gate → Known → Request → Reply → Option (List ℕ)
+replied_due gate k (requests.Open console) reply = opened_due gate (name_by k.order) reply
+replied_due gate k (requests.Authenticate name) reply = authenticated_due gate name reply
+replied_due gate k (requests.Response hash word) reply = responded_due gate k.user reply
+replied_due gate k (requests.Operation service host) reply = operated_due gate (dest_by k.order) reply
+replied_due gate k request reply = None
+
+abbrev pub asked_due : Gate → Known → Request → Option Reply → Option (List ℕ)
+asked_due gate k request None = None
+asked_due gate k request (Some reply) = replied_due gate k request reply
+
+-- ---- behind the server's greeting, and behind data links
+
+abbrev pub welcomed_due : Bool → Gate → Option (List ℕ)
+welcomed_due true gate = command_due gate (codes "USER")
+welcomed_due false gate = None
+
+abbrev pub greeted_due : {Halted : Type 0} → Gate → Result (Replied × List ℕ) Halted → Option (List ℕ)
+greeted_due gate (Ok (Whole code six, text)) = welcomed_due (is_well code) gate
+greeted_due gate outcome = None
+
+abbrev pub verb_due : Gate → Option Order → Option (List ℕ)
+verb_due gate None = None
+verb_due gate (Some order) = command_due gate order.verb
+
+abbrev pub joined_due : {Never : Type 0} → Gate → Option Order → Result Joined Never → Option (List ℕ)
+joined_due gate order (Ok Up) = verb_due gate order
+joined_due gate order outcome = None
+
+-- ---- behind a deed, before which this is known
+
+abbrev pub due_after : Gate → Known → (act : Act) → Outcome act → Option (List ℕ)
+due_after gate k (Hear form) outcome = heard_due gate k.login k.link (order_in (heard_by outcome))
+due_after gate k (Ask request) outcome = asked_due gate k request (reply_of outcome)
+due_after gate k (TakeReply Greeting) outcome = greeted_due gate outcome
+due_after gate k (TakeReply Passed) outcome = None
+due_after gate k (TakeReply Dropped) outcome = None
+due_after gate k (Join dest target) outcome = joined_due gate k.order outcome
+due_after gate k act outcome = None
+
+-- The log is given this line next; or nothing, where none is due.
+abbrev pub FitsLine : Option (List ℕ) → Act → Type 0
+FitsLine None (Log text) = ⊥
+FitsLine None (Note text) = ⊥
+FitsLine None act = Unit {0}
+FitsLine (Some line) act = act ≡ Log line
+
+abbrev pub IsLogged : Option (List ℕ) → List Deed → Type 0
+IsLogged None [] = Unit {0}
+IsLogged (Some line) [] = ⊥
+IsLogged due (next ∷ after) = FitsLine due next.act
+
+-- so it is behind each deed, and at first none is due
+pub record LogsWhatIsDue (gate : Gate) (deeds : List Deed) : Type 0 where
+  pub first : IsLogged None deeds
+  pub each : (before after : List Deed) (deed : Deed) → deeds ≡ before ++ deed ∷ after → IsLogged (due_after gate (known gate before) deed.act deed.outcome) after
