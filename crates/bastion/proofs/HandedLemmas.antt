@@ -27,7 +27,7 @@ use Rattle.spool_slots.specs.declared.slot_why.SlotWhy.TheVariants as whys
 use Rattle.spool_runs.specs.OnDisks.{RunsSpool}
 use Rattle.spool_runs.proofs.RoundLemmas.{round_grows}
 use Rattle.spool_runs.proofs.StoreLemmas.{run_over_rack}
-use Rattle.bastion.specs.HandedOn.{HandsNone, HandsRound, HandsSome, IsHandedOn, LineIf}
+use Rattle.bastion.specs.HandedOn.{HandsRound, IsHandedOn, LineIf}
 use Rattle.bastion.specs.HandingOn.{HandsMail, RoundHeld, ServesRound, TellsRound, outcome_after, outcome_faulted, outcome_printed}
 use Rattle.bastion.specs.Mailing.{OpensRack, SlotsUnread, slot_fault, with_disks}
 use Rattle.bastion.specs.Outcome.{DiskRose, MailersRose, fault_line_of, status_of}

@@ -1,4 +1,4 @@
-ghost use Rattle.std.specs.Prelude.{◌≡◌, ◌∷◌, [], ◌++◌, get_or, IfOk, OnOk, OnErr};
+ghost use Rattle.std.specs.Prelude.{◌≡◌, [], get_or, IfOk, OnOk, OnErr};
 ghost use Rattle.fw_outside.specs.Counts.{Rose, counted};
 ghost use Rattle.fw_mail.specs.MailerView.{Hands};
 ghost use Rattle.fw_memory.specs.MemMailerView.{AnswersHand, answer_told, mailer_view_of, next_call, with_accepted};
