@@ -27,7 +27,7 @@ use Rattle.spool_slots.specs.declared.slot_why.SlotWhy.TheVariants as whys
 use Rattle.spool_runs.specs.OnDisks.{RunsSpool}
 use Rattle.spool_runs.proofs.RoundLemmas.{round_grows}
 use Rattle.spool_runs.proofs.StoreLemmas.{run_over_rack}
-use Rattle.bastion.specs.HandedOn.{HandsNone, HandsRound, HandsSome, IsHandedOn, LineIf}
+use Rattle.bastion.specs.HandedOn.{HandsRound, IsHandedOn, LineIf}
 use Rattle.bastion.specs.HandingOn.{HandsMail, RoundHeld, ServesRound, TellsRound, outcome_after, outcome_faulted, outcome_printed}
 use Rattle.bastion.specs.Mailing.{OpensRack, SlotsUnread, slot_fault, with_disks}
 use Rattle.bastion.specs.Outcome.{DiskRose, MailersRose, fault_line_of, status_of}
@@ -151,7 +151,7 @@ module _ (post : Post) where
       (round_grows count count h.answer (meeting_with h.first post.before old.logs) (meeting_with h.store post.after new.logs) h.hands.hands) h.closed
 
   abbrev pub round_now : (outcome : Outcome) (old new : WorldView) (h : RoundHeld post outcome old new) → HandsRound post h.answer h.trouble old new
-  round_now outcome old new h = record { first = h.first; opened = h.opened; store = h.store; logs = new.logs; hands = h.hands; spool = round_spool outcome old new h }
+  round_now outcome old new h = record { first = h.first; opened = h.opened; store = h.store; closed = h.closed; logs = new.logs; hands = h.hands; spool = round_spool outcome old new h }
 
   round_later : (outcome : Outcome) (old mid new : WorldView) (h : RoundHeld post outcome old mid) → Later mid new → RunsSpool [] (map mail_view (accepted_of (h.hands.hands.turns ++ last_turn h.hands.hands.ending))) old.inputs.disks new.inputs.disks
   round_later outcome old mid new h later =
@@ -187,7 +187,7 @@ module _ (post : Post) where
       inr (record {
         answer = h.answer;
         trouble = h.trouble;
-        held = record { first = h.first; opened = h.opened; store = h.store; logs = mid.logs; hands = h.hands; spool = round_later outcome old mid new h later };
+        held = record { first = h.first; opened = h.opened; store = h.store; closed = subst (λ (i : SessionInputs). IfSome h.store.queues (λ q. AreInOrder q i.disks)) (sym later.inputs) h.closed; logs = mid.logs; hands = h.hands; spool = round_later outcome old mid new h later };
         outcome = outcome;
         status_is = refl;
         printed = subst (λ (s : SinkView). TellsRound h.answer h.trouble outcome old.output s) (sym later.output) h.tells;

@@ -1,5 +1,5 @@
 -- What `smapd` did: which messages it handed on, and what stands in the slots behind that.
-use Rattle.std.specs.Prelude.{◌≡◌, ◌≢◌, ℕ, ◌⊎◌, List, [], ◌++◌, map, length, Option, Some, None, Result}
+use Rattle.std.specs.Prelude.{◌≡◌, ◌≢◌, ℕ, ◌⊎◌, List, [], ◌++◌, map, length, IfSome, Option, Some, None, Result}
 use Rattle.fw_outside.specs.SinkView.{Gives, SinkView}
 use Rattle.fw_outside.specs.declared.failed.Failed as sink
 use Rattle.slot_bytes.specs.SlotView.{mail_view}
@@ -9,7 +9,7 @@ use Rattle.smapd_queue.specs.Turns.{accepted_of}
 use Rattle.smapd_queue.specs.declared.round.Round.{Round}
 use Rattle.smapd_queue.specs.declared.round.RoundFault.{RoundFault}
 use Rattle.smapd_queue.specs.declared.round.Trouble.{Trouble}
-use Rattle.spool_rack.specs.Opening.{IsRackFault, IsRackOf}
+use Rattle.spool_rack.specs.Opening.{AreInOrder, IsRackFault, IsRackOf}
 use Rattle.spool_rack.specs.Store.{StoreView}
 use Rattle.spool_runs.specs.OnDisks.{RunsSpool}
 use Rattle.spool_slots.specs.declared.slot_why.SlotWhy.{SlotWhy}
@@ -19,13 +19,15 @@ use Rattle.bastion.specs.Outcome.{fault_line_of, status_of}
 use Rattle.bastion.specs.WorldView.{Post, WorldView}
 use Rattle.bastion.specs.declared.outcome.Outcome.{Outcome}
 
--- One round was held over the slots of the disks, with at most as many turns as there are slots, and left the log so (`logs`). The
--- messages that the first mailer accepted in it, in order, are those that events of the spool on the disks accepted, which led it
--- from what it was to what it is, and by which none was answered for (`spool`).
+-- One round was held over the slots of the disks, with at most as many turns as there are slots, and left the log so (`logs`). If
+-- the slots' queues are told, their disks came back, in order of the numbers (`closed`). The messages that the first mailer accepted
+-- in it, in order, are those that events of the spool on the disks accepted, which led it from what it was to what it is, and by
+-- which none was answered for (`spool`).
 pub record HandsRound (post : Post) (answer : Result Round RoundFault) (trouble : Option Trouble) (old new : WorldView) : Type 0 where
   pub first : StoreView
   pub opened : IsRackOf (Unit {0}) old.inputs.disks first
   pub store : StoreView
+  pub closed : IfSome store.queues (λ q. AreInOrder q new.inputs.disks)
   pub logs : SinkView
   pub hands : HandsOnTelling (length old.inputs.disks) answer trouble (meeting_with first post.before old.logs) (meeting_with store post.after logs)
   pub spool : RunsSpool [] (map mail_view (accepted_of (hands.hands.turns ++ last_turn hands.hands.ending))) old.inputs.disks new.inputs.disks

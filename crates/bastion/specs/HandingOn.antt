@@ -1,13 +1,11 @@
 -- The work of `smapd`: the slots are opened, the messages of the full ones are handed on in one round, with at most as many turns
 -- as there are slots, the disks are given back, and what the round came to is printed.
-use Rattle.std.specs.Prelude.{◌≡◌, ℕ, ◌⊎◌, List, ◌++◌, map, length, codes, IfSome, Option, Some, None, Result, Ok, Err}
+use Rattle.std.specs.Prelude.{◌≡◌, ℕ, ◌⊎◌, List, ◌++◌, length, codes, IfSome, Option, Some, None, Result, Ok, Err}
 use Rattle.std.specs.Fmt.{decimal}
 use Rattle.fw_outside.specs.SinkView.{SinkView}
 use Rattle.fw_outside.specs.declared.failed.Failed as sink
-use Rattle.slot_bytes.specs.SlotView.{mail_view}
-use Rattle.smapd_queue.specs.Meeting.{last_turn, meeting_with}
+use Rattle.smapd_queue.specs.Meeting.{meeting_with}
 use Rattle.smapd_queue.specs.Round.{HandsOnTelling}
-use Rattle.smapd_queue.specs.Turns.{accepted_of}
 use Rattle.smapd_queue.specs.declared.round.Round.{Round}
 use Rattle.smapd_queue.specs.declared.round.RoundFault.{RoundFault}
 use Rattle.smapd_queue.specs.declared.round.RoundFault.TheVariants as faults

@@ -7,18 +7,17 @@ use Rattle.fw_mail.specs.declared.handed.Handed.TheVariants.{Accepted, Refused, 
 use Rattle.fw_mail.specs.MailerView.{MailerView}
 
 -- the answers by the numbers of the calls, how many calls there were, the messages that were accepted, and the counts of
--- those, of refusals and of failures
+-- refusals and of failures
 pub record MemMailerView : Type 0 where
   pub answers : List Handed
   pub calls : ℕ
   pub accepted : List Message
-  pub accepts : ℕ
   pub refusals : ℕ
   pub faults : ℕ
 
 -- it tells all
 abbrev pub mailer_view_of : MemMailerView → MailerView
-mailer_view_of m = record { accepted = Some m.accepted; accepts = m.accepts; refusals = m.refusals; faults = m.faults }
+mailer_view_of m = record { accepted = Some m.accepted; took = m.accepted; refusals = m.refusals; faults = m.faults }
 
 -- what the next call is told to answer: the answer at its number, and past them that it accepts
 abbrev pub answer_told : MemMailerView → Handed
@@ -30,7 +29,7 @@ next_call m = record m { calls = counted m.calls }
 
 -- one more message was accepted
 abbrev pub with_accepted : Message → MemMailerView → MemMailerView
-with_accepted message m = record m { accepted = m.accepted ++ message ∷ []; accepts = counted m.accepts }
+with_accepted message m = record m { accepted = m.accepted ++ message ∷ [] }
 
 -- a call answers as it is told, or for want of memory, and keeps or counts accordingly
 abbrev pub AnswersHand : Handed → Handed → Message → MemMailerView → MemMailerView → Type 0

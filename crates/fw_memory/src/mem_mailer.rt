@@ -1,5 +1,5 @@
-ghost use Rattle.std.specs.Prelude.{◌≡◌, ◌∷◌, [], ◌++◌, get_or, IfOk, OnOk, OnErr};
-ghost use Rattle.fw_outside.specs.Counts.{Grew, Rose, counted};
+ghost use Rattle.std.specs.Prelude.{◌≡◌, [], get_or, IfOk, OnOk, OnErr};
+ghost use Rattle.fw_outside.specs.Counts.{Rose, counted};
 ghost use Rattle.fw_mail.specs.MailerView.{Hands};
 ghost use Rattle.fw_memory.specs.MemMailerView.{AnswersHand, answer_told, mailer_view_of, next_call, with_accepted};
 
@@ -16,7 +16,6 @@ pub struct MemMailer {
     answers: Vec<Handed>,
     calls: u64,
     accepted: Vec<Message>,
-    accepts: u64,
     refusals: u64,
     faults: u64,
 }
@@ -30,7 +29,6 @@ impl Model for MemMailer {
       answers = m.answers.items;
       calls = m.calls;
       accepted = m.accepted.items;
-      accepts = m.accepts;
       refusals = m.refusals;
       faults = m.faults;
     } };
@@ -60,14 +58,13 @@ impl MemMailer {
     /// A mailer whose calls are numbered from 0. Each answers the member at its number, and past the list it accepts.
     /// Memory for what is accepted comes from `alloc`: where there is none, the call answers so.
     pub fn new(alloc: Global, answers: Vec<Handed>) -> MemMailer
-        ensures { result ≡ record { answers = answers.items; calls = 0; accepted = []; accepts = 0; refusals = 0; faults = 0 } }
+        ensures { result ≡ record { answers = answers.items; calls = 0; accepted = []; refusals = 0; faults = 0 } }
     {
         MemMailer {
             alloc,
             answers,
             calls: 0,
             accepted: Vec::new(alloc),
-            accepts: 0,
             refusals: 0,
             faults: 0,
         }
@@ -83,15 +80,13 @@ impl MemMailer {
         answer_of(&self.answers, call)
     }
 
-    // Keeps the message behind those before, and counts it.
+    // Keeps the message behind those before.
     fn keep(&mut self, message: &Message) -> Result<(), NoMemory>
         ensures ok { OnOk result (self.new ≡ with_accepted message.now self.old) }
-        ensures grew { OnOk result (Grew 1 self.old.accepts self.new.accepts) }
         ensures err { OnErr result (self.new ≡ self.old) }
     {
         let copy = copy_of_message(self.alloc, message)?;
         self.accepted.push(copy)?;
-        self.accepts = self.accepts.saturating_add(1);
         Ok(())
     }
 

@@ -1,8 +1,7 @@
 -- Answers among steps and events.
-use Rattle.std.proofs.Common.{arith, ◌≡◌, refl, sym, ap, subst, ◌∙◌, ℕ, ◌+◌, ◌<◌, ◌≤◌, List, [], ◌∷◌, ◌++◌, length, map, take, append_assoc, append-nil}
-use Rattle.std.specs.List.{AllByRecursion, Contains}
+use Rattle.std.proofs.Common.{◌≡◌, refl, ◌∙◌, ℕ, List, [], ◌∷◌, map, append-nil}
 use Rattle.fw_disk.specs.DiskView.{Tape}
-use Rattle.spool_law.specs.Events.{Event, Step, after, after_all}
+use Rattle.spool_law.specs.Events.{Step, after, after_all}
 use Rattle.spool_law.specs.Events.Event.{At}
 use Rattle.spool_law.specs.Events.Step.{Start, Add, Write, Sync, OpenGate, Answer, Accept, CloseGate, SetAside}
 use Rattle.spool_law.specs.Runs.{Does, Known, known_after, tape_after}

@@ -1,9 +1,9 @@
 -- Lists of runs are lists of events.
-use Rattle.std.proofs.Common.{arith, ◌≡◌, refl, sym, ap, subst, ◌∙◌, ℕ, ◌+◌, ◌⊎◌, inl, inr, List, [], ◌∷◌, ◌++◌, map, take, append-nil, Option, Some, None}
+use Rattle.std.proofs.Common.{arith, refl, sym, ap, subst, ◌∙◌, ℕ, ◌+◌, ◌⊎◌, List, [], ◌∷◌, ◌++◌, map, take, append-nil}
 use Rattle.std.specs.List.{AllByRecursion, Contains}
 use Rattle.fw_disk.specs.DiskView.{DiskView}
 use Rattle.slot_bytes.specs.Layout.{Mail}
-use Rattle.spool_law.specs.Events.{ArePossible, Event, IsPossible, after, after_all}
+use Rattle.spool_law.specs.Events.{ArePossible, Event, after, after_all}
 use Rattle.spool_law.specs.Events.Event.{Crash}
 use Rattle.spool_law.specs.Safe.{IsSafe, Stands}
 use Rattle.spool_law.specs.World.{Letter, World, formatted}

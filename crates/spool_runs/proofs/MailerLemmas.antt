@@ -70,8 +70,8 @@ same_faults a b is = omega (arith, is)
 
 module _ (slot : FullView) (first : MailerView) (others old new : List MailerView) (here : old ≡ first ∷ others) where
   by_fate : (fate : Fate) → MailersMeet fate old new → MailersKeep (record { slot = slot; fate = fate } ∷ []) first others new
-  by_fate (Freed message free) h = by_answer (record { slot = slot; fate = Freed message free }) first h.first h.after others h.others old new here h.was h.is (same_faults h.first h.after (ap (λ (m : MailerView). m.faults) h.hands.is)) tt
-  by_fate (NotFreed message broken) h = by_answer (record { slot = slot; fate = NotFreed message broken }) first h.first h.after others h.others old new here h.was h.is (same_faults h.first h.after (ap (λ (m : MailerView). m.faults) h.hands.is)) tt
+  by_fate (Freed message free) h = by_answer (record { slot = slot; fate = Freed message free }) first h.first h.after others h.others old new here h.was h.is (same_faults h.first h.after (ap (λ (m : MailerView). m.faults) h.hands)) tt
+  by_fate (NotFreed message broken) h = by_answer (record { slot = slot; fate = NotFreed message broken }) first h.first h.after others h.others old new here h.was h.is (same_faults h.first h.after (ap (λ (m : MailerView). m.faults) h.hands)) tt
   by_fate (PutAside message aside) h = by_answer (record { slot = slot; fate = PutAside message aside }) first h.first h.after others h.others old new here h.was h.is (same_faults h.first h.after (ap (λ (m : MailerView). m.faults) h.hands.is)) tt
   by_fate (NotAside message broken) h = by_answer (record { slot = slot; fate = NotAside message broken }) first h.first h.after others h.others old new here h.was h.is (same_faults h.first h.after (ap (λ (m : MailerView). m.faults) h.hands.is)) tt
   by_fate (PutBack message) h =

@@ -1,4 +1,4 @@
--- What runs over one spool come to, one after another, with crashes between them and inside them.
+-- What runs over one spool come to, one after another, with crashes between them and behind some first of a run's events.
 use Rattle.std.specs.Prelude.{◌≡◌, ℕ, ◌+◌, List, [], ◌∷◌, ◌++◌, map, take, ◌⊎◌}
 use Rattle.std.specs.List.{AllByRecursion, Contains}
 use Rattle.fw_disk.specs.DiskView.{DiskView}
