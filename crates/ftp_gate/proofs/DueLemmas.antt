@@ -1,4 +1,4 @@
--- The rows give the log the line that is due, and no other.
+-- The rows log the line and ask for what is due, and for nothing else.
 use Rattle.std.proofs.Common.{◌≡◌, refl, sym, ap, subst, ◌∙◌, ℕ, Bool, true, false, not, ◌&&◌, ◌||◌, List, [], ◌∷◌, ◌++◌, codes, map, Result, Ok, Err, Option, Some, None}
 use Rattle.std.specs.Option.{option_map}
 use Rattle.auth_events.specs.Login.{is_full, is_ok, login_then}
@@ -41,7 +41,7 @@ use Rattle.session_acts.specs.declared.toward.Toward.{Toward}
 use Rattle.ftp_lines.specs.Six.{six_of}
 use Rattle.ftp_gate.specs.Dialogue as rows
 use Rattle.ftp_gate.specs.Dialogue.{data_port, ftp_row, ftp_rows, goes_on, is_done, is_in, is_up, is_well, own_target, reason_of, refusing_line}
-use Rattle.ftp_gate.specs.Due.{FitsLine, IsLogged, LogsWhatIsDue, allowed_due, authenticated_due, command_due, command_if, connect_due, dest_by, dest_due, due_after, heard_due, kind_due, linked_due, name_by, named_due, opened_due, operated_due, outward_due, responded_due, served_due, unless_due, user_due, verb_due, wanted_due, welcomed_due}
+use Rattle.ftp_gate.specs.Due.{ComesNext, DoesWhatIsDue, FitsDue, allowed_due, authenticated_due, authorize_due, command_due, command_if, connect_due, dest_by, dest_due, dial_due, due_after, first_due, heard_due, kind_due, linked_due, name_by, named_due, opened_due, operated_due, outward_due, responded_due, response_due, served_due, unless_due, user_due, verb_due, wanted_due, welcomed_due}
 use Rattle.ftp_gate.specs.Gate.{Gate, asks_login, has_verb}
 use Rattle.ftp_gate.specs.Kind.{is_quit, kind_of}
 use Rattle.ftp_gate.specs.Known.{Known, at_start, begins, greeting_by, known, known_after, known_from, saying, with_deed}
@@ -61,22 +61,27 @@ use Rattle.ftp_gate.specs.declared.place.Place.{Place}
 use Rattle.ftp_gate.specs.declared.place.Place.TheVariants.{Listening, Answering, Dropping}
 use Rattle.ftp_gate.specs.declared.place.State.{State}
 use Rattle.ftp_gate.proofs.AccountLemmas.{deed_of, named_login}
-use Rattle.ftp_gate.proofs.WatchLemmas.{IsUser, state_of}
+use Rattle.ftp_gate.proofs.WatchLemmas.{state_of}
 
 -- ---- the watch
 
--- what is known, and which line is due
+-- what is known, and which line or request is due
 record Trail : Type 0 where
   k : Known
-  due : Option (List ℕ)
+  due : Option Act
 
 abbrev trace : Gate → Trail → (act : Act) → Outcome act → Trail
 trace gate t act outcome = record { k = known_after gate t.k act outcome; due = due_after gate t.k act outcome }
 
+-- the user who was asked about last
+abbrev named_as : Account → Option (List ℕ)
+named_as Unopened = None
+named_as (Opened name logged_in) = Some name
+
 -- what a place knows is so
 record Facts (state : State) (k : Known) : Type 0 where
   login : k.login ≡ is_in state.account
-  user : IsUser state.account k.user
+  user : k.user ≡ named_as state.account
   link : k.link ≡ state.dest
 
 abbrev HoldsAt : Place → Trail → Type 0
@@ -86,17 +91,17 @@ abbrev due_watch : (Origin : Type 0) → Gate → Watch (acts Origin) Place
 due_watch Origin gate = record {
   Noted = Trail;
   note = λ t act answer. trace gate t act (Ok answer);
-  may = λ t act. FitsLine t.due act;
+  may = λ t act. FitsDue t.due act;
   holds = λ t place. HoldsAt place t;
   over = λ t. t.due ≡ None;
 }
 
--- where no line is due, and where one is
-fits_none : (due : Option (List ℕ)) (act : Act) → due ≡ None → FitsLine None act → FitsLine due act
-fits_none due act is fits = subst (λ (d : Option (List ℕ)). FitsLine d act) (sym is) fits
+-- where nothing is due, and where something is
+fits_none : (due : Option Act) (act : Act) → due ≡ None → FitsDue None act → FitsDue due act
+fits_none due act is fits = subst (λ (d : Option Act). FitsDue d act) (sym is) fits
 
-fits_line : (due : Option (List ℕ)) (line : List ℕ) → due ≡ Some line → FitsLine due (Log line)
-fits_line due line is = subst (λ (d : Option (List ℕ)). FitsLine d (Log line)) (sym is) refl
+fits_due : (due : Option Act) (act : Act) → due ≡ Some act → FitsDue due act
+fits_due due act is = subst (λ (d : Option Act). FitsDue d act) (sym is) refl
 
 said_facts : (gate : Gate) (state : State) (b : Bool) (deed : Deed) (since : List Deed) (k : Known) → Facts state k → Facts state (with_deed deed since (saying gate b k))
 said_facts gate state true deed since k f = record { login = f.login; user = f.user; link = f.link }
@@ -115,10 +120,10 @@ module _ (Origin : Type 0) (gate : Gate) where
       (fits_none t.due (Say words) none tt, λ done. (said_facts gate state (begins words texts.port_ok) (deed_of (Say words) (Ok done)) t.k.since t.k f, refl))
 
   -- a line that is due, and then words
-  log_tell : (t : Trail) (line words : List ℕ) (state : State) → Facts state t.k → t.due ≡ Some line → Leads (Do (Log line) (λ logged. rows.tell_row words state)) t
-  log_tell t line words state f due = (
-    fits_line t.due line due,
-    λ logged. tell (trace gate t (Log line) (Ok logged)) words state (record { login = f.login; user = f.user; link = f.link }) refl,
+  log_tell : (t : Trail) (line words : List ℕ) (state : State) → begins line (codes "connect") ≡ false → Facts state t.k → t.due ≡ Some (Log line) → Leads (Do (Log line) (λ logged. rows.tell_row words state)) t
+  log_tell t line words state other f due = (
+    fits_due t.due (Log line) due,
+    λ logged. tell (trace gate t (Log line) (Ok logged)) words state (record { login = f.login; user = f.user; link = f.link }) (ap (λ (b : Bool). dial_due b t.k.order) other),
   )
 
   closed : (t : Trail) → t.due ≡ None → Leads rows.closed_row t
@@ -129,14 +134,14 @@ module _ (Origin : Type 0) (gate : Gate) where
   named : (t : Trail) (state : State) (name : List ℕ) (stands : Bool) (reply : Reply) → Facts (rows.with_account (Opened name stands) state) t.k → t.due ≡ authenticated_due gate name reply → Leads (rows.named_row gate state name stands reply) t
   named t state name stands replies.Password f due = tell t texts.password_asked (rows.with_account (Opened name stands) state) f due
   named t state name stands (replies.Challenge number word_seed) f due = tell t (texts.challenge_asked number word_seed) (rows.with_account (Opened name stands) state) f due
-  named t state name stands (replies.Opened sid) f due = log_tell t (fail_line gate name (reason_of (replies.Opened sid))) texts.login_denied (rows.with_account (Opened name stands) state) f due
-  named t state name stands replies.Ok f due = log_tell t (fail_line gate name (reason_of replies.Ok)) texts.login_denied (rows.with_account (Opened name stands) state) f due
-  named t state name stands (replies.Shown summary) f due = log_tell t (fail_line gate name (reason_of (replies.Shown summary))) texts.login_denied (rows.with_account (Opened name stands) state) f due
-  named t state name stands (replies.Denied denial) f due = log_tell t (fail_line gate name denial) texts.login_denied (rows.with_account (Opened name stands) state) f due
+  named t state name stands (replies.Opened sid) f due = log_tell t (fail_line gate name (reason_of (replies.Opened sid))) texts.login_denied (rows.with_account (Opened name stands) state) refl f due
+  named t state name stands replies.Ok f due = log_tell t (fail_line gate name (reason_of replies.Ok)) texts.login_denied (rows.with_account (Opened name stands) state) refl f due
+  named t state name stands (replies.Shown summary) f due = log_tell t (fail_line gate name (reason_of (replies.Shown summary))) texts.login_denied (rows.with_account (Opened name stands) state) refl f due
+  named t state name stands (replies.Denied denial) f due = log_tell t (fail_line gate name denial) texts.login_denied (rows.with_account (Opened name stands) state) refl f due
 
-  authenticate : (t : Trail) (state : State) (name : List ℕ) (stood : Bool) → t.k.login ≡ stood → t.k.link ≡ state.dest → t.due ≡ None → Leads (rows.authenticate_row gate state name stood) t
-  authenticate t state name stood login link none = (
-    fits_none t.due (Ask (requests.Authenticate name)) none tt,
+  authenticate : (t : Trail) (state : State) (name : List ℕ) (stood : Bool) → t.k.login ≡ stood → t.k.link ≡ state.dest → t.due ≡ Some (Ask (requests.Authenticate name)) → Leads (rows.authenticate_row gate state name stood) t
+  authenticate t state name stood login link due = (
+    fits_due t.due (Ask (requests.Authenticate name)) due,
     λ reply. named (trace gate t (Ask (requests.Authenticate name)) (Ok reply)) state name (stood && is_full reply) reply
         (record { login = ap (λ (b : Bool). login_then b (requests.Authenticate name, reply)) login ∙ named_login stood name reply; user = refl; link = link }) refl,
   )
@@ -150,27 +155,27 @@ module _ (Origin : Type 0) (gate : Gate) where
       due_open : (t : Trail) (reply : Reply) → t.k.order ≡ Some order → opened_due gate (name_by t.k.order) reply ≡ opened_due gate (Some name) reply
       due_open t reply heard = ap (λ (o : Option Order). opened_due gate (name_by o) reply) heard ∙ ap (λ (n : Option (List ℕ)). opened_due gate n reply) names
 
-      vain : (t : Trail) (reply : Reply) (denial : Denial) → opened_due gate (Some name) reply ≡ Some (fail_line gate name denial) → t.k.order ≡ Some order → Facts state t.k
+      vain : (t : Trail) (reply : Reply) (denial : Denial) → opened_due gate (Some name) reply ≡ Some (Log (fail_line gate name denial)) → t.k.order ≡ Some order → Facts state t.k
           → Leads (rows.failed_row gate name denial state) (trace gate t (Ask (requests.Open false)) (Ok reply))
       vain t reply denial fails heard f =
-          log_tell (trace gate t (Ask (requests.Open false)) (Ok reply)) (fail_line gate name denial) texts.login_denied state
+          log_tell (trace gate t (Ask (requests.Open false)) (Ok reply)) (fail_line gate name denial) texts.login_denied state refl
           (record { login = none_stands t.k reply f.login ∙ sym (ap is_in unopened); user = f.user; link = f.link }) (due_open t reply heard ∙ fails)
 
       opened : (t : Trail) (reply : Reply) → t.k.order ≡ Some order → Facts state t.k → Leads (rows.opened_row gate state name reply) (trace gate t (Ask (requests.Open false)) (Ok reply))
       opened t (replies.Opened sid) heard f =
-          authenticate (trace gate t (Ask (requests.Open false)) (Ok (replies.Opened sid))) state name false (none_stands t.k (replies.Opened sid) f.login) f.link refl
+          authenticate (trace gate t (Ask (requests.Open false)) (Ok (replies.Opened sid))) state name false (none_stands t.k (replies.Opened sid) f.login) f.link (due_open t (replies.Opened sid) heard)
       opened t replies.Password heard f = vain t replies.Password (reason_of replies.Password) refl heard f
       opened t (replies.Challenge number word_seed) heard f = vain t (replies.Challenge number word_seed) (reason_of (replies.Challenge number word_seed)) refl heard f
       opened t replies.Ok heard f = vain t replies.Ok (reason_of replies.Ok) refl heard f
       opened t (replies.Shown summary) heard f = vain t (replies.Shown summary) (reason_of (replies.Shown summary)) refl heard f
       opened t (replies.Denied denial) heard f = vain t (replies.Denied denial) denial refl heard f
 
-    name_so : (t : Trail) (state : State) (account : Account) (name : List ℕ) → state.account ≡ account → name_of order.arg ≡ Some name → t.k.order ≡ Some order → Facts state t.k → t.due ≡ None → Leads (rows.name_row gate state account name) t
-    name_so t state Unopened name is names heard f none =
-        (fits_none t.due (Ask (requests.Open false)) none tt, λ reply. opened state name names is t reply heard f)
-    name_so t state (Opened other stood) name is names heard f none = authenticate t state name stood (f.login ∙ ap is_in is) f.link none
+    name_so : (t : Trail) (state : State) (account : Account) (name : List ℕ) → state.account ≡ account → name_of order.arg ≡ Some name → t.k.order ≡ Some order → Facts state t.k → t.due ≡ first_due (named_as account) name → Leads (rows.name_row gate state account name) t
+    name_so t state Unopened name is names heard f due =
+        (fits_due t.due (Ask (requests.Open false)) due, λ reply. opened state name names is t reply heard f)
+    name_so t state (Opened other stood) name is names heard f due = authenticate t state name stood (f.login ∙ ap is_in is) f.link due
 
-    authorize : (t : Trail) (state : State) (name : Option (List ℕ)) → name_of order.arg ≡ name → t.k.order ≡ Some order → Facts state t.k → t.due ≡ None → Leads (rows.authorize_row gate state name) t
+    authorize : (t : Trail) (state : State) (name : Option (List ℕ)) → name_of order.arg ≡ name → t.k.order ≡ Some order → Facts state t.k → t.due ≡ authorize_due name (named_as state.account) → Leads (rows.authorize_row gate state name) t
     authorize t state None is heard f none = tell t texts.login_denied state f none
     authorize t state (Some name) is heard f none = name_so t state state.account name refl is heard f none
 
@@ -191,15 +196,15 @@ module _ (Origin : Type 0) (gate : Gate) where
       due_answer : (t : Trail) (reply : Reply) → t.k.user ≡ Some name → responded_due gate t.k.user reply ≡ responded_due gate (Some name) reply
       due_answer t reply user = ap (λ (u : Option (List ℕ)). responded_due gate u reply) user
 
-      wrong : (t : Trail) (reply : Reply) (denial : Denial) → is_ok reply ≡ false → responded_due gate (Some name) reply ≡ Some (fail_line gate name denial) → t.k.user ≡ Some name → Facts state t.k
+      wrong : (t : Trail) (reply : Reply) (denial : Denial) → is_ok reply ≡ false → responded_due gate (Some name) reply ≡ Some (Log (fail_line gate name denial)) → t.k.user ≡ Some name → Facts state t.k
           → Leads (rows.failed_row gate name denial state) (trace gate t (Ask response) (Ok reply))
       wrong t reply denial bad fails user f =
-          log_tell (trace gate t (Ask response) (Ok reply)) (fail_line gate name denial) texts.login_denied state
+          log_tell (trace gate t (Ask response) (Ok reply)) (fail_line gate name denial) texts.login_denied state refl
           (record { login = wrong_stands t.k.login reply bad ∙ f.login; user = f.user; link = f.link }) (due_answer t reply user ∙ fails)
 
       answered : (t : Trail) (reply : Reply) → t.k.user ≡ Some name → Facts state t.k → Leads (rows.answered_row gate state name reply) (trace gate t (Ask response) (Ok reply))
       answered t replies.Ok user f =
-          log_tell (trace gate t (Ask response) (Ok replies.Ok)) (login_line gate name) texts.login_ok (rows.with_account (Opened name true) state)
+          log_tell (trace gate t (Ask response) (Ok replies.Ok)) (login_line gate name) texts.login_ok (rows.with_account (Opened name true) state) refl
           (record { login = refl; user = user; link = f.link }) (due_answer t replies.Ok user)
       answered t replies.Password user f = wrong t replies.Password (reason_of replies.Password) refl refl user f
       answered t (replies.Challenge number word_seed) user f = wrong t (replies.Challenge number word_seed) (reason_of (replies.Challenge number word_seed)) refl refl user f
@@ -207,17 +212,17 @@ module _ (Origin : Type 0) (gate : Gate) where
       answered t (replies.Shown summary) user f = wrong t (replies.Shown summary) (reason_of (replies.Shown summary)) refl refl user f
       answered t (replies.Denied denial) user f = wrong t (replies.Denied denial) denial refl refl user f
 
-    response_so : (t : Trail) (state : State) (account : Account) (text : List ℕ) → state.account ≡ account → Facts state t.k → t.due ≡ None → Leads (rows.response_row gate state account text) t
+    response_so : (t : Trail) (state : State) (account : Account) (text : List ℕ) → state.account ≡ account → Facts state t.k → t.due ≡ response_due (named_as account) text → Leads (rows.response_row gate state account text) t
     response_so t state Unopened text is f none = tell t texts.authorize_first state f none
     response_so t state (Opened name stood) text is f none =
-        let user : t.k.user ≡ Some name = subst (λ (a : Account). IsUser a t.k.user) is f.user in
-        (fits_none t.due (Ask (response state name text)) none tt, λ reply. answered state name text t reply user f)
+        let user : t.k.user ≡ Some name = f.user ∙ ap named_as is in
+        (fits_due t.due (Ask (response state name text)) none, λ reply. answered state name text t reply user f)
 
     -- ---- what is passed
 
     pass : (t : Trail) (state : State) (verb text : List ℕ) (quits logs : Bool) → Facts state t.k → t.due ≡ command_if logs gate verb → Leads (rows.logged_row gate verb logs (Do (Pass text) (λ done. At (Answering state quits)))) t
     pass t state verb text quits true f due = (
-      fits_line t.due (command_line gate verb) due,
+      fits_due t.due (Log (command_line gate verb)) due,
       λ logged. (tt, λ done. (record { login = f.login; user = f.user; link = f.link }, refl)),
     )
     pass t state verb text quits false f due = (fits_none t.due (Pass text) due tt, λ done. (record { login = f.login; user = f.user; link = f.link }, refl))
@@ -242,10 +247,10 @@ module _ (Origin : Type 0) (gate : Gate) where
         (tt, λ heard. greeted (trace gate t (Dial dest) (Ok true)) state name dest heard refl (record { login = f.login; user = f.user; link = f.link }))
     dialed t state name dest false f = tell (trace gate t (Dial dest) (Ok false)) texts.no_route state (record { login = f.login; user = f.user; link = f.link }) refl
 
-    connect : (t : Trail) (state : State) (name : List ℕ) (dest : Dest) → Facts state t.k → t.due ≡ Some (connect_line gate dest) → Leads (rows.connect_row gate state name dest) t
-    connect t state name dest f due = (
-      fits_line t.due (connect_line gate dest) due,
-      λ logged. (tt, λ up. dialed (trace gate t (Log (connect_line gate dest)) (Ok logged)) state name dest up (record { login = f.login; user = f.user; link = f.link })),
+    connect : (t : Trail) (state : State) (name : List ℕ) (dest : Dest) → dial_due true t.k.order ≡ Some (Dial dest) → Facts state t.k → t.due ≡ Some (Log (connect_line gate dest)) → Leads (rows.connect_row gate state name dest) t
+    connect t state name dest wants f due = (
+      fits_due t.due (Log (connect_line gate dest)) due,
+      λ logged. (fits_due (dial_due true t.k.order) (Dial dest) wants, λ up. dialed (trace gate t (Log (connect_line gate dest)) (Ok logged)) state name dest up (record { login = f.login; user = f.user; link = f.link })),
     )
 
     module _ (state : State) (name : List ℕ) (dest : Dest) (names : user_of order.arg ≡ Some (name, dest)) where
@@ -256,6 +261,10 @@ module _ (Origin : Type 0) (gate : Gate) where
       due_operation t reply heard =
           ap (λ (o : Option Order). operated_due gate (dest_by o) reply) heard ∙ ap (λ (u : Option (List ℕ × Dest)). operated_due gate (option_map (λ one. one.1) u) reply) names
 
+      wants_dial : (k : Known) → k.order ≡ Some order → dial_due true k.order ≡ Some (Dial dest)
+      wants_dial k heard =
+          ap (λ (o : Option Order). dial_due true o) heard ∙ ap (λ (u : Option (List ℕ × Dest)). option_map (λ (d : Dest). Dial d) (option_map (λ (one : List ℕ × Dest). one.1) u)) names
+
       -- no login is given or ended by it
       keeps_login : (b : Bool) → (b && true) ≡ b
       keeps_login true = refl
@@ -264,13 +273,13 @@ module _ (Origin : Type 0) (gate : Gate) where
       operated_facts : (t : Trail) (reply : Reply) → Facts state t.k → Facts state (trace gate t (Ask operation) (Ok reply)).k
       operated_facts t reply f = record { login = keeps_login t.k.login ∙ f.login; user = f.user; link = f.link }
 
-      refused : (t : Trail) (reply : Reply) → operated_due gate (Some dest) reply ≡ Some (refuse_line gate dest (refusing_line gate.line reply)) → t.k.order ≡ Some order → Facts state t.k
+      refused : (t : Trail) (reply : Reply) → operated_due gate (Some dest) reply ≡ Some (Log (refuse_line gate dest (refusing_line gate.line reply))) → t.k.order ≡ Some order → Facts state t.k
           → Leads (rows.refuse_row gate state dest (refusing_line gate.line reply)) (trace gate t (Ask operation) (Ok reply))
       refused t reply is heard f =
-          log_tell (trace gate t (Ask operation) (Ok reply)) (refuse_line gate dest (refusing_line gate.line reply)) (texts.dest_denied (refusing_line gate.line reply)) state (operated_facts t reply f) (due_operation t reply heard ∙ is)
+          log_tell (trace gate t (Ask operation) (Ok reply)) (refuse_line gate dest (refusing_line gate.line reply)) (texts.dest_denied (refusing_line gate.line reply)) state refl (operated_facts t reply f) (due_operation t reply heard ∙ is)
 
       operated : (t : Trail) (reply : Reply) → t.k.order ≡ Some order → Facts state t.k → Leads (rows.operated_row gate state name dest reply) (trace gate t (Ask operation) (Ok reply))
-      operated t replies.Ok heard f = connect (trace gate t (Ask operation) (Ok replies.Ok)) state name dest (operated_facts t replies.Ok f) (due_operation t replies.Ok heard)
+      operated t replies.Ok heard f = connect (trace gate t (Ask operation) (Ok replies.Ok)) state name dest (wants_dial t.k heard) (operated_facts t replies.Ok f) (due_operation t replies.Ok heard)
       operated t replies.Password heard f = refused t replies.Password refl heard f
       operated t (replies.Challenge number word_seed) heard f = refused t (replies.Challenge number word_seed) refl heard f
       operated t (replies.Opened sid) heard f = refused t (replies.Opened sid) refl heard f
@@ -278,12 +287,12 @@ module _ (Origin : Type 0) (gate : Gate) where
       operated t (replies.Denied denial) heard f = refused t (replies.Denied denial) refl heard f
 
       permitted : (t : Trail) (extnd : Bool) → t.due ≡ connect_due extnd gate dest → t.k.order ≡ Some order → Facts state t.k → Leads (rows.permitted_row extnd gate state name dest) t
-      permitted t true due heard f = (fits_none t.due (Ask operation) due tt, λ reply. operated t reply heard f)
-      permitted t false due heard f = connect t state name dest f due
+      permitted t true due heard f = (fits_due t.due (Ask operation) due, λ reply. operated t reply heard f)
+      permitted t false due heard f = connect t state name dest (wants_dial t.k heard) f due
 
       dest_so : (t : Trail) (allowed : Bool) → t.due ≡ dest_due allowed gate dest → t.k.order ≡ Some order → Facts state t.k → Leads (rows.dest_row allowed gate state name dest) t
       dest_so t true due heard f = permitted t gate.options.extnd due heard f
-      dest_so t false due heard f = log_tell t (refuse_line gate dest gate.line) (texts.dest_denied gate.line) state f due
+      dest_so t false due heard f = log_tell t (refuse_line gate dest gate.line) (texts.dest_denied gate.line) state refl f due
 
     wanted : (t : Trail) (state : State) (user : Option (List ℕ × Dest)) → user_of order.arg ≡ user → t.due ≡ wanted_due gate user → t.k.order ≡ Some order → Facts state t.k → Leads (rows.wanted_row gate state user) t
     wanted t state None is due heard f = tell t texts.no_destination state f due
@@ -335,7 +344,7 @@ module _ (Origin : Type 0) (gate : Gate) where
     joined_logged : (t : Trail) (state : State) (toward : Toward) (text : List ℕ) (logs : Bool) → t.due ≡ command_if logs gate order.verb → Facts state t.k
         → Leads (rows.logged_row gate order.verb logs (Do (Pass text) (λ done. Do (TakeReply Passed) (λ heard. rows.commanded_row state toward heard.0)))) t
     joined_logged t state toward text true due f = (
-      fits_line t.due (command_line gate order.verb) due,
+      fits_due t.due (Log (command_line gate order.verb)) due,
       λ logged. give (trace gate t (Log (command_line gate order.verb)) (Ok logged)) state toward text (record { login = f.login; user = f.user; link = f.link }) refl,
     )
     joined_logged t state toward text false due f = give t state toward text f due
@@ -395,26 +404,28 @@ module _ (Origin : Type 0) (gate : Gate) where
       allowed (Served asked) due = served_so state.dest asked due
 
       login : (asked : Outward) (lacks : Bool) → t.due ≡ unless_due lacks gate state.dest order asked → Leads (rows.login_row gate state order asked lacks) t
-      login asked true due = log_tell t (blocked_line gate order.verb) (texts.log_in_first gate.line) state f due
+      login asked true due = log_tell t (blocked_line gate order.verb) (texts.log_in_first gate.line) state refl f due
       login asked false due = allowed asked due
 
       outward : (asked : Outward) (denied : Bool) → t.due ≡ outward_due denied gate (is_in state.account) state.dest order asked → Leads (rows.outward_row gate state order asked denied) t
-      outward asked true due = log_tell t (blocked_line gate order.verb) (texts.verb_denied gate.line) state f due
+      outward asked true due = log_tell t (blocked_line gate order.verb) (texts.verb_denied gate.line) state refl f due
       outward asked false due = login asked (asks_login gate.options order.verb && not (is_in state.account)) due
 
-      kind_so : (kind : Kind) → t.due ≡ kind_due gate (is_in state.account) state.dest order kind → Leads (rows.kind_row gate state order kind) t
+      kind_so : (kind : Kind) → t.due ≡ kind_due gate (is_in state.account) (named_as state.account) state.dest order kind → Leads (rows.kind_row gate state order kind) t
       kind_so kinds.Authorize due = authorize t state (name_of order.arg) refl heard f due
       kind_so kinds.Response due = response_so t state state.account order.arg refl f due
       kind_so (kinds.Outward asked) due = outward asked (has_verb gate.options.deny order.verb) due
 
   -- ---- what is heard
 
-  command : (t : Trail) (state : State) (order : Option Order) → t.k.order ≡ order → Facts state t.k → t.due ≡ heard_due gate (is_in state.account) state.dest order → Leads (rows.command_row gate state order) t
+  command : (t : Trail) (state : State) (order : Option Order) → t.k.order ≡ order → Facts state t.k → t.due ≡ heard_due gate (is_in state.account) (named_as state.account) state.dest order → Leads (rows.command_row gate state order) t
   command t state None heard f due = tell t texts.syntax_error state f due
   command t state (Some order) heard f due = kind_so order t state heard f (kind_of order.verb) due
 
-  hear_due : (t : Trail) (state : State) (order : Option Order) → Facts state t.k → heard_due gate t.k.login t.k.link order ≡ heard_due gate (is_in state.account) state.dest order
-  hear_due t state order f = ap (λ (b : Bool). heard_due gate b t.k.link order) f.login ∙ ap (λ (l : Option Dest). heard_due gate (is_in state.account) l order) f.link
+  hear_due : (t : Trail) (state : State) (order : Option Order) → Facts state t.k → heard_due gate t.k.login t.k.user t.k.link order ≡ heard_due gate (is_in state.account) (named_as state.account) state.dest order
+  hear_due t state order f =
+      ap (λ (b : Bool). heard_due gate b t.k.user t.k.link order) f.login ∙ ap (λ (u : Option (List ℕ)). heard_due gate (is_in state.account) u t.k.link order) f.user
+      ∙ ap (λ (l : Option Dest). heard_due gate (is_in state.account) (named_as state.account) l order) f.link
 
   hear : (t : Trail) (state : State) (heard : Heard) → Facts state t.k → Leads (rows.heard_row gate state heard) (trace gate t (Hear rows.heard_form) (Ok heard))
   hear t state (Line line) f =
@@ -458,7 +469,7 @@ module _ (Origin : Type 0) (gate : Gate) where
   start = record { k = at_start; due = None }
 
   first : Leads ftp_row start
-  first = tell start texts.ready (record { account = Unopened; dest = None; setting = None }) (record { login = refl; user = tt; link = refl }) refl
+  first = tell start texts.ready (record { account = Unopened; dest = None; setting = None }) (record { login = refl; user = refl; link = refl }) refl
 
 -- ---- all deeds
 
@@ -468,7 +479,7 @@ traced gate t (deed ∷ deeds) = traced gate (trace gate t deed.act deed.outcome
 
 abbrev AllFit : Gate → Trail → List Deed → Type 0
 AllFit gate t [] = Unit {0}
-AllFit gate t (deed ∷ deeds) = FitsLine t.due deed.act × AllFit gate (trace gate t deed.act deed.outcome) deeds
+AllFit gate t (deed ∷ deeds) = FitsDue t.due deed.act × AllFit gate (trace gate t deed.act deed.outcome) deeds
 
 traced_both : (gate : Gate) (t : Trail) (first more : List Deed) → traced gate t (first ++ more) ≡ traced gate (traced gate t first) more
 traced_both gate t [] more = refl
@@ -482,18 +493,18 @@ known_by : (gate : Gate) (t : Trail) (deeds : List Deed) → (traced gate t deed
 known_by gate t [] = refl
 known_by gate t (deed ∷ deeds) = known_by gate (trace gate t deed.act deed.outcome) deeds
 
+not_both : (due : Act) → Some due ≡ None → ⊥
+not_both due same = cc
+
 -- none is due at the end
-logged_so : (due : Option (List ℕ)) (gate : Gate) (t : Trail) (deeds : List Deed) → t.due ≡ due → AllFit gate t deeds → (traced gate t deeds).due ≡ None → IsLogged due deeds
+logged_so : (due : Option Act) (gate : Gate) (t : Trail) (deeds : List Deed) → t.due ≡ due → AllFit gate t deeds → (traced gate t deeds).due ≡ None → ComesNext due deeds
 logged_so None gate t [] is all none = tt
-logged_so (Some line) gate t [] is all none = absurd (not_both line (sym is ∙ none))
-  where
-    not_both : (line : List ℕ) → Some line ≡ None → ⊥
-    not_both line same = cc
-logged_so None gate t (deed ∷ deeds) is all none = subst (λ (d : Option (List ℕ)). FitsLine d deed.act) is all.0
-logged_so (Some line) gate t (deed ∷ deeds) is all none = subst (λ (d : Option (List ℕ)). FitsLine d deed.act) is all.0
+logged_so (Some due) gate t [] is all none = absurd (not_both due (sym is ∙ none))
+logged_so None gate t (deed ∷ deeds) is all none = subst (λ (d : Option Act). FitsDue d deed.act) is all.0
+logged_so (Some due) gate t (deed ∷ deeds) is all none = subst (λ (d : Option Act). FitsDue d deed.act) is all.0
 
 logged_each : (gate : Gate) (t : Trail) (before after : List Deed) (deed : Deed) → AllFit gate t (before ++ deed ∷ after) → (traced gate t (before ++ deed ∷ after)).due ≡ None
-    → IsLogged (due_after gate (traced gate t before).k deed.act deed.outcome) after
+    → ComesNext (due_after gate (traced gate t before).k deed.act deed.outcome) after
 logged_each gate t [] after deed all none = logged_so (due_after gate t.k deed.act deed.outcome) gate (trace gate t deed.act deed.outcome) after refl all.1 none
 logged_each gate t (other ∷ before) after deed all none = logged_each gate (trace gate t other.act other.outcome) before after deed all.1 none
 
@@ -501,7 +512,7 @@ logged_each gate t (other ∷ before) after deed all none = logged_each gate (tr
 
 close_fits : (gate : Gate) (t : Trail) (opened : Option ℕ) (answer : Result Reply PortFault) → t.due ≡ None → AllFit gate t (closing opened answer)
 close_fits gate t None answer none = tt
-close_fits gate t (Some sid) answer none = (fits_none t.due (Ask requests.Close) none tt, tt)
+close_fits gate t (Some sid) answer none = (fits_none t.due (Ask requests.Close) none refl, tt)
 
 close_due : (gate : Gate) (t : Trail) (opened : Option ℕ) (answer : Result Reply PortFault) → t.due ≡ None → (traced gate t (closing opened answer)).due ≡ None
 close_due gate t None answer none = none
@@ -612,10 +623,10 @@ module _ {Origin : Type 0} (gate : Gate) (old new : World Origin) (ending : Endi
       subst (λ (m : Trail). m.due ≡ None) (sym (traced_both gate begin talk (owed held.mid held.answer)))
       (owed_due gate (traced gate begin talk) held.mid.server.link held.mid.office.opened held.answer talked.none)
 
-  pub held_due : LogsWhatIsDue gate (deeds_of held)
+  pub held_due : DoesWhatIsDue gate (deeds_of held)
   held_due = record {
     first = logged_so None gate begin (deeds_of held) refl all_fit none_due;
     each = λ before after deed is.
-        subst (λ (k : Known). IsLogged (due_after gate k deed.act deed.outcome) after) (known_by gate begin before)
+        subst (λ (k : Known). ComesNext (due_after gate k deed.act deed.outcome) after) (known_by gate begin before)
         (logged_each gate begin before after deed (subst (λ (d : List Deed). AllFit gate begin d) is all_fit) (subst (λ (d : List Deed). (traced gate begin d).due ≡ None) is none_due));
   }
