@@ -1,4 +1,4 @@
--- Which line the log is given next, or which request or destination is asked for. No place and no row is named here.
+-- What is due next: a line of the log, a request or a destination, a reply of the server, a copy. No place and no row is named here.
 use Rattle.std.specs.Prelude.{◌≡◌, ℕ, Bool, true, false, ◌&&◌, not, List, [], ◌∷◌, ◌++◌, Option, Some, None, Result, Ok, Err, codes}
 use Rattle.std.specs.Option.{option_map}
 use Rattle.auth_events.specs.declared.reply.Reply.{Reply}
@@ -11,8 +11,9 @@ use Rattle.fw_types.specs.declared.dest.Dest.{Dest}
 use Rattle.gate_rules.specs.Verdict.{allows}
 use Rattle.md5.specs.Md5.{md5}
 use Rattle.otp_md5.specs.Hexadecimal.{read_of}
+use Rattle.relay_ways.specs.Carried.{Way}
 use Rattle.session_acts.specs.Acts.{Act, Outcome}
-use Rattle.session_acts.specs.Acts.Act.{Ask, Dial, Hear, Join, Log, Note, Reach, Renew, TakeReply}
+use Rattle.session_acts.specs.Acts.Act.{Ask, Copy, Dial, Hear, Join, Log, Note, Part, Pass, Reach, Renew, Take, TakeReply}
 use Rattle.session_acts.specs.Deeds.{Deed}
 use Rattle.session_acts.specs.Hearing.{heard_by}
 use Rattle.session_acts.specs.Met.{reply_of}
@@ -20,8 +21,10 @@ use Rattle.session_acts.specs.declared.joined.Joined.{Joined}
 use Rattle.session_acts.specs.declared.joined.Joined.TheVariants.{Up}
 use Rattle.session_acts.specs.declared.replied.Replied.{Replied}
 use Rattle.session_acts.specs.declared.replied.Replied.TheVariants.{Whole}
+use Rattle.session_acts.specs.declared.reply_use.ReplyUse.{ReplyUse}
 use Rattle.session_acts.specs.declared.reply_use.ReplyUse.TheVariants.{Passed, Dropped, Greeting}
-use Rattle.ftp_gate.specs.Dialogue.{is_well, reason_of, refusing_line}
+use Rattle.session_acts.specs.declared.toward.Toward.{Toward}
+use Rattle.ftp_gate.specs.Dialogue.{goes_on, is_done, is_well, reason_of, refusing_line}
 use Rattle.ftp_gate.specs.Gate.{Gate, asks_login, has_verb}
 use Rattle.ftp_gate.specs.Kind.{kind_of}
 use Rattle.ftp_gate.specs.Known.{Known, begins, known, order_in}
@@ -190,6 +193,71 @@ abbrev pub logged_due : {Halted : Type 0} → List ℕ → Option Order → Resu
 logged_due text order (Ok done) = dial_due (begins text (codes "connect")) order
 logged_due text order (Err halt) = None
 
+-- ---- the server's replies, and data
+
+-- which way a command transfers data, if it does
+abbrev pub way_of : Kind → Option Toward
+way_of (kinds.Outward (Served (Transfer toward))) = Some toward
+way_of kind = None
+
+abbrev pub transfer_by : Option Order → Option Toward
+transfer_by None = None
+transfer_by (Some order) = way_of (kind_of order.verb)
+
+-- where that is so, and data were or weren't copied
+abbrev pub pending : Option Toward → Bool → Option Toward
+pending None copied = None
+pending (Some toward) true = None
+pending (Some toward) false = Some toward
+
+abbrev pub pending_in : Known → Option Toward
+pending_in k = pending (transfer_by k.order) k.copied
+
+-- the server is greeted by where a link came up
+abbrev pub dialed_due : {Never : Type 0} → Result Bool Never → Option Act
+dialed_due (Ok true) = Some (TakeReply Greeting)
+dialed_due outcome = None
+
+-- The reply to what the server was given is passed, but that to the PASV before a transfer, which comes before its data links.
+abbrev pub use_of : Option Toward → Bool → ReplyUse
+use_of None joined = Passed
+use_of (Some toward) true = Passed
+use_of (Some toward) false = Dropped
+
+abbrev pub given_due : {Halted : Type 0} → Known → Result (Unit {0}) Halted → Option Act
+given_due k (Ok done) = Some (TakeReply (use_of (transfer_by k.order) k.standing.joined))
+given_due k (Err halt) = None
+
+-- A reply that was passed goes on, or is the last. The one to a transfer starts the copy, or lets the data links go.
+abbrev pub passed_due : Option Toward → Bool → Option Act
+passed_due None true = Some (TakeReply Passed)
+passed_due None false = None
+passed_due (Some toward) true = Some (Copy toward)
+passed_due (Some toward) false = Some Part
+
+abbrev pub passed_reply_due : {Halted : Type 0} → Option Toward → Result (Replied × List ℕ) Halted → Option Act
+passed_reply_due pend (Ok (Whole code six, text)) = passed_due pend (goes_on code)
+passed_reply_due pend outcome = None
+
+-- one that wasn't passed, behind a copy
+abbrev pub dropped_due : Option Toward → Bool → Option Act
+dropped_due None true = Some (TakeReply Dropped)
+dropped_due None false = None
+dropped_due (Some toward) on = None
+
+abbrev pub dropped_reply_due : {Halted : Type 0} → Option Toward → Result (Replied × List ℕ) Halted → Option Act
+dropped_reply_due pend (Ok (Whole code six, text)) = dropped_due pend (goes_on code)
+dropped_reply_due pend outcome = None
+
+-- behind a copy that was done to its end the server's replies are passed, behind another not
+abbrev pub use_by : Bool → ReplyUse
+use_by true = Passed
+use_by false = Dropped
+
+abbrev pub copied_due : {Never : Type 0} → Result (Option Way) Never → Option Act
+copied_due (Ok carried) = Some (TakeReply (use_by (is_done (option_map (λ way. way.end) carried))))
+copied_due (Err never) = None
+
 -- ---- behind a deed, before which this is known
 
 abbrev pub due_after : Gate → Known → (act : Act) → Outcome act → Option Act
@@ -197,12 +265,16 @@ due_after gate k (Hear form) outcome = heard_due gate k.login k.user k.link (ord
 due_after gate k (Ask request) outcome = asked_due gate k request (reply_of outcome)
 due_after gate k (Log text) outcome = logged_due text k.order outcome
 due_after gate k (TakeReply Greeting) outcome = greeted_due gate outcome
-due_after gate k (TakeReply Passed) outcome = None
-due_after gate k (TakeReply Dropped) outcome = None
+due_after gate k (TakeReply Passed) outcome = passed_reply_due (pending_in k) outcome
+due_after gate k (TakeReply Dropped) outcome = dropped_reply_due (pending_in k) outcome
+due_after gate k (Dial dest) outcome = dialed_due outcome
+due_after gate k (Pass text) outcome = given_due k outcome
+due_after gate k (Copy toward) outcome = copied_due outcome
 due_after gate k (Join dest target) outcome = joined_due gate k.order outcome
 due_after gate k act outcome = None
 
--- This comes next; or, where nothing is due, no line is logged, no destination and no request asked for but the close.
+-- This comes next; or, where nothing is due, no line is logged, no destination and no request asked for but the close, no reply
+-- heard and nothing copied.
 abbrev pub FitsDue : Option Act → Act → Type 0
 FitsDue None (Log text) = ⊥
 FitsDue None (Note text) = ⊥
@@ -210,6 +282,10 @@ FitsDue None (Ask request) = request ≡ requests.Close
 FitsDue None (Renew name hash) = ⊥
 FitsDue None (Dial dest) = ⊥
 FitsDue None (Reach dest) = ⊥
+FitsDue None Take = ⊥
+FitsDue None (TakeReply how) = ⊥
+FitsDue None (Copy toward) = ⊥
+FitsDue None Part = ⊥
 FitsDue None act = Unit {0}
 FitsDue (Some due) act = act ≡ due
 

@@ -65,11 +65,13 @@ pub fn data_links_are_the_sessions_own<Origin>()
         CopiesOwn gate (deeds_of held) }
 {}
 
-/// Behind each deed the line that is due is logged, or the request or the destination that is due asked for, and no other before
-/// that. A line is due for a command that is blocked, for a destination that is refused or asked for, for a login and one that
-/// failed, and for a command in `-log` that is passed, where that is a transfer once both data links are up. A request is due for
-/// a user who is named, for a response where a user was named before, and with `-extnd` for a destination that `-dest` lets pass;
-/// and the destination behind its connect line.
+/// Behind each deed comes next what is due, if something is; and no line is logged, no destination and no request asked for but
+/// the close, no reply heard and nothing copied that isn't due. A line is due for a command that is blocked, for a destination that is refused or
+/// asked for, for a login and one that failed, and for a command in `-log` that is passed, where that is a transfer once both data
+/// links are up. A request is due for a user who is named, for a response where a user was named before, and with `-extnd` for a
+/// destination that `-dest` lets pass; and the destination behind its connect line. The server's reply is due behind whatever it
+/// is given, and another behind one that goes on. It is passed, but that to the gateway's own PASV and those behind a copy that
+/// wasn't done to its end. Behind the reply to a transfer a copy is due, or that the data links are let go.
 pub fn what_is_due_is_done<Origin>()
     ensures { (gate : Gate) (old new : World Origin) (ending : Ending) (held : Held (ftp_rows gate) ftp_row old new ending) →
         DoesWhatIsDue gate (deeds_of held) }
