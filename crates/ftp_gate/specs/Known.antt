@@ -10,7 +10,7 @@ use Rattle.fw_outside.specs.declared.heard.Heard.TheVariants.{Line, TooLong, Sto
 use Rattle.fw_types.specs.declared.dest.Dest.{Dest}
 use Rattle.ftp_lines.specs.Six.{six_of}
 use Rattle.session_acts.specs.Acts.{Act, Outcome}
-use Rattle.session_acts.specs.Acts.Act.{Ask, Dial, HangUp, Hear, Join, OpenDoor, Pass, Say, TakeReply}
+use Rattle.session_acts.specs.Acts.Act.{Ask, Copy, Dial, HangUp, Hear, Join, OpenDoor, Pass, Say, TakeReply}
 use Rattle.session_acts.specs.Deeds.{Deed}
 use Rattle.session_acts.specs.Hearing.{heard_by}
 use Rattle.session_acts.specs.Met.{reply_of}
@@ -34,7 +34,7 @@ use Rattle.ftp_gate.specs.declared.kind.Served.TheVariants.{Port, Transfer}
 
 -- The command that was heard last, if that was one; what was done since; whether a login stands; the user who was asked about
 -- last, if one was; to which destination a link came up whose server greeted well; what is set for a transfer; how it stood with
--- the last command when it was heard, and what came of it; and what was to be passed of all commands before it, and which
+-- the last command when it was heard, and what came of it; whether data were copied since; and what was to be passed of all commands before it, and which
 -- destinations they asked for.
 pub record Known : Type 0 where
   pub order : Option Order
@@ -45,6 +45,7 @@ pub record Known : Type 0 where
   pub link : Option Dest
   pub setting : Option Target
   pub standing : Standing
+  pub copied : Bool
   pub earlier : List ℕ
   pub before : List Dest
 
@@ -67,6 +68,7 @@ at_start = record {
   link = None;
   setting = None;
   standing = record { login = false; link = None; setting = None; permitted = false; greeted = false; joined = false };
+  copied = false;
   earlier = [];
   before = [];
 }
@@ -83,6 +85,7 @@ hearing gate heard k = record k {
   order = order_in heard;
   since = [];
   standing = record { login = k.login; link = k.link; setting = k.setting; permitted = false; greeted = false; joined = false };
+  copied = false;
   earlier = passage_in gate k;
   before = dests_in gate k;
 }
@@ -177,6 +180,7 @@ noting gate k (TakeReply Dropped) outcome = k
 noting gate k (Pass text) outcome = using k
 noting gate k OpenDoor outcome = opening outcome k
 noting gate k (Join dest target) outcome = joining outcome k
+noting gate k (Copy toward) outcome = record k { copied = true }
 noting gate k HangUp outcome = record k { dialed = None }
 noting gate k act outcome = k
 

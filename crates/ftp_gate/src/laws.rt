@@ -11,7 +11,7 @@ ghost use Rattle.session_acts.specs.Session.{Held, deeds_of};
 ghost use Rattle.session_acts.specs.Talk.{Entered, answered, asked};
 ghost use Rattle.session_acts.specs.World.{World};
 ghost use Rattle.ftp_gate.specs.Dialogue.{ftp_row, ftp_rows};
-ghost use Rattle.ftp_gate.specs.Due.{LogsWhatIsDue};
+ghost use Rattle.ftp_gate.specs.Due.{DoesWhatIsDue};
 ghost use Rattle.ftp_gate.specs.Ends.{EndsThere, HasEnd};
 ghost use Rattle.ftp_gate.specs.Gate.{Gate};
 ghost use Rattle.ftp_gate.specs.Known.{known};
@@ -65,12 +65,16 @@ pub fn data_links_are_the_sessions_own<Origin>()
         CopiesOwn gate (deeds_of held) }
 {}
 
-/// The log is given each line that is due, right behind what it is due for, and no other: for a command that is blocked, for a
-/// destination that is refused or asked for, for a login and one that failed, and for a command in `-log` that is passed, where
-/// that is a transfer once both data links are up.
-pub fn the_log_is_given_what_is_due<Origin>()
+/// Behind each deed comes next what is due, if something is; and no line is logged, no destination and no request asked for but
+/// the close, no reply heard and nothing copied that isn't due. A line is due for a command that is blocked, for a destination that is refused or
+/// asked for, for a login and one that failed, and for a command in `-log` that is passed, where that is a transfer once both data
+/// links are up. A request is due for a user who is named, for a response where a user was named before, and with `-extnd` for a
+/// destination that `-dest` lets pass; and the destination behind its connect line. The server's reply is due behind whatever it
+/// is given, and another behind one that goes on. It is passed, but that to the gateway's own PASV and those behind a copy that
+/// wasn't done to its end. Behind the reply to a transfer a copy is due, or that the data links are let go.
+pub fn what_is_due_is_done<Origin>()
     ensures { (gate : Gate) (old new : World Origin) (ending : Ending) (held : Held (ftp_rows gate) ftp_row old new ending) →
-        LogsWhatIsDue gate (deeds_of held) }
+        DoesWhatIsDue gate (deeds_of held) }
 {}
 
 /// Where the client is told that there is no route, no door, no data link or no data port, that the server closed, or that a

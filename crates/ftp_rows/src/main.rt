@@ -19,7 +19,7 @@ fn call_laws() {
     ftp_gate::laws::the_destinations_are_those_asked_for::<()>();
     ftp_gate::laws::what_the_server_is_given::<()>();
     ftp_gate::laws::data_links_are_the_sessions_own::<()>();
-    ftp_gate::laws::the_log_is_given_what_is_due::<()>();
+    ftp_gate::laws::what_is_due_is_done::<()>();
     ftp_gate::laws::each_failure_has_its_cause::<()>();
     ftp_gate::laws::only_these_acts_come::<()>();
     ftp_gate::laws::each_request_is_asked_for::<()>();
