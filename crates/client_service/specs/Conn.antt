@@ -151,7 +151,7 @@ FrontsBy service (Permit line) rules peer ending old new = ⊥
 FrontsBy service (Deny line) rules peer ending old new = Unit {0}
 
 -- where a line that permits a client of `tn-gw` asks for no login, what port and clock tell stays as it was, and neither the
--- port nor want of memory ends the session; for one of `ftp-gw` `FrontsBy` says when that is so
+-- port nor want of memory ends the session
 abbrev pub Unasked : {Origin : Type 0} → Kind → Verdict → RuleBook → Ending → Devices Origin → Devices Origin → Type 0
 Unasked Gated (Permit line) rules ending old new = asks_login (options_or_none (options_at rules line)) ≡ false → StaysUnasked ending old new
 Unasked kind verdict rules ending old new = Unit {0}

@@ -1,5 +1,5 @@
 -- A client of the FTP gateway whom the rules permit: its session is held behind the line of the permission.
-use Rattle.std.specs.Prelude.{◌≡◌, ℕ, ◌⊎◌, Bool, true, false, List, [], ◌++◌, Some}
+use Rattle.std.specs.Prelude.{◌≡◌, ℕ, ◌⊎◌, Bool, true, false, List}
 use Rattle.fw_outside.specs.SinkView.{SinkView}
 use Rattle.fw_types.specs.declared.ending.Ending.{Ending}
 use Rattle.fw_types.specs.declared.peer.Peer.{Peer}
@@ -8,19 +8,16 @@ use Rattle.gate_rules.specs.declared.service.Service.{Service}
 use Rattle.gate_rules.specs.declared.service.Service.TheVariants.{FtpGw}
 use Rattle.gate_rules.specs.declared.verdict.Verdict.TheVariants.{Permit}
 use Rattle.session_acts.specs.Client.{LogFails, with_line}
-use Rattle.session_acts.specs.Deeds.{Deed, gives}
+use Rattle.session_acts.specs.Deeds.{gives}
 use Rattle.session_acts.specs.Laws.{Adds, called}
 use Rattle.session_acts.specs.Session.{Session, deeds_of}
-use Rattle.session_acts.specs.Talk.{asked}
 use Rattle.session_acts.specs.World.{Devices}
 use Rattle.ftp_gate.specs.Dialogue.{ftp_row, ftp_rows}
 use Rattle.ftp_gate.specs.Gate.{Gate, gate_at}
-use Rattle.ftp_gate.specs.Known.{known}
-use Rattle.ftp_gate.specs.Laws.{AsksDue, AsksExactly, DenialsLogged, DialsCleared, GivesPassage, JoinsOwn, Names, PassesUnblocked}
-use Rattle.ftp_gate.specs.Order.{Order}
+use Rattle.ftp_gate.specs.Laws.{AsksDue, AsksExactly, DenialsLogged, DialsCleared, GivesPassage, JoinsOwn, PassesUnblocked}
 use Rattle.client_service.specs.Decision.{decision_text}
 use Rattle.client_service.specs.Endings.{NotedIf, ending_line}
-use Rattle.client_service.specs.Gateways.{HeldAs, StaysUnasked, gate_devices}
+use Rattle.client_service.specs.Gateways.{HeldAs, gate_devices}
 use Rattle.client_service.specs.Meeting.{patient, timeout_of}
 
 -- the service is the FTP gateway
@@ -41,20 +38,14 @@ pub record Serves {Origin : Type 0} (line : ℕ) (rules : RuleBook) (peer : Peer
 
 -- ---- what that comes to
 
--- none of the commands that are heard in these deeds is an AUTHORIZE with a name
-abbrev pub NamesNobody : Gate → List Deed → Type 0
-NamesNobody gate deeds =
-    (before after : List Deed) (order : Order) (name : List ℕ) → deeds ≡ before ++ after → (known gate before).order ≡ Some order → Names name order → ⊥
-
--- The session of the gateway was held behind this line. If no command names a user, the port was asked for nothing, and the
--- session ends neither by it nor for want of memory. The dialer, if it tells, was asked for what these deeds ask for, in order,
--- and for nothing else. The destinations are those that the client's commands ask for, up to where the dialogue stopped; each
--- comes where it may. The server was given what the commands are passed as, up to where the dialogue stopped, and nothing else;
--- each is of a command that isn't blocked. Data links are the session's own. What the client was told as a denial the log was
--- given right before, whole; a text that is no name is denied without a line. And each request is one that its command asks for.
+-- The session of the gateway was held behind this line. The dialer, if it tells, was asked for what these deeds ask for, in
+-- order, and for nothing else. The destinations are those that the client's commands ask for, up to where the dialogue stopped;
+-- each comes where it may. The server was given what the commands are passed as, up to where the dialogue stopped, and nothing
+-- else; each is of a command that isn't blocked. Data links are the session's own. What the client was told as a denial the log
+-- was given right before, whole; a text that is no name is denied without a line. And each request is one that its command asks
+-- for.
 pub record ServesBehind {Origin : Type 0} (line : List ℕ) (gate : Gate) (ending : Ending) (old new : Devices Origin) : Type 0 where
   pub session : Session (ftp_rows gate) ftp_row (with_line line old) new ending
-  pub unasked : NamesNobody gate (deeds_of session.held) → (gives asked (deeds_of session.held) ≡ []) × StaysUnasked ending old new
   pub asked : Adds (gives called (deeds_of session.held)) old.dialer.asked new.dialer.asked
   pub exactly : AsksExactly gate session.held
   pub cleared : DialsCleared gate (deeds_of session.held)

@@ -1,7 +1,8 @@
 mod AccountLemmas
 mod BaseLemmas
+pub mod EndLemmas
 mod KeepLemmas
-mod KnownLemmas
+pub mod KnownLemmas
 pub mod LawLemmas
 mod LoginLeaves
 mod RowLemmas
