@@ -183,6 +183,8 @@ fn short_log_differs(plan: &Plan, log: &[u8], was: &mut Ended, difference: &mut 
     let (lines, all) = (count_lines(log), count_lines(&row.wanted.log));
     if lines == 0 {
         difference.compare(&untouched(row, plan.records, whole(log)), was);
+    } else if all <= lines {
+        difference.say(b"the log has fewer lines");
     } else if lines.saturating_add(1) < all {
         line_differs(plan, log, was, difference);
     } else {
