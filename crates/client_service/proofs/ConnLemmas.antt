@@ -60,7 +60,7 @@ unended : (service : Service) (peer : Peer) (ending : Ending) → ending ≡ Log
 unended service peer ending is = ap (ending_line service peer) is
 
 -- whom the rules deny reaches nobody
-denied_alone : (service : Service) (line : ℕ) → kind_of service (Deny line) ≡ Alone
+pub denied_alone : (service : Service) (line : ℕ) → kind_of service (Deny line) ≡ Alone
 denied_alone (PlugGw at) line = refl
 denied_alone TnGw line = refl
 denied_alone Authsrv line = refl
