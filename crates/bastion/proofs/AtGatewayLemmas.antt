@@ -6,7 +6,7 @@ use Rattle.auth_machine.specs.Port.{BookOrigin, book_port}
 use Rattle.client_service.specs.Conn.{NotedIf, Untouched}
 use Rattle.client_service.specs.Decision.{decision_text}
 use Rattle.client_service.specs.Endings.{ending_line}
-use Rattle.client_service.specs.Gateways.{HeldAs, gate_devices}
+use Rattle.client_service.specs.Gateways.{HeldAs}
 use Rattle.client_service.specs.Meeting.{patient, timeout_of}
 use Rattle.fw_acts.specs.Acts.{Row, PlaceTable}
 use Rattle.fw_outside.specs.KeeperView.{KeeperView}

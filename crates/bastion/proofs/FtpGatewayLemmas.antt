@@ -1,6 +1,6 @@
 -- From what a client of `ftp-gw` did to the headline, and to a run in which no count rose.
-use Rattle.std.proofs.Common.{◌≡◌, ◌∙◌, ℕ, List, refl, sym, subst, ◌⊎◌, false}
-use Rattle.std.specs.Prelude.{Result, Ok}
+use Rattle.std.proofs.Common.{◌≡◌, ◌∙◌, ℕ, List, refl, sym, subst, ◌⊎◌, true, false}
+use Rattle.std.specs.Prelude.{Result}
 use Rattle.auth_machine.specs.Port.{BookOrigin}
 use Rattle.client_service.specs.Endings.{refusal_reply}
 use Rattle.ftp_gate.proofs.KnownLemmas.{login_known}

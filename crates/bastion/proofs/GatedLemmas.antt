@@ -5,7 +5,7 @@ use Rattle.std.specs.Prelude.{if◌then◌else◌}
 use Rattle.auth_machine.specs.Book.{BookView}
 use Rattle.auth_machine.specs.Port.{BookOrigin, book_port}
 use Rattle.client_service.proofs.ConnLemmas.{conn_caused, conn_refused, denied_alone}
-use Rattle.client_service.specs.Conn.{Causes, Conn, IsRefused, NotedIf}
+use Rattle.client_service.specs.Conn.{Causes, IsRefused, NotedIf}
 use Rattle.client_service.specs.Decision.{decision_text}
 use Rattle.client_service.specs.Endings.{ending_line}
 use Rattle.client_service.specs.Gateways.{HeldAs, gate_devices}

@@ -3,7 +3,6 @@ use Rattle.std.proofs.Common.{◌≡◌, ◌∙◌, ℕ, List, [], length, refl,
 use Rattle.std.specs.Prelude.{Ok, Err}
 use Rattle.auth_events.specs.Port.{Port, places}
 use Rattle.auth_machine.specs.Port.{BookOrigin, book_port}
-use Rattle.fw_outside.specs.KeeperView.{KeeperView}
 use Rattle.fw_types.specs.declared.ending.Ending.{Ending}
 use Rattle.fw_types.specs.declared.ending.Ending.TheVariants as endings
 use Rattle.fw_types.specs.declared.peer.Peer.{Peer}
