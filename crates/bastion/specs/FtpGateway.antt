@@ -1,5 +1,5 @@
 -- A client of `ftp-gw`: what it is told, for which destinations the dialer is asked, and what the servers are given.
-use Rattle.std.specs.Prelude.{◌≡◌, ℕ, List, [], None, Err}
+use Rattle.std.specs.Prelude.{◌≡◌, ℕ, false, List, [], None, Err}
 use Rattle.auth_events.specs.Login.{login_in}
 use Rattle.auth_machine.specs.Port.{BookOrigin}
 use Rattle.client_service.specs.Endings.{refusal_reply}
