@@ -27,7 +27,7 @@ use Rattle.spool_slots.specs.declared.slot_why.SlotWhy.TheVariants as whys
 use Rattle.spool_runs.specs.OnDisks.{RunsSpool}
 use Rattle.spool_runs.proofs.RoundLemmas.{round_grows}
 use Rattle.spool_runs.proofs.StoreLemmas.{run_over_rack}
-use Rattle.bastion.specs.HandedOn.{HandsNone, HandsRound, IsHandedOn}
+use Rattle.bastion.specs.HandedOn.{HandsRound, IsHandedOn, LineIf}
 use Rattle.bastion.specs.HandingOn.{HandsMail, RoundHeld, ServesRound, TellsRound, outcome_after, outcome_faulted, outcome_printed}
 use Rattle.bastion.specs.Mailing.{OpensRack, SlotsUnread, slot_fault, with_disks}
 use Rattle.bastion.specs.Outcome.{DiskRose, MailersRose, fault_line_of, status_of}
@@ -151,13 +151,16 @@ module _ (post : Post) where
       (round_grows count count h.answer (meeting_with h.first post.before old.logs) (meeting_with h.store post.after new.logs) h.hands.hands) h.closed
 
   abbrev pub round_now : (outcome : Outcome) (old new : WorldView) (h : RoundHeld post outcome old new) → HandsRound post h.answer h.trouble old new
-  round_now outcome old new h = record { first = h.first; opened = h.opened; store = h.store; logs = new.logs; hands = h.hands; spool = round_spool outcome old new h }
+  round_now outcome old new h = record { first = h.first; opened = h.opened; store = h.store; closed = h.closed; logs = new.logs; hands = h.hands; spool = round_spool outcome old new h }
 
-  hands_round : (outcome : Outcome) (old mid new : WorldView) (h : RoundHeld post outcome old mid) → Later mid new → HandsRound post h.answer h.trouble old new
-  hands_round outcome old mid new h later =
-      let Held : SessionInputs → Type 0 = λ i. HandsRound post h.answer h.trouble old (record new { inputs = i }) in
-      let now = round_now outcome old mid h in
-      subst Held (sym later.inputs) (record { first = now.first; opened = now.opened; store = now.store; logs = now.logs; hands = now.hands; spool = now.spool })
+  round_later : (outcome : Outcome) (old mid new : WorldView) (h : RoundHeld post outcome old mid) → Later mid new → RunsSpool [] (map mail_view (accepted_of (h.hands.hands.turns ++ last_turn h.hands.hands.ending))) old.inputs.disks new.inputs.disks
+  round_later outcome old mid new h later =
+      subst (λ (i : SessionInputs). RunsSpool [] (map mail_view (accepted_of (h.hands.hands.turns ++ last_turn h.hands.hands.ending))) old.inputs.disks i.disks) (sym later.inputs) (round_spool outcome old mid h)
+
+  -- the line of a fault
+  line_if : (line : Option (List ℕ)) (mid new : WorldView) → TellsIf line mid new → LineIf line mid.logs new.logs
+  line_if None mid new tells = ap (λ (w : WorldView). w.logs) tells
+  line_if (Some text) mid new tells = (tells.told, tells.logged)
 
   unread_some : (slot : ℕ) (why : SlotWhy) → status_of (slot_fault slot why) ≢ 0
   unread_some slot (whys.BadSlot at) is = omega (arith, is)
@@ -167,10 +170,26 @@ module _ (post : Post) where
   pub handed_on : (outcome : Outcome) (old mid new : WorldView) → HandsMail post outcome old mid → TellsIf (fault_line_of outcome) mid new → IsHandedOn post (status_of outcome) old new
   handed_on outcome old mid new (inl u) tells =
       let later = tells_later (fault_line_of outcome) mid new tells in
+      let line : LineIf (fault_line_of outcome) old.logs new.logs = subst (λ (s : SinkView). LineIf (fault_line_of outcome) s new.logs) (ap (λ (w : WorldView). w.logs) u.0.is) (line_if (fault_line_of outcome) mid new tells) in
       inl (record {
+        slot = u.0.slot;
+        why = u.0.why;
+        fault = subst (λ (i : SessionInputs). IsRackFault (Unit {0}) old.inputs.disks u.0.slot u.0.why i.disks) (sym later.inputs) u.0.fault;
+        status_is = ap status_of u.0.comes;
+        told = subst (λ (o : Outcome). LineIf (fault_line_of o) old.logs new.logs) u.0.comes line;
         mailers = u.1;
         output = later.output ∙ ap (λ (w : WorldView). w.output) u.0.is;
         undone = subst (λ (o : Outcome). status_of o ≢ 0) (sym u.0.comes) (unread_some u.0.slot u.0.why);
         spool = subst (λ (i : SessionInputs). RunsSpool [] [] old.inputs.disks i.disks) (sym later.inputs) (unread_spool outcome old mid u.0);
       })
-  handed_on outcome old mid new (inr h) tells = inr (h.answer, h.trouble, hands_round outcome old mid new h (tells_later (fault_line_of outcome) mid new tells))
+  handed_on outcome old mid new (inr h) tells =
+      let later = tells_later (fault_line_of outcome) mid new tells in
+      inr (record {
+        answer = h.answer;
+        trouble = h.trouble;
+        held = record { first = h.first; opened = h.opened; store = h.store; closed = subst (λ (i : SessionInputs). IfSome h.store.queues (λ q. AreInOrder q i.disks)) (sym later.inputs) h.closed; logs = mid.logs; hands = h.hands; spool = round_later outcome old mid new h later };
+        outcome = outcome;
+        status_is = refl;
+        printed = subst (λ (s : SinkView). TellsRound h.answer h.trouble outcome old.output s) (sym later.output) h.tells;
+        told = line_if (fault_line_of outcome) mid new tells;
+      })

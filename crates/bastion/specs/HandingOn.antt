@@ -1,13 +1,11 @@
--- The work of `smapd`: the slots are opened, the messages of the full ones are handed on in one round, with as many turns as
--- there are slots, the disks are given back, and what the round came to is printed.
-use Rattle.std.specs.Prelude.{◌≡◌, ℕ, ◌⊎◌, List, ◌++◌, map, length, codes, IfSome, Option, Some, None, Result, Ok, Err}
+-- The work of `smapd`: the slots are opened, the messages of the full ones are handed on in one round, with at most as many turns
+-- as there are slots, the disks are given back, and what the round came to is printed.
+use Rattle.std.specs.Prelude.{◌≡◌, ℕ, ◌⊎◌, List, ◌++◌, length, codes, IfSome, Option, Some, None, Result, Ok, Err}
 use Rattle.std.specs.Fmt.{decimal}
 use Rattle.fw_outside.specs.SinkView.{SinkView}
 use Rattle.fw_outside.specs.declared.failed.Failed as sink
-use Rattle.slot_bytes.specs.SlotView.{mail_view}
-use Rattle.smapd_queue.specs.Meeting.{last_turn, meeting_with}
+use Rattle.smapd_queue.specs.Meeting.{meeting_with}
 use Rattle.smapd_queue.specs.Round.{HandsOnTelling}
-use Rattle.smapd_queue.specs.Turns.{accepted_of}
 use Rattle.smapd_queue.specs.declared.round.Round.{Round}
 use Rattle.smapd_queue.specs.declared.round.RoundFault.{RoundFault}
 use Rattle.smapd_queue.specs.declared.round.RoundFault.TheVariants as faults
@@ -59,8 +57,9 @@ TellsRound (Err fault) trouble outcome old new = (outcome ≡ outcome_after trou
 
 -- ---- the work
 
--- All slots were opened, and one round handed on messages of the full ones to the first mailer, with as many turns as there are
--- slots. Then the disks of all slots were given back, in order of their numbers, and the round was told. Nobody else was asked.
+-- All slots were opened, and one round handed on messages of the full ones to the first mailer, with at most as many turns as there
+-- are slots. Then the disks of all slots were given back, in order of their numbers, and the round was told. The files and the other
+-- inputs are as they were.
 pub record RoundHeld (post : Post) (outcome : Outcome) (old new : WorldView) : Type 0 where
   pub first : StoreView
   pub opened : IsRackOf (Unit {0}) old.inputs.disks first
@@ -73,14 +72,14 @@ pub record RoundHeld (post : Post) (outcome : Outcome) (old new : WorldView) : T
   pub inputs_are : new.inputs ≡ record (old.inputs) { disks = new.inputs.disks }
   pub files : new.files ≡ old.files
 
--- or not all slots were opened, and no mailer was called
+-- or not all slots were opened, and the mailers are as they were
 abbrev pub HandsMail : Post → Outcome → WorldView → WorldView → Type 0
 HandsMail post outcome old new = (SlotsUnread outcome old new × (post.after ≡ post.before)) ⊎ RoundHeld post outcome old new
 
 -- ---- step by step
 -- No public clause cites this: it says what a private function answers.
 
--- a round over these slots, with so many turns
+-- a round over these slots, with at most so many turns
 pub record ServesRound (post : Post) (turns : ℕ) (first : StoreView) (outcome : Outcome) (old new : WorldView) : Type 0 where
   pub store : StoreView
   pub closed : IfSome store.queues (λ q. AreInOrder q new.inputs.disks)

@@ -1,7 +1,7 @@
 -- A client of `smap`: what it is told, and what stands in the slots behind that.
 use Rattle.std.specs.Prelude.{◌≡◌, ◌≢◌, ℕ, ◌⊎◌, false, List, [], ◌++◌, map, None, Result, Ok}
 use Rattle.client_service.specs.Decision.{decision_text}
-use Rattle.client_service.specs.Endings.{mail_refusal}
+use Rattle.client_service.specs.Endings.{refusal_reply}
 use Rattle.client_service.specs.MailService.{mail_devices, mail_gate_of}
 use Rattle.client_service.specs.Meeting.{patient, timeout_of}
 use Rattle.fw_outside.specs.SinkView.{SinkView}
@@ -64,17 +64,17 @@ pub record OfMail (peer : Peer) (inputs : Inputs) (status : ℕ) (old new : Worl
   pub told : new.output.given ≡ grown old.output.given (gives told (deeds_of session.held))
   pub logged_so : logs.given ≡ grown old.logs.given (decision_text (Permit line) services.Smap peer ++ gives logged (deeds_of session.held))
   pub stand : StandAtPlaces (gives kept (deeds_of session.held)) new.inputs.disks
-  -- each message that was kept is one that was answered for in the spool on the disks
+  -- in the spool on the disks just the messages that were kept were answered for, in order, and none was accepted
   pub spool : RunsSpool (map (λ one. one.mail) (gives kept (deeds_of session.held))) [] old.inputs.disks new.inputs.disks
   pub concluded : IsConcluded services.Smap peer ending false status logs new.logs
 
--- The rules deny the client. It was given the words of that, or a front of them, and nothing was done to the spool but that its
--- slots were opened. That the log has the line of the denial, and that the status is 1, is said of every denial.
+-- The rules deny the client. It was given the words of that, or a front of them, and by what was done to the spool no message was
+-- answered for, and none accepted. That the log has the line of the denial, and that the status is 1, is said of every denial.
 pub record IsShutOut (peer : Peer) (inputs : Inputs) (old new : WorldView) : Type 0 where
   pub line : ℕ
   pub denied : verdict_for (Smap peer) inputs ≡ Deny line
-  pub tried : Result (Unit {0}) (Front (mail_refusal line))
-  pub gets : Gets (mail_refusal line) tried old.output new.output
+  pub tried : Result (Unit {0}) (Front (refusal_reply line))
+  pub gets : Gets (refusal_reply line) tried old.output new.output
   pub spool : RunsSpool [] [] old.inputs.disks new.inputs.disks
 
 -- by the inputs of the command
@@ -85,7 +85,7 @@ pub record IsTakenInBy (name : List ℕ) (peer : Peer) (status : ℕ) (old new :
   pub only : ReadsOnly name false old middle
   pub so : IsShutOut peer inputs middle new ⊎ OfMail peer inputs status middle new
 
--- no session was held, the client was told nothing, and nothing was done to the spool but that slots were opened
+-- the client was told nothing, and by what was done to the spool no message was answered for, and none accepted
 pub record IsUnheard (status : ℕ) (old new : WorldView) : Type 0 where
   pub silent : IsSilent status old new
   pub unheld : (status ≢ 0) × (status ≢ 6)

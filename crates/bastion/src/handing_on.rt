@@ -77,7 +77,7 @@ fn round_line(round: Round) -> LogLine
     out
 }
 
-// One round over these slots.
+// One round over these slots, with at most so many turns.
 fn hand_on<T: Kit>(
     alloc: Global,
     turns: u32,
@@ -148,7 +148,7 @@ fn hand_over<T: Kit>(
     tell_round(rounded, world)
 }
 
-// As many turns as there are slots.
+// How many turns there may be: as many as there are slots.
 fn turns_for<T: Kit>(world: &World<T>) -> u32
     requires { length world.now.inputs.disks ≤ 64 }
     ensures { result ≡ length world.now.inputs.disks }

@@ -16,11 +16,11 @@ use std::thread::Threads;
 
 /// Runs a command line over the devices of a world, and answers the exit status:
 ///
-/// - 0 where the table permits the peer, and a session of `authsrv`, `plug-gw`, `tn-gw` or `smap` is done, or a job that needs
-///   no table; 1 where the table denies the peer, who isn't at the console of `authsrv`;
+/// - 0 where the table permits the peer, and a session of `authsrv`, `plug-gw`, `tn-gw`, `ftp-gw` or `smap` is done, or a job
+///   that needs no table; 1 where the table denies the peer, who isn't at the console of `authsrv`;
 /// - 2 where the words are no command;
-/// - 3 where a line of the table, or of the service, or a user's record or a slot can't be read; for `tn-gw` also where a line
-///   of `authsrv` can't;
+/// - 3 where a line of the table, or of the service, or a user's record or a slot can't be read; for `tn-gw` and `ftp-gw` also
+///   where a line of `authsrv` can't;
 /// - 4 where a device failed, which its count shows; of `smapd` also where a hand failed or a slot broke;
 /// - 5 for want of memory, which never takes the place of a denial once the records and rules are read, and for `smap` the slots
 ///   opened;
@@ -65,7 +65,7 @@ where
     // `spool-init` ends with 0 only after each disk is a free slot, whatever a crash leaves of it. Behind `smap` a slot that
     // was opened with a message has it, and behind `smapd` one that was opened set aside. Any other command leaves the disks as they were, their counts too.
     ensures disks { LeavesDisks (line_of words.now) result world.old.inputs.disks world.new.inputs.disks }
-    // Any command but `smapd` calls no mailer.
+    // Any command but `smapd` leaves the mailers as they were: none accepted a message, refused one or failed.
     ensures mailers { LeavesMailers (post_of (map (λ m. mailer_view m) mailers.old.items) (map (λ m. mailer_view m) mailers.new.items))
         (line_of words.now) }
     // Each source that the run got was given back: as many are out as before.

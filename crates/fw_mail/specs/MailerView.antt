@@ -1,14 +1,16 @@
 -- What a mailer means, and what handing a message to it does to that.
-use Rattle.std.specs.Prelude.{◌≡◌, ℕ, List, [], ◌∷◌, Option, Some, None}
+use Rattle.std.specs.Prelude.{◌≡◌, ℕ, List, [], ◌∷◌, ◌++◌, Option, Some, None}
 use Rattle.fw_outside.specs.Counts.{Rose}
 use Rattle.fw_outside.specs.ToldList.{grown}
 use Rattle.fw_types.specs.declared.message.Message.{Message}
 use Rattle.fw_mail.specs.declared.handed.Handed.{Handed}
 use Rattle.fw_mail.specs.declared.handed.Handed.TheVariants.{Accepted, Refused, Failed, NoMemory}
 
--- the messages that the mailer accepted, in order, where it tells; how often it refused one, and how often it failed
+-- The messages that the mailer accepted, in order, where it has them at run time and tells them (`accepted`); the same, which a
+-- proof is always told, of every mailer (`took`); how often it refused one, and how often it failed.
 pub record MailerView : Type 0 where
   pub accepted : Option (List Message)
+  pub took : List Message
   pub refusals : ℕ
   pub faults : ℕ
 
@@ -32,9 +34,10 @@ pub record HandFailed (old new : MailerView) : Type 0 where
   pub rose : Rose old.faults count
   pub is : new ≡ record old { faults = count }
 
--- what handing a message over answers and leaves: what was accepted grew by just this message, at its end
+-- What handing a message over answers and leaves. Where it is accepted, what the mailer took grew by just this message, at its end,
+-- and so did what it tells, where it tells; nothing else changed.
 abbrev pub Hands : Handed → Message → MailerView → MailerView → Type 0
-Hands Accepted message old new = new ≡ record old { accepted = grown old.accepted (message ∷ []) }
+Hands Accepted message old new = new ≡ record old { accepted = grown old.accepted (message ∷ []); took = old.took ++ message ∷ [] }
 Hands Refused message old new = HandRefused old new
 Hands Failed message old new = HandFailed old new
 Hands NoMemory message old new = new ≡ old

@@ -5,7 +5,8 @@ use crate::{Handed, Message};
 
 /// Who takes messages on.
 pub trait Mailer: Send + Drop {
-    /// The messages that were accepted, where the mailer tells them, and the counts of refusals and of failures.
+    /// The messages that were accepted, for a proof always and for a program where the mailer tells them, and the counts of
+    /// refusals and of failures.
     ghost mailer_view: { Self → MailerView };
 
     /// Hands a message over.

@@ -17,7 +17,7 @@ pub record MemMailerView : Type 0 where
 
 -- it tells all
 abbrev pub mailer_view_of : MemMailerView → MailerView
-mailer_view_of m = record { accepted = Some m.accepted; refusals = m.refusals; faults = m.faults }
+mailer_view_of m = record { accepted = Some m.accepted; took = m.accepted; refusals = m.refusals; faults = m.faults }
 
 -- what the next call is told to answer: the answer at its number, and past them that it accepts
 abbrev pub answer_told : MemMailerView → Handed
@@ -27,9 +27,13 @@ answer_told m = get_or m.answers m.calls Accepted
 abbrev pub next_call : MemMailerView → MemMailerView
 next_call m = record m { calls = counted m.calls }
 
+-- one more message was accepted
+abbrev pub with_accepted : Message → MemMailerView → MemMailerView
+with_accepted message m = record m { accepted = m.accepted ++ message ∷ [] }
+
 -- a call answers as it is told, or for want of memory, and keeps or counts accordingly
 abbrev pub AnswersHand : Handed → Handed → Message → MemMailerView → MemMailerView → Type 0
-AnswersHand told Accepted message old new = (told ≡ Accepted) × (new ≡ record old { accepted = old.accepted ++ message ∷ [] })
+AnswersHand told Accepted message old new = (told ≡ Accepted) × (new ≡ with_accepted message old)
 AnswersHand told Refused message old new = (told ≡ Refused) × (new ≡ record old { refusals = counted old.refusals })
 AnswersHand told Failed message old new = (told ≡ Failed) × (new ≡ record old { faults = counted old.faults })
 AnswersHand Accepted NoMemory message old new = new ≡ old

@@ -1,7 +1,7 @@
-ghost use Rattle.std.specs.Prelude.{◌≡◌, ◌∷◌, [], ◌++◌, get_or, IfOk, OnOk, OnErr};
+ghost use Rattle.std.specs.Prelude.{◌≡◌, [], get_or, IfOk, OnOk, OnErr};
 ghost use Rattle.fw_outside.specs.Counts.{Rose, counted};
 ghost use Rattle.fw_mail.specs.MailerView.{Hands};
-ghost use Rattle.fw_memory.specs.MemMailerView.{AnswersHand, answer_told, mailer_view_of, next_call};
+ghost use Rattle.fw_memory.specs.MemMailerView.{AnswersHand, answer_told, mailer_view_of, next_call, with_accepted};
 
 use crate::mem_launcher::copy_of;
 use fw_mail::{Handed, Mailer, Message};
@@ -82,7 +82,7 @@ impl MemMailer {
 
     // Keeps the message behind those before.
     fn keep(&mut self, message: &Message) -> Result<(), NoMemory>
-        ensures ok { OnOk result (self.new ≡ record self.old { accepted = self.old.accepted ++ message.now ∷ [] }) }
+        ensures ok { OnOk result (self.new ≡ with_accepted message.now self.old) }
         ensures err { OnErr result (self.new ≡ self.old) }
     {
         let copy = copy_of_message(self.alloc, message)?;

@@ -1,6 +1,7 @@
 //! The kinds of row.
 
 use crate::handing::{tell_round, tell_then};
+use crate::hands::tell_hands;
 use crate::rounds::tell_rounds;
 use crate::sweep::tell_sweep;
 use crate::telling::{tell_broken, tell_bytes, tell_run};
@@ -29,6 +30,7 @@ impl Runs for Kinds {
             "round" => tell_round(threads, alloc, asked, out)?,
             "then" => tell_then(threads, alloc, asked, out)?,
             "rounds" => tell_rounds(threads, alloc, asked, out)?,
+            "hands" => tell_hands(threads, alloc, asked, out)?,
             "sweep" => tell_sweep(threads, alloc, asked, out)?,
             _ => add(out, b"no such kind"),
         }

@@ -5,6 +5,7 @@
 mod asked;
 mod breaking;
 mod handing;
+mod hands;
 mod images;
 mod kept;
 mod kinds;

@@ -6,3 +6,4 @@ pub mod NewLinks
 pub mod Programs
 pub mod TcpDialerView
 pub mod MailerPrograms
+pub mod Takings

@@ -9,9 +9,9 @@ use Rattle.fw_mail.specs.declared.handed.Handed.TheVariants.{Accepted, Refused, 
 use Rattle.real_links.specs.Programs.{RanAs}
 use Rattle.real_links.specs.declared.ran.Ran.{Ran}
 
--- a mailer that tells only its counts
-abbrev pub untold_mailer : ℕ → ℕ → MailerView
-untold_mailer refusals faults = record { accepted = None; refusals = refusals; faults = faults }
+-- a mailer that tells a program only its counts
+abbrev pub untold_mailer : List Message → ℕ → ℕ → MailerView
+untold_mailer took refusals faults = record { accepted = None; took = took; refusals = refusals; faults = faults }
 
 -- the word for a sender: `<>` where there is none
 abbrev pub sender_word : List ℕ → List ℕ
@@ -51,9 +51,9 @@ Means Refused ending = ((ending == 0) ≡ false) × ((ending == 75) ≡ false)
 Means Failed ending = ending ≡ 75
 Means NoMemory ending = ⊥
 
--- what a program said of a message that it was handed
-abbrev pub SaidSo : Handed → List ℕ → Message → Option Ran → Type 0
-SaidSo Accepted program message last = MailedAs program message 0 last
-SaidSo Refused program message last = RefusedAs program message last
-SaidSo Failed program message last = Unit {0}
-SaidSo NoMemory program message last = ⊥
+-- What a program said of a message that it was handed, by what was run last, before and now. For want of memory it wasn't run.
+abbrev pub SaidSo : Handed → List ℕ → Message → Option Ran → Option Ran → Type 0
+SaidSo Accepted program message before last = MailedAs program message 0 last
+SaidSo Refused program message before last = RefusedAs program message last
+SaidSo Failed program message before last = Unit {0}
+SaidSo NoMemory program message before last = last ≡ before

@@ -35,15 +35,25 @@ fn command_of(alloc: Global, program: &str) -> Result<Command, NoMemory>
 }
 
 /// The command that runs this program with these arguments, in the folder and with the variables and the streams of this
-/// process; or nothing where a text isn't UTF-8, or there is no memory.
-pub(crate) fn command(alloc: Global, program: &[u8], args: &[Octets]) -> Option<Command>
-    ensures program { IfSome result (λ command. command_program command ≡ program.now) }
-    ensures args { IfSome result (λ command. command_args command ≡ args.now) }
-    ensures plain { IfSome result IsPlain }
+/// process; or nothing where a text isn't UTF-8.
+pub(crate) fn command(
+    alloc: Global,
+    program: &[u8],
+    args: &[Octets],
+) -> Result<Option<Command>, NoMemory>
+    ensures program { IfOk result (λ found. IfSome found (λ command. command_program command ≡ program.now)) }
+    ensures args { IfOk result (λ found. IfSome found (λ command. command_args command ≡ args.now)) }
+    ensures plain { IfOk result (λ found. IfSome found IsPlain) }
 {
-    let mut command = command_of(alloc, text_of(program)?).ok()?;
+    let Some(text) = text_of(program) else {
+        return Ok(None);
+    };
+    let mut command = command_of(alloc, text)?;
     for arg in args {
-        add(&mut command, text_of(arg.bytes())?).ok()?;
+        let Some(word) = text_of(arg.bytes()) else {
+            return Ok(None);
+        };
+        add(&mut command, word)?;
     }
-    Some(command)
+    Ok(Some(command))
 }

@@ -31,6 +31,7 @@ mod names;
 mod programs;
 mod ran;
 mod standard_output;
+mod taken;
 mod wait;
 
 pub use address::Address;

@@ -1,25 +1,26 @@
-ghost use Rattle.std.specs.Prelude.{◌≡◌, true, pos, Some, [], IfOk, IfSome};
+ghost use Rattle.std.specs.Prelude.{◌≡◌, ◌++◌, ◌∷◌, true, pos, Some, [], IfOk, IfSome, OnErr};
 ghost use Rattle.std.specs.List.{list_any};
 ghost use Rattle.std.specs.Process.{exit_code};
 ghost use Rattle.fw_outside.specs.Counts.{Rose, counted};
 ghost use Rattle.fw_mail.specs.MailerView.{Hands};
-ghost use Rattle.fw_types.specs.declared.message.Message.{Message};
 ghost use Rattle.real_links.specs.Programs.{Runs, is_slash};
 ghost use Rattle.real_links.specs.MailerPrograms.{MailedAs, Means, SaidSo, is_unfit_message, mail_args, untold_mailer};
 
-use crate::body_file::file_of;
+use crate::body_file::{body_path, file_of};
 use crate::command::command;
 use crate::ending::run_within;
 use crate::mail_words::{is_unfit_message, mail_args};
 use crate::programs::{has_slash, status_of};
 use crate::ran::Ran;
+use crate::taken::Taken;
 use fw_mail::{Handed, Mailer, Message};
 use fw_types::{NoMemory, Octets};
+use std::process::Command;
 
 /// A program of the system that mail is handed to. It is run with `-f`, the sender or `<>`, and the recipients, and finds
 /// the body at its standard input, in a file that has no name. If it ends with status 0 it accepted the message, with 75 it
 /// failed, and with any other it refused it. One that can't be started, is ended by a signal, or isn't done in time, when it
-/// is killed, failed. What it prints to its standard output is dropped.
+/// is killed, failed. For want of memory for its words it isn't started. What it prints to its standard output is dropped.
 #[derive(Drop)]
 pub struct MailerProgram {
     system: HostRuntime,
@@ -27,6 +28,7 @@ pub struct MailerProgram {
     folder: Octets,
     seconds: u32,
     last: Option<Ran>,
+    took: Taken,
     refusals: u64,
     faults: u64,
 }
@@ -41,6 +43,7 @@ impl MailerProgram {
         seconds: u32,
     ) -> Result<MailerProgram, NoMemory>
         ensures program { IfOk result (λ mailer. mailer.program ≡ program.now) }
+        ensures took { IfOk result (λ mailer. mailer.took ≡ []) }
         ensures refusals { IfOk result (λ mailer. mailer.refusals ≡ 0) }
         ensures faults { IfOk result (λ mailer. mailer.faults ≡ 0) }
     {
@@ -52,25 +55,41 @@ impl MailerProgram {
             folder,
             seconds,
             last: None,
+            took: Taken::none(),
             refusals: 0,
             faults: 0,
         })
     }
 
-    // Runs the program with a message.
-    fn run_program(&self, message: &Message) -> Option<Ran>
-        ensures { IfSome result (Runs self.now.program (mail_args message.now)) }
+    // Runs a command whose input is this body, in a file that is made at this path.
+    fn run_command(&self, command: Command, path: &str, body: &[u8]) -> Option<Ran>
+        ensures { IfSome result (λ ran. ran.command.value ≡ command) }
     {
-        if !has_slash(self.program.bytes()) {
+        let Ok(input) = file_of(&self.system, path, body) else {
             return None;
-        }
-        let args = mail_args(self.system.alloc(), message).ok()?;
-        let command = command(self.system.alloc(), self.program.bytes(), args.as_slice())?;
-        let body = file_of(&self.system, self.folder.bytes(), message.body.bytes()).ok()?;
-        match run_within(&self.system, command, body, self.seconds) {
+        };
+        match run_within(&self.system, command, input, self.seconds) {
             Ok(ran) => Some(ran),
             Err(_) => None,
         }
+    }
+
+    // Runs the program with a message.
+    fn run_program(&self, message: &Message) -> Result<Option<Ran>, NoMemory>
+        ensures { IfOk result (λ found. IfSome found (Runs self.now.program (mail_args message.now))) }
+    {
+        if !has_slash(self.program.bytes()) {
+            return Ok(None);
+        }
+        let args = mail_args(self.system.alloc(), message)?;
+        let Some(command) = command(self.system.alloc(), self.program.bytes(), args.as_slice())?
+        else {
+            return Ok(None);
+        };
+        let Some(path) = body_path(self.system.alloc(), self.folder.bytes())? else {
+            return Ok(None);
+        };
+        Ok(self.run_command(command, &path, message.body.bytes()))
     }
 
     // Notes what was run; the status with which it ended.
@@ -85,14 +104,26 @@ impl MailerProgram {
     }
 
     // Runs the program with a message, and notes it; the status with which it ended, or nothing.
-    fn run(&mut self, message: &Message) -> Option<u8>
-        ensures ran { IfSome result (λ ending. MailedAs self.old.program message.now ending self.new.last) }
+    fn run(&mut self, message: &Message) -> Result<Option<u8>, NoMemory>
+        ensures ran { IfOk result (λ found. IfSome found (λ ending. MailedAs self.old.program message.now ending self.new.last)) }
         ensures same { self.new ≡ record self.old { last = self.new.last } }
+        ensures lacked { OnErr result (self.new.last ≡ self.old.last) }
     {
         match self.run_program(message) {
-            Some(ran) => self.note(ran),
-            None => None,
+            Ok(Some(ran)) => Ok(self.note(ran)),
+            Ok(None) => Ok(None),
+            Err(NoMemory) => Err(NoMemory),
         }
+    }
+
+    // Notes that the program took the message.
+    fn accept(&mut self, message: &Message) -> Handed
+        ensures answer { result ≡ Handed.Accepted }
+        ensures is { self.new ≡ record self.old { took = self.old.took ++ message.now ∷ [] } }
+    {
+        let took = Taken::with(message, &self.took);
+        self.took = took;
+        Handed::Accepted
     }
 
     fn refuse(&mut self) -> Handed
@@ -113,16 +144,16 @@ impl MailerProgram {
         Handed::Failed
     }
 
-    // What the status says.
-    fn judge(&mut self, ending: u8) -> Handed
+    // What the status says of the message.
+    fn judge(&mut self, message: &Message, ending: u8) -> Handed
         ensures means { Means result ending }
-        ensures hands { (message : Message) → Hands result message (untold_mailer self.old.refusals self.old.faults)
-            (untold_mailer self.new.refusals self.new.faults) }
+        ensures hands { Hands result message.now (untold_mailer self.old.took self.old.refusals self.old.faults)
+            (untold_mailer self.new.took self.new.refusals self.new.faults) }
         ensures program { self.new.program ≡ self.old.program }
         ensures last { self.new.last ≡ self.old.last }
     {
         match ending {
-            0 => Handed::Accepted,
+            0 => self.accept(message),
             75 => self.fail(),
             _ => self.refuse(),
         }
@@ -130,22 +161,23 @@ impl MailerProgram {
 }
 
 impl Mailer for MailerProgram {
-    ghost mailer_view = { λ m. untold_mailer m.refusals m.faults };
+    ghost mailer_view = { λ m. untold_mailer m.took m.refusals m.faults };
 
     /// Not started for a message whose sender or recipient begins with `-` or has a byte 0.
     #[tactic(auto, using(crate::proofs::ProgramLemmas::said_so))]
     fn hand(&mut self, message: &Message) -> Handed
-        ensures hands { Hands result message.now (untold_mailer self.old.refusals self.old.faults)
-            (untold_mailer self.new.refusals self.new.faults) }
+        ensures hands { Hands result message.now (untold_mailer self.old.took self.old.refusals self.old.faults)
+            (untold_mailer self.new.took self.new.refusals self.new.faults) }
         ensures unfit { is_unfit_message message.now ≡ true → result ≡ Handed.Failed }
-        ensures said { SaidSo result self.old.program message.now self.new.last }
+        ensures said { SaidSo result self.old.program message.now self.old.last self.new.last }
     {
         if is_unfit_message(message) {
             return self.fail();
         }
         match self.run(message) {
-            Some(ending) => self.judge(ending),
-            None => self.fail(),
+            Ok(Some(ending)) => self.judge(message, ending),
+            Ok(None) => self.fail(),
+            Err(NoMemory) => Handed::NoMemory,
         }
     }
 

@@ -79,7 +79,9 @@ impl<R: Processes> Programs<R> {
         requires { list_any is_slash program.now ≡ true }
         ensures { IfSome result (Runs program.now args.now) }
     {
-        let command = command(self.alloc, program, args)?;
+        let Ok(Some(command)) = command(self.alloc, program, args) else {
+            return None;
+        };
         match run(&self.system, command) {
             Ok(ran) => Some(ran),
             Err(_) => None,

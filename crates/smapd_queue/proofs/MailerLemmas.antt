@@ -1,5 +1,5 @@
 -- What turns come to at the mailers.
-use Rattle.std.proofs.Common.{arith, ◌≡◌, refl, sym, ap, ◌∙◌, List, [], ◌∷◌, ◌++◌, length, map, append_assoc, append-nil, Option, Some, None}
+use Rattle.std.proofs.Common.{arith, ◌≡◌, refl, sym, ap, ◌∙◌, ℕ, ◌+◌, List, [], ◌∷◌, ◌++◌, length, map, append_assoc, append-nil, Option, Some, None}
 use Rattle.std.proofs.lemmas.List.{length-map}
 use Rattle.fw_mail.specs.MailerView.{HandsFirst, MailerView}
 use Rattle.fw_mail.specs.declared.handed.Handed.{Handed}
@@ -18,6 +18,10 @@ grown_nil {A} (Some xs) = ap (λ (l : List A). Some l) (sym (append-nil xs))
 pub grown_both : {A : Type 0} (told : Option (List A)) (xs ys : List A) → grown (grown told xs) ys ≡ grown told (xs ++ ys)
 grown_both None xs ys = refl
 grown_both {A} (Some zs) xs ys = ap (λ (l : List A). Some l) (append_assoc zs xs ys)
+
+-- a list that stands grew by no list
+took_none : (xs before now : List Message) → xs ≡ [] → now ≡ before → now ≡ before ++ xs
+took_none xs before now none same = same ∙ sym (append-nil before) ∙ ap (λ (l : List Message). before ++ l) (sym none)
 
 -- ---- how many there are
 
@@ -38,6 +42,7 @@ pub record MetFirst (fate : Fate) (old new : List MailerView) : Type 0 where
   pub were : old ≡ first ∷ others
   pub are : new ≡ after ∷ others
   pub accepted : after.accepted ≡ grown first.accepted (accepted_by fate)
+  pub took : after.took ≡ first.took ++ accepted_by fate
   pub refusals : RoseBy (refused_by fate) first.refusals after.refusals
   pub faults : RoseBy (failed_by fate) first.faults after.faults
 
@@ -48,15 +53,16 @@ pub record HasFirst (mailers : List MailerView) : Type 0 where
   pub is : mailers ≡ first ∷ others
 
 met_first : (fate : Fate) (old new : List MailerView) (answer : Handed) (message : Message) (f : HandsFirst answer message old new)
-    → f.after.accepted ≡ grown f.first.accepted (accepted_by fate) → RoseBy (refused_by fate) f.first.refusals f.after.refusals → RoseBy (failed_by fate) f.first.faults f.after.faults → MetFirst fate old new
-met_first fate old new answer message f a r e = record { first = f.first; after = f.after; others = f.others; were = f.was; are = f.is; accepted = a; refusals = r; faults = e }
+    → f.after.accepted ≡ grown f.first.accepted (accepted_by fate) → f.after.took ≡ f.first.took ++ accepted_by fate → RoseBy (refused_by fate) f.first.refusals f.after.refusals → RoseBy (failed_by fate) f.first.faults f.after.faults → MetFirst fate old new
+met_first fate old new answer message f a c r e = record { first = f.first; after = f.after; others = f.others; were = f.was; are = f.is; accepted = a; took = c; refusals = r; faults = e }
 
 by_accepted : (fate : Fate) (old new : List MailerView) (message : Message) → accepted_by fate ≡ message ∷ [] → refused_by fate ≡ 0 → failed_by fate ≡ 0 → HandsFirst answers.Accepted message old new → MetFirst fate old new
 by_accepted fate old new message one none zero f =
     let refusals : f.after.refusals ≡ f.first.refusals = ap (λ (m : MailerView). m.refusals) f.hands in
     let faults : f.after.faults ≡ f.first.faults = ap (λ (m : MailerView). m.faults) f.hands in
     met_first fate old new answers.Accepted message f
-    (ap (λ (m : MailerView). m.accepted) f.hands ∙ ap (grown f.first.accepted) (sym one)) (omega (arith, refusals, none)) (omega (arith, faults, zero))
+    (ap (λ (m : MailerView). m.accepted) f.hands ∙ ap (grown f.first.accepted) (sym one))
+    (ap (λ (m : MailerView). m.took) f.hands ∙ ap (λ (l : List Message). f.first.took ++ l) (sym one)) (omega (arith, refusals, none)) (omega (arith, faults, zero))
 
 by_refused : (fate : Fate) (old new : List MailerView) (message : Message) → accepted_by fate ≡ [] → refused_by fate ≡ 1 → failed_by fate ≡ 0 → HandsFirst answers.Refused message old new → MetFirst fate old new
 by_refused fate old new message none one zero f =
@@ -64,7 +70,8 @@ by_refused fate old new message none one zero f =
     let faults : f.after.faults ≡ f.first.faults = ap (λ (m : MailerView). m.faults) f.hands.is in
     let rose = f.hands.rose.1 in
     met_first fate old new answers.Refused message f
-    (ap (λ (m : MailerView). m.accepted) f.hands.is ∙ grown_nil f.first.accepted ∙ ap (grown f.first.accepted) (sym none)) (omega (arith, refusals, rose, one)) (omega (arith, faults, zero))
+    (ap (λ (m : MailerView). m.accepted) f.hands.is ∙ grown_nil f.first.accepted ∙ ap (grown f.first.accepted) (sym none))
+    (took_none (accepted_by fate) f.first.took f.after.took none (ap (λ (m : MailerView). m.took) f.hands.is)) (omega (arith, refusals, rose, one)) (omega (arith, faults, zero))
 
 by_failed : (fate : Fate) (old new : List MailerView) (message : Message) → accepted_by fate ≡ [] → refused_by fate ≡ 0 → failed_by fate ≡ 1 → HandsFirst answers.Failed message old new → MetFirst fate old new
 by_failed fate old new message none zero one f =
@@ -72,7 +79,8 @@ by_failed fate old new message none zero one f =
     let faults : f.after.faults ≡ f.hands.count = ap (λ (m : MailerView). m.faults) f.hands.is in
     let rose = f.hands.rose.1 in
     met_first fate old new answers.Failed message f
-    (ap (λ (m : MailerView). m.accepted) f.hands.is ∙ grown_nil f.first.accepted ∙ ap (grown f.first.accepted) (sym none)) (omega (arith, refusals, zero)) (omega (arith, faults, rose, one))
+    (ap (λ (m : MailerView). m.accepted) f.hands.is ∙ grown_nil f.first.accepted ∙ ap (grown f.first.accepted) (sym none))
+    (took_none (accepted_by fate) f.first.took f.after.took none (ap (λ (m : MailerView). m.took) f.hands.is)) (omega (arith, refusals, zero)) (omega (arith, faults, rose, one))
 
 -- a mailer that wasn't handed anything
 by_nobody : (fate : Fate) (old new : List MailerView) → accepted_by fate ≡ [] → refused_by fate ≡ 0 → failed_by fate ≡ 0 → HasFirst old → new ≡ old → MetFirst fate old new
@@ -83,6 +91,7 @@ by_nobody fate old new none zero nought h same = record {
   were = h.is;
   are = same ∙ h.is;
   accepted = grown_nil h.first.accepted ∙ ap (grown h.first.accepted) (sym none);
+  took = took_none (accepted_by fate) h.first.took h.first.took none refl;
   refusals = omega (arith, zero);
   faults = omega (arith, nought);
 }
@@ -105,6 +114,7 @@ mailers_here mailers new h same = record {
   were = h.is;
   are = same ∙ h.is;
   accepted = grown_nil h.first.accepted;
+  took = sym (append-nil h.first.took);
   refusals = omega arith;
   faults = omega arith;
 }
@@ -139,6 +149,10 @@ mailers_first turn turns old middle new m g =
           ∙ ap (λ (v : MailerView). grown v.accepted (accepted_of turns)) (sym same)
           ∙ ap (λ (a : Option (List Message)). grown a (accepted_of turns)) m.accepted
           ∙ grown_both m.first.accepted (accepted_by turn.fate) (accepted_of turns);
+      took = g.took
+          ∙ ap (λ (v : MailerView). v.took ++ accepted_of turns) (sym same)
+          ∙ ap (λ (l : List Message). l ++ accepted_of turns) m.took
+          ∙ append_assoc m.first.took (accepted_by turn.fate) (accepted_of turns);
       refusals = omega (arith, refusals_same, r, s);
       faults = omega (arith, faults_same, e, f);
     }

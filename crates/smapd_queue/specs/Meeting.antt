@@ -58,7 +58,7 @@ pub record TakesTurn (turn : Turn) (old new : Meeting) : Type 0 where
 abbrev pub with_text : List ℕ → Meeting → Meeting
 with_text text at = record { store = at.store; mailers = at.mailers; logs = record (at.logs) { given = grown at.logs.given text } }
 
--- so it was done, and then its line was given whole, and then there is more
+-- so it was done, its line was given whole, and then there is more
 pub record TurnThen (turn : Turn) (More : Meeting → Type 0) (old : Meeting) : Type 0 where
   pub middle : Meeting
   pub takes : TakesTurn turn old middle

@@ -73,8 +73,8 @@ abbrev pub failures_of : List Turn → ℕ
 failures_of [] = 0
 failures_of (turn ∷ turns) = failed_by turn.fate + failures_of turns
 
--- What the first accepted grew by just the messages that were accepted, one for each hand, in order. It counted each refusal
--- and each failure. The others were left alone.
+-- What the first took grew by just the messages that were accepted, one for each hand, in order, and so did what it tells, where it
+-- tells. It counted each refusal and each failure. The others were left alone.
 pub record MailersGo (turns : List Turn) (old new : List MailerView) : Type 0 where
   pub first : MailerView
   pub after : MailerView
@@ -82,6 +82,7 @@ pub record MailersGo (turns : List Turn) (old new : List MailerView) : Type 0 wh
   pub were : old ≡ first ∷ others
   pub are : new ≡ after ∷ others
   pub accepted : after.accepted ≡ grown first.accepted (accepted_of turns)
+  pub took : after.took ≡ first.took ++ accepted_of turns
   pub refusals : RoseBy (refusals_of turns) first.refusals after.refusals
   pub faults : RoseBy (failures_of turns) first.faults after.faults
 

@@ -13,7 +13,7 @@ pub fn the_numbers_add_up()
 {}
 
 /// Each slot whose message was handed on was full when the round began, with the same message, if the store tells its queues.
-/// So nothing is handed on that wasn't there, and a slot that was set aside or freed isn't taken again.
+/// So nothing is handed on that wasn't there.
 pub fn each_slot_was_full()
     ensures { (most : ℕ) (result : Result Round RoundFault) (old new : Meeting) (hands : HandsOn most result old new) →
         WereFull (hands.turns ++ last_turn hands.ending) old }

@@ -122,8 +122,7 @@ pub fn smapd_round_telling<M: MailStore, G: Sink>(
 
 /// A round: takes a full slot as many times as there may be turns, or until no slot is full, reads its message and hands it to
 /// the first mailer. Of a message that is accepted the slot is freed; one that is refused is set aside; if the hand fails the
-/// slot is full again, behind the others; and a slot whose disk fails is broken. Each turn has its line in the log once that is
-/// done.
+/// slot is full again, behind the others; and a slot whose disk fails is broken. Each turn has its line in the log.
 ///
 /// The answer counts the turns whose line was given whole. After want of memory the slot in hand is full again, and has no line.
 pub fn smapd_round<M: MailStore, G: Sink>(

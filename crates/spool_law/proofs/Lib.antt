@@ -6,3 +6,4 @@ pub mod RunLemmas
 pub mod EventLemmas
 mod ExampleLemmas
 pub mod WholeLemmas
+pub mod BelowLemmas

@@ -154,6 +154,7 @@ pub record IsSound (w : World) : Type 0 where
   pub apart : (i j k : ℕ) → HasNumber k (w.slots i).use_of → HasNumber k (w.slots j).use_of → i ≡ j
   pub below : (n k : ℕ) → HasNumber k (w.slots n).use_of → k < w.begun
   pub past : (a : Letter) → Contains w.accepted a → a.number < w.begun
+  pub finished : (a : Letter) → Contains w.accepted a → Contains w.finished a
   pub none : (n : ℕ) → NoneAccepted w.accepted (w.slots n).use_of
   pub answered : (l : Letter) → Contains w.answered l → Contains w.accepted l ⊎ Stands l w
 
@@ -208,6 +209,18 @@ accepted_below w n step s can a h =
     elim (Contains-append_cases w.accepted (accepts step (w.slots n).use_of) a h) [
       | inl old ↦ s.past a old
       | inr new ↦ s.below n a.number (opened_has (w.slots n).use_of a (accepts_opened w.finished w.accepted step (w.slots n) a (s.good n) can new))
+    ]
+
+-- ---- what is accepted was finished
+
+finished_after : (w : World) (n : ℕ) (step : Step) → IsSound w → IsPossibleAt step w.accepted (w.slots n) → (a : Letter) → Contains (w.accepted ++ accepts step (w.slots n).use_of) a → Contains (w.finished ++ finishes step (w.slots n).use_of) a
+finished_after w n step s can a h =
+    elim (Contains-append_cases w.accepted (accepts step (w.slots n).use_of) a h) [
+      | inl old ↦ Contains-append_left w.finished (finishes step (w.slots n).use_of) a (s.finished a old)
+      | inr new ↦
+          let is : (w.slots n).use_of ≡ Opened a = accepts_opened w.finished w.accepted step (w.slots n) a (s.good n) can new in
+          let as_opened : IsAs w.finished (w.slots n).medium (Opened a) = subst (IsAs w.finished (w.slots n).medium) is (s.good n).is_as in
+          Contains-append_left w.finished (finishes step (w.slots n).use_of) a as_opened.1
     ]
 
 none_new : (w : World) (n i : ℕ) (a : Letter) → IsSound w → (w.slots n).use_of ≡ Opened a → IsUnopened a.number (w.slots i).use_of → ⊥
@@ -286,6 +299,7 @@ sound_step w n step s can = record {
   good = good_after w n step s can;
   apart = apart_after w n step s;
   below = below_after w n step s;
+  finished = λ a h. finished_after w n step s can a h;
   past = λ a h. let lt : a.number < w.begun = accepted_below w n step s can a h in omega (arith, lt);
   none = none_after w n step s can;
   answered = λ l h. either_after l w n step (answered_step w n step s can l h);
@@ -305,6 +319,7 @@ sound_crash w images s are = record {
   apart = λ i j k p q. s.apart i j k (cut_number k (w.slots i).use_of p) (cut_number k (w.slots j).use_of q);
   below = λ n k p. s.below n k (cut_number k (w.slots n).use_of p);
   past = s.past;
+  finished = s.finished;
   none = λ n a has h. s.none n a has (cut_unopened a.number (w.slots n).use_of h);
   answered = λ l h. crash_answered w images are l (s.answered l h);
 }
@@ -325,6 +340,7 @@ sound_formatted = record {
   apart = λ i j k p q. absurd p;
   below = λ n k p. absurd p;
   past = λ a h. absurd (no_letter a h);
+  finished = λ a h. absurd (no_letter a h);
   none = λ n a has h. h;
   answered = λ l h. absurd (no_letter l h);
 }
@@ -352,6 +368,7 @@ as_reads finished m (Opened l) h image is = one_of finished l image h.1 (behind_
 safe_of : (w : World) → IsSound w → IsSafe w
 safe_of w s = record {
   answered = s.answered;
+  finished = s.finished;
   images = λ n. as_reads w.finished (w.slots n).medium (w.slots n).use_of (s.good n).is_as;
   sound = λ n. (s.good n).sound;
 }

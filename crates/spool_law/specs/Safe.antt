@@ -13,11 +13,13 @@ pub record Stands (l : Letter) (w : World) : Type 0 where
   pub is : (w.slots slot).use_of ≡ Opened l
   pub kept : EachImage (IsKept l.mail) (w.slots slot).medium
 
--- Each message that was answered for stands or was accepted. Whatever a crash leaves of a slot is free, or a message
--- that was begun and finished. So it is never bad, and never a part of a message. The bytes as read are one thing that a
--- crash may leave, so there always is one.
+-- Each message that was answered for stands or was accepted. Each that a mailer accepted is one that was begun and finished,
+-- with all that was added to it: never a part of a message. Whatever a crash leaves of a slot is free, or a message that was begun
+-- and finished. So it is never bad, and never a part of a message. The bytes as read are one thing that a crash may leave, so there
+-- always is one.
 pub record IsSafe (w : World) : Type 0 where
   pub answered : (l : Letter) → Contains w.answered l → Contains w.accepted l ⊎ Stands l w
+  pub finished : (l : Letter) → Contains w.accepted l → Contains w.finished l
   pub images : (n : ℕ) → EachImage (λ image. IsFree image ⊎ IsOneOf w.finished image) (w.slots n).medium
   pub sound : (n : ℕ) → IsImage (w.slots n).medium (w.slots n).medium.seen
 

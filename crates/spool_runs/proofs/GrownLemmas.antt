@@ -3,7 +3,6 @@ use Rattle.std.proofs.Common.{arith, ◌≡◌, refl, sym, ap, subst, ◌∙◌,
 use Rattle.std.specs.Prelude.{if◌then◌else◌}
 use Rattle.std.specs.List.{AllByRecursion, Contains}
 use Rattle.std.proofs.lemmas.List.{map-append}
-use Rattle.std.proofs.lemmas.List.Elements.{Contains-append_right}
 use Rattle.fw_disk.specs.DiskView.{DiskView, Tape}
 use Rattle.fw_disk.specs.Medium.{Medium, IsImage, settled}
 use Rattle.fw_disk.specs.Moments.{EachImage, Now}
@@ -23,7 +22,7 @@ use Rattle.spool_rack.specs.Store.{Queues}
 use Rattle.spool_slots.specs.Media.{IsSettled}
 use Rattle.spool_runs.specs.OnDisks.{AreAccepted, AreAnswered, AreNumbered, IsStepOf}
 use Rattle.spool_runs.proofs.RackLemmas.{Called, Fits, HasTape, IsFullOn, IsMoved, IsRack, called, fits_after, moved_below, moved_rack, moved_told, now_told, rack_same, taped_all}
-use Rattle.spool_runs.proofs.TapeLemmas.{after_both, answered_stays, each_both, medium_along, possible_both, taped_both}
+use Rattle.spool_runs.proofs.TapeLemmas.{after_both, each_both, medium_along, possible_both, taped_both}
 
 -- Events of the spool led to a rack with these queues, by which these messages were answered for and accepted.
 pub record Grown (count : ℕ) (answered accepted : List Mail) (w : World) (tapes : ℕ → Tape) (queues : Option Queues) : Type 0 where
@@ -43,19 +42,15 @@ numbered_both a b c [] [] p q = omega (arith, p, q)
 numbered_both a b c [] (y ∷ ys) p q = let first = q.0 in (omega (arith, p, first), q.1)
 numbered_both a b c (x ∷ xs) ys p q = (p.0, numbered_both (x.number + 1) b c xs ys p.1 q)
 
-all_stay : (events : List Event) (w : World) (ls : List Letter) → AllByRecursion (Contains w.answered) ls → AllByRecursion (Contains (after_all events w).answered) ls
-all_stay events w [] all = tt
-all_stay events w (l ∷ ls) all = (answered_stays events w l all.0, all_stay events w ls all.1)
-
 mails_both : (xs ys : List Letter) (a b : List Mail) → map (λ (l : Letter). l.mail) xs ≡ a → map (λ (l : Letter). l.mail) ys ≡ b → map (λ (l : Letter). l.mail) (xs ++ ys) ≡ a ++ b
 mails_both xs ys a b p q = map-append (λ (l : Letter). l.mail) xs ys ∙ ap (λ (m : List Mail). m ++ map (λ (l : Letter). l.mail) ys) p ∙ ap (λ (m : List Mail). a ++ m) q
 
-pub answers_both : (a b : List Mail) (u v : World) (events : List Event) → AreAnswered a u v → AreAnswered b v (after_all events v) → AreAnswered (a ++ b) u (after_all events v)
-answers_both a b u v events x y = record {
+pub answers_both : (a b : List Mail) (u v w : World) → AreAnswered a u v → AreAnswered b v w → AreAnswered (a ++ b) u w
+answers_both a b u v w x y = record {
   letters = x.letters ++ y.letters;
+  grew = y.grew ∙ ap (λ (l : List Letter). l ++ y.letters) x.grew ∙ append_assoc u.answered x.letters y.letters;
   are = mails_both x.letters y.letters a b x.are y.are;
-  begun = numbered_both u.begun v.begun (after_all events v).begun x.letters y.letters x.begun y.begun;
-  answered = each_both (Contains (after_all events v).answered) x.letters y.letters (all_stay events v x.letters x.answered) y.answered;
+  begun = numbered_both u.begun v.begun w.begun x.letters y.letters x.begun y.begun;
 }
 
 pub accepts_both : (a b : List Mail) (u v w : World) → AreAccepted a u v → AreAccepted b v w → AreAccepted (a ++ b) u w
@@ -77,12 +72,12 @@ grown_both count a b c d w tapes middle last x y =
       q = y.q;
       queues_are = y.queues_are;
       rack = rack_same count (taped_all y.events (after_all x.events w) (taped_all x.events w tapes)) (taped_all (x.events ++ y.events) w tapes) y.q (λ k. taped_both k x.events y.events w (tapes k)) y.rack;
-      answers = subst (AreAnswered (a ++ b) w) (sym both) (answers_both a b w (after_all x.events w) y.events x.answers y.answers);
+      answers = subst (AreAnswered (a ++ b) w) (sym both) (answers_both a b w (after_all x.events w) (after_all y.events (after_all x.events w)) x.answers y.answers);
       accepts = subst (AreAccepted (c ++ d) w) (sym both) (accepts_both c d w (after_all x.events w) (after_all y.events (after_all x.events w)) x.accepts y.accepts);
     }
 
-pub answers_none : (u v : World) → u.begun ≤ v.begun → AreAnswered [] u v
-answers_none u v le = record { letters = []; are = refl; begun = le; answered = tt }
+pub answers_none : (u v : World) → u.begun ≤ v.begun → v.answered ≡ u.answered → AreAnswered [] u v
+answers_none u v le is = record { letters = []; grew = is ∙ sym (append-nil u.answered); are = refl; begun = le }
 
 pub accepts_none : (u v : World) → v.accepted ≡ u.accepted → AreAccepted [] u v
 accepts_none u v is = record { letters = []; grew = is ∙ sym (append-nil u.accepted); are = refl }
@@ -95,7 +90,7 @@ grown_here count w tapes q queues is rack = record {
   q = q;
   queues_are = is;
   rack = rack;
-  answers = answers_none w w (omega arith);
+  answers = answers_none w w (omega arith) refl;
   accepts = accepts_none w w refl;
 }
 
@@ -133,7 +128,7 @@ grown_moved count accepted w tapes q r queues old new l fits rack moved is full 
       q = r;
       queues_are = is;
       rack = moves_rack count w tapes q r old new l rack moved c full;
-      answers = answers_none w last (omega (arith, begun, now_begun));
+      answers = answers_none w last (omega (arith, begun, now_begun)) c.answered;
       accepts = record { letters = accepted; grew = known_accepted last old.number l c.known ∙ more; are = refl };
     }
 
@@ -155,10 +150,8 @@ answer_tapes k n w tape = if_same (nat_eq k n) tape
 may_answer : (w : World) (n : ℕ) (l : Letter) → (w.slots n).use_of ≡ Opened l → EachImage (IsKept l.mail) (w.slots n).medium → CanAnswer w.accepted (w.slots n)
 may_answer w n l is each = subst (OfLetter (λ x. EachImage (IsKept x.mail) (w.slots n).medium ⊎ Contains w.accepted x)) (sym is) (inl each)
 
-answered_has : (w : World) (n : ℕ) (l : Letter) → (w.slots n).use_of ≡ Opened l → Contains (after (At n Answer) w).answered l
-answered_has w n l is = subst (λ (u : Use). Contains (w.answered ++ letters u) l) (sym is) (Contains-append_right w.answered (l ∷ []) l (first_in l)) where
-  first_in : (x : Letter) → Contains (x ∷ []) x
-  first_in x = (0, omega arith, refl)
+answered_more : (u w : World) (n : ℕ) (l : Letter) → (w.slots n).use_of ≡ Opened l → w.answered ≡ u.answered → (after (At n Answer) w).answered ≡ u.answered ++ l ∷ []
+answered_more u w n l is same = ap (λ (x : Use). w.answered ++ letters x) is ∙ ap (λ (a : List Letter). a ++ l ∷ []) same
 
 -- one message stands in the slot and was answered for
 pub grown_kept : (count : ℕ) (letter : Letter) (w : World) (tapes : ℕ → Tape) (q r : Queues) (queues : Option Queues) (old new : HeldView) (l : Known) → Fits w tapes → IsRack count tapes q → IsMoved old new q r → queues ≡ Some r → AllByRecursion IsFullOn r.full
@@ -186,9 +179,9 @@ grown_kept count letter w tapes q r queues old new l fits rack moved is full run
       rack = rack_same count (taped_all c.events w tapes) (taped_all (c.events ++ At n Answer ∷ []) w tapes) r same (moves_rack count w tapes q r old new l rack moved c full);
       answers = subst (AreAnswered (letter.mail ∷ []) w) (sym both) (record {
         letters = letter ∷ [];
+        grew = answered_more w mid n letter opened c.answered;
         are = refl;
         begun = (omega (arith, number), omega (arith, number, begun, now_begun));
-        answered = (answered_has mid n letter opened, tt);
       });
       accepts = subst (AreAccepted [] w) (sym both) (accepts_none w last (append-nil mid.accepted ∙ known_accepted mid n l c.known ∙ more));
     }

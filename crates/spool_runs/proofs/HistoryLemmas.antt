@@ -1,51 +1,38 @@
 -- Lists of runs are lists of events.
-use Rattle.std.proofs.Common.{arith, ◌≡◌, refl, sym, ap, subst, ◌∙◌, ℕ, ◌+◌, ◌⊎◌, inl, inr, List, [], ◌∷◌, ◌++◌, map, append-nil, Option, Some, None}
+use Rattle.std.proofs.Common.{arith, refl, sym, ap, subst, ◌∙◌, ℕ, ◌+◌, ◌⊎◌, List, [], ◌∷◌, ◌++◌, map, take, append-nil}
 use Rattle.std.specs.List.{AllByRecursion, Contains}
 use Rattle.fw_disk.specs.DiskView.{DiskView}
 use Rattle.slot_bytes.specs.Layout.{Mail}
-use Rattle.spool_law.specs.Events.{ArePossible, Event, IsPossible, after, after_all}
+use Rattle.spool_law.specs.Events.{ArePossible, Event, after, after_all}
 use Rattle.spool_law.specs.Events.Event.{Crash}
 use Rattle.spool_law.specs.Safe.{IsSafe, Stands}
 use Rattle.spool_law.specs.World.{Letter, World, formatted}
-use Rattle.spool_runs.specs.History.{AreSafe, Episode, Happens, IsCutOff, IsSafeMail, Leads, Passes}
-use Rattle.spool_runs.specs.OnDisks.{AreAccepted, AreAnswered, AreOn, IsNew, IsReachable, RunsSpool, SpoolRun}
-use Rattle.spool_runs.proofs.TapeLemmas.{after_both, answered_stays, possible_both, possible_front, taped_same}
+use Rattle.spool_runs.specs.History.{AreSafe, Episode, Happens, IsCutOff, IsLeft, Leads, Passes, RunEnd, accepted_by, accepted_of, accepts_in, answered_by, answered_of, answers_in}
+use Rattle.spool_runs.specs.History.RunEnd.{Finished, Crashed, CutOff}
+use Rattle.spool_runs.specs.OnDisks.{AreAccepted, AreAnswered, AreNumbered, AreOn, IsNew, IsReachable, RunsSpool, SpoolRun}
+use Rattle.spool_runs.proofs.FrontLemmas.{accepts_crashed, all_of, answers_crashed, front_accepts, front_answers, reachable_below}
+use Rattle.spool_runs.proofs.GrownLemmas.{accepts_both, accepts_none, answers_both, answers_none}
+use Rattle.spool_runs.proofs.ReachLemmas.{Reaches, reached, reaches_all, reaches_both}
+use Rattle.spool_runs.proofs.TapeLemmas.{possible_front, taped_same}
 
 -- ---- what is reached
 
--- events lead from one spool to another
-pub record Reaches (w v : World) : Type 0 where
-  events : List Event
-  possible : ArePossible events w
-  is : after_all events w ≡ v
-
-pub reaches_all : (events : List Event) (w : World) → ArePossible events w → Reaches w (after_all events w)
-reaches_all events w can = record { events = events; possible = can; is = refl }
-
-pub reaches_both : (u v w : World) → Reaches u v → Reaches v w → Reaches u w
-reaches_both u v w a b = record {
-  events = a.events ++ b.events;
-  possible = possible_both a.events b.events u a.possible (subst (ArePossible b.events) (sym a.is) b.possible);
-  is = after_both a.events b.events u ∙ ap (after_all b.events) a.is ∙ b.is;
-}
-
-pub reached : (w v : World) → IsReachable w → Reaches w v → IsReachable v
-reached w v a b =
-    let both = reaches_both formatted w v (record { events = a.events; possible = a.possible; is = a.is }) b in
-    record { events = both.events; possible = both.possible; is = both.is }
+left_reaches : (images : ℕ → List ℕ) (u w v : World) → Reaches u w → IsLeft images w v → Reaches u v
+left_reaches images u w v r left =
+    let one : Reaches w (after (Crash images) w) = record { events = Crash images ∷ []; possible = (left.possible, tt); is = refl } in
+    subst (Reaches u) (sym left.is) (reaches_both u w (after (Crash images) w) r one)
 
 cut_reaches : (images : ℕ → List ℕ) (events : List Event) (w v : World) → ArePossible events w → IsCutOff images events w v → Reaches w v
 cut_reaches images events w v can cut =
-    let front = possible_front cut.front cut.rest w (subst (λ (e : List Event). ArePossible e w) cut.are can) in
-    let one : Reaches (after_all cut.front w) (after (Crash images) (after_all cut.front w)) = record { events = Crash images ∷ []; possible = (cut.possible, tt); is = refl } in
-    subst (Reaches w) (sym cut.is) (reaches_both w (after_all cut.front w) (after (Crash images) (after_all cut.front w)) (reaches_all cut.front w front) one)
+    left_reaches images w (after_all cut.front w) v (reaches_all cut.front w (possible_front cut.front cut.rest w (subst (λ (e : List Event). ArePossible e w) cut.are can))) cut.left
 
-leads_reaches : (crash : Option (ℕ → List ℕ)) (events : List Event) (w v : World) → ArePossible events w → Leads crash events w v → Reaches w v
-leads_reaches None events w v can leads = subst (Reaches w) (sym leads) (reaches_all events w can)
-leads_reaches (Some images) events w v can leads = cut_reaches images events w v can leads
+leads_reaches : (ended : RunEnd) (events : List Event) (w v : World) → ArePossible events w → Leads ended events w v → Reaches w v
+leads_reaches Finished events w v can leads = subst (Reaches w) (sym leads) (reaches_all events w can)
+leads_reaches (Crashed images) events w v can leads = left_reaches images w (after_all events w) v (reaches_all events w can) leads
+leads_reaches (CutOff images) events w v can leads = cut_reaches images events w v can leads
 
 passes_reaches : (episode : Episode) (w v : World) → Passes episode w v → Reaches w v
-passes_reaches episode w v p = leads_reaches episode.crash p.run.events w v p.run.possible p.leads
+passes_reaches episode w v p = leads_reaches episode.ended p.run.events w v p.run.possible p.leads
 
 happens_reaches : (episodes : List Episode) (w v : World) → Happens episodes w v → Reaches w v
 happens_reaches [] w v h = subst (Reaches w) (sym h) (reaches_all [] w tt)
@@ -64,29 +51,57 @@ IsLaw = (events : List Event) → ArePossible events formatted → IsSafe (after
 pub reachable_safe : IsLaw → (w : World) → IsReachable w → IsSafe w
 reachable_safe law w r = subst IsSafe r.is (law r.events r.possible)
 
-reached_stays : (w v : World) (l : Letter) → Reaches w v → Contains w.answered l → Contains v.answered l
-reached_stays w v l r has = subst (λ (x : World). Contains x.answered l) r.is (answered_stays r.events w l has)
+-- ---- what the runs answered for, and what was accepted
 
-each_mail : (v w : World) (letters : List Letter) → Reaches v w → IsSafe w → AllByRecursion (Contains v.answered) letters → AllByRecursion (IsSafeMail w) (map (λ (l : Letter). l.mail) letters)
-each_mail v w [] r safe all = tt
-each_mail v w (l ∷ letters) r safe all =
-    let has = reached_stays v w l r all.0 in
-    (record { letter = l; is = refl; answered = has; safe = safe.answered l has }, each_mail v w letters r safe all.1)
+-- what comes of a run answers for as many of its first messages
+leads_answers : (ended : RunEnd) (answered accepted : List Mail) (old new : List DiskView) (w v : World) (run : SpoolRun answered accepted old new w) (leads : Leads ended run.events w v) → IsReachable w
+    → AreAnswered (answered_by ended answered run.events w v leads) w v
+leads_answers Finished answered accepted old new w v run leads reach = subst (AreAnswered answered w) (sym leads) run.answers
+leads_answers (Crashed images) answered accepted old new w v run leads reach = answers_crashed images answered w (after_all run.events w) v leads run.answers
+leads_answers (CutOff images) answered accepted old new w v run leads reach =
+    let possible : ArePossible (leads.front ++ leads.rest) w = subst (λ (e : List Event). ArePossible e w) leads.are run.possible in
+    let answers : AreAnswered answered w (after_all (leads.front ++ leads.rest) w) = subst (λ (e : List Event). AreAnswered answered w (after_all e w)) leads.are run.answers in
+    let can = possible_front leads.front leads.rest w possible in
+    let below = reachable_below (after_all leads.front w) (reached w (after_all leads.front w) reach (reaches_all leads.front w can)) in
+    answers_crashed images (take (answers_in leads.front) answered) w (after_all leads.front w) v leads.left (front_answers answered leads.front leads.rest w possible below answers)
 
-episode_mails : (crash : Option (ℕ → List ℕ)) (answered accepted : List Mail) (old new : List DiskView) (w v last : World) (run : SpoolRun answered accepted old new w) → Leads crash run.events w v → Reaches v last → IsSafe last
-    → crash ≡ None → AllByRecursion (IsSafeMail last) answered
-episode_mails None answered accepted old new w v last run leads r safe none =
-    let there = subst (λ (x : World). AllByRecursion (Contains x.answered) run.answers.letters) (sym leads) run.answers.answered in
-    subst (AllByRecursion (IsSafeMail last)) run.answers.are (each_mail v last run.answers.letters r safe there)
-episode_mails (Some images) answered accepted old new w v last run leads r safe none = absurd (cc)
+leads_accepts : (ended : RunEnd) (answered accepted : List Mail) (old new : List DiskView) (w v : World) (run : SpoolRun answered accepted old new w) (leads : Leads ended run.events w v) → IsReachable w
+    → AreAccepted (accepted_by ended accepted run.events w v leads) w v
+leads_accepts Finished answered accepted old new w v run leads reach = subst (AreAccepted accepted w) (sym leads) run.accepts
+leads_accepts (Crashed images) answered accepted old new w v run leads reach = accepts_crashed images accepted w (after_all run.events w) v leads run.accepts
+leads_accepts (CutOff images) answered accepted old new w v run leads reach =
+    let possible : ArePossible (leads.front ++ leads.rest) w = subst (λ (e : List Event). ArePossible e w) leads.are run.possible in
+    let accepts : AreAccepted accepted w (after_all (leads.front ++ leads.rest) w) = subst (λ (e : List Event). AreAccepted accepted w (after_all e w)) leads.are run.accepts in
+    accepts_crashed images (take (accepts_in leads.front) accepted) w (after_all leads.front w) v leads.left (front_accepts accepted leads.front leads.rest w reach possible accepts)
 
-happens_mails : (episodes : List Episode) (w v : World) → Happens episodes w v → IsSafe v → AreSafe episodes v
-happens_mails [] w v h safe = tt
-happens_mails (e ∷ episodes) w v h safe =
-    (episode_mails e.crash e.answered e.accepted e.old e.new w h.0 v h.1.run h.1.leads (happens_reaches episodes h.0 v h.2) safe, happens_mails episodes h.0 v h.2 safe)
+happens_answers : (episodes : List Episode) (w v : World) (h : Happens episodes w v) → IsReachable w → AreAnswered (answered_of episodes w v h) w v
+happens_answers [] w v h reach = subst (AreAnswered [] w) (sym h) (answers_none w w (omega arith) refl)
+happens_answers (episode ∷ episodes) w v h reach =
+    answers_both (answered_by episode.ended episode.answered h.1.run.events w h.0 h.1.leads) (answered_of episodes h.0 v h.2) w h.0 v
+    (leads_answers episode.ended episode.answered episode.accepted episode.old episode.new w h.0 h.1.run h.1.leads reach)
+    (happens_answers episodes h.0 v h.2 (reached w h.0 reach (passes_reaches episode w h.0 h.1)))
 
-pub mails_safe : IsLaw → (episodes : List Episode) (w : World) → Happens episodes formatted w → AreSafe episodes w
-mails_safe law episodes w h = happens_mails episodes formatted w h (reachable_safe law w (happens_reached episodes w h))
+happens_accepts : (episodes : List Episode) (w v : World) (h : Happens episodes w v) → IsReachable w → AreAccepted (accepted_of episodes w v h) w v
+happens_accepts [] w v h reach = subst (AreAccepted [] w) (sym h) (accepts_none w w refl)
+happens_accepts (episode ∷ episodes) w v h reach =
+    accepts_both (accepted_by episode.ended episode.accepted h.1.run.events w h.0 h.1.leads) (accepted_of episodes h.0 v h.2) w h.0 v
+    (leads_accepts episode.ended episode.answered episode.accepted episode.old episode.new w h.0 h.1.run h.1.leads reach)
+    (happens_accepts episodes h.0 v h.2 (reached w h.0 reach (passes_reaches episode w h.0 h.1)))
+
+from_formatted : IsReachable formatted
+from_formatted = record { events = []; possible = tt; is = refl }
+
+pub mails_safe : IsLaw → (episodes : List Episode) (w : World) (h : Happens episodes formatted w) → AreSafe (answered_of episodes formatted w h) (accepted_of episodes formatted w h) w
+mails_safe law episodes w h =
+    let safe = reachable_safe law w (happens_reached episodes w h) in
+    let answers = happens_answers episodes formatted w h from_formatted in
+    let accepts = happens_accepts episodes formatted w h from_formatted in
+    record {
+      answered_are = ap (map (λ (l : Letter). l.mail)) answers.grew ∙ answers.are;
+      numbered = subst (λ (letters : List Letter). AreNumbered 0 letters w.begun) (sym answers.grew) answers.begun;
+      safe = all_of (λ (l : Letter). Contains w.accepted l ⊎ Stands l w) w.answered safe.answered;
+      accepted_are = ap (map (λ (l : Letter). l.mail)) accepts.grew ∙ accepts.are;
+    }
 
 -- ---- new slots
 
@@ -102,6 +117,6 @@ stays_same disks w reach on = record {
   are = tt;
   possible = tt;
   disks = taped_same 0 w disks;
-  answers = record { letters = []; are = refl; begun = omega arith; answered = tt };
+  answers = record { letters = []; grew = sym (append-nil w.answered); are = refl; begun = omega arith };
   accepts = record { letters = []; grew = sym (append-nil w.accepted); are = refl };
 }

@@ -1,9 +1,12 @@
+pub mod AnswerLemmas
 pub mod GrownLemmas
 pub mod NumberLemmas
 pub mod PlaceLemmas
 pub mod StoreLemmas
 pub mod RackLemmas
 pub mod TapeLemmas
+pub mod ReachLemmas
+pub mod FrontLemmas
 pub mod HistoryLemmas
 pub mod SessionLemmas
 pub mod RoundLemmas

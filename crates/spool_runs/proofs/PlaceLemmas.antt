@@ -40,6 +40,7 @@ pub record Placed (n count : ℕ) (w : World) (olds news : List DiskView) : Type
   pub disks : AreTaped n events w olds news
   pub begun : (after_all events w).begun ≡ w.begun
   pub accepted : (after_all events w).accepted ≡ w.accepted
+  pub answered : (after_all events w).answered ≡ w.answered
   pub before : (k : ℕ) (tape : Tape) → k < n → taped k events w tape ≡ tape
 
 on_behind : (n a : ℕ) (w v : World) (disks : List DiskView) → ((k : ℕ) → (k ≡ n → ⊥) → v.slots k ≡ w.slots k) → n < a → AreOn a w disks → AreOn a v disks
@@ -57,7 +58,7 @@ taped_behind n a events w (disk ∷ disks) same lt =
     (told_kept a events w disk.told (λ tape. same a tape (λ is. omega (arith, lt, is))), taped_behind n (a + 1) events w disks same (omega (arith, lt)))
 
 pub placed : (n count : ℕ) (w : World) (olds news : List DiskView) → RunEach olds news → AreOn n w olds → n + length olds ≤ count → Placed n count w olds news
-placed n count w [] [] runs on fit = record { events = []; steps = tt; possible = tt; disks = tt; begun = refl; accepted = refl; before = λ k tape lt. refl }
+placed n count w [] [] runs on fit = record { events = []; steps = tt; possible = tt; disks = tt; begun = refl; accepted = refl; answered = refl; before = λ k tape lt. refl }
 placed n count w [] (new ∷ news) runs on fit = absurd runs
 placed n count w (old ∷ olds) [] runs on fit = absurd runs
 placed n count w (old ∷ olds) (new ∷ news) runs on fit =
@@ -74,6 +75,7 @@ placed n count w (old ∷ olds) (new ∷ news) runs on fit =
       disks = (first, taped_then (n + 1) c.events rest.events w olds olds news (taped_behind n (n + 1) c.events w olds c.tapes (omega arith)) rest.disks);
       begun = ap (λ (x : World). x.begun) both ∙ rest.begun ∙ ap (λ (k : Known). k.begun) c.known;
       accepted = ap (λ (x : World). x.accepted) both ∙ rest.accepted ∙ ap (λ (k : Known). k.accepted) c.known;
+      answered = ap (λ (x : World). x.answered) both ∙ rest.answered ∙ c.answered;
       before = λ k tape lt. taped_both k c.events rest.events w tape ∙ rest.before k (taped k c.events w tape) (omega (arith, lt)) ∙ c.tapes k tape (λ is. omega (arith, lt, is));
     }
 

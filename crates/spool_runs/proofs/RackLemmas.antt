@@ -27,8 +27,9 @@ use Rattle.spool_rack.specs.Store.{Queues, with_aside, with_broken, with_free, w
 use Rattle.spool_slots.specs.Media.{IsFull, IsSettled}
 use Rattle.spool_slots.specs.States.{BrokenView, FullView, SlotView}
 use Rattle.spool_runs.specs.OnDisks.{AreAccepted, AreAnswered, AreNumbered, IsStepOf}
+use Rattle.spool_runs.proofs.AnswerLemmas.{answered_none, does_unanswered, unanswered}
 use Rattle.spool_runs.proofs.NumberLemmas.{count_below, count_from, count_in, count_once, held_count, one_at, one_here, weaker}
-use Rattle.spool_runs.proofs.TapeLemmas.{after_both, answered_stays, each_both, medium_along, possible_both, taped_both}
+use Rattle.spool_runs.proofs.TapeLemmas.{after_both, each_both, medium_along, possible_both, taped_both}
 
 -- ---- a call
 
@@ -55,12 +56,13 @@ steps_of : (count n : ℕ) (steps : List Step) → n < count → AllByRecursion 
 steps_of count n [] lt = tt
 steps_of count n (step ∷ steps) lt = (lt, steps_of count n steps lt)
 
--- what was done to the disk of a slot, whose tape this was, are events of the spool
+-- what was done to the disk of a slot, whose tape this was, are events of the spool, by which nothing was answered for
 pub record Called (count n : ℕ) (l : Known) (w : World) (old : Tape) (new : DiskView) : Type 0 where
   pub events : List Event
   pub steps : AllByRecursion (IsStepOf count) events
   pub possible : ArePossible events w
   pub known : known_in (after_all events w) n ≡ l
+  pub answered : (after_all events w).answered ≡ w.answered
   pub here : new.told ≡ Some (taped n events w old)
   pub slots : (k : ℕ) → (k ≡ n → ⊥) → (after_all events w).slots k ≡ w.slots k
   pub tapes : (k : ℕ) (tape : Tape) → (k ≡ n → ⊥) → taped k events w tape ≡ tape
@@ -68,12 +70,14 @@ pub record Called (count n : ℕ) (l : Known) (w : World) (old : Tape) (new : Di
 pub called : (count n : ℕ) (l : Known) (w : World) (tape : Tape) (old new : DiskView) → n < count → (w.slots n).medium ≡ tape.now → old.told ≡ Some tape → Runs (known_in w n) old l new → Called count n l w tape new
 called count n l w tape old new lt fits told runs =
     let on = told_on (known_in w n) l tape old.told new.told told runs in
-    let are = are_events on.run.steps w n tape on.tape l fits on.run.does in
+    let steps : List Step = unanswered on.run.steps in
+    let are = are_events steps w n tape on.tape l fits (does_unanswered on.run.steps (known_in w n) tape l on.tape on.run.does) in
     record {
-      events = map (At n) on.run.steps;
-      steps = steps_of count n on.run.steps lt;
+      events = map (At n) steps;
+      steps = steps_of count n steps lt;
       possible = are.possible;
       known = are.known;
+      answered = answered_none n on.run.steps w;
       here = on.is ∙ ap (λ (t : Tape). Some t) (sym are.tape);
       slots = are.others;
       tapes = are.other_tapes;

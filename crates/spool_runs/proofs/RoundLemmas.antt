@@ -18,7 +18,6 @@ use Rattle.spool_law.specs.Safe.{HasItsMessage}
 use Rattle.spool_law.specs.World.{Letter, OfLetter, Use, World, letters}
 use Rattle.spool_law.specs.World.Use.{Opened}
 use Rattle.spool_law.proofs.RunLemmas.{runs_here}
-use Rattle.spool_law.proofs.WholeLemmas.{whole_has_its_message}
 use Rattle.spool_rack.specs.Opening.{HeldView, held_broken, held_full, held_slot}
 use Rattle.spool_rack.specs.Store.{HasNoFull, HasTakenFull, PutsBroken, Queues, StoreView, put_aside, put_free, put_full, with_aside, with_broken, with_free, with_full, without_full}
 use Rattle.spool_slots.specs.Media.{IsFull, IsSettled}
@@ -35,6 +34,7 @@ use Rattle.smapd_queue.specs.declared.round.RoundFault.{RoundFault}
 use Rattle.spool_runs.specs.OnDisks.{IsReachable}
 use Rattle.spool_runs.proofs.GrownLemmas.{Grown, grown_moved}
 use Rattle.spool_runs.proofs.RackLemmas.{Fits, IsFullOn, IsMoved, IsRack, moved_told}
+use Rattle.spool_runs.proofs.ReachLemmas.{its_message}
 use Rattle.spool_runs.proofs.StoreLemmas.{Grows, LentFull, full_to_aside, full_to_broken, full_to_free, full_to_full, grows_both, grows_same, lent_full, put_aside_queues, put_broken_queues, put_free_queues, put_full_queues}
 use Rattle.spool_runs.proofs.TapeLemmas.{each_both}
 
@@ -73,11 +73,6 @@ of_letter w slot tape told fits full has =
       tape = tape;
       told = told;
     }
-
-its_message : (w : World) (n : ℕ) → IsReachable w → EachImage IsWhole (w.slots n).medium → HasItsMessage (w.slots n)
-its_message w n reach whole =
-    subst (λ (x : World). HasItsMessage (x.slots n)) reach.is
-    (whole_has_its_message reach.events n reach.possible (subst (λ (x : World). EachImage IsWhole (x.slots n).medium) (sym reach.is) whole))
 
 pub front_full : (P : FullView → Type 0) (slot : FullView) (xs : List FullView) → take 1 xs ≡ slot ∷ [] → AllByRecursion P xs → P slot × AllByRecursion P (drop 1 xs)
 front_full P slot [] is all = absurd (cc)

@@ -14,7 +14,7 @@ use Rattle.spool_slots.specs.declared.opening.Opened.{Opened}
 use Rattle.spool_slots.specs.declared.slot_why.SlotWhy.{SlotWhy}
 use Rattle.spool_runs.specs.OnDisks.{AreAccepted, AreAnswered, AreOn, AreTaped, IsReachable, IsStepOf, RunsSpool, SpoolRun}
 use Rattle.spool_runs.proofs.GrownLemmas.{Grown, accepts_both, accepts_none, answers_both, answers_none, grown_both, grown_here}
-use Rattle.spool_runs.proofs.HistoryLemmas.{reached, reaches_all}
+use Rattle.spool_runs.proofs.ReachLemmas.{reached, reaches_all}
 use Rattle.spool_runs.proofs.PlaceLemmas.{Placed, ToldBy, back_run, closed_rack, disks_length, first_tapes, fits_first, opened_length, opened_rack, opened_run, placed, told_first, RunEach}
 use Rattle.spool_runs.proofs.RackLemmas.{Fits, IsMoved, IsRack, fits_after, puts_aside, puts_broken, puts_free, puts_full, takes_free, takes_full, taped_all}
 use Rattle.spool_runs.proofs.TapeLemmas.{after_both, each_both, on_after, possible_both, taped_then}
@@ -100,7 +100,7 @@ run_of_places olds news each w reach on =
       are = p.steps;
       possible = p.possible;
       disks = p.disks;
-      answers = answers_none w (after_all p.events w) (let b = p.begun in omega (arith, b));
+      answers = answers_none w (after_all p.events w) (let b = p.begun in omega (arith, b)) p.answered;
       accepts = accepts_none w (after_all p.events w) p.accepted;
     }
 
@@ -123,12 +123,12 @@ run_over_rack answered accepted disks back slots first last are is grows closed 
     let order : AreInOrder g.q back = subst (λ (o : Option Queues). IfSome o (λ (x : Queues). AreInOrder x back)) g.queues_are closed in
     let taped_back : AreTaped 0 g.events mid middle back = closed_rack tapes g.events mid middle back g.q (subst (λ (n : ℕ). IsRack n (taped_all g.events mid tapes) g.q) many g.rack) told order in
     let both : after_all (p.events ++ g.events) w ≡ after_all g.events mid = after_both p.events g.events w in
-    let none = answers_none w mid (let b = p.begun in omega (arith, b)) in
+    let none = answers_none w mid (let b = p.begun in omega (arith, b)) p.answered in
     record {
       events = p.events ++ g.events;
       are = each_both (IsStepOf (length disks)) p.events g.events p.steps g.steps;
       possible = possible_both p.events g.events w p.possible g.possible;
       disks = taped_then 0 p.events g.events w disks middle back p.disks taped_back;
-      answers = subst (λ (x : World). AreAnswered answered w x) (sym both) (answers_both [] answered w mid g.events none g.answers);
+      answers = subst (λ (x : World). AreAnswered answered w x) (sym both) (answers_both [] answered w mid (after_all g.events mid) none g.answers);
       accepts = subst (λ (x : World). AreAccepted accepted w x) (sym both) (accepts_both [] accepted w mid (after_all g.events mid) (accepts_none w mid p.accepted) g.accepts);
     }

@@ -1,16 +1,15 @@
 -- Events one after another, and the tapes that they lead.
 use Rattle.std.proofs.Common.{◌≡◌, refl, sym, ap, subst, ◌∙◌, arith, ℕ, suc, ◌+◌, ◌<◌, ◌≤◌, ◌⊎◌, inl, inr, Bool, true, false, nat_eq, cond, List, [], ◌∷◌, ◌++◌, length, map, append_assoc, append-nil, Option, Some, None}
 use Rattle.std.specs.Prelude.{option_map, if◌then◌else◌}
-use Rattle.std.specs.List.{AllByRecursion, Contains}
+use Rattle.std.specs.List.{AllByRecursion}
 use Rattle.std.proofs.lemmas.Bool.Decides.{nat_tests}
-use Rattle.std.proofs.lemmas.List.Elements.{Contains-append_left}
 use Rattle.fw_disk.specs.DiskView.{DiskView, Tape}
 use Rattle.fw_disk.specs.Medium.{Medium, synced_now, written_at}
-use Rattle.spool_law.specs.Events.{ArePossible, Event, Step, after, after_all, answers, put, read_after, stepped}
+use Rattle.spool_law.specs.Events.{ArePossible, Event, Step, after, after_all, put, read_after, stepped}
 use Rattle.spool_law.specs.Events.Event.{At, Crash}
 use Rattle.spool_law.specs.Events.Step.{Start, Add, Write, Sync, OpenGate, Answer, Accept, CloseGate, SetAside}
 use Rattle.spool_law.specs.Runs.{Known, known_in, tape_after, tape_on, taped}
-use Rattle.spool_law.specs.World.{Letter, Slot, World}
+use Rattle.spool_law.specs.World.{Slot, World}
 use Rattle.spool_runs.specs.OnDisks.{AreOn, AreTaped, IsOn, IsStepOf}
 
 -- ---- lists of events
@@ -34,13 +33,6 @@ taped_both n (e ∷ a) b w tape = taped_both n a b (after e w) (tape_on n e w ta
 pub each_both : {X : Type 0} (P : X → Type 0) (xs ys : List X) → AllByRecursion P xs → AllByRecursion P ys → AllByRecursion P (xs ++ ys)
 each_both P [] ys a b = b
 each_both P (x ∷ xs) ys a b = (a.0, each_both P xs ys a.1 b)
-
--- a message that was answered for stays so
-pub answered_stays : (events : List Event) (w : World) (l : Letter) → Contains w.answered l → Contains (after_all events w).answered l
-answered_stays [] w l has = has
-answered_stays (At n step ∷ events) w l has =
-    answered_stays events (after (At n step) w) l (Contains-append_left w.answered (answers step (w.slots n).use_of) l has)
-answered_stays (Crash images ∷ events) w l has = answered_stays events (after (Crash images) w) l has
 
 -- ---- the medium of a slot and its tape
 

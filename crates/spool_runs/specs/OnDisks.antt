@@ -1,6 +1,6 @@
 -- What a run over the slots of a spool does to the spool, as events on its disks.
 use Rattle.std.specs.Prelude.{◌≡◌, ℕ, ◌+◌, ◌<◌, ◌≤◌, List, [], ◌∷◌, ◌++◌, length, map, Some, option_map}
-use Rattle.std.specs.List.{AllByRecursion, Contains}
+use Rattle.std.specs.List.{AllByRecursion}
 use Rattle.fw_disk.specs.DiskView.{DiskView, Tape}
 use Rattle.fw_disk.specs.Medium.{settled}
 use Rattle.slot_bytes.specs.Layout.{Mail}
@@ -41,14 +41,14 @@ abbrev pub AreNumbered : ℕ → List Letter → ℕ → Type 0
 AreNumbered from [] below = from ≤ below
 AreNumbered from (l ∷ letters) below = (from ≤ l.number) × AreNumbered (l.number + 1) letters below
 
--- These messages were begun in this time, each as one of its own, and answered for.
+-- These messages were answered for in this time, in order, and no other. Each was begun in this time, as one of its own.
 pub record AreAnswered (mails : List Mail) (old new : World) : Type 0 where
   pub letters : List Letter
+  pub grew : new.answered ≡ old.answered ++ letters
   pub are : map (λ l. l.mail) letters ≡ mails
   pub begun : AreNumbered old.begun letters new.begun
-  pub answered : AllByRecursion (Contains new.answered) letters
 
--- a mailer accepted these messages in this time, and no other
+-- a mailer accepted these messages in this time, in order, and no other
 pub record AreAccepted (mails : List Mail) (old new : World) : Type 0 where
   pub letters : List Letter
   pub grew : new.accepted ≡ old.accepted ++ letters

@@ -6,15 +6,17 @@ ghost use Rattle.slot_bytes.specs.Layout.{Mail};
 ghost use Rattle.spool_law.specs.Events.{after_all};
 ghost use Rattle.spool_law.specs.Safe.{IsSafe};
 ghost use Rattle.spool_law.specs.World.{World, formatted};
-ghost use Rattle.spool_runs.specs.History.{AreSafe, Episode, Happens};
+ghost use Rattle.spool_runs.specs.History.{AreSafe, Episode, Happens, accepted_of, answered_of};
 ghost use Rattle.spool_runs.specs.OnDisks.{AreOn, IsNew, IsReachable, RunsSpool, SpoolRun};
 
-/// Whatever list of runs there was over slots that were formatted, with crashes between them and inside them: each message
-/// that was answered for stands whole or was accepted (`safe`), and so does each that a run answered for which no crash cut
-/// off (`mails`). What the next run meets was reached by events (`reached`).
+/// Whatever list of runs there was over slots that were formatted, with crashes between them and behind some first of a run's
+/// events: each message that was answered for stands whole or was accepted (`safe`). Those are just the messages that the runs
+/// answered for, in order, one of its own for each; of a run that a crash cut off as many of the first as there are answers among
+/// the events that came; and those that were accepted are just the runs' (`mails`). What the next run meets was reached by events (`reached`).
 pub fn answered_stands()
     ensures safe { (episodes : List Episode) (w : World) → Happens episodes formatted w → IsSafe w }
-    ensures mails { (episodes : List Episode) (w : World) → Happens episodes formatted w → AreSafe episodes w }
+    ensures mails { (episodes : List Episode) (w : World) (h : Happens episodes formatted w) →
+        AreSafe (answered_of episodes formatted w h) (accepted_of episodes formatted w h) w }
     ensures reached { (episodes : List Episode) (w : World) → Happens episodes formatted w → IsReachable w }
 {
     spool_law::laws::stands()

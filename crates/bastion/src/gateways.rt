@@ -1,10 +1,10 @@
-//! The command `tn-gw`: a client of the Telnet gateway is served over the book of the records.
+//! The commands `tn-gw` and `ftp-gw`: a client of a gateway is served over the book of the records.
 ghost use Rattle.std.specs.Prelude.{◌≡◌, IsSome};
-ghost use Rattle.client_service.specs.Conn.{Conn, Untouched};
+ghost use Rattle.client_service.specs.Conn.{Conn, IsServed, Untouched};
 ghost use Rattle.bastion.specs.Gating.{devices_over};
 ghost use Rattle.bastion.specs.Run.{DoesFor};
 ghost use Rattle.bastion.specs.SessionSteps.{PassesOver};
-ghost use Rattle.bastion.specs.declared.words.Command.TheVariants.{TnGw};
+ghost use Rattle.bastion.specs.declared.words.Command.TheVariants.{FtpGw, TnGw};
 ghost use Rattle.gate_rules.specs.Verdict.{verdict_of};
 ghost use Rattle.gate_rules.specs.declared.service.Service.TheVariants as services;
 
@@ -22,6 +22,7 @@ use std::thread::Threads;
 fn pass<H, T>(
     rt: &H,
     alloc: Global,
+    service: &Service,
     rules: &Rules,
     peer: &Peer,
     book: &mut Book<T::Keeper>,
@@ -30,9 +31,10 @@ fn pass<H, T>(
 where
     H: Threads + Sync,
     T: Kit,
-    ensures conn { Conn services.TnGw rules.now peer.now (devices_over world.old book.old)
+    requires served { IsServed service.now rules.now }
+    ensures conn { Conn service.now rules.now peer.now (devices_over world.old book.old)
         (devices_over world.new book.new) result }
-    ensures untouched { Untouched services.TnGw (verdict_of rules.now peer.now) book.old book.new }
+    ensures untouched { Untouched service.now (verdict_of rules.now peer.now) book.old book.new }
     ensures files { world.new.files ≡ world.old.files }
     ensures launcher { world.new.inputs.launcher ≡ world.old.inputs.launcher }
     ensures disks { world.new.inputs.disks ≡ world.old.inputs.disks }
@@ -41,7 +43,7 @@ where
     conn(
         rt,
         alloc,
-        &Service::TnGw,
+        service,
         rules,
         peer,
         book,
@@ -59,6 +61,7 @@ where
 fn pass_over<H, T>(
     rt: &H,
     alloc: Global,
+    service: &Service,
     rules: &Rules,
     peer: &Peer,
     book: Book<T::Keeper>,
@@ -67,15 +70,16 @@ fn pass_over<H, T>(
 where
     H: Threads + Sync,
     T: Kit,
-    ensures { PassesOver peer.now rules.now book result world.old world.new }
+    requires served { IsServed service.now rules.now }
+    ensures { PassesOver service.now peer.now rules.now book result world.old world.new }
 {
     let mut book = book;
-    let ending = pass(rt, alloc, rules, peer, &mut book, world);
+    let ending = pass(rt, alloc, service, rules, peer, &mut book, world);
     end_over(book, ending, world)
 }
 
 /// A client of the Telnet gateway.
-pub(crate) fn gate<H, T>(
+pub(crate) fn telnet<H, T>(
     rt: &H,
     alloc: Global,
     name: &[u8],
@@ -89,7 +93,27 @@ where
     ensures { DoesFor name.now (TnGw peer.now) result world.old world.new }
 {
     match open_for(alloc, name, &Service::TnGw, world) {
-        Ok((rules, book)) => pass_over(rt, alloc, &rules, peer, book, world),
+        Ok((rules, book)) => pass_over(rt, alloc, &Service::TnGw, &rules, peer, book, world),
+        Err(outcome) => outcome,
+    }
+}
+
+/// A client of the FTP gateway.
+pub(crate) fn ftp<H, T>(
+    rt: &H,
+    alloc: Global,
+    name: &[u8],
+    peer: &Peer,
+    world: &mut World<T>,
+) -> Outcome
+where
+    H: Threads + Sync,
+    T: Kit,
+    requires keeper { IsSome world.old.inputs.keeper }
+    ensures { DoesFor name.now (FtpGw peer.now) result world.old world.new }
+{
+    match open_for(alloc, name, &Service::FtpGw, world) {
+        Ok((rules, book)) => pass_over(rt, alloc, &Service::FtpGw, &rules, peer, book, world),
         Err(outcome) => outcome,
     }
 }
