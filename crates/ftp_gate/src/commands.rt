@@ -191,6 +191,12 @@ fn login_row<D: Stage>(
     allowed_row(stage, script, state, order, asked)
 }
 
+fn is_denied(script: &FtpScript, order: &Order) -> bool
+    ensures { result ≡ has_verb script.now.options.deny order.now.verb }
+{
+    has_verb(&script.options().deny, order.verb())
+}
+
 // A command that is for a server.
 fn outward_row<D: Stage>(
     stage: &mut D,
@@ -203,7 +209,7 @@ fn outward_row<D: Stage>(
         (outward_row script.now state order.now asked (has_verb script.now.options.deny order.now.verb)) leads
         (D.world stage.old) (D.world stage.new) result }
 {
-    if has_verb(&script.options().deny, order.verb()) {
+    if is_denied(script, order) {
         return denied_row(stage, script, state, order, asked);
     }
     login_row(stage, script, state, order, asked)

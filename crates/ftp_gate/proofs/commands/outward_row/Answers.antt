@@ -1,16 +1,8 @@
-use Rattle.std.proofs.Common.{ap, sym, ◌∙◌, ℕ, List}
-use Rattle.gate_rules.specs.declared.options.Options.{Options}
-use Rattle.ftp_gate.specs.Gate.{has_verb}
+use Rattle.std.proofs.Common.{sym, ◌∙◌}
 use Rattle.ftp_gate.proofs.commands.outward_row.Goals as goal
 
-pub returns-then-has_verb : goal.returns-then-has_verb
-returns-then-has_verb g c =
-    rw
-    (ap (λ (o : Options). has_verb o.deny c.args.order.now.verb) (sym c.options.ensures) ∙ ap (λ (v : List ℕ). has_verb c.options.result.now.deny v) (sym c.verb.ensures) ∙ sym c.has_verb.ensures
-    ∙ c.if-has_verb.true) c.denied_row.ensures
+pub returns-then-is_denied : goal.returns-then-is_denied
+returns-then-is_denied g c = rw (sym c.is_denied.ensures ∙ c.if-is_denied.true) c.denied_row.ensures
 
 pub returns : goal.returns
-returns g c =
-    rw
-    (ap (λ (o : Options). has_verb o.deny c.args.order.now.verb) (sym c.options.ensures) ∙ ap (λ (v : List ℕ). has_verb c.options.result.now.deny v) (sym c.verb.ensures) ∙ sym c.has_verb.ensures
-    ∙ c.if-has_verb.false) c.login_row.ensures
+returns g c = rw (sym c.is_denied.ensures ∙ c.if-is_denied.false) c.login_row.ensures
