@@ -1,1 +1,3 @@
 pub mod FaultyLemmas
+pub mod SharedAsks
+pub mod SharedLemmas

@@ -23,7 +23,7 @@ use Rattle.authsrv_lines.specs.declared.wire.Wire.{Wire}
 use Rattle.authsrv_lines.specs.declared.wire.Wire.TheVariants as wires
 use Rattle.authsrv_lines.specs.declared.wire.WireFault.{WireFault}
 use Rattle.session_acts.specs.Acts.{Act, Answer, Halt}
-use Rattle.session_acts.specs.Acts.Act.{Hear, Say, Try, Log, Note, Ask, Renew, Dial, Reach, Take, Pass, HangUp, Relay, Deposit, Allot}
+use Rattle.session_acts.specs.Acts.Act.{Hear, Say, Try, Log, Note, Ask, Renew, Dial, Reach, Take, Pass, HangUp, Relay, Deposit, Allot, TakeReply, OpenDoor, Join, Copy, Part}
 use Rattle.session_acts.specs.Deeds.{Deed, deed_last, done, gives}
 use Rattle.session_acts.specs.Laws.{told}
 use Rattle.session_acts.specs.Met.{acts}
@@ -43,6 +43,7 @@ abbrev MayTell : Owing → Act → Type 0
 MayTell owing (Say text) = text ≡ owing.text
 MayTell owing (Try text) = ⊥
 MayTell owing Relay = ⊥
+MayTell owing (TakeReply how) = ⊥
 MayTell owing (Deposit sender rcpts words most) = ⊥
 MayTell owing act = owing.text ≡ []
 
@@ -133,6 +134,11 @@ step_tells owing Take answer words_left told_left end may later = quiet_then owi
 step_tells owing (Pass text) answer words_left told_left end may later = quiet_then owing.text words_left told_left end may later
 step_tells owing HangUp answer words_left told_left end may later = quiet_then owing.text words_left told_left end may later
 step_tells owing Allot answer words_left told_left end may later = quiet_then owing.text words_left told_left end may later
+step_tells owing (TakeReply how) answer words_left told_left end may later = absurd may
+step_tells owing OpenDoor answer words_left told_left end may later = quiet_then owing.text words_left told_left end may later
+step_tells owing (Join dest target) answer words_left told_left end may later = quiet_then owing.text words_left told_left end may later
+step_tells owing (Copy toward) answer words_left told_left end may later = quiet_then owing.text words_left told_left end may later
+step_tells owing Part answer words_left told_left end may later = quiet_then owing.text words_left told_left end may later
 
 module _ {Origin : Type 0} where
   -- these acts, and what the client is to be told at their end
@@ -194,6 +200,11 @@ stop_breaks owing (Reach dest) halt may = nothing_broken owing.text [] may refl
 stop_breaks owing Take halt may = nothing_broken owing.text [] may refl
 stop_breaks owing (Pass text) halt may = nothing_broken owing.text [] may refl
 stop_breaks owing Allot halt may = nothing_broken owing.text [] may refl
+stop_breaks owing (TakeReply how) halt may = absurd may
+stop_breaks owing OpenDoor halt may = absurd halt
+stop_breaks owing (Join dest target) halt may = absurd halt
+stop_breaks owing (Copy toward) halt may = absurd halt
+stop_breaks owing Part halt may = absurd halt
 stop_breaks owing HangUp halt may = absurd halt
 
 -- ---- the session

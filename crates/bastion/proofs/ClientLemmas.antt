@@ -88,16 +88,22 @@ module _ (name : List ℕ) (service : Service) (rules : RuleBook) (first : BookV
         links = ap (λ (d : WorldView). d.inputs.dialer) h.ends.back.is ∙ h.links ∙ ap (λ (d : WorldView). d.inputs.dialer) o.is;
       }
 
-  -- ---- a client of the gateway
+  -- ---- a client of a gateway
 
-  untouched_by : (verdict : Verdict) (book : BookView) → Untouched services.TnGw verdict first book → Untouched services.TnGw verdict o.before book.keeper
-  untouched_by (Permit line) book h = tt
-  untouched_by (Deny line) book h = ap (λ (b : BookView). b.keeper) h ∙ ap (λ (b : BookView). b.keeper) o.at_first
+  telnet_untouched : (verdict : Verdict) (book : BookView) → Untouched services.TnGw verdict first book → Untouched services.TnGw verdict o.before book.keeper
+  telnet_untouched (Permit line) book h = tt
+  telnet_untouched (Deny line) book h = ap (λ (b : BookView). b.keeper) h ∙ ap (λ (b : BookView). b.keeper) o.at_first
 
-  passes_gated : (peer : Peer) (out : Outcome) (new : WorldView) → PassesOver peer rules first out mid new → Gated peer o.inputs out o.middle new
-  passes_gated peer out new h =
-      let Meets : RuleBook → BookView → WorldView → WorldView → Type 0 = λ r b one other. Conn services.TnGw r peer (devices_over one b) (devices_over other h.book) h.ending in
-      let same : book_origin h.book ≡ book_origin first = conn_origin services.TnGw rules peer (devices_over mid first) (devices_over h.middle h.book) h.ending h.serves in
+  ftp_untouched : (verdict : Verdict) (book : BookView) → Untouched services.FtpGw verdict first book → Untouched services.FtpGw verdict o.before book.keeper
+  ftp_untouched (Permit line) book h = tt
+  ftp_untouched (Deny line) book h = ap (λ (b : BookView). b.keeper) h ∙ ap (λ (b : BookView). b.keeper) o.at_first
+
+  -- the same session by the inputs, if what a denied client leaves is left so
+  passes_gated : (by : Service) (peer : Peer) → ((verdict : Verdict) (book : BookView) → Untouched by verdict first book → Untouched by verdict o.before book.keeper)
+      → (out : Outcome) (new : WorldView) → PassesOver by peer rules first out mid new → Gated by peer o.inputs out o.middle new
+  passes_gated by peer untouched out new h =
+      let Meets : RuleBook → BookView → WorldView → WorldView → Type 0 = λ r b one other. Conn by r peer (devices_over one b) (devices_over other h.book) h.ending in
+      let same : book_origin h.book ≡ book_origin first = conn_origin by rules peer (devices_over mid first) (devices_over h.middle h.book) h.ending h.serves in
       let back : Meets rules first mid new = subst (λ (w : WorldView). Meets rules first mid w) (sym h.ends.back.is) h.serves in
       let here : Meets rules first o.middle new = subst (λ (w : WorldView). Meets rules first w new) o.is back in
       record {
@@ -106,7 +112,7 @@ module _ (name : List ℕ) (service : Service) (rules : RuleBook) (first : BookV
         ending = h.ending;
         over = over_book h.book h.ending out h.middle new same h.files h.launcher h.disks h.ends;
         serves = subst (λ (r : RuleBook). Meets r begun o.middle new) o.rules_are (subst (λ (b : BookView). Meets rules b o.middle new) o.at_first here);
-        untouched = subst (λ (r : RuleBook). Untouched services.TnGw (verdict_of r peer) o.before h.book.keeper) o.rules_are (untouched_by (verdict_of rules peer) h.book h.untouched);
+        untouched = subst (λ (r : RuleBook). Untouched by (verdict_of r peer) o.before h.book.keeper) o.rules_are (untouched (verdict_of rules peer) h.book h.untouched);
       }
 
 -- ---- the commands
@@ -115,9 +121,15 @@ pub holds_does : (name : List ℕ) (client : Client) (rules : RuleBook) (first :
 holds_does name client rules first out old mid new o h =
     inr (record { inputs = o.inputs; read = o.read (commands.Authsrv client) refl; middle = o.middle; only = o.only; works = holds_attended name services.Authsrv rules first old mid o client out new h })
 
-pub passes_does : (name : List ℕ) (peer : Peer) (rules : RuleBook) (first : BookView) (out : Outcome) (old mid new : WorldView) → Opens name services.TnGw rules first old mid → PassesOver peer rules first out mid new → DoesFor name (commands.TnGw peer) out old new
-passes_does name peer rules first out old mid new o h =
-    inr (record { inputs = o.inputs; read = o.read (commands.TnGw peer) refl; middle = o.middle; only = o.only; works = passes_gated name services.TnGw rules first old mid o peer out new h })
+pub telnet_does : (name : List ℕ) (peer : Peer) (rules : RuleBook) (first : BookView) (out : Outcome) (old mid new : WorldView) → Opens name services.TnGw rules first old mid → PassesOver services.TnGw peer rules first out mid new → DoesFor name (commands.TnGw peer) out old new
+telnet_does name peer rules first out old mid new o h =
+    let gated = passes_gated name services.TnGw rules first old mid o services.TnGw peer (telnet_untouched name services.TnGw rules first old mid o) out new h in
+    inr (record { inputs = o.inputs; read = o.read (commands.TnGw peer) refl; middle = o.middle; only = o.only; works = gated })
+
+pub ftp_does : (name : List ℕ) (peer : Peer) (rules : RuleBook) (first : BookView) (out : Outcome) (old mid new : WorldView) → Opens name services.FtpGw rules first old mid → PassesOver services.FtpGw peer rules first out mid new → DoesFor name (commands.FtpGw peer) out old new
+ftp_does name peer rules first out old mid new o h =
+    let gated = passes_gated name services.FtpGw rules first old mid o services.FtpGw peer (ftp_untouched name services.FtpGw rules first old mid o) out new h in
+    inr (record { inputs = o.inputs; read = o.read (commands.FtpGw peer) refl; middle = o.middle; only = o.only; works = gated })
 
 -- ---- the dialer
 

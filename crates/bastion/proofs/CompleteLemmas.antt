@@ -36,7 +36,7 @@ use Rattle.bastion.specs.declared.outcome.Outcome.{Outcome}
 use Rattle.bastion.specs.declared.outcome.Outcome.TheVariants.{Usage, Unread, Failed, NoMemory, Done, Decided, Ended}
 use Rattle.bastion.specs.declared.outcome.Refusal.TheVariants.{Slot}
 use Rattle.bastion.specs.declared.words.Command.{Command}
-use Rattle.bastion.specs.declared.words.Command.TheVariants.{Netacl, NetaclRun, Table, Authsrv, PlugGw, TnGw, Smap}
+use Rattle.bastion.specs.declared.words.Command.TheVariants.{Netacl, NetaclRun, Table, Authsrv, PlugGw, TnGw, FtpGw, Smap}
 use Rattle.bastion.specs.declared.words.Job.{Job}
 use Rattle.bastion.specs.declared.words.Job.TheVariants.{Drill, SpoolInit, Smapd}
 use Rattle.bastion.specs.declared.words.Order.{Order}
@@ -45,8 +45,9 @@ use Rattle.bastion.specs.declared.words.Caller.{Caller}
 use Rattle.bastion.specs.declared.words.Client.{Client}
 use Rattle.bastion.specs.declared.words.Query.{Query}
 use Rattle.bastion.proofs.AttendedLemmas.{attended_status}
-use Rattle.bastion.proofs.GatedLemmas.{gated_status}
-use Rattle.bastion.proofs.GatewayLemmas.{gated_whole}
+use Rattle.bastion.proofs.FtpGatewayLemmas.{ftp_whole}
+use Rattle.bastion.proofs.GateStatusLemmas.{ftp_status, telnet_status}
+use Rattle.bastion.proofs.GatewayLemmas.{telnet_whole}
 use Rattle.bastion.proofs.JobRoseLemmas.{fails_rose}
 use Rattle.bastion.proofs.LaunchLemmas.{Launching, launched}
 use Rattle.bastion.proofs.LeftLemmas.{calls_launcher, only_left, stops_left, tells_later}
@@ -257,20 +258,37 @@ linked_done : (name : List ℕ) (caller : Caller) (inputs : Inputs) (outcome : O
 linked_done name caller inputs outcome old new read (inl five) = inl five
 linked_done name caller inputs outcome old new read (inr whole) = inr (record { read = Ok inputs; inputs = read; does = whole })
 
-gated_done : (name : List ℕ) (peer : Peer) (outcome : Outcome) (old mid new : WorldView) → (RoseBy (TnGw peer) old new → ⊥) → (h : Worked name (TnGw peer) outcome old mid) → TellsIf (fault_line_of outcome) mid new
+telnet_done : (name : List ℕ) (peer : Peer) (outcome : Outcome) (old mid new : WorldView) → (RoseBy (TnGw peer) old new → ⊥) → (h : Worked name (TnGw peer) outcome old mid) → TellsIf (fault_line_of outcome) mid new
     → ((status_of outcome ≡ 4) ⊎ (status_of outcome ≡ 5)) ⊎ IsPassed (verdict_of h.inputs.rules peer) (status_of outcome) h.middle.inputs mid.inputs
     → (status_of outcome ≡ 5) ⊎ AllDone name (TnGw peer) (status_of outcome) old new
-gated_done name peer outcome old mid new none h tells (inl (inl four)) =
+telnet_done name peer outcome old mid new none h tells (inl (inl four)) =
     absurd (none (by_later (TnGw peer) old mid new (tells_later (fault_line_of outcome) mid new tells) (rose_some (TnGw peer) outcome old mid (worked_rose name (TnGw peer) outcome old mid h) four)))
-gated_done name peer outcome old mid new none h tells (inl (inr five)) = inl five
-gated_done name peer outcome old mid new none h tells (inr passed) =
+telnet_done name peer outcome old mid new none h tells (inl (inr five)) = inl five
+telnet_done name peer outcome old mid new none h tells (inr passed) =
     let later = tells_later (fault_line_of outcome) mid new tells in
     let left = only_left name true old h.middle h.only in
     inr (record {
       read = Ok h.inputs;
       inputs = h.read;
       does =
-          gated_whole name peer h.inputs outcome old h.middle mid new (quiet old new (λ some. none (inl some))) h.only h.works tells
+          telnet_whole name peer h.inputs outcome old h.middle mid new (quiet old new (λ some. none (inl some))) h.only h.works tells
+          (passed_then (verdict_of h.inputs.rules peer) (status_of outcome) h.middle.inputs mid.inputs old.inputs new.inputs left.input left.clock later.inputs passed);
+    })
+
+ftp_done : (name : List ℕ) (peer : Peer) (outcome : Outcome) (old mid new : WorldView) → (RoseBy (FtpGw peer) old new → ⊥) → (h : Worked name (FtpGw peer) outcome old mid) → TellsIf (fault_line_of outcome) mid new
+    → ((status_of outcome ≡ 4) ⊎ (status_of outcome ≡ 5)) ⊎ IsPassed (verdict_of h.inputs.rules peer) (status_of outcome) h.middle.inputs mid.inputs
+    → (status_of outcome ≡ 5) ⊎ AllDone name (FtpGw peer) (status_of outcome) old new
+ftp_done name peer outcome old mid new none h tells (inl (inl four)) =
+    absurd (none (by_later (FtpGw peer) old mid new (tells_later (fault_line_of outcome) mid new tells) (rose_some (FtpGw peer) outcome old mid (worked_rose name (FtpGw peer) outcome old mid h) four)))
+ftp_done name peer outcome old mid new none h tells (inl (inr five)) = inl five
+ftp_done name peer outcome old mid new none h tells (inr passed) =
+    let later = tells_later (fault_line_of outcome) mid new tells in
+    let left = only_left name true old h.middle h.only in
+    inr (record {
+      read = Ok h.inputs;
+      inputs = h.read;
+      does =
+          ftp_whole name peer h.inputs outcome old h.middle mid new (quiet old new (λ some. none (inl some))) h.only h.works tells
           (passed_then (verdict_of h.inputs.rules peer) (status_of outcome) h.middle.inputs mid.inputs old.inputs new.inputs left.input left.clock later.inputs passed);
     })
 
@@ -341,7 +359,8 @@ worked_complete name (Smap peer) outcome old mid new none h tells =
     let later = tells_later (fault_line_of outcome) mid new tells in
     let never : status_of outcome ≡ 4 → ⊥ = λ four. none (by_later (Smap peer) old mid new later (rose_some (Smap peer) outcome old mid (worked_rose name (Smap peer) outcome old mid h) four)) in
     mailed_done name peer outcome old mid new (quiet old new (λ some. none (inl some))) never h tells h.works
-worked_complete name (TnGw peer) outcome old mid new none h tells = gated_done name peer outcome old mid new none h tells (gated_status peer h.inputs outcome h.middle mid h.works)
+worked_complete name (TnGw peer) outcome old mid new none h tells = telnet_done name peer outcome old mid new none h tells (telnet_status peer h.inputs outcome h.middle mid h.works)
+worked_complete name (FtpGw peer) outcome old mid new none h tells = ftp_done name peer outcome old mid new none h tells (ftp_status peer h.inputs outcome h.middle mid h.works)
 
 -- ---- without a table
 

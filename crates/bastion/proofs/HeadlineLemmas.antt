@@ -17,6 +17,7 @@ use Rattle.fw_types.specs.declared.ending.Ending.{Ending}
 use Rattle.fw_types.specs.declared.ending.Ending.TheVariants as endings
 use Rattle.fw_types.specs.declared.peer.Peer.{Peer}
 use Rattle.gate_rules.specs.Verdict.{verdict_of}
+use Rattle.gate_rules.specs.declared.service.Service.{Service}
 use Rattle.gate_rules.specs.declared.service.Service.TheVariants as services
 use Rattle.gate_rules.specs.declared.verdict.Verdict.{Verdict}
 use Rattle.gate_rules.specs.declared.verdict.Verdict.TheVariants.{Permit, Deny}
@@ -27,11 +28,13 @@ use Rattle.session_acts.specs.Laws.{told}
 use Rattle.session_acts.specs.Session.{Session, deeds_of}
 use Rattle.session_acts.specs.World.{Devices, devices_with}
 use Rattle.bastion.specs.Asking.{IsUndecided}
-use Rattle.bastion.specs.Gateway.{IsGated, IsUnmet}
+use Rattle.bastion.specs.AtGateway.{IsUnmet}
+use Rattle.bastion.specs.FtpGateway.{IsServing}
+use Rattle.bastion.specs.Gateway.{IsGated}
 use Rattle.bastion.specs.Headline.{HandsStand, Headline, HeadlineFor, HeadlineOf, IsDenied, IsPermitted, LogsDenial, OfHistory, begins, lent_to}
 use Rattle.bastion.specs.Inputs.{Inputs}
 use Rattle.bastion.specs.Outcome.{fault_line_of, is_stopped, status_of, verdict_status}
-use Rattle.bastion.specs.Run.{DoesLine, DoesOrder, ReadsOnly, Run, Stops, TellsIf, Worked, verdict_for}
+use Rattle.bastion.specs.Run.{DoesLine, DoesOrder, ReadsOnly, Run, Stops, TellsIf, Worked, verdict_for, peer_of}
 use Rattle.bastion.specs.Serving.{Attended, UntouchedAt, book_at_first, devices_at, most_entries, origin_of}
 use Rattle.bastion.specs.Status.{IsHeld, IsServed}
 use Rattle.bastion.specs.Talk.{IsSilent, IsToldOff, IsUnserved, table_kept, was_refused}
@@ -45,14 +48,15 @@ use Rattle.bastion.specs.declared.outcome.Outcome.TheVariants.{Usage, Unread, Fa
 use Rattle.bastion.specs.declared.words.Caller.{Caller}
 use Rattle.bastion.specs.declared.words.Client.{Client}
 use Rattle.bastion.specs.declared.words.Command.{Command}
-use Rattle.bastion.specs.declared.words.Command.TheVariants.{Netacl, NetaclRun, Table, Authsrv, PlugGw, TnGw, Smap}
+use Rattle.bastion.specs.declared.words.Command.TheVariants.{Netacl, NetaclRun, Table, Authsrv, PlugGw, TnGw, FtpGw, Smap}
 use Rattle.bastion.specs.declared.words.Order.{Order}
 use Rattle.bastion.specs.declared.words.Order.TheVariants.{ByTable, Alone}
 use Rattle.bastion.specs.declared.words.Query.{Query}
 use Rattle.bastion.proofs.AttendedLemmas.{attended_status}
 use Rattle.bastion.proofs.DecidedLemmas.{ByVerdict}
 use Rattle.bastion.proofs.DenialLemmas.{DeniesWhole, denial_so, session_gave, told_denied, told_off}
-use Rattle.bastion.proofs.GatewayLemmas.{gated_headline}
+use Rattle.bastion.proofs.FtpGatewayLemmas.{ftp_headline}
+use Rattle.bastion.proofs.GatewayLemmas.{telnet_headline}
 use Rattle.bastion.proofs.JobLemmas.{job_left}
 use Rattle.bastion.proofs.LaunchLemmas.{Launching, launched, run_status_by}
 use Rattle.bastion.proofs.LinkedLemmas.{linked_headline}
@@ -90,6 +94,8 @@ silent_headline name (Authsrv client) status old new h none disks = record { rep
 silent_headline name (Smap peer) status old new h none disks =
     record { replies_legal = tt; asks_permitted = none.dialer; denials_logged = inl h.silent; answered_stands = inl (record { silent = h.silent; unheld = h.unheld; spool = subst (RunsSpool [] [] old.inputs.disks) (sym disks) (stays_same old.inputs.disks) }) }
 silent_headline name (TnGw peer) status old new h none disks =
+    let unmet : IsUnmet status old new = record { undecided = none; unserved = h } in record { replies_legal = inl unmet; asks_permitted = inl unmet; denials_logged = inl h.silent; answered_stands = tt }
+silent_headline name (FtpGw peer) status old new h none disks =
     let unmet : IsUnmet status old new = record { undecided = none; unserved = h } in record { replies_legal = inl unmet; asks_permitted = inl unmet; denials_logged = inl h.silent; answered_stands = tt }
 silent_headline name (PlugGw caller) status old new h none disks = record { replies_legal = tt; asks_permitted = inl none; denials_logged = (inl h.silent, λ denied. none.output); answered_stands = tt }
 
@@ -341,10 +347,10 @@ caller_denials : (name : List ℕ) (caller : Caller) (outcome : Outcome) (status
 caller_denials name caller outcome status old mid new h (inl silent) = inl (silent_from status old h.middle new h.only.output silent)
 caller_denials name caller outcome status old mid new h (inr so) = inr (record { inputs = h.inputs; read = h.read; middle = h.middle; only = h.only; so = so })
 
-gate_denials : (name : List ℕ) (peer : Peer) (outcome : Outcome) (status : ℕ) (old mid new : WorldView) (h : Worked name (TnGw peer) outcome old mid)
-    → IsSilent status h.middle new ⊎ (IsPermitted (TnGw peer) h.inputs status ⊎ IsDenied (TnGw peer) services.TnGw peer h.inputs status h.middle new) → LogsDenial name (TnGw peer) services.TnGw peer status old new
-gate_denials name peer outcome status old mid new h (inl silent) = inl (silent_from status old h.middle new h.only.output silent)
-gate_denials name peer outcome status old mid new h (inr so) = inr (record { inputs = h.inputs; read = h.read; middle = h.middle; only = h.only; so = so })
+gate_denials : (name : List ℕ) (command : Command) (service : Service) (outcome : Outcome) (status : ℕ) (old mid new : WorldView) → (h : Worked name command outcome old mid)
+    → IsSilent status h.middle new ⊎ (IsPermitted command h.inputs status ⊎ IsDenied command service (peer_of command) h.inputs status h.middle new) → LogsDenial name command service (peer_of command) status old new
+gate_denials name command service outcome status old mid new h (inl silent) = inl (silent_from status old h.middle new h.only.output silent)
+gate_denials name command service outcome status old mid new h (inr so) = inr (record { inputs = h.inputs; read = h.read; middle = h.middle; only = h.only; so = so })
 
 mail_denials : (name : List ℕ) (peer : Peer) (outcome : Outcome) (status : ℕ) (old mid new : WorldView) (h : Worked name (Smap peer) outcome old mid) → new.inputs.dialer ≡ old.inputs.dialer → MailHeadline peer h.inputs status h.middle new → HeadlineFor name (Smap peer) status old new
 mail_denials name peer outcome status old mid new h same (inl unheard) =
@@ -380,9 +386,13 @@ worked_headline name (PlugGw caller) outcome old mid new h tells =
 worked_headline name (Smap peer) outcome old mid new h tells =
     mail_denials name peer outcome (status_of outcome) old mid new h (worked_unasked name (Smap peer) outcome old mid new h (tells_later (fault_line_of outcome) mid new tells)) (mail_headline peer h.inputs outcome h.middle mid new h.works tells)
 worked_headline name (TnGw peer) outcome old mid new h tells =
-    let so = gated_headline peer h.inputs outcome h.middle mid new h.works tells in
+    let so = telnet_headline peer h.inputs outcome h.middle mid new h.works tells in
     let gated : IsGated name peer (status_of outcome) old new = inr (record { inputs = h.inputs; read = h.read; middle = h.middle; only = h.only; so = so.0 }) in
-    record { replies_legal = gated; asks_permitted = gated; denials_logged = gate_denials name peer outcome (status_of outcome) old mid new h so.1; answered_stands = tt }
+    record { replies_legal = gated; asks_permitted = gated; denials_logged = gate_denials name (TnGw peer) services.TnGw outcome (status_of outcome) old mid new h so.1; answered_stands = tt }
+worked_headline name (FtpGw peer) outcome old mid new h tells =
+    let so = ftp_headline peer h.inputs outcome h.middle mid new h.works tells in
+    let serving : IsServing name peer (status_of outcome) old new = inr (record { inputs = h.inputs; read = h.read; middle = h.middle; only = h.only; so = so.0 }) in
+    record { replies_legal = serving; asks_permitted = serving; denials_logged = gate_denials name (FtpGw peer) services.FtpGw outcome (status_of outcome) old mid new h so.1; answered_stands = tt }
 
 job_stands : (post : Post) → (job : Job) (outcome : Outcome) (old mid new : WorldView) → DoesJob post job outcome old mid → TellsIf (fault_line_of outcome) mid new → HandsStand post job (status_of outcome) old new
 job_stands post (jobs.Drill drill) outcome old mid new h tells = tt

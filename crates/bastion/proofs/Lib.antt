@@ -1,3 +1,4 @@
+pub mod AtGatewayLemmas
 pub mod AttendedLemmas
 pub mod ClientLemmas
 pub mod CompleteLemmas
@@ -5,6 +6,8 @@ pub mod DecidedLemmas
 pub mod DenialLemmas
 pub mod DoesLemmas
 pub mod FormatLemmas
+pub mod FtpGatewayLemmas
+pub mod GateStatusLemmas
 pub mod GatedLemmas
 pub mod GatewayLemmas
 pub mod HeadlineLemmas

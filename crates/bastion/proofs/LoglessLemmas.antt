@@ -21,7 +21,7 @@ use Rattle.fw_outside.specs.declared.heard.Heard.{Heard}
 use Rattle.fw_outside.specs.declared.heard.Heard.TheVariants.{Line, TooLong, Stopped}
 use Rattle.fw_types.specs.declared.ending.Ending.{Ending}
 use Rattle.session_acts.specs.Acts.{Act, Outcome}
-use Rattle.session_acts.specs.Acts.Act.{Hear, Say, Try, Log, Note, Ask, Renew, Dial, Reach, Take, Pass, HangUp, Relay, Deposit, Allot}
+use Rattle.session_acts.specs.Acts.Act.{Hear, Say, Try, Log, Note, Ask, Renew, Dial, Reach, Take, Pass, HangUp, Relay, Deposit, Allot, TakeReply, OpenDoor, Join, Copy, Part}
 use Rattle.session_acts.specs.Deeds.{DeedsAll}
 use Rattle.session_acts.specs.Met.{Met, acts}
 use Rattle.session_acts.specs.Session.{Session, closing, freeing, leads}
@@ -61,6 +61,11 @@ module _ {Origin : Type 0} where
   met_logless Relay outcome old new is met = met.logs
   met_logless (Deposit sender rcpts words most) outcome old new is met = met.logs
   met_logless Allot outcome old new is met = met.logs
+  met_logless (TakeReply how) outcome old new is met = met.logs
+  met_logless OpenDoor outcome old new is met = met.logs
+  met_logless (Join dest target) outcome old new is met = met.logs
+  met_logless (Copy toward) outcome old new is met = met.logs
+  met_logless Part outcome old new is met = met.logs
 
   steps_logless : (P : Type 0) (steps : List (Step (acts Origin))) (old new : World Origin) → AllMay (logless_watch Origin P) tt steps → DoesAll steps old new → new.logs ≡ old.logs
   steps_logless P [] old new may does = ap (λ (w : World Origin). w.logs) (sym does)

@@ -5,7 +5,7 @@ use Rattle.client_service.proofs.ConnLemmas.{conn_caused}
 use Rattle.client_service.proofs.SinkLemmas.{same_low}
 use Rattle.client_service.specs.Conn.{Causes, NotedIf}
 use Rattle.client_service.specs.Decision.{decision_text}
-use Rattle.client_service.specs.Endings.{ending_line, mail_refusal}
+use Rattle.client_service.specs.Endings.{ending_line, refusal_reply}
 use Rattle.client_service.specs.Kind.Kind.{Alone}
 use Rattle.client_service.specs.MailService.{mail_devices}
 use Rattle.client_service.specs.Meeting.{patient, timeout_of}
@@ -124,7 +124,7 @@ module _ (peer : Peer) (inputs : Inputs) (out : Outcome) (old mid new : WorldVie
       line = shut.line;
       denied = shut.denied;
       tried = shut.away.tried;
-      gets = subst (λ (s : SinkView). Gets (mail_refusal shut.line) shut.away.tried old.output s) (sym later.output) shut.away.gets;
+      gets = subst (λ (s : SinkView). Gets (refusal_reply shut.line) shut.away.tried old.output s) (sym later.output) shut.away.gets;
       spool = later_spool [] [] old mid new later (opened_spool peer inputs out old mid h (ap (λ (d : Devices (Unit {0})). d.store) shut.away.same));
     }
 
@@ -260,15 +260,15 @@ module _ (name : List ℕ) (peer : Peer) (inputs : Inputs) (out : Outcome) (old 
   held_whole let_in endings.Idle is = absurd (never (status_by peer inputs out middle mid new h tells endings.Idle is))
   held_whole let_in endings.NoRoute is = absurd (never (status_by peer inputs out middle mid new h tells endings.NoRoute is))
 
-  shut_whole : (shut : ShutOut peer inputs.rules from_here to_there h.serves.logs h.ending) → IsWhole (decision_text (Deny shut.line) services.Smap peer) (mail_refusal shut.line) 1 (status_of out) old new
+  shut_whole : (shut : ShutOut peer inputs.rules from_here to_there h.serves.logs h.ending) → IsWhole (decision_text (Deny shut.line) services.Smap peer) (refusal_reply shut.line) 1 (status_of out) old new
   shut_whole shut =
       let same : new ≡ mid = shut_same peer inputs out middle mid new h tells shut in
       let behind : mid.output.faults ≤ new.output.faults = same_low mid.output.faults new.output.faults (ap (λ (w : WorldView). w.output.faults) same) in
-      let given : mid.output.given ≡ grown middle.output.given (mail_refusal shut.line) =
-      got_whole (mail_refusal shut.line) shut.away.tried middle.output mid.output (q.output middle.output.faults mid.output.faults (same_from old.output middle.output only.output) behind) shut.away.gets in
+      let given : mid.output.given ≡ grown middle.output.given (refusal_reply shut.line) =
+      got_whole (refusal_reply shut.line) shut.away.tried middle.output mid.output (q.output middle.output.faults mid.output.faults (same_from old.output middle.output only.output) behind) shut.away.gets in
       record {
         logs = ap (λ (l : SinkView). l.given) (shut_logs peer inputs out middle mid new h tells shut) ∙ ap (λ (l : SinkView). grown l.given (decision_text (Deny shut.line) services.Smap peer)) only.logs;
-        output = ap (λ (w : WorldView). w.output.given) same ∙ given ∙ ap (λ (l : SinkView). grown l.given (mail_refusal shut.line)) only.output;
+        output = ap (λ (w : WorldView). w.output.given) same ∙ given ∙ ap (λ (l : SinkView). grown l.given (refusal_reply shut.line)) only.output;
         status_is = status_by peer inputs out middle mid new h tells (endings.Denied shut.line) shut.ends;
       }
 

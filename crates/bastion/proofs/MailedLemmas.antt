@@ -5,7 +5,7 @@ use Rattle.client_service.proofs.ConnLemmas.{conn_caused, conn_refused, conn_spe
 use Rattle.client_service.proofs.MailLemmas.{mails_behind}
 use Rattle.client_service.specs.Conn.{Causes, Conn, IsRefused, Treats}
 use Rattle.client_service.specs.Decision.{decision_text}
-use Rattle.client_service.specs.Endings.{mail_refusal}
+use Rattle.client_service.specs.Endings.{refusal_reply}
 use Rattle.client_service.specs.Kind.Kind.{Alone}
 use Rattle.client_service.specs.MailService.{MailsBehind, MailsOrFails, mail_devices, mail_gate_of}
 use Rattle.client_service.specs.Meeting.{denied_by, patient, timeout_of}
@@ -309,7 +309,7 @@ pub record CutOff (peer : Peer) (rules : RuleBook) (old new : Devices (Unit {0})
 pub record ShutOut (peer : Peer) (rules : RuleBook) (old new : Devices (Unit {0})) (logs : SinkView) (ending : Ending) : Type 0 where
   pub line : ℕ
   pub denied : verdict_of rules peer ≡ Deny line
-  pub away : IsTurnedAway (decision_text (Deny line) services.Smap peer) (mail_refusal line) old (record new { logs = logs }) Done
+  pub away : IsTurnedAway (decision_text (Deny line) services.Smap peer) (refusal_reply line) old (record new { logs = logs }) Done
   pub ends : ending ≡ Denied line
 
 -- one whom a line permits, and whose session was held
@@ -328,14 +328,14 @@ module _ (peer : Peer) (rules : RuleBook) (old new : Devices (Unit {0})) (logs :
       inl (record { store = ap (λ (d : Devices (Unit {0})). d.store) fails.same; output = ap (λ (d : Devices (Unit {0})). d.outlet) fails.same; ends = fails.ends })
   permit_so line is (inr behind) = inr (inr (record { line = line; permitted = is; behind = behind }))
 
-  deny_so : (line : ℕ) → verdict_of rules peer ≡ Deny line → (told : Ending) → ending ≡ denied_by line told → Denies (decision_text (Deny line) services.Smap peer) (mail_refusal line) old (record new { logs = logs }) told → OfServed peer rules old new logs ending
+  deny_so : (line : ℕ) → verdict_of rules peer ≡ Deny line → (told : Ending) → ending ≡ denied_by line told → Denies (decision_text (Deny line) services.Smap peer) (refusal_reply line) old (record new { logs = logs }) told → OfServed peer rules old new logs ending
   deny_so line is told ends (inl fails) =
       inl (record { store = ap (λ (d : Devices (Unit {0})). d.store) fails.same; output = ap (λ (d : Devices (Unit {0})). d.outlet) fails.same; ends = ends ∙ ap (denied_by line) fails.ends })
   deny_so line is told ends (inr away) =
       inr (inl (record {
         line = line;
         denied = is;
-        away = subst (λ (e : Ending). IsTurnedAway (decision_text (Deny line) services.Smap peer) (mail_refusal line) old (record new { logs = logs }) e) away.ends away;
+        away = subst (λ (e : Ending). IsTurnedAway (decision_text (Deny line) services.Smap peer) (refusal_reply line) old (record new { logs = logs }) e) away.ends away;
         ends = ends ∙ ap (denied_by line) away.ends;
       }))
 
@@ -343,7 +343,7 @@ module _ (peer : Peer) (rules : RuleBook) (old new : Devices (Unit {0})) (logs :
   treats_so (Permit line) is h =
       permit_so line is (mails_behind (decision_text (Permit line) services.Smap peer) (mail_gate_of rules peer) ending (mail_devices (patient (timeout_of rules) old)) (mail_devices (record new { logs = logs })) h.over)
   treats_so (Deny line) is h =
-      deny_so line is h.told h.ends (denies (decision_text (Deny line) services.Smap peer) (mail_refusal line) old (record new { logs = logs }) h.told h.session)
+      deny_so line is h.told h.ends (denies (decision_text (Deny line) services.Smap peer) (refusal_reply line) old (record new { logs = logs }) h.told h.session)
 
 pub served_so : (peer : Peer) (inputs : Inputs) (out : Outcome) (old new : WorldView) (h : MailServed peer inputs out old new) → OfServed peer inputs.rules (mailed_devices old nowhere h.first) (mailed_devices new h.dialer h.store) h.serves.logs h.ending
 served_so peer inputs out old new h = treats_so peer inputs.rules (mailed_devices old nowhere h.first) (mailed_devices new h.dialer h.store) h.serves.logs h.ending (verdict_of inputs.rules peer) refl h.serves.treats

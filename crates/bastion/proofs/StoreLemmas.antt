@@ -2,7 +2,7 @@
 use Rattle.std.proofs.Common.{arith, ◌≡◌, refl, sym, ap, subst, ◌∙◌, ℕ, inl, inr, ◌⊎◌, List, [], ◌∷◌, take, drop}
 use Rattle.std.specs.Prelude.{Option, Some, None, IfSome, option_map, Result, Ok, Err}
 use Rattle.session_acts.specs.Acts.{Act, Outcome, Undeposited}
-use Rattle.session_acts.specs.Acts.Act.{Hear, Say, Try, Log, Note, Ask, Renew, Dial, Reach, Take, Pass, HangUp, Relay, Deposit, Allot}
+use Rattle.session_acts.specs.Acts.Act.{Hear, Say, Try, Log, Note, Ask, Renew, Dial, Reach, Take, Pass, HangUp, Relay, Deposit, Allot, TakeReply, OpenDoor, Join, Copy, Part}
 use Rattle.session_acts.specs.Acts.Undeposited.{Lacks, Unsaid, Unheard}
 use Rattle.session_acts.specs.Deeds.{Lasts}
 use Rattle.session_acts.specs.Depositing.{AtStoreDeposit, Lends, PutsBrokenAt, PutsBrokenLast, PutsFree, StoreDeposits}
@@ -151,6 +151,11 @@ act_stays HangUp outcome old new h = stays_same old new h
 act_stays Relay outcome old new h = stays_same old new h
 act_stays (Deposit sender rcpts words most) outcome old new h = deposit_stays sender rcpts words most outcome old new h
 act_stays Allot outcome old new h = stays_same old new h
+act_stays (TakeReply how) outcome old new h = stays_same old new h
+act_stays OpenDoor outcome old new h = stays_same old new h
+act_stays (Join dest target) outcome old new h = stays_same old new h
+act_stays (Copy toward) outcome old new h = stays_same old new h
+act_stays Part outcome old new h = stays_same old new h
 
 -- ---- a session
 

@@ -1,9 +1,11 @@
 -- What is done in a run in which no count rose: all that is called for, whole.
 use Rattle.std.specs.Prelude.{◌≡◌, ℕ, ◌⊎◌, Bool, true, false, List, [], ◌∷◌, ◌++◌, length, codes, Option, Some, None, Result, Ok, Err, unwrap_or}
+use Rattle.auth_machine.specs.Port.{BookOrigin}
 use Rattle.drill_lines.specs.Drill.{drilled, tally_text}
 use Rattle.drill_lines.specs.declared.plan.Drill.{Drill}
 use Rattle.drill_lines.specs.declared.drill_fault.DrillFault.{DrillFault}
 use Rattle.drill_lines.specs.declared.tally.Tally.{Tally}
+use Rattle.fw_acts.specs.Acts.{Row, PlaceTable}
 use Rattle.fw_outside.specs.LauncherView.{LauncherView, Starts}
 use Rattle.fw_outside.specs.ToldList.{grown}
 use Rattle.fw_outside.specs.declared.started.Started.TheVariants as program
@@ -19,8 +21,11 @@ use Rattle.gate_rules.specs.declared.verdict.Verdict.TheVariants.{Permit, Deny}
 use Rattle.session_acts.specs.Session.{deeds_of}
 use Rattle.session_acts.specs.Deeds.{gives}
 use Rattle.session_acts.specs.Laws.{logged}
-use Rattle.client_service.specs.Endings.{denied_text, ending_line, mail_refusal}
+use Rattle.session_acts.specs.Met.{acts}
+use Rattle.client_service.specs.Endings.{denied_text, ending_line, refusal_reply}
 use Rattle.bastion.specs.Asking.{IsAsked, linking_text}
+use Rattle.bastion.specs.AtGateway.{OfGateway}
+use Rattle.bastion.specs.FtpGateway.{OfFtp}
 use Rattle.bastion.specs.Gateway.{OfTelnet}
 use Rattle.bastion.specs.Headline.{OfHistory}
 use Rattle.bastion.specs.Inputs.{HasInputs, Inputs}
@@ -53,7 +58,7 @@ use Rattle.bastion.specs.declared.words.Job.TheVariants as jobs
 use Rattle.bastion.specs.declared.words.Order.{Order}
 use Rattle.bastion.specs.declared.words.Order.TheVariants.{ByTable, Alone}
 use Rattle.bastion.specs.declared.words.Query.{Query}
-use Rattle.bastion.specs.declared.words.Command.TheVariants.{Netacl, NetaclRun, Table, Authsrv, PlugGw, TnGw, Smap}
+use Rattle.bastion.specs.declared.words.Command.TheVariants.{Netacl, NetaclRun, Table, Authsrv, PlugGw, TnGw, FtpGw, Smap}
 
 -- the log and the output have taken these texts whole, and nothing else; and the status is this
 pub record IsWhole (logged printed : List ℕ) (comes status : ℕ) (old new : WorldView) : Type 0 where
@@ -123,20 +128,30 @@ IsLinkedWhole (Deny line) caller inputs status old new = IsWhole (decision_text 
 
 -- ---- a gateway
 
--- The session of this run, as the headline has it, came to its end, or to the most bytes that it may take. The log has taken
--- its lines whole, and nothing else.
-pub record IsPassedWhole (name : List ℕ) (peer : Peer) (inputs : Inputs) (status : ℕ) (old new : WorldView) : Type 0 where
+-- The session came to its end, or to the most bytes that it may take. The log has taken its lines whole, and nothing else.
+pub record IsPassedWhole {P : Type 0} {relays : Bool} {command : Command} {service : Service} {peer : Peer} {rows : ℕ → PlaceTable (acts BookOrigin) P} {first : ℕ → Row (acts BookOrigin) P} {inputs : Inputs} {status : ℕ} {middle new : WorldView}
+    (at : OfGateway relays command service peer rows first inputs status middle new) (old : WorldView) : Type 0 where
+  pub ends : (at.ending ≡ Done) ⊎ (at.ending ≡ Spent)
+  pub logs : new.logs.given ≡ grown old.logs.given (decision_text (Permit at.line) service peer ++ gives logged (deeds_of at.session.held) ++ closing_text service peer at.ending (was_refused (deeds_of at.session.held)))
+  pub passed : IsPassed (Permit at.line) status old.inputs new.inputs
+
+-- so did the session of this run, as the headline has it
+pub record IsLetThrough (name : List ℕ) (peer : Peer) (inputs : Inputs) (status : ℕ) (old new : WorldView) : Type 0 where
   pub middle : WorldView
   pub only : ReadsOnly name true old middle
   pub session : OfTelnet peer inputs status middle new
-  pub ends : (session.ending ≡ Done) ⊎ (session.ending ≡ Spent)
-  pub logs : new.logs.given ≡ grown old.logs.given (decision_text (Permit session.line) services.TnGw peer ++ gives logged (deeds_of session.session.held) ++ closing_text services.TnGw peer session.ending (was_refused (deeds_of session.session.held)))
-  pub passed : IsPassed (Permit session.line) status old.inputs new.inputs
+  pub whole : IsPassedWhole session.at old
 
--- a client whom the rules deny is told so
-abbrev pub IsServedAtGate : Verdict → List ℕ → Peer → Inputs → ℕ → WorldView → WorldView → Type 0
-IsServedAtGate (Permit line) name peer inputs status old new = IsPassedWhole name peer inputs status old new
-IsServedAtGate (Deny line) name peer inputs status old new = IsWhole (decision_text (Deny line) services.TnGw peer) (refusal line) 1 status old new
+pub record IsServedFiles (name : List ℕ) (peer : Peer) (inputs : Inputs) (status : ℕ) (old new : WorldView) : Type 0 where
+  pub middle : WorldView
+  pub only : ReadsOnly name true old middle
+  pub session : OfFtp peer inputs status middle new
+  pub whole : IsPassedWhole session.at old
+
+-- a client whom the rules deny is told so by these words
+abbrev pub IsServedAtGate : Verdict → Service → (ℕ → List ℕ) → (List ℕ → Peer → Inputs → ℕ → WorldView → WorldView → Type 0) → List ℕ → Peer → Inputs → ℕ → WorldView → WorldView → Type 0
+IsServedAtGate (Permit line) service words Whole name peer inputs status old new = Whole name peer inputs status old new
+IsServedAtGate (Deny line) service words Whole name peer inputs status old new = IsWhole (decision_text (Deny line) service peer) (words line) 1 status old new
 
 -- ---- mail
 
@@ -152,7 +167,7 @@ pub record IsMailedWhole (name : List ℕ) (peer : Peer) (inputs : Inputs) (stat
 -- a client whom the rules deny is told so
 abbrev pub IsTakenWhole : Verdict → List ℕ → Peer → Inputs → ℕ → WorldView → WorldView → Type 0
 IsTakenWhole (Permit line) name peer inputs status old new = IsMailedWhole name peer inputs status old new
-IsTakenWhole (Deny line) name peer inputs status old new = IsWhole (decision_text (Deny line) services.Smap peer) (mail_refusal line) 1 status old new
+IsTakenWhole (Deny line) name peer inputs status old new = IsWhole (decision_text (Deny line) services.Smap peer) (refusal_reply line) 1 status old new
 
 -- or a slot has no reading, and the log was told so
 pub record IsBadWhole (status : ℕ) (old new : WorldView) : Type 0 where
@@ -175,7 +190,8 @@ IsAllDone name (Table query) (Ok inputs) status old new =
 IsAllDone name (Authsrv client) (Ok inputs) status old new = IsServedWhole client.console (verdict_for (Authsrv client) inputs) name client inputs status old new
 IsAllDone name (PlugGw caller) (Ok inputs) status old new = IsLinkedWhole (verdict_for (PlugGw caller) inputs) caller inputs status old new
 IsAllDone name (Smap peer) (Ok inputs) status old new = IsBadWhole status old new ⊎ IsTakenWhole (verdict_for (Smap peer) inputs) name peer inputs status old new
-IsAllDone name (TnGw peer) (Ok inputs) status old new = IsServedAtGate (verdict_for (TnGw peer) inputs) name peer inputs status old new
+IsAllDone name (TnGw peer) (Ok inputs) status old new = IsServedAtGate (verdict_for (TnGw peer) inputs) services.TnGw refusal IsLetThrough name peer inputs status old new
+IsAllDone name (FtpGw peer) (Ok inputs) status old new = IsServedAtGate (verdict_for (FtpGw peer) inputs) services.FtpGw refusal_reply IsServedFiles name peer inputs status old new
 
 -- by the inputs of the command, or by what can't be read
 pub record AllDone (name : List ℕ) (command : Command) (status : ℕ) (old new : WorldView) : Type 0 where

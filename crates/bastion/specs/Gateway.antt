@@ -1,59 +1,49 @@
--- A client of `tn-gw`: what it is told, for which destinations the dialer is asked, and what goes over the links.
-use Rattle.std.specs.Prelude.{◌≡◌, ℕ, ◌⊎◌, true, List, [], ◌∷◌, ◌++◌, Some, Ok, Err}
+-- A client of `tn-gw`: what it is told, for which destinations the dialer is asked, and what goes over the link.
+use Rattle.std.specs.Prelude.{◌≡◌, ℕ, true, List, [], ◌∷◌, ◌++◌, Err}
 use Rattle.auth_events.specs.declared.entry.Entry.{Entry}
-use Rattle.auth_machine.specs.Book.{BookView}
-use Rattle.auth_machine.specs.Port.{BookOrigin, book_port}
-use Rattle.client_service.specs.Decision.{decision_text}
-use Rattle.client_service.specs.Meeting.{patient, timeout_of}
-use Rattle.fw_outside.specs.KeeperView.{KeeperView}
-use Rattle.fw_outside.specs.SinkView.{SinkView}
-use Rattle.fw_outside.specs.ToldList.{grown}
+use Rattle.auth_machine.specs.Port.{BookOrigin}
+use Rattle.fw_acts.specs.Acts.{Row, PlaceTable}
 use Rattle.fw_outside.specs.declared.ask.Ask.TheVariants.{Main}
 use Rattle.fw_types.specs.declared.dest.Dest.{Dest}
 use Rattle.fw_types.specs.declared.ending.Ending.{Ending}
 use Rattle.fw_types.specs.declared.ending.Ending.TheVariants.{Done}
 use Rattle.fw_types.specs.declared.peer.Peer.{Peer}
 use Rattle.gate_rules.specs.declared.service.Service.TheVariants as services
-use Rattle.gate_rules.specs.declared.verdict.Verdict.TheVariants.{Permit}
-use Rattle.session_acts.specs.Client.{with_line}
 use Rattle.session_acts.specs.Deeds.{Deed, deeds_ran, gives}
 use Rattle.session_acts.specs.Hearing.{heard_in}
 use Rattle.session_acts.specs.LastStop.{StopsLast}
-use Rattle.session_acts.specs.Laws.{Adds, CountsRefusals, LinksDialer, called, linked, logged, refused, told}
+use Rattle.session_acts.specs.Laws.{CountsRefusals, LinksDialer, called, linked, refused}
+use Rattle.session_acts.specs.Met.{acts}
 use Rattle.session_acts.specs.RelayLast.{RelaysLast}
 use Rattle.session_acts.specs.Relayed.{relayed, then_relay}
 use Rattle.session_acts.specs.RelayFronts.{RelaysFronts}
 use Rattle.session_acts.specs.Said.{SaysLines, lines_said}
-use Rattle.session_acts.specs.Session.{Held, RelaySession, deeds_of}
+use Rattle.session_acts.specs.Session.{Held, deeds_of}
 use Rattle.session_acts.specs.Talk.{Entered, asked}
-use Rattle.session_acts.specs.World.{Devices, World}
-use Rattle.tn_gate.specs.Asked.{lines_in, turns_of}
+use Rattle.session_acts.specs.World.{World}
 use Rattle.session_acts.specs.declared.cause.Cause.{Cause}
+use Rattle.tn_gate.specs.Asked.{lines_in, turns_of}
 use Rattle.tn_gate.specs.Asking.{AsksWhatIsDue}
 use Rattle.tn_gate.specs.Course.{OpensOnce}
 use Rattle.tn_gate.specs.Dialogue.{tn_row, tn_rows}
 use Rattle.tn_gate.specs.Due.{LogsWhatIsDue}
-use Rattle.tn_gate.specs.Dummies.{lent}
 use Rattle.tn_gate.specs.Ends.{EndsThere, HasEnd}
 use Rattle.tn_gate.specs.Gate.{Gate, asks_login, gate_at}
 use Rattle.tn_gate.specs.Laws.{AsksExactly, DenialsLogged, DialsCleared, LinesDialed}
 use Rattle.tn_gate.specs.Login.{LoginStandsIn, number_opened}
 use Rattle.tn_gate.specs.Texts.{refusal}
-use Rattle.bastion.specs.Asking.{FailsWithin, IsUndecided}
-use Rattle.bastion.specs.Inputs.{HasInputs, Inputs}
-use Rattle.bastion.specs.Run.{ReadsOnly, verdict_for}
-use Rattle.bastion.specs.Serving.{book_at_first, most_entries, origin_of}
-use Rattle.bastion.specs.Talk.{IsConcluded, IsLegalTalk, IsToldOff, IsUnserved, was_refused}
+use Rattle.tn_gate.specs.declared.place.Place.{Place}
+use Rattle.bastion.specs.AtGateway.{IsGatedAs, OfGateway, begins_at, ends_at}
+use Rattle.bastion.specs.Inputs.{Inputs}
 use Rattle.bastion.specs.WorldView.{WorldView}
 use Rattle.bastion.specs.declared.words.Command.TheVariants.{TnGw}
 
--- the devices that have a part in a session: those of the run, and the book
-abbrev pub gated_devices : WorldView → BookView → Devices BookOrigin
-gated_devices world book = lent (book_port book) world.inputs.input world.output world.logs world.inputs.dialer world.inputs.clock
+-- the rows of its session, by the line that permits it; a relay is at its end
+abbrev pub telnet_rows : Inputs → Peer → ℕ → PlaceTable (acts BookOrigin) Place
+telnet_rows inputs peer line = relayed (tn_rows (gate_at inputs.rules line peer))
 
--- they wait as the rules have it, and the log was given the line of the permission
-abbrev pub let_in : Inputs → Peer → ℕ → Devices BookOrigin → Devices BookOrigin
-let_in inputs peer line devices = with_line (decision_text (Permit line) services.TnGw peer) (patient (timeout_of inputs.rules) devices)
+abbrev pub telnet_row : Inputs → Peer → ℕ → Row (acts BookOrigin) Place
+telnet_row inputs peer line = then_relay (tn_row (gate_at inputs.rules line peer))
 
 -- Where a login is asked for, each destination is asked for after one: what the session had asked by then is a front of the
 -- history, and in that a login stands for the number that this session's opening was given.
@@ -95,61 +85,13 @@ pub record IsGuarded (gate : Gate) (history : List Entry) {old new : World BookO
   -- where the session stopped, at the log, say, nothing but what was owed was done after
   pub stops : (cause : Cause) → held.dialogue ≡ Err cause → StopsLast cause held
 
--- The rules permit the client, and the log has the line of that whole. Then a session of the gateway was held, over the run's
--- devices and a book of the records that the keeper had. What it asked and was answered is one legal history, and the keeper
--- has the records after it. The log was given what the session's deeds log, and the client what they tell; the dialer was
--- asked for the destinations that they ask for, in order, and for no other. If one came up, its server was given a front of
--- what was taken of the client behind the lines that were heard, and the client, behind what it was told, a front of what was
--- taken of the server; else nothing was given to a server, and nothing taken of one.
+-- A session of the gateway was held. If a link came up, its server was given a front of what was taken of the client behind the
+-- lines that were heard, and the client, behind what it was told, a front of what was taken of the server; else nothing was
+-- given to a server, and nothing taken of one.
 pub record OfTelnet (peer : Peer) (inputs : Inputs) (status : ℕ) (old new : WorldView) : Type 0 where
-  pub before : KeeperView
-  pub keeper : old.inputs.keeper ≡ Some before
-  pub line : ℕ
-  pub permitted : verdict_for (TnGw peer) inputs ≡ Permit line
-  pub book : BookView
-  pub logs : SinkView
-  pub ending : Ending
-  pub session : RelaySession (relayed (tn_rows (gate_at inputs.rules line peer))) (then_relay (tn_row (gate_at inputs.rules line peer))) (let_in inputs peer line (gated_devices old (book_at_first (origin_of inputs) most_entries before))) (record (gated_devices new book) { logs = logs }) ending
-  pub talk : IsLegalTalk inputs before (deeds_of session.held) book
-  pub kept : new.inputs.keeper ≡ Some book.keeper
-  pub guarded : IsGuarded (gate_at inputs.rules line peer) book.history session.held
-  pub asked : Adds (gives called (deeds_of session.held)) old.inputs.dialer.asked new.inputs.dialer.asked
-  pub logged : logs.given ≡ grown old.logs.given (decision_text (Permit line) services.TnGw peer ++ gives logged (deeds_of session.held))
-  pub told : new.output.given ≡ grown old.output.given (gives told (deeds_of session.held))
-  pub fronts : RelaysFronts (deeds_of session.held) (let_in inputs peer line (gated_devices old (book_at_first (origin_of inputs) most_entries before))) (record (gated_devices new book) { logs = logs }) ending
-  pub concluded : IsConcluded services.TnGw peer ending (was_refused (deeds_of session.held)) status logs new.logs
-
--- the rules deny the client, and no destination was asked for
-pub record IsBarred (peer : Peer) (inputs : Inputs) (old new : WorldView) : Type 0 where
-  pub off : IsToldOff (TnGw peer) services.TnGw peer refusal old.inputs.dialer inputs old new
-  pub dialer : new.inputs.dialer ≡ old.inputs.dialer
-
--- The log failed within the verdict's line. No destination was asked for, the client was told nothing, and nothing was asked
--- of the book.
-pub record IsCutOff (peer : Peer) (inputs : Inputs) (status : ℕ) (old new : WorldView) : Type 0 where
-  pub within : FailsWithin (decision_text (verdict_for (TnGw peer) inputs) services.TnGw peer) old new
-  pub dialer : new.inputs.dialer ≡ record (old.inputs.dialer) { waits = new.inputs.dialer.waits }
-  pub output : new.output ≡ old.output
-  pub before : KeeperView
-  pub keeper : old.inputs.keeper ≡ Some before
-  pub book : BookView
-  pub talk : IsLegalTalk inputs before [] book
-  pub kept : new.inputs.keeper ≡ Some book.keeper
-  pub status_is : status ≡ 4
-
--- what the command needs couldn't be had: no destination was asked for, the client was told nothing, and the keeper has what it
--- had
-pub record IsUnmet (status : ℕ) (old new : WorldView) : Type 0 where
-  pub undecided : IsUndecided status old new
-  pub unserved : IsUnserved status old new
-
--- by the inputs of the command
-pub record IsGatedBy (name : List ℕ) (peer : Peer) (status : ℕ) (old new : WorldView) : Type 0 where
-  pub inputs : Inputs
-  pub read : HasInputs name (TnGw peer) (Ok inputs) old
-  pub middle : WorldView
-  pub only : ReadsOnly name true old middle
-  pub so : IsCutOff peer inputs status middle new ⊎ (IsBarred peer inputs middle new ⊎ OfTelnet peer inputs status middle new)
+  pub at : OfGateway true (TnGw peer) services.TnGw peer (telnet_rows inputs peer) (telnet_row inputs peer) inputs status old new
+  pub guarded : IsGuarded (gate_at inputs.rules at.line peer) at.book.history at.session.held
+  pub fronts : RelaysFronts (deeds_of at.session.held) (begins_at services.TnGw inputs peer at.line at.before old) (ends_at at.book at.logs new) at.ending
 
 abbrev pub IsGated : List ℕ → Peer → ℕ → WorldView → WorldView → Type 0
-IsGated name peer status old new = IsUnmet status old new ⊎ IsGatedBy name peer status old new
+IsGated name peer status old new = IsGatedAs name (TnGw peer) services.TnGw peer refusal (OfTelnet peer) status old new

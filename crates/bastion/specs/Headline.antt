@@ -27,6 +27,7 @@ use Rattle.session_acts.specs.Met.{acts}
 use Rattle.session_acts.specs.Session.{Session, deeds_of}
 use Rattle.session_acts.specs.World.{Devices}
 use Rattle.bastion.specs.Asking.{IsAskedBy, IsUndecided}
+use Rattle.bastion.specs.FtpGateway.{IsServing}
 use Rattle.bastion.specs.Gateway.{IsGated}
 use Rattle.bastion.specs.HandedOn.{IsHandedOn}
 use Rattle.bastion.specs.Inputs.{HasInputs, Inputs, needs_records}
@@ -40,7 +41,7 @@ use Rattle.bastion.specs.Works.{with_given}
 use Rattle.bastion.specs.WorldView.{Post, WorldView}
 use Rattle.bastion.specs.declared.words.Client.{Client}
 use Rattle.bastion.specs.declared.words.Command.{Command}
-use Rattle.bastion.specs.declared.words.Command.TheVariants.{Netacl, NetaclRun, Table, Authsrv, PlugGw, TnGw, Smap}
+use Rattle.bastion.specs.declared.words.Command.TheVariants.{Netacl, NetaclRun, Table, Authsrv, PlugGw, TnGw, FtpGw, Smap}
 use Rattle.bastion.specs.declared.words.Job.{Job}
 use Rattle.bastion.specs.declared.words.Job.TheVariants as jobs
 use Rattle.bastion.specs.declared.words.Order.{Order}
@@ -79,6 +80,7 @@ DenialLogged name (Table query) status old new = Unit {0}
 DenialLogged name (Authsrv client) status old new = LogsDenial name (Authsrv client) services.Authsrv client.peer status old new
 DenialLogged name (PlugGw caller) status old new = LogsDenial name (PlugGw caller) (services.PlugGw caller.port) caller.peer status old new × (status ≡ 1 → new.output ≡ old.output)
 DenialLogged name (TnGw peer) status old new = LogsDenial name (TnGw peer) services.TnGw peer status old new
+DenialLogged name (FtpGw peer) status old new = LogsDenial name (FtpGw peer) services.FtpGw peer status old new
 DenialLogged name (Smap peer) status old new = LogsDenial name (Smap peer) services.Smap peer status old new
 
 -- ---- the replies are those of one legal history
@@ -118,7 +120,7 @@ pub record IsReplied (name : List ℕ) (client : Client) (status : ℕ) (old new
   pub only : ReadsOnly name true old middle
   pub so : IsToldOff (Authsrv client) services.Authsrv client.peer denied_text nowhere inputs middle new ⊎ OfHistory client inputs status middle new
 
--- a client of `tn-gw` is one of whom destinations are asked, too: both sentences are of one session
+-- a client of `tn-gw` or `ftp-gw` is one of whom destinations are asked, too: both sentences are of one session
 abbrev pub IsReplying : List ℕ → Command → ℕ → WorldView → WorldView → Type 0
 IsReplying name (Netacl query) status old new = Unit {0}
 IsReplying name (NetaclRun query) status old new = Unit {0}
@@ -127,6 +129,7 @@ IsReplying name (PlugGw caller) status old new = Unit {0}
 IsReplying name (Smap peer) status old new = Unit {0}
 IsReplying name (Authsrv client) status old new = IsUnserved status old new ⊎ IsReplied name client status old new
 IsReplying name (TnGw peer) status old new = IsGated name peer status old new
+IsReplying name (FtpGw peer) status old new = IsServing name peer status old new
 
 -- ---- destinations are asked for as the table permits
 
@@ -134,6 +137,7 @@ IsReplying name (TnGw peer) status old new = IsGated name peer status old new
 abbrev pub AsksPermitted : List ℕ → Command → ℕ → WorldView → WorldView → Type 0
 AsksPermitted name (PlugGw caller) status old new = IsUndecided status old new ⊎ IsAskedBy name caller status old new
 AsksPermitted name (TnGw peer) status old new = IsGated name peer status old new
+AsksPermitted name (FtpGw peer) status old new = IsServing name peer status old new
 AsksPermitted name command status old new = new.inputs.dialer ≡ old.inputs.dialer
 
 -- ---- each message that is answered as kept stands
@@ -151,12 +155,13 @@ HandsStand post job status old new = Unit {0}
 -- ---- the headline
 
 pub record HeadlineFor (name : List ℕ) (command : Command) (status : ℕ) (old new : WorldView) : Type 0 where
-  -- a client of `authsrv` or `tn-gw` is told nothing, and the keeper has what it had; or that it is denied; or the replies of
+  -- a client of `authsrv`, `tn-gw` or `ftp-gw` is told nothing, and the keeper has what it had; or that it is denied; or the replies of
   -- one legal history
   pub replies_legal : IsReplying name command status old new
   -- `plug-gw` asks for the target of the first line that fits, if that permits, once both lines stand whole in the log, and
   -- relays fronts of what was taken; `tn-gw` asks for exactly the destinations that its client's lines ask for, the permission
-  -- line allows and this session's login clears, each behind its line; no other command asks for a destination
+  -- line allows and this session's login clears, each behind its line; so does `ftp-gw`, whose servers are given what the
+  -- client's commands are passed as, without those that are blocked; no other command asks for a destination
   pub asks_permitted : AsksPermitted name command status old new
   -- nobody is told anything, or the rules permit, or the log has the whole line of the denial
   pub denials_logged : DenialLogged name command status old new

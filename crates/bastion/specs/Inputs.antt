@@ -40,6 +40,7 @@ needs (commands.Table query) = RulesOf query.service ∷ []
 needs (commands.Authsrv client) = book_needs services.Authsrv
 needs (commands.PlugGw caller) = RulesOf (services.PlugGw caller.port) ∷ []
 needs (commands.TnGw peer) = book_needs services.TnGw
+needs (commands.FtpGw peer) = book_needs services.FtpGw
 needs (commands.Smap peer) = RulesOf services.Smap ∷ []
 
 abbrev pub is_of_records : Need → Bool

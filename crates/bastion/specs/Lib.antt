@@ -1,6 +1,8 @@
 pub mod Asking
+pub mod AtGateway
 pub mod Complete
 pub mod Deciding
+pub mod FtpGateway
 pub mod Gateway
 pub mod Gating
 pub mod HandedOn

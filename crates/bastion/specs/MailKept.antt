@@ -1,7 +1,7 @@
 -- A client of `smap`: what it is told, and what stands in the slots behind that.
 use Rattle.std.specs.Prelude.{◌≡◌, ◌≢◌, ℕ, ◌⊎◌, false, List, [], ◌++◌, map, None, Result, Ok}
 use Rattle.client_service.specs.Decision.{decision_text}
-use Rattle.client_service.specs.Endings.{mail_refusal}
+use Rattle.client_service.specs.Endings.{refusal_reply}
 use Rattle.client_service.specs.MailService.{mail_devices, mail_gate_of}
 use Rattle.client_service.specs.Meeting.{patient, timeout_of}
 use Rattle.fw_outside.specs.SinkView.{SinkView}
@@ -73,8 +73,8 @@ pub record OfMail (peer : Peer) (inputs : Inputs) (status : ℕ) (old new : Worl
 pub record IsShutOut (peer : Peer) (inputs : Inputs) (old new : WorldView) : Type 0 where
   pub line : ℕ
   pub denied : verdict_for (Smap peer) inputs ≡ Deny line
-  pub tried : Result (Unit {0}) (Front (mail_refusal line))
-  pub gets : Gets (mail_refusal line) tried old.output new.output
+  pub tried : Result (Unit {0}) (Front (refusal_reply line))
+  pub gets : Gets (refusal_reply line) tried old.output new.output
   pub spool : RunsSpool [] [] old.inputs.disks new.inputs.disks
 
 -- by the inputs of the command

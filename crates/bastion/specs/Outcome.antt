@@ -20,7 +20,7 @@ use Rattle.bastion.specs.declared.outcome.Outcome.TheVariants.{Usage, Unread, Fa
 use Rattle.bastion.specs.declared.outcome.Refusal.{Refusal}
 use Rattle.bastion.specs.declared.outcome.Refusal.TheVariants.{Table, Rule, Record, Slot}
 use Rattle.bastion.specs.declared.words.Command.{Command}
-use Rattle.bastion.specs.declared.words.Command.TheVariants.{PlugGw, TnGw, Smap}
+use Rattle.bastion.specs.declared.words.Command.TheVariants.{PlugGw, TnGw, FtpGw, Smap}
 use Rattle.bastion.specs.declared.words.Order.{Order}
 use Rattle.bastion.specs.declared.words.Order.TheVariants.{ByTable, Alone}
 
@@ -145,7 +145,7 @@ LinkRose endings.Idle old new = Rose old.inputs.input.idles new.inputs.input.idl
 LinkRose endings.NoRoute old new = Rose old.inputs.dialer.refusals new.inputs.dialer.refusals
 LinkRose ending old new = EndingRose ending old new
 
--- and of one of the gateway, which no link that is refused ends
+-- and of one of a gateway, which no link that is refused ends
 abbrev pub GateRose : Ending → WorldView → WorldView → Type 0
 GateRose endings.NoRoute old new = ⊥
 GateRose ending old new = LinkRose ending old new
@@ -171,10 +171,11 @@ abbrev pub JobRose : Post → Outcome → WorldView → WorldView → Type 0
 JobRose post (Failed device.Mailer) old new = MailersRose post.before post.after
 JobRose post outcome old new = SlotsRose outcome old new
 
--- only a session of the plug or of the gateway has a link, and only one of the mail gateway slots
+-- only a session of the plug or of a gateway has a link, and only one of the mail gateway slots
 abbrev pub RoseFor : Command → Outcome → WorldView → WorldView → Type 0
 RoseFor (PlugGw caller) (Ended ending refused) old new = LinkRose ending old new
 RoseFor (TnGw peer) (Ended ending refused) old new = GateRose ending old new
+RoseFor (FtpGw peer) (Ended ending refused) old new = GateRose ending old new
 RoseFor (Smap peer) outcome old new = SlotsRose outcome old new
 RoseFor command outcome old new = CountRose outcome old new
 

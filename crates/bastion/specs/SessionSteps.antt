@@ -16,7 +16,6 @@ use Rattle.fw_types.specs.declared.peer.Peer.{Peer}
 use Rattle.gate_rules.specs.Reading.{RuleBook}
 use Rattle.gate_rules.specs.Verdict.{verdict_of}
 use Rattle.gate_rules.specs.declared.service.Service.{Service}
-use Rattle.gate_rules.specs.declared.service.Service.TheVariants.{TnGw}
 use Rattle.bastion.specs.Gating.{devices_over}
 use Rattle.bastion.specs.Inputs.{HasInputs, Inputs, book_needs, needs}
 use Rattle.bastion.specs.Run.{ReadsOnly, Stops}
@@ -143,13 +142,13 @@ pub record HoldsOver (client : Client) (rules : RuleBook) (first : BookView) (ou
   pub disks : middle.inputs.disks ≡ old.inputs.disks
   pub ends : EndsOver book ending out middle new
 
--- and a client of `tn-gw`
-pub record PassesOver (peer : Peer) (rules : RuleBook) (first : BookView) (out : Outcome) (old new : WorldView) : Type 0 where
+-- and a client of a gateway
+pub record PassesOver (service : Service) (peer : Peer) (rules : RuleBook) (first : BookView) (out : Outcome) (old new : WorldView) : Type 0 where
   pub book : BookView
   pub ending : Ending
   pub middle : WorldView
-  pub serves : Conn TnGw rules peer (devices_over old first) (devices_over middle book) ending
-  pub untouched : Untouched TnGw (verdict_of rules peer) first book
+  pub serves : Conn service rules peer (devices_over old first) (devices_over middle book) ending
+  pub untouched : Untouched service (verdict_of rules peer) first book
   pub files : middle.files ≡ old.files
   pub launcher : middle.inputs.launcher ≡ old.inputs.launcher
   pub disks : middle.inputs.disks ≡ old.inputs.disks

@@ -20,7 +20,7 @@ use Rattle.bastion.specs.Words.{LineView}
 use Rattle.bastion.specs.WorldView.{Post, SessionInputs, WorldView}
 use Rattle.bastion.specs.declared.outcome.Refusal.{Refusal}
 use Rattle.bastion.specs.declared.words.Command.{Command}
-use Rattle.bastion.specs.declared.words.Command.TheVariants.{Netacl, NetaclRun, Table, Authsrv, PlugGw, TnGw, Smap}
+use Rattle.bastion.specs.declared.words.Command.TheVariants.{Netacl, NetaclRun, Table, Authsrv, PlugGw, TnGw, FtpGw, Smap}
 use Rattle.bastion.specs.declared.words.Job.{Job}
 use Rattle.bastion.specs.declared.words.Job.TheVariants.{Drill, SpoolInit, Smapd}
 use Rattle.bastion.specs.declared.words.Order.{Order}
@@ -47,10 +47,11 @@ abbrev pub DisksRose : List DiskView → List DiskView → Type 0
 DisksRose old new = (slot : ℕ) × DiskRose slot old new
 
 -- a device's own count rose: the dialer's, too, where the command has a link; but a link that is refused is no failure of a
--- session of `tn-gw`, which goes on; and those of the disks of a command that calls them
+-- session of `tn-gw` or `ftp-gw`, which goes on; and those of the disks of a command that calls them
 abbrev pub RoseBy : Command → WorldView → WorldView → Type 0
 RoseBy (PlugGw caller) old new = SomeRose old new ⊎ LinksRose old.inputs.dialer new.inputs.dialer
 RoseBy (TnGw peer) old new = SomeRose old new ⊎ LinksFailed old.inputs.dialer new.inputs.dialer
+RoseBy (FtpGw peer) old new = SomeRose old new ⊎ LinksFailed old.inputs.dialer new.inputs.dialer
 RoseBy (Smap peer) old new = SomeRose old new ⊎ DisksRose old.inputs.disks new.inputs.disks
 RoseBy command old new = SomeRose old new
 
@@ -99,7 +100,7 @@ abbrev pub IsLinked : Verdict → ℕ → SessionInputs → SessionInputs → Ty
 IsLinked (Permit line) status old new = (status ≡ 0) ⊎ ((status ≡ 6) × (TookMost old.input new.input ⊎ LinkSpent new.dialer))
 IsLinked (Deny line) status old new = status ≡ 1
 
--- a session of the gateway: 0, or 6 where it came to a limit, or all that may be was taken of a link; 1 where the rules deny
+-- a session of a gateway: 0, or 6 where it came to a limit, or all that may be was taken of a link; 1 where the rules deny
 -- the peer
 abbrev pub IsPassed : Verdict → ℕ → SessionInputs → SessionInputs → Type 0
 IsPassed (Permit line) status old new = (status ≡ 0) ⊎ ((status ≡ 6) × (IsAtLimit old new ⊎ LinkSpent new.dialer))
@@ -123,6 +124,7 @@ IsBy (Table query) (Ok inputs) status old new = status ≡ verdict_status (verdi
 IsBy (Authsrv client) (Ok inputs) status old new = IsServed client.console (verdict_for (Authsrv client) inputs) status old new
 IsBy (PlugGw caller) (Ok inputs) status old new = IsLinked (verdict_for (PlugGw caller) inputs) status old new
 IsBy (TnGw peer) (Ok inputs) status old new = IsPassed (verdict_for (TnGw peer) inputs) status old new
+IsBy (FtpGw peer) (Ok inputs) status old new = IsPassed (verdict_for (FtpGw peer) inputs) status old new
 IsBy (Smap peer) (Ok inputs) status old new = IsMailed (verdict_for (Smap peer) inputs) status old new
 
 -- the status is by the inputs of the command, or by what can't be read
@@ -206,7 +208,7 @@ pub record TakesIn (status : ℕ) (old new : SourceView) : Type 0 where
   pub took : TookAtMost old new
   pub all : length took.bytes ≡ most_taken → status ≡ 6
 
--- The same of a session over a link; after so many a failure or idleness, which come first, make the status 4.
+-- The same of a session that relays; after so many a failure or idleness, which come first, make the status 4.
 pub record TakesOver (status : ℕ) (old new : SourceView) : Type 0 where
   pub took : TookAtMost old new
   pub all : length took.bytes ≡ most_taken → (status ≡ 6) ⊎ (status ≡ 4)

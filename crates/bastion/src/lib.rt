@@ -5,8 +5,9 @@
 //! clock, the dice and the keeper of the users' records. Its contract says, for every command line, every table and
 //! every way in which a device may fail, which status it answers and what it leaves: wherever `netacl` has printed
 //! anything, the line of its verdict stands whole in the log; what is printed and logged is told byte for byte, where
-//! the devices tell it; the replies that a client of `authsrv` or `tn-gw` is told are those of a legal history; the
-//! destinations that `plug-gw` and `tn-gw` ask for are those that the table permits, and no other command asks for one;
+//! the devices tell it; the replies that a client of `authsrv`, `tn-gw` or `ftp-gw` is told are those of a legal
+//! history; the destinations that `plug-gw`, `tn-gw` and `ftp-gw` ask for are those that the table permits, and no other
+//! command asks for one; a server of `ftp-gw` is given what its client's commands are passed as, without those that are denied;
 //! each message that `smap` tells its client to be kept stands whole in the slot of the number that it tells;
 //! and each status but 5, want of memory, has its cause: in the words, in a limit, in the count of a device that rose,
 //! or, where the devices tell what they hold, in the table's text, the records and the slots. [`conn`] serves one client.
@@ -15,6 +16,7 @@
 mod authsrv;
 mod book;
 mod deciding;
+mod gateways;
 mod handing_on;
 mod jobs;
 mod kit;
@@ -28,7 +30,6 @@ mod running;
 mod server_rules;
 mod starting;
 mod table_report;
-mod telnet_gateway;
 mod texts;
 mod words;
 

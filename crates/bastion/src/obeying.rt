@@ -9,12 +9,12 @@ ghost use Rattle.bastion.specs.declared.words.Command.TheVariants.{Netacl, Netac
 
 use crate::authsrv::attend;
 use crate::deciding::{decide, show};
+use crate::gateways::{ftp, telnet};
 use crate::jobs::do_job;
 use crate::mailing::take_mail;
 use crate::plug::plug;
 use crate::reading::rules_for;
 use crate::starting::decide_run;
-use crate::telnet_gateway::gate;
 use crate::{Command, CommandLine, Kit, Order, Outcome, Query, World};
 use fw_mail::Mailer;
 use fw_types::Octets;
@@ -72,7 +72,8 @@ where
         Command::Table(query) => table(alloc, name, query, world),
         Command::Authsrv(client) => attend(rt, alloc, name, client, world),
         Command::PlugGw(caller) => plug(rt, alloc, name, caller, world),
-        Command::TnGw(peer) => gate(rt, alloc, name, peer, world),
+        Command::TnGw(peer) => telnet(rt, alloc, name, peer, world),
+        Command::FtpGw(peer) => ftp(rt, alloc, name, peer, world),
         Command::Smap(peer) => take_mail(rt, alloc, name, peer, world),
     }
 }

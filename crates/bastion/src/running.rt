@@ -16,11 +16,11 @@ use std::thread::Threads;
 
 /// Runs a command line over the devices of a world, and answers the exit status:
 ///
-/// - 0 where the table permits the peer, and a session of `authsrv`, `plug-gw`, `tn-gw` or `smap` is done, or a job that needs
-///   no table; 1 where the table denies the peer, who isn't at the console of `authsrv`;
+/// - 0 where the table permits the peer, and a session of `authsrv`, `plug-gw`, `tn-gw`, `ftp-gw` or `smap` is done, or a job
+///   that needs no table; 1 where the table denies the peer, who isn't at the console of `authsrv`;
 /// - 2 where the words are no command;
-/// - 3 where a line of the table, or of the service, or a user's record or a slot can't be read; for `tn-gw` also where a line
-///   of `authsrv` can't;
+/// - 3 where a line of the table, or of the service, or a user's record or a slot can't be read; for `tn-gw` and `ftp-gw` also
+///   where a line of `authsrv` can't;
 /// - 4 where a device failed, which its count shows; of `smapd` also where a hand failed or a slot broke;
 /// - 5 for want of memory, which never takes the place of a denial once the records and rules are read, and for `smap` the slots
 ///   opened;

@@ -50,6 +50,8 @@ pub enum Command {
     PlugGw(Caller),
     /// `tn-gw ADDR [NAME]`: link a peer to the destination that it asks for, where the table permits it.
     TnGw(Peer),
+    /// `ftp-gw ADDR [NAME]`: link a peer to the FTP server that it asks for, where the table permits it.
+    FtpGw(Peer),
     /// `smap ADDR [NAME]`: take a peer's mail into the slots.
     Smap(Peer),
 }
@@ -321,6 +323,9 @@ fn command_in(words: &[Octets]) -> Option<Command>
             }
             if is_word(name, b"tn-gw") {
                 return peer_in(words).map(Command::TnGw);
+            }
+            if is_word(name, b"ftp-gw") {
+                return peer_in(words).map(Command::FtpGw);
             }
             if is_word(name, b"smap") {
                 return peer_in(words).map(Command::Smap);

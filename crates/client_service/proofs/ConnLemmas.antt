@@ -26,6 +26,7 @@ use Rattle.session_acts.specs.World.{Devices}
 use Rattle.smap_gate.specs.Dialogue.{smap_row, smap_rows}
 use Rattle.smap_gate.proofs.ServerlessLemmas as mail
 use Rattle.tn_gate.specs.Gate.{gate_at}
+use Rattle.ftp_gate.specs.Gate as ftp
 use Rattle.session_acts.proofs.AloneLemmas.{session_alone, session_exact}
 use Rattle.session_acts.proofs.CauseLemmas.{relay_keeps, session_keeps}
 use Rattle.session_acts.proofs.ClientLemmas.{denies}
@@ -36,13 +37,16 @@ use Rattle.session_acts.proofs.WaitedLemmas.{session_waited}
 use Rattle.client_service.specs.Conn.{AtConsole, CausedBy, Causes, Conn, Dials, FrontsBy, IsRefused, Permits, TakesBy, Treats, TurnsAway, Unasked, WaitsAs}
 use Rattle.client_service.specs.Decision.{decision_text}
 use Rattle.client_service.specs.Endings.{NotedIf, denied_words, ending_line}
-use Rattle.client_service.specs.GateService.{LetsIn, gate_devices}
+use Rattle.client_service.specs.FtpService.{Serves}
+use Rattle.client_service.specs.GateService.{LetsIn}
+use Rattle.client_service.specs.Gateways.{gate_devices}
 use Rattle.client_service.specs.Kind.{Kind, kind_of, may_relay}
-use Rattle.client_service.specs.Kind.Kind.{Alone, Gated, Plugged}
+use Rattle.client_service.specs.Kind.Kind.{Alone, Gated, Plugged, Replied}
 use Rattle.client_service.specs.MailService.{MailsTo, mail_devices, mail_gate_of}
 use Rattle.client_service.specs.Meeting.{away_row, denied_by, dialer_then, lent_by, logged_row, mailless, patient, timeout_of}
 use Rattle.client_service.specs.PlugService.{LinksTo, plug_devices}
 use Rattle.client_service.proofs.FrontsLemmas.{fronts_later, plug_gives}
+use Rattle.client_service.proofs.FtpLemmas.{ftp_caused, ftp_keeps, ftp_takes, ftp_waits, serving_behind}
 use Rattle.client_service.proofs.GateLemmas.{fronts_behind, gate_caused, gate_keeps, gate_takes, gate_unasked, gate_waits}
 use Rattle.client_service.proofs.LaterLemmas.{caused_later, causes_later, keeps_later, noted_most, noted_shut, takes_later, unasked_later, waits_with, with_logs}
 use Rattle.client_service.proofs.MailLemmas.{mail_caused, mail_keeps, mail_takes}
@@ -56,7 +60,7 @@ unended : (service : Service) (peer : Peer) (ending : Ending) → ending ≡ Log
 unended service peer ending is = ap (ending_line service peer) is
 
 -- whom the rules deny reaches nobody
-denied_alone : (service : Service) (line : ℕ) → kind_of service (Deny line) ≡ Alone
+pub denied_alone : (service : Service) (line : ℕ) → kind_of service (Deny line) ≡ Alone
 denied_alone (PlugGw at) line = refl
 denied_alone TnGw line = refl
 denied_alone Authsrv line = refl
@@ -71,6 +75,7 @@ module _ {Origin : Type 0} where
   none_denies Alone line verdict old new h = absurd h
   none_denies Plugged line verdict old new h = absurd h
   none_denies Gated line verdict old new h = absurd h
+  none_denies Replied line verdict old new h = absurd h
 
   causes_of : (kind : Kind) (verdict : Verdict) (ending : Ending) (old new : Devices Origin) → CausedBy kind ending old new → Causes kind verdict ending old new
   causes_of kind verdict Done old new h = h
@@ -124,6 +129,8 @@ module _ {Origin : Type 0} where
     refusals = h.refusals;
     link_faults = h.link_faults;
     link_idles = h.link_idles;
+    data_faults = h.data_faults;
+    data_idles = h.data_idles;
     waits = h.waits;
     link_waits = h.link_waits;
     shut = h.shut;
@@ -264,13 +271,31 @@ module _ {Origin : Type 0} where
         home = keeps.home;
       }
 
+  -- one of `ftp-gw`
+  served_facts : (line : ℕ) (rules : RuleBook) (peer : Peer) (ending : Ending) (old new : Devices Origin) → Serves line rules peer ending old new → Facts Replied (Permit line) rules ending old new
+  served_facts line rules peer ending old new h =
+      let text = decision_text (Permit line) FtpGw peer in
+      let gate = ftp.gate_at rules line peer in
+      let seconds = timeout_of rules in
+      let keeps = ftp_keeps text gate seconds ending old new h.held in
+      record {
+        caused = causes_of Replied (Permit line) ending old new (ftp_caused text gate seconds ending old new h.held);
+        spent = ftp_takes text gate seconds ending old new h.held;
+        waited = ftp_waits text gate seconds ending old new h.held;
+        refused = tt;
+        unasked = tt;
+        keeps = keeps;
+        origin = keeps.origin;
+        home = keeps.home;
+      }
+
   treats_facts : (verdict : Verdict) (service : Service) (rules : RuleBook) (peer : Peer) (ending : Ending) (old new : Devices Origin) → Treats verdict service rules peer ending old new → Facts (kind_of service verdict) verdict rules ending old new
   treats_facts (Deny line) service rules peer ending old new h = denied_facts line service rules peer ending old new h
   treats_facts (Permit line) (PlugGw at) rules peer ending old new h = linked_facts at line rules peer ending old new h
   treats_facts (Permit line) TnGw rules peer ending old new h = gated_facts line rules peer ending old new h
   treats_facts (Permit line) Authsrv rules peer ending old new h = held_facts line rules peer ending old new h
   treats_facts (Permit line) (Netacl label) rules peer ending old new h = absurd h
-  treats_facts (Permit line) FtpGw rules peer ending old new h = absurd h
+  treats_facts (Permit line) FtpGw rules peer ending old new h = served_facts line rules peer ending old new h
   treats_facts (Permit line) Smap rules peer ending old new h = mailed_facts line rules peer ending old new h
 
   conn_facts : (service : Service) (rules : RuleBook) (peer : Peer) (old new : Devices Origin) (ending : Ending) → Conn service rules peer old new ending → Facts (kind_of service (verdict_of rules peer)) (verdict_of rules peer) rules ending old new
@@ -351,7 +376,7 @@ module _ {Origin : Type 0} where
   treats_dialed (Permit line) TnGw rules peer ending old new logs h noted = tt
   treats_dialed (Permit line) Authsrv rules peer ending old new logs h noted = held_undialed line rules peer ending old (with_logs new logs) h
   treats_dialed (Permit line) (Netacl label) rules peer ending old new logs h noted = absurd h
-  treats_dialed (Permit line) FtpGw rules peer ending old new logs h noted = absurd h
+  treats_dialed (Permit line) FtpGw rules peer ending old new logs h noted = tt
   treats_dialed (Permit line) Smap rules peer ending old new logs h noted = h.dialer
 
   pub conn_dialed : (service : Service) (rules : RuleBook) (peer : Peer) (old new : Devices Origin) (ending : Ending) → Conn service rules peer old new ending → Dials service (verdict_of rules peer) rules peer ending old new
@@ -375,7 +400,8 @@ module _ {Origin : Type 0} where
       record { logs = logs; noted = noted; so = fronts_behind (decision_text (Permit line) TnGw peer) (gate_at rules line peer) ending (patient (timeout_of rules) (gate_devices old)) (gate_devices (with_logs new logs)) h.held }
   treats_fronts (Permit line) Authsrv rules peer ending old new logs h noted = tt
   treats_fronts (Permit line) (Netacl label) rules peer ending old new logs h noted = absurd h
-  treats_fronts (Permit line) FtpGw rules peer ending old new logs h noted = absurd h
+  treats_fronts (Permit line) FtpGw rules peer ending old new logs h noted =
+      record { logs = logs; noted = noted; so = serving_behind (decision_text (Permit line) FtpGw peer) (ftp.gate_at rules line peer) ending (patient (timeout_of rules) (gate_devices old)) (gate_devices (with_logs new logs)) h.held }
   treats_fronts (Permit line) Smap rules peer ending old new logs h noted = tt
 
   pub conn_fronts : (service : Service) (rules : RuleBook) (peer : Peer) (old new : Devices Origin) (ending : Ending) → Conn service rules peer old new ending → FrontsBy service (verdict_of rules peer) rules peer ending old new

@@ -55,7 +55,7 @@ module _ {Origin : Type 0} where
   treats_kept (Permit line) Smap rules peer ending old new logs h noted =
       record { logs = logs; noted = noted; so = mails_behind (decision_text (Permit line) Smap peer) (mail_gate_of rules peer) ending (mail_devices (patient (timeout_of rules) old)) (mail_devices (with_logs new logs)) h.over }
   treats_kept (Permit line) (Netacl label) rules peer ending old new logs h noted = absurd h
-  treats_kept (Permit line) FtpGw rules peer ending old new logs h noted = absurd h
+  treats_kept (Permit line) FtpGw rules peer ending old new logs h noted = h.store
 
   pub conn_kept : (service : Service) (rules : RuleBook) (peer : Peer) (old new : Devices Origin) (ending : Ending) → Conn service rules peer old new ending → Mails service (verdict_of rules peer) rules peer ending old new
   conn_kept service rules peer old new ending conn = treats_kept (verdict_of rules peer) service rules peer ending old new conn.logs conn.treats conn.noted

@@ -12,9 +12,9 @@ use Rattle.session_acts.specs.Serverless.{CausedAlone}
 use Rattle.session_acts.specs.World.{Devices}
 use Rattle.client_service.specs.Conn.{CausedBy, Causes, TakesBy, Unasked, WaitsAs}
 use Rattle.client_service.specs.Endings.{NotedIf}
-use Rattle.client_service.specs.GateService.{CausedGated}
+use Rattle.client_service.specs.Gateways.{CausedGated}
 use Rattle.client_service.specs.Kind.{Kind}
-use Rattle.client_service.specs.Kind.Kind.{Alone, Gated, Plugged}
+use Rattle.client_service.specs.Kind.Kind.{Alone, Gated, Plugged, Replied}
 use Rattle.client_service.specs.Meeting.{patient, timeout_of}
 use Rattle.client_service.specs.PlugService.{CausedLinked}
 use Rattle.client_service.proofs.SinkLemmas.{gives_most, gives_shut, rose_later, same_low}
@@ -75,6 +75,7 @@ module _ {Origin : Type 0} where
   caused_by_later Alone ending old new logs later h = caused_later ending old new logs later h
   caused_by_later Plugged ending old new logs later h = linked_later ending old new logs later h
   caused_by_later Gated ending old new logs later h = gated_later ending old new logs later h
+  caused_by_later Replied ending old new logs later h = gated_later ending old new logs later h
 
   pub causes_later : (kind : Kind) (verdict : Verdict) (ending : Ending) (old new : Devices Origin) (logs : SinkView) → logs.faults ≤ new.logs.faults → Causes kind verdict ending old (with_logs new logs) → Causes kind verdict ending old new
   causes_later kind verdict (Denied line) old new logs later h = h
@@ -94,6 +95,7 @@ module _ {Origin : Type 0} where
   takes_later Alone ending old new logs h = record { took = h.took; all = h.all }
   takes_later Plugged ending old new logs h = record { took = h.took; all = h.all }
   takes_later Gated ending old new logs h = record { took = h.took; all = h.all }
+  takes_later Replied ending old new logs h = record { took = h.took; all = h.all }
 
   -- ---- the wait
 
@@ -115,12 +117,14 @@ module _ {Origin : Type 0} where
   waits_with Alone (Permit line) rules ending old new logs h = h
   waits_with Plugged (Permit line) rules ending old new logs h = waits_for_with ending (patient (timeout_of rules) old) new logs h
   waits_with Gated (Permit line) rules ending old new logs h = waits_for_with ending (patient (timeout_of rules) old) new logs h
+  waits_with Replied (Permit line) rules ending old new logs h = waits_for_with ending (patient (timeout_of rules) old) new logs h
 
   -- ---- a line that asks for no login
 
   pub unasked_later : (kind : Kind) (verdict : Verdict) (rules : RuleBook) (ending : Ending) (old new : Devices Origin) (logs : SinkView) → Unasked kind verdict rules ending old (with_logs new logs) → Unasked kind verdict rules ending old new
   unasked_later Alone verdict rules ending old new logs h = tt
   unasked_later Plugged verdict rules ending old new logs h = tt
+  unasked_later Replied verdict rules ending old new logs h = tt
   unasked_later Gated (Deny line) rules ending old new logs h = tt
   unasked_later Gated (Permit line) rules ending old new logs h = λ none. record { port = (h none).port; clock = (h none).clock; unfailed = (h none).unfailed; ample = (h none).ample }
 
@@ -141,6 +145,8 @@ module _ {Origin : Type 0} where
         refusals = h.refusals;
         link_faults = h.link_faults;
         link_idles = h.link_idles;
+        data_faults = h.data_faults;
+        data_idles = h.data_idles;
         waits = h.waits;
         link_waits = h.link_waits;
         shut = h.shut;

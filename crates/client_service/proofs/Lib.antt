@@ -1,7 +1,9 @@
 pub mod ConnLemmas
 pub mod DenialLemmas
 pub mod FrontsLemmas
+pub mod FtpLemmas
 pub mod GateLemmas
+pub mod GatewayLemmas
 pub mod KeptLemmas
 pub mod LaterLemmas
 pub mod MailLemmas

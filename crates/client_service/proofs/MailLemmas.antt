@@ -63,6 +63,8 @@ module _ {Origin : Type 0} where
     refusals = same_low old.dialer.refusals new.dialer.refusals (ap (λ (d : DialerView). d.refusals) dialer);
     link_faults = same_low old.dialer.link_faults new.dialer.link_faults (ap (λ (d : DialerView). d.link_faults) dialer);
     link_idles = same_low old.dialer.link_idles new.dialer.link_idles (ap (λ (d : DialerView). d.link_idles) dialer);
+    data_faults = same_low old.dialer.data_faults new.dialer.data_faults (ap (λ (d : DialerView). d.data_faults) dialer);
+    data_idles = same_low old.dialer.data_idles new.dialer.data_idles (ap (λ (d : DialerView). d.data_idles) dialer);
     waits = h.waits;
     link_waits = ap (λ (d : DialerView). d.waits) dialer;
     shut = h.shut;

@@ -57,6 +57,8 @@ module _ {Origin : Type 0} where
     refusals = h.refusals;
     link_faults = h.link_faults;
     link_idles = h.link_idles;
+    data_faults = h.data_faults;
+    data_idles = h.data_idles;
     waits = h.waits;
     link_waits = h.link_waits;
     shut = h.shut;

@@ -183,7 +183,7 @@ target_by : (at : ℕ) (lines : List Line) (rules : RuleBook) (peer : Peer) → 
 target_by at lines rules peer read (Permit line) is = plug_targeted at line lines rules peer read is
 target_by at lines rules peer read (Deny line) is = tt
 
--- a line of `tn-gw` that permits is one of the rules
+-- a line of `tn-gw` or `ftp-gw` that permits is one of the rules
 found_by : (rule : Rule) (found any : Bool) (more : Option Rule) → (any ≡ true → IsSome (option_map (λ (r : Rule). r.options) more)) → (found || any) ≡ true → IsSome (option_map (λ (r : Rule). r.options) (cond found (Some rule) more))
 found_by rule true any more later is = refl
 found_by rule false any more later is = later is
@@ -199,6 +199,10 @@ permit_found line rules peer is = one_found line rules.rules (permits_one peer l
 options_by : (rules : RuleBook) (peer : Peer) (verdict : Verdict) → verdict_of rules peer ≡ verdict → OptionsFor verdict TnGw rules
 options_by rules peer (Permit line) is = permit_found line rules peer is
 options_by rules peer (Deny line) is = tt
+
+ftp_options : (rules : RuleBook) (peer : Peer) (verdict : Verdict) → verdict_of rules peer ≡ verdict → OptionsFor verdict FtpGw rules
+ftp_options rules peer (Permit line) is = permit_found line rules peer is
+ftp_options rules peer (Deny line) is = tt
 
 -- `authsrv` needs none
 none_needed : (verdict : Verdict) (rules : RuleBook) → OptionsFor verdict Authsrv rules
@@ -216,5 +220,5 @@ served_options Authsrv rules peer served = none_needed (verdict_of rules peer) r
 served_options TnGw rules peer served = options_by rules peer (verdict_of rules peer) refl
 served_options (PlugGw at) rules peer served = target_by at served.lines rules peer served.read (verdict_of rules peer) refl
 served_options (Netacl label) rules peer served = absurd served
-served_options FtpGw rules peer served = absurd served
+served_options FtpGw rules peer served = ftp_options rules peer (verdict_of rules peer) refl
 served_options Smap rules peer served = unlimited (verdict_of rules peer) rules

@@ -10,6 +10,7 @@ use Rattle.gate_rules.specs.declared.verdict.Verdict.{Verdict}
 use Rattle.gate_rules.specs.declared.verdict.Verdict.TheVariants.{Permit, Deny}
 use Rattle.session_acts.specs.World.{Devices}
 use Rattle.client_service.specs.Conn.{Permits, PermitsBy, Treats, TurnsAway, Unstored, Unthrown, Untouched}
+use Rattle.client_service.specs.FtpService.{Serves, is_ftp}
 use Rattle.client_service.specs.GateService.{LetsIn, is_gate}
 use Rattle.client_service.specs.MailService.{MailsTo, is_mail}
 use Rattle.client_service.specs.Options.{HasOptions}
@@ -23,6 +24,14 @@ is_gateway (Netacl label) is = absurd (cc)
 is_gateway FtpGw is = absurd (cc)
 is_gateway Smap is = absurd (cc)
 
+pub is_ftp_gateway : (service : Service) → is_ftp service ≡ true → service ≡ FtpGw
+is_ftp_gateway FtpGw is = refl
+is_ftp_gateway (PlugGw port) is = absurd (cc)
+is_ftp_gateway Authsrv is = absurd (cc)
+is_ftp_gateway (Netacl label) is = absurd (cc)
+is_ftp_gateway TnGw is = absurd (cc)
+is_ftp_gateway Smap is = absurd (cc)
+
 pub is_mailer : (service : Service) → is_mail service ≡ true → service ≡ Smap
 is_mailer Smap is = refl
 is_mailer (PlugGw port) is = absurd (cc)
@@ -31,13 +40,13 @@ is_mailer (Netacl label) is = absurd (cc)
 is_mailer FtpGw is = absurd (cc)
 is_mailer TnGw is = absurd (cc)
 
-pub is_authsrv : (service : Service) (rules : RuleBook) (line : ℕ) → plug_in service ≡ None → is_gate service ≡ false → is_mail service ≡ false → HasOptions service rules line → service ≡ Authsrv
-is_authsrv Authsrv rules line unplugged ungated unmailed h = refl
-is_authsrv (PlugGw port) rules line unplugged ungated unmailed h = absurd (cc)
-is_authsrv TnGw rules line unplugged ungated unmailed h = absurd (cc)
-is_authsrv Smap rules line unplugged ungated unmailed h = absurd (cc)
-is_authsrv (Netacl label) rules line unplugged ungated unmailed h = absurd h
-is_authsrv FtpGw rules line unplugged ungated unmailed h = absurd h
+pub is_authsrv : (service : Service) (rules : RuleBook) (line : ℕ) → plug_in service ≡ None → is_gate service ≡ false → is_ftp service ≡ false → is_mail service ≡ false → HasOptions service rules line → service ≡ Authsrv
+is_authsrv Authsrv rules line unplugged ungated unserved unmailed h = refl
+is_authsrv (PlugGw port) rules line unplugged ungated unserved unmailed h = absurd (cc)
+is_authsrv TnGw rules line unplugged ungated unserved unmailed h = absurd (cc)
+is_authsrv Smap rules line unplugged ungated unserved unmailed h = absurd (cc)
+is_authsrv (Netacl label) rules line unplugged ungated unserved unmailed h = absurd h
+is_authsrv FtpGw rules line unplugged ungated unserved unmailed h = absurd (cc)
 
 -- ---- what is left as it was
 
@@ -97,21 +106,21 @@ same_untouched (Netacl label) line old new same = tt
 same_untouched TnGw line old new same = tt
 same_untouched FtpGw line old new same = tt
 
--- what is untouched isn't thrown, but for a client of the gateway that is as it was
-pub unthrown_by : {A : Type 0} (service : Service) (verdict : Verdict) (old new : A) → is_gate service ≡ false → Untouched service verdict old new → Unthrown service verdict old new
-unthrown_by TnGw verdict old new is h = absurd (cc)
-unthrown_by (PlugGw port) verdict old new is h = h
-unthrown_by Authsrv verdict old new is h = h
-unthrown_by (Netacl label) verdict old new is h = h
-unthrown_by FtpGw verdict old new is h = h
-unthrown_by Smap verdict old new is h = h
+-- what is untouched isn't thrown, but for a client of a gateway that is as it was
+pub unthrown_by : {A : Type 0} (service : Service) (verdict : Verdict) (old new : A) → is_gate service ≡ false → is_ftp service ≡ false → Untouched service verdict old new → Unthrown service verdict old new
+unthrown_by TnGw verdict old new is unserved h = absurd (cc)
+unthrown_by (PlugGw port) verdict old new is unserved h = h
+unthrown_by Authsrv verdict old new is unserved h = h
+unthrown_by (Netacl label) verdict old new is unserved h = h
+unthrown_by FtpGw verdict old new is unserved h = absurd (cc)
+unthrown_by Smap verdict old new is unserved h = h
 
 pub same_unthrown : {A : Type 0} (service : Service) (verdict : Verdict) (line : ℕ) (old new : A) → verdict ≡ Deny line → new ≡ old → Unthrown service verdict old new
 same_unthrown TnGw verdict line old new is same = same
 same_unthrown (PlugGw port) verdict line old new is same = same
 same_unthrown Authsrv verdict line old new is same = denied_untouched Authsrv verdict line old new is same
 same_unthrown (Netacl label) verdict line old new is same = denied_untouched (Netacl label) verdict line old new is same
-same_unthrown FtpGw verdict line old new is same = denied_untouched FtpGw verdict line old new is same
+same_unthrown FtpGw verdict line old new is same = same
 same_unthrown Smap verdict line old new is same = denied_untouched Smap verdict line old new is same
 
 pub permitted_unthrown : {A : Type 0} (service : Service) (verdict : Verdict) (line : ℕ) (old new : A) → verdict ≡ Permit line → Unthrown service (Permit line) old new → Unthrown service verdict old new
@@ -122,6 +131,9 @@ permitted_unthrown {A} service verdict line old new is h = subst (λ (v : Verdic
 module _ {Origin : Type 0} where
   pub permitted_gate : (service : Service) (line : ℕ) (rules : RuleBook) (peer : Peer) (ending : Ending) (old new : Devices Origin) → is_gate service ≡ true → LetsIn line rules peer ending old new → PermitsBy service line rules peer ending old new
   permitted_gate service line rules peer ending old new is h = subst (λ (s : Service). PermitsBy s line rules peer ending old new) (sym (is_gateway service is)) h
+
+  pub permitted_ftp : (service : Service) (line : ℕ) (rules : RuleBook) (peer : Peer) (ending : Ending) (old new : Devices Origin) → is_ftp service ≡ true → Serves line rules peer ending old new → PermitsBy service line rules peer ending old new
+  permitted_ftp service line rules peer ending old new is h = subst (λ (s : Service). PermitsBy s line rules peer ending old new) (sym (is_ftp_gateway service is)) h
 
   pub permitted_mail : (service : Service) (line : ℕ) (rules : RuleBook) (peer : Peer) (ending : Ending) (old new : Devices Origin) → is_mail service ≡ true → MailsTo line rules peer ending old new → PermitsBy service line rules peer ending old new
   permitted_mail service line rules peer ending old new is h = subst (λ (s : Service). PermitsBy s line rules peer ending old new) (sym (is_mailer service is)) h

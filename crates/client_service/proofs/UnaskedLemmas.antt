@@ -7,7 +7,7 @@ use Rattle.auth_events.specs.declared.request.Request.TheVariants.{Password}
 use Rattle.fw_acts.specs.Acts.{Row, PlaceTable}
 use Rattle.fw_types.specs.declared.ending.Ending.{Ending}
 use Rattle.session_acts.specs.Acts.{Act, Outcome}
-use Rattle.session_acts.specs.Acts.Act.{Hear, Say, Try, Log, Note, Ask, Renew, Dial, Reach, Take, Pass, HangUp, Relay, Deposit, Allot}
+use Rattle.session_acts.specs.Acts.Act.{Hear, Say, Try, Log, Note, Ask, Renew, Dial, Reach, Take, Pass, HangUp, Relay, Deposit, Allot, TakeReply, OpenDoor, Join, Copy, Part}
 use Rattle.session_acts.specs.Deeds.{Gains, gives}
 use Rattle.session_acts.specs.Met.{Met, acts, reply_of}
 use Rattle.session_acts.specs.Session.{Held, deeds_of}
@@ -49,6 +49,11 @@ module _ {Origin : Type 0} where
   unasked_one Relay outcome old new met is = met.office
   unasked_one (Deposit sender rcpts words most) outcome old new met is = met.office
   unasked_one Allot outcome old new met is = met.office
+  unasked_one (TakeReply how) outcome old new met is = met.office
+  unasked_one OpenDoor outcome old new met is = met.office
+  unasked_one (Join dest target) outcome old new met is = met.office
+  unasked_one (Copy toward) outcome old new met is = met.office
+  unasked_one Part outcome old new met is = met.office
 
   unasked_gains : Gains Origin asked OfficeStays
   unasked_gains = record {

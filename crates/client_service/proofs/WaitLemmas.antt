@@ -16,7 +16,7 @@ use Rattle.fw_outside.specs.declared.heard.Stop.TheVariants as stops
 use Rattle.fw_types.specs.declared.ending.Ending.{Ending}
 use Rattle.fw_types.specs.declared.ending.Ending.TheVariants as endings
 use Rattle.session_acts.specs.Acts.{Act, Halt, Undeposited, cause_by, deposit_cause, fault_cause, silence_cause}
-use Rattle.session_acts.specs.Acts.Act.{Hear, Say, Try, Log, Note, Ask, Renew, Dial, Reach, Take, Pass, HangUp, Relay, Deposit, Allot}
+use Rattle.session_acts.specs.Acts.Act.{Hear, Say, Try, Log, Note, Ask, Renew, Dial, Reach, Take, Pass, HangUp, Relay, Deposit, Allot, TakeReply, OpenDoor, Join, Copy, Part}
 use Rattle.session_acts.specs.Acts.Undeposited.{Lacks, Unsaid, Unheard}
 use Rattle.session_acts.specs.Deeds.{done}
 use Rattle.session_acts.specs.Met.{AtClientDeposit, DrawsAfter, Hears, Heeds, Met, acts, stop_of}
@@ -89,6 +89,11 @@ stop_quiet HangUp halt old new is met = absurd (cc)
 stop_quiet Relay halt old new is met = absurd (cc)
 stop_quiet (Deposit sender rcpts words most) halt old new is met = deposit_quiet words halt old.client new.client met.client
 stop_quiet Allot halt old new is met = tt
+stop_quiet (TakeReply how) halt old new is met = absurd (cc)
+stop_quiet OpenDoor halt old new is met = absurd halt
+stop_quiet (Join dest target) halt old new is met = absurd halt
+stop_quiet (Copy toward) halt old new is met = absurd halt
+stop_quiet Part halt old new is met = absurd halt
 
 waits_by : (ending : Ending) (old new : SourceView) (before last : Speaker) → QuietBy ending before last → old.idles ≤ before.inlet.idles → last.inlet.waits ≡ old.waits → last.inlet ≡ new → WaitsAlone ending old new
 waits_by endings.Idle old new before last h least waits same =

@@ -9,11 +9,11 @@ use Rattle.fw_types.specs.declared.peer.Peer.{Peer}
 use Rattle.gate_rules.specs.Reading.{RuleBook}
 use Rattle.gate_rules.specs.Verdict.{options_at, verdict_of}
 use Rattle.gate_rules.specs.declared.service.Service.{Service}
-use Rattle.gate_rules.specs.declared.service.Service.TheVariants.{Authsrv, PlugGw, Smap, TnGw}
+use Rattle.gate_rules.specs.declared.service.Service.TheVariants.{Authsrv, FtpGw, PlugGw, Smap, TnGw}
 use Rattle.gate_rules.specs.declared.verdict.Verdict.{Verdict}
 use Rattle.gate_rules.specs.declared.verdict.Verdict.TheVariants.{Permit, Deny}
 use Rattle.plug_gate.specs.Laws.{GivesFronts}
-use Rattle.session_acts.specs.Causes.{RelayTakesFor, WaitedInVain, WaitsFor}
+use Rattle.session_acts.specs.Causes.{RelayTakesFor, TakesFor, WaitedInVain, WaitsFor}
 use Rattle.session_acts.specs.Denying.{no_rows}
 use Rattle.session_acts.specs.Serverless.{CausedAlone, TakesExactly}
 use Rattle.session_acts.specs.Session.{Session}
@@ -22,9 +22,11 @@ use Rattle.tn_gate.specs.Gate.{asks_login, options_or_none}
 use Rattle.client_service.specs.Decision.{decision_text}
 use Rattle.client_service.specs.Endings.{denied_words, ending_line}
 pub use Rattle.client_service.specs.Endings.{Noted, NotedIf}
-use Rattle.client_service.specs.GateService.{CausedGated, LetsIn, RelaysIn, StaysUnasked}
+use Rattle.client_service.specs.FtpService as ftp
+use Rattle.client_service.specs.GateService.{LetsIn, RelaysIn}
+use Rattle.client_service.specs.Gateways.{CausedGated, StaysUnasked}
 use Rattle.client_service.specs.Kind.{Kind}
-use Rattle.client_service.specs.Kind.Kind.{Alone, Gated, Plugged}
+use Rattle.client_service.specs.Kind.Kind.{Alone, Gated, Plugged, Replied}
 use Rattle.client_service.specs.MailService.{MailsIn, MailsTo}
 use Rattle.client_service.specs.Meeting.{away_row, denied_by, dialer_then, logged_row, mailless, patient, timeout_of}
 use Rattle.client_service.specs.PlugService.{AreRulesOf, AsksLogged, CausedLinked, LinksTo}
@@ -33,6 +35,7 @@ use Rattle.client_service.specs.PlugService.{AreRulesOf, AsksLogged, CausedLinke
 abbrev pub IsServed : Service → RuleBook → Type 0
 IsServed Authsrv rules = Unit {0}
 IsServed TnGw rules = Unit {0}
+IsServed FtpGw rules = Unit {0}
 IsServed Smap rules = Unit {0}
 IsServed (PlugGw port) rules = AreRulesOf (PlugGw port) rules
 IsServed service rules = ⊥
@@ -55,6 +58,7 @@ pub record Permits {Origin : Type 0} (line : ℕ) (rules : RuleBook) (peer : Pee
 abbrev pub PermitsBy : {Origin : Type 0} → Service → ℕ → RuleBook → Peer → Ending → Devices Origin → Devices Origin → Type 0
 PermitsBy (PlugGw port) line rules peer ending old new = LinksTo port line rules peer ending old new
 PermitsBy TnGw line rules peer ending old new = LetsIn line rules peer ending old new
+PermitsBy FtpGw line rules peer ending old new = ftp.Serves line rules peer ending old new
 PermitsBy Smap line rules peer ending old new = MailsTo line rules peer ending old new
 PermitsBy Authsrv line rules peer ending old new = Permits line rules peer ending old new
 PermitsBy service line rules peer ending old new = ⊥
@@ -81,11 +85,12 @@ pub record AtConsole {Origin : Type 0} (service : Service) (peer : Peer) (old ne
 -- ---- what an ending says
 
 -- Any ending but done and want of memory is counted. A client that is alone ends by no server; one of the plug by no port, and
--- never for want of memory; and one of `tn-gw` never since a destination couldn't be reached.
+-- never for want of memory; and one of `tn-gw` or `ftp-gw` never since a destination couldn't be reached.
 abbrev pub CausedBy : {Origin : Type 0} → Kind → Ending → Devices Origin → Devices Origin → Type 0
 CausedBy Alone ending old new = CausedAlone ending old new
 CausedBy Plugged ending old new = CausedLinked ending old new
 CausedBy Gated ending old new = CausedGated ending old new
+CausedBy Replied ending old new = CausedGated ending old new
 
 -- a denial is the verdict's
 abbrev pub Causes : {Origin : Type 0} → Kind → Verdict → Ending → Devices Origin → Devices Origin → Type 0
@@ -98,12 +103,13 @@ abbrev pub IsRefused : Verdict → Ending → Type 0
 IsRefused (Deny line) ending = (ending ≡ endings.Denied line) ⊎ (ending ≡ endings.LogFault)
 IsRefused (Permit line) ending = Unit {0}
 
--- as many bytes as may be are taken of a client that is alone exactly where its session is spent; one that may reach a server
--- may have failed, or been idle, before that
+-- as many bytes as may be are taken of a client that is alone exactly where its session is spent; one that may relay may have
+-- failed, or been idle, before that; and that of `ftp-gw` is spent, too, where so many came over a link
 abbrev pub TakesBy : {Origin : Type 0} → Kind → Ending → Devices Origin → Devices Origin → Type 0
 TakesBy Alone ending old new = TakesExactly ending old new
 TakesBy Plugged ending old new = RelayTakesFor ending old new
 TakesBy Gated ending old new = RelayTakesFor ending old new
+TakesBy Replied ending old new = TakesFor ending old new
 
 -- where the ending is idle, the client's source waited in vain, as long as it was to wait; there is no server to wait for
 abbrev pub WaitsAlone : Ending → SourceView → SourceView → Type 0
@@ -115,6 +121,7 @@ abbrev pub WaitsBy : {Origin : Type 0} → Kind → Ending → Devices Origin �
 WaitsBy Alone ending old new = WaitsAlone ending old.inlet new.inlet
 WaitsBy Plugged ending old new = WaitsFor ending old new
 WaitsBy Gated ending old new = WaitsFor ending old new
+WaitsBy Replied ending old new = WaitsFor ending old new
 
 -- where a client whom the verdict permits was idle, it was waited for as long as the rules have it
 abbrev pub WaitsAs : {Origin : Type 0} → Kind → Verdict → RuleBook → Ending → Devices Origin → Devices Origin → Type 0
@@ -122,19 +129,22 @@ WaitsAs kind (Permit line) rules ending old new = WaitsBy kind ending (patient (
 WaitsAs kind (Deny line) rules ending old new = Unit {0}
 
 -- What the dialer is asked: for a client of the plug whom the verdict permits, the destination of the line; for any other,
--- but for one of `tn-gw` whom it permits, nothing, and it is told how long to wait where the verdict permits. Of that one
--- `FrontsBy` says it.
+-- but for one of `tn-gw` or `ftp-gw` whom it permits, nothing, and it is told how long to wait where the verdict permits. Of
+-- those `FrontsBy` says it.
 abbrev pub Dials : {Origin : Type 0} → Service → Verdict → RuleBook → Peer → Ending → Devices Origin → Devices Origin → Type 0
 Dials (PlugGw port) (Permit line) rules peer ending old new = AsksLogged port line rules peer ending old new
 Dials TnGw (Permit line) rules peer ending old new = Unit {0}
+Dials FtpGw (Permit line) rules peer ending old new = Unit {0}
 Dials service verdict rules peer ending old new = new.dialer ≡ dialer_then verdict rules old.dialer
 
 -- Whom the verdict permits: what the server of a client of the plug was given is a front of what was taken of the client, and
 -- what the client was given a front of what was taken of the server. So it is for a client of `tn-gw`, behind what its session
--- heard and told; and what that session asked the dialer for, logged and denied is said of the same deeds.
+-- heard and told; and what that session asked the dialer for, logged and denied is said of the same deeds. So it is said of one
+-- of `ftp-gw`, and what its server was given.
 abbrev pub FrontsBy : {Origin : Type 0} → Service → Verdict → RuleBook → Peer → Ending → Devices Origin → Devices Origin → Type 0
 FrontsBy (PlugGw port) (Permit line) rules peer ending old new = GivesFronts old new ending
 FrontsBy TnGw (Permit line) rules peer ending old new = RelaysIn line rules peer ending old new
+FrontsBy FtpGw (Permit line) rules peer ending old new = ftp.ServesIn line rules peer ending old new
 FrontsBy Authsrv (Permit line) rules peer ending old new = Unit {0}
 FrontsBy Smap (Permit line) rules peer ending old new = Unit {0}
 FrontsBy service (Permit line) rules peer ending old new = ⊥
@@ -159,9 +169,10 @@ Untouched Smap verdict old new = new ≡ old
 Untouched service (Deny line) old new = new ≡ old
 Untouched service (Permit line) old new = Unit {0}
 
--- the dice: so they are for each client of `tn-gw`, too
+-- the dice: so they are for each client of `tn-gw` or `ftp-gw`, too
 abbrev pub Unthrown : {A : Type 0} → Service → Verdict → A → A → Type 0
 Unthrown TnGw verdict old new = new ≡ old
+Unthrown FtpGw verdict old new = new ≡ old
 Unthrown service verdict old new = Untouched service verdict old new
 
 -- the mail store: it is left as it was, but for a client of `smap` whom the verdict permits

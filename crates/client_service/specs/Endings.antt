@@ -10,7 +10,7 @@ use Rattle.fw_types.specs.declared.ending.Ending.TheVariants.{Done, Denied, Clie
 use Rattle.fw_types.specs.declared.peer.Peer.{Peer}
 use Rattle.gate_rules.specs.Service.{service_text}
 use Rattle.gate_rules.specs.declared.service.Service.{Service}
-use Rattle.gate_rules.specs.declared.service.Service.TheVariants.{Authsrv, PlugGw, Smap, TnGw}
+use Rattle.gate_rules.specs.declared.service.Service.TheVariants.{Authsrv, FtpGw, PlugGw, Smap, TnGw}
 use Rattle.tn_gate.specs.Texts.{refusal}
 
 -- the log's word for an ending; a denial was logged by its verdict, and a log that failed is told nothing
@@ -51,14 +51,15 @@ abbrev pub denied_text : ℕ → List ℕ
 denied_text line = codes "denied line " ++ decimal line ++ codes "\n"
 
 -- `421 Denied (line N)`
-abbrev pub mail_refusal : ℕ → List ℕ
-mail_refusal line = codes "421 Denied (line " ++ decimal line ++ codes ")\r\n"
+abbrev pub refusal_reply : ℕ → List ℕ
+refusal_reply line = codes "421 Denied (line " ++ decimal line ++ codes ")\r\n"
 
 -- by the service: `denied line N` for a client of `authsrv`, `Denied (line N)` for one of `tn-gw`, `421 Denied (line N)` for
--- one of `smap`, and nothing for one of the plug; nor is there anything for a service whose clients aren't served
+-- one of `ftp-gw` or `smap`, and nothing for one of the plug; nor is there anything for a service whose clients aren't served
 abbrev pub denied_words : Service → ℕ → Option (List ℕ)
 denied_words Authsrv line = Some (denied_text line)
 denied_words TnGw line = Some (refusal line)
-denied_words Smap line = Some (mail_refusal line)
+denied_words FtpGw line = Some (refusal_reply line)
+denied_words Smap line = Some (refusal_reply line)
 denied_words (PlugGw port) line = None
 denied_words service line = None

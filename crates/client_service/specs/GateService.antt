@@ -1,14 +1,12 @@
 -- A client of the Telnet gateway whom the rules permit: its session is held behind the line of the permission.
-use Rattle.std.specs.Prelude.{◌≡◌, ◌≢◌, ℕ, ◌⊎◌, Bool, true, false, List, []}
+use Rattle.std.specs.Prelude.{◌≡◌, ℕ, ◌⊎◌, Bool, true, false, List, []}
 use Rattle.fw_outside.specs.SinkView.{SinkView}
 use Rattle.fw_types.specs.declared.ending.Ending.{Ending}
-use Rattle.fw_types.specs.declared.ending.Ending.TheVariants as endings
 use Rattle.fw_types.specs.declared.peer.Peer.{Peer}
 use Rattle.gate_rules.specs.Reading.{RuleBook}
 use Rattle.gate_rules.specs.declared.service.Service.{Service}
 use Rattle.gate_rules.specs.declared.service.Service.TheVariants.{TnGw}
 use Rattle.gate_rules.specs.declared.verdict.Verdict.TheVariants.{Permit}
-use Rattle.session_acts.specs.Causes.{Caused}
 use Rattle.session_acts.specs.Client.{LogFails, with_line}
 use Rattle.session_acts.specs.Deeds.{gives}
 use Rattle.session_acts.specs.Laws.{Adds, called}
@@ -19,11 +17,11 @@ use Rattle.session_acts.specs.Talk.{asked}
 use Rattle.session_acts.specs.World.{Devices}
 use Rattle.tn_gate.specs.Dialogue.{tn_row, tn_rows}
 use Rattle.tn_gate.specs.Due.{LogsWhatIsDue}
-use Rattle.tn_gate.specs.Dummies.{lent}
 use Rattle.tn_gate.specs.Gate.{Gate, asks_login, gate_at}
 use Rattle.tn_gate.specs.Laws.{AsksExactly, DenialsLogged, DialsCleared, LinesDialed}
 use Rattle.client_service.specs.Decision.{decision_text}
 use Rattle.client_service.specs.Endings.{NotedIf, ending_line}
+use Rattle.client_service.specs.Gateways.{HeldAs, gate_devices}
 use Rattle.client_service.specs.Meeting.{patient, timeout_of}
 
 -- the service is the Telnet gateway
@@ -31,15 +29,10 @@ abbrev pub is_gate : Service → Bool
 is_gate TnGw = true
 is_gate service = false
 
--- the devices that its client meets: dice and a mail store have no part in its session
-abbrev pub gate_devices : {Origin : Type 0} → Devices Origin → Devices Origin
-gate_devices devices = lent devices.port devices.inlet devices.outlet devices.logs devices.dialer devices.clock
-
 -- either the log failed within this line, and nothing else was done; or it was given the line whole, and then the session of
 -- the gateway was held, a relay at its end
 abbrev pub HeldBehind : {Origin : Type 0} → List ℕ → Gate → Ending → Devices Origin → Devices Origin → Type 0
-HeldBehind line gate ending old new =
-    LogFails line old new ending ⊎ RelaySession (relayed (tn_rows gate)) (then_relay (tn_row gate)) (with_line line old) new ending
+HeldBehind line gate ending old new = HeldAs true line (relayed (tn_rows gate)) (then_relay (tn_row gate)) ending old new
 
 -- so it is with the line of the permission, over devices that wait as the table has it; and dice and mail store stay as they are
 pub record LetsIn {Origin : Type 0} (line : ℕ) (rules : RuleBook) (peer : Peer) (ending : Ending) (old new : Devices Origin) : Type 0 where
@@ -48,18 +41,6 @@ pub record LetsIn {Origin : Type 0} (line : ℕ) (rules : RuleBook) (peer : Peer
   pub store : new.store ≡ old.store
 
 -- ---- what that comes to
-
--- the causes of a session that relays; but none ends since a destination couldn't be reached
-abbrev pub CausedGated : {Origin : Type 0} → Ending → Devices Origin → Devices Origin → Type 0
-CausedGated endings.NoRoute old new = ⊥
-CausedGated ending old new = Caused ending old new
-
--- what port and clock tell stays as it was, and the session ends neither by the port nor for want of memory
-pub record StaysUnasked {Origin : Type 0} (ending : Ending) (old new : Devices Origin) : Type 0 where
-  pub port : new.port ≡ old.port
-  pub clock : new.clock ≡ old.clock
-  pub unfailed : ending ≢ endings.AuthFault
-  pub ample : ending ≢ endings.NoMemory
 
 -- The session of the gateway was held behind this line. Where the permission line asks for no login, its deeds ask nothing of
 -- the port. The dialer, if it tells, was asked for the destinations that they ask for, in order, and for no other. These are

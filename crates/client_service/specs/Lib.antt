@@ -1,7 +1,9 @@
 pub mod Conn
 pub mod Decision
 pub mod Endings
+pub mod FtpService
 pub mod GateService
+pub mod Gateways
 pub mod Kind
 pub mod MailService
 pub mod Meeting

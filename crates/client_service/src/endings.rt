@@ -1,7 +1,7 @@
 //! How the end of a session is told.
 ghost use Rattle.std.specs.Prelude.{◌≡◌, ◌≤◌, length, IfSome, MatchOption, None, Some};
 ghost use Rattle.std.specs.Option.{option_copied, option_map};
-ghost use Rattle.client_service.specs.Endings.{NotedIf, denied_text, denied_words, end_text, ending_line, ending_word, mail_refusal};
+ghost use Rattle.client_service.specs.Endings.{NotedIf, denied_text, denied_words, end_text, ending_line, ending_word, refusal_reply};
 ghost use Rattle.tn_gate.specs.Texts.{refusal};
 
 use crate::decision::{LogLine, append_peer, append_service};
@@ -85,9 +85,9 @@ fn refusal(line: u32) -> LogLine
     out
 }
 
-// Those of the mail gateway.
-fn mail_refusal(line: u32) -> LogLine
-    ensures { result.items ≡ mail_refusal line }
+// Those of the FTP gateway and of the mail gateway, which are a reply with its code.
+fn refusal_reply(line: u32) -> LogLine
+    ensures { result.items ≡ refusal_reply line }
 {
     let mut out = ArrayVec::new();
     append(&mut out, b"421 Denied (line ");
@@ -104,7 +104,8 @@ pub fn denied_words(service: &Service, line: u32) -> Option<LogLine>
     match service {
         Service::Authsrv => Some(denied_line(line)),
         Service::TnGw => Some(refusal(line)),
-        Service::Smap => Some(mail_refusal(line)),
+        Service::FtpGw => Some(refusal_reply(line)),
+        Service::Smap => Some(refusal_reply(line)),
         Service::PlugGw(_) => None,
         _ => None,
     }

@@ -9,6 +9,7 @@ mod deciding;
 mod decision;
 mod denying;
 mod endings;
+mod ftp_serving;
 mod gating;
 mod linking;
 mod mailing;

@@ -13,6 +13,7 @@ use crate::admitting::admit_client;
 use crate::deciding::verdict_of;
 use crate::denying::deny;
 use crate::endings::note_ending;
+use crate::ftp_serving::{is_ftp, serve_ftp};
 use crate::gating::{is_gate, let_in};
 use crate::linking::{link, plug_in};
 use crate::mailing::{is_mail, take_mail};
@@ -25,7 +26,8 @@ use std::alloc::Global;
 use std::thread::Threads;
 
 // A client whom this line permits, by its service. Of one of the plug or of the mail gateway the port, the clock and the dice
-// aren't touched, and of one of the Telnet gateway not the dice; of any but one of the mail gateway not the mail store.
+// aren't touched, and of one of the Telnet or the FTP gateway not the dice; of any but one of the mail gateway not the mail
+// store.
 fn permit<H, P, S, K, G, D, M, C, R>(
     rt: &H,
     alloc: Global,
@@ -69,6 +71,10 @@ where
             if is_gate(service) {
                 let_in(
                     rt, service, rules, peer, line, port, from, to, logs, dialer, clock,
+                )
+            } else if is_ftp(service) {
+                serve_ftp(
+                    service, rules, peer, line, port, from, to, logs, dialer, clock,
                 )
             } else if is_mail(service) {
                 take_mail(
@@ -129,11 +135,11 @@ where
     }
 }
 
-/// One client of a service, which is `authsrv`, `tn-gw`, `smap` or the plug, by the rules of that service. For whom the rules
-/// permit, the client's source and the dialer are told how long to wait, the verdict is logged, and the session held: that of
-/// `authsrv`; that of `tn-gw` with the options of the line that permits; that of `smap` with the limits of the rules, over the
-/// mail store; or that of the plug with the destination of that line. For whom they deny, the verdict is logged, and it is
-/// tried to tell the client, but one of the plug is told nothing. Then the ending is logged.
+/// One client of a service, which is `authsrv`, `tn-gw`, `ftp-gw`, `smap` or the plug, by the rules of that service. For whom
+/// the rules permit, the client's source and the dialer are told how long to wait, the verdict is logged, and the session held:
+/// that of `authsrv`; that of `tn-gw` or `ftp-gw` with the options of the line that permits; that of `smap` with the limits of
+/// the rules, over the mail store; or that of the plug with the destination of that line. For whom they deny, the verdict is
+/// logged, and it is tried to tell the client, but one of the plug is told nothing. Then the ending is logged.
 ///
 /// A message of `smap` is begun in memory of `alloc`. A caller that serves no mail may hand in a store without slots.
 ///
@@ -174,15 +180,16 @@ where
         (D.dialer_view dialer.new) (C.clock_view clock.new) (R.dice_view dice.new) (M.store_view store.new))
         result }
     // Each ending but done and want of memory has its cause: the verdict, or a count of a device. A client of `authsrv` or of
-    // `smap` meets no server; one of the plug wants no memory, and meets no port; and one of `tn-gw` doesn't end since a destination
-    // couldn't be reached.
+    // `smap` meets no server; one of the plug wants no memory, and meets no port; and one of `tn-gw` or `ftp-gw` doesn't end since
+    // a destination couldn't be reached.
     ensures caused { Causes (kind_of service.now (verdict_of rules.now peer.now)) (verdict_of rules.now peer.now) result
         (mail_devices_with (P.port port.old) (S.source_view from.old) (K.sink_view to.old) (G.sink_view logs.old)
         (D.dialer_view dialer.old) (C.clock_view clock.old) (R.dice_view dice.old) (M.store_view store.old))
         (mail_devices_with (P.port port.new) (S.source_view from.new) (K.sink_view to.new) (G.sink_view logs.new)
         (D.dialer_view dialer.new) (C.clock_view clock.new) (R.dice_view dice.new) (M.store_view store.new)) }
     // As many bytes as may be, 2^40, were taken of the client exactly where the ending is `Spent`, and never more. One that
-    // may be linked may also have failed, or been idle, after so many; and it is `Spent`, too, where they came over the link.
+    // may be linked may also have failed, or been idle, after so many, unless it is of `ftp-gw`; and it is `Spent`, too, where they
+    // came over the link.
     ensures spent { TakesBy (kind_of service.now (verdict_of rules.now peer.now)) result
         (mail_devices_with (P.port port.old) (S.source_view from.old) (K.sink_view to.old) (G.sink_view logs.old)
         (D.dialer_view dialer.old) (C.clock_view clock.old) (R.dice_view dice.old) (M.store_view store.old))
@@ -197,8 +204,8 @@ where
     // A peer whom the rules deny is denied, unless the log failed.
     ensures refused { IsRefused (verdict_of rules.now peer.now) result }
     // For a client of the plug whom the rules permit the dialer is asked for the destination of the line, exactly where the log
-    // has the connect line whole. For one of `tn-gw` whom they permit `fronts` says it. For any other it is asked for nothing,
-    // and told how long to wait where the rules permit.
+    // has the connect line whole. For one of `tn-gw` or `ftp-gw` whom they permit `fronts` says it. For any other it is asked for
+    // nothing, and told how long to wait where the rules permit.
     ensures dialed { Dials service.now (verdict_of rules.now peer.now) rules.now peer.now result
         (mail_devices_with (P.port port.old) (S.source_view from.old) (K.sink_view to.old) (G.sink_view logs.old)
         (D.dialer_view dialer.old) (C.clock_view clock.old) (R.dice_view dice.old) (M.store_view store.old))
@@ -207,7 +214,8 @@ where
     // For whom the rules permit of `tn-gw` or the plug: what was given to the server is a front of what was taken of the client,
     // and what was given to the client one of what was taken of the server: all of it, unless a source or a sink failed. For
     // `tn-gw` this is behind what the session heard and told before, and of the same session it is said what the dialer was
-    // asked for, and when, and which lines the log was given.
+    // asked for, and when, and which lines the log was given. For `ftp-gw` it is said of the session what the dialer was asked
+    // for, and when, what the server was given, and that each denial was logged before it was told.
     ensures fronts { FrontsBy service.now (verdict_of rules.now peer.now) rules.now peer.now result
         (mail_devices_with (P.port port.old) (S.source_view from.old) (K.sink_view to.old) (G.sink_view logs.old)
         (D.dialer_view dialer.old) (C.clock_view clock.old) (R.dice_view dice.old) (M.store_view store.old))
@@ -224,7 +232,7 @@ where
     ensures origin { (P.port port.new).origin ≡ (P.port port.old).origin }
     ensures home { (P.port port.new).home ≡ (P.port port.old).home }
     // Where the rules deny the peer, and for each client of the plug or of `smap`, the port isn't touched at all, nor the clock,
-    // nor the dice; these aren't for any client of `tn-gw`.
+    // nor the dice; these aren't for any client of `tn-gw` or `ftp-gw`.
     ensures untouched { Untouched service.now (verdict_of rules.now peer.now) port.old port.new }
     ensures unclocked { Untouched service.now (verdict_of rules.now peer.now) clock.old clock.new }
     ensures unthrown { Unthrown service.now (verdict_of rules.now peer.now) dice.old dice.new }

@@ -23,6 +23,8 @@ pub enum Why {
     BadName,
     /// Not an even count of hexadecimal digits.
     BadHex,
+    /// No IPv4 address and port.
+    BadPlace,
     /// Text behind a keyword that stands alone.
     TextBehind,
     /// A row that says neither `status` nor `command`.
@@ -42,6 +44,7 @@ impl Why {
             Why::UnknownRow => "no earlier row has this name",
             Why::BadEscape => "bad escape",
             Why::BadNumber => "bad number",
+            Why::BadPlace => "no address and port",
             Why::UnknownDevice => "no such device, or not of this device",
             Why::BadName => "bad name",
             Why::BadHex => "bad hexadecimal digits",

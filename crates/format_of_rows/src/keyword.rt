@@ -17,6 +17,8 @@ pub(crate) enum Keyword {
     ClientPart,
     Limit,
     Link,
+    Data,
+    Door,
     Server,
     ServerPart,
     Ends,
@@ -36,6 +38,7 @@ pub(crate) enum Keyword {
     NoneAsked,
     Given,
     GivenPart,
+    GivenLink,
     HungUp,
     Status,
     Untaken,
@@ -63,6 +66,8 @@ const KEYWORDS: &[(&str, Keyword)] = &[
     ("client-part", Keyword::ClientPart),
     ("limit", Keyword::Limit),
     ("link", Keyword::Link),
+    ("data", Keyword::Data),
+    ("door", Keyword::Door),
     ("server", Keyword::Server),
     ("server-part", Keyword::ServerPart),
     ("ends", Keyword::Ends),
@@ -82,6 +87,7 @@ const KEYWORDS: &[(&str, Keyword)] = &[
     ("asked-none", Keyword::NoneAsked),
     ("given", Keyword::Given),
     ("given-part", Keyword::GivenPart),
+    ("given-link", Keyword::GivenLink),
     ("hung-up", Keyword::HungUp),
     ("status", Keyword::Status),
     ("untaken", Keyword::Untaken),
@@ -112,9 +118,9 @@ impl Keyword {
             Keyword::OutputPart => Keyword::Output,
             Keyword::LogPart => Keyword::Log,
             Keyword::NoneStarted => Keyword::Started,
-            Keyword::Server | Keyword::ServerPart => Keyword::Link,
+            Keyword::Data | Keyword::Server | Keyword::ServerPart => Keyword::Link,
             Keyword::NoneAsked => Keyword::Asked,
-            Keyword::GivenPart => Keyword::Given,
+            Keyword::GivenPart | Keyword::GivenLink => Keyword::Given,
             other => other,
         }
     }
@@ -143,8 +149,10 @@ impl Keyword {
                 | Keyword::ConsoleRun
                 | Keyword::Paced
                 | Keyword::Link
+                | Keyword::Data
                 | Keyword::NoneStarted
                 | Keyword::NoneAsked
+                | Keyword::GivenLink
                 | Keyword::Untaken
                 | Keyword::Unchanged
         )

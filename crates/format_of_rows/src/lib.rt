@@ -22,6 +22,6 @@ mod wanted;
 pub use fault::{Fault, Why};
 pub use parsing::parse;
 pub use row::Row;
-pub use setting::{File, Setting, TABLE};
+pub use setting::{File, Link, Setting, TABLE};
 pub use trial::{Break, Part, Times, Trial, Tried};
 pub use wanted::{Called, Reading, Wanted};

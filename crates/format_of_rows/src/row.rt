@@ -76,6 +76,7 @@ impl Row {
             | Keyword::NoneAsked
             | Keyword::Given
             | Keyword::GivenPart
+            | Keyword::GivenLink
             | Keyword::HungUp
             | Keyword::Status
             | Keyword::Untaken

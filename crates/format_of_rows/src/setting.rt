@@ -4,7 +4,7 @@ use crate::Why;
 use crate::escapes::{add_unescaped, unescaped};
 use crate::keyword::Keyword;
 use crate::line::Line;
-use crate::values::{add_numbers, add_statuses, number_of, record_of, words_of};
+use crate::values::{add_numbers, add_statuses, number_of, place_of, record_of, words_of};
 use fw_types::{Name, Octets};
 use std::alloc::Global;
 
@@ -16,6 +16,15 @@ pub const TABLE: &str = "/usr/local/etc/netperm-table";
 pub struct File {
     pub name: Vec<u8>,
     pub bytes: Vec<u8>,
+}
+
+/// A link that comes up.
+#[derive(Drop)]
+pub struct Link {
+    /// What is said at its other end.
+    pub said: Vec<u8>,
+    /// Whether it is a data link.
+    pub is_data: bool,
 }
 
 /// What a run meets.
@@ -37,8 +46,10 @@ pub struct Setting {
     pub client: Vec<u8>,
     /// So many requests fit in the history, where not as many as ever fit.
     pub limit: Option<u64>,
-    /// What the servers say, each over a link of its own, in the order in which the links come up.
-    pub links: Vec<Vec<u8>>,
+    /// The links, in the order in which they come up.
+    pub links: Vec<Link>,
+    /// The doors that can be opened, in order, each with its address and port.
+    pub doors: Vec<([u8; 4], u16)>,
     /// The statuses with which programs end, in the order in which they are started; 0 past these.
     pub ends: Vec<u8>,
 }
@@ -65,6 +76,7 @@ impl Setting {
             client: Vec::new(alloc),
             limit: None,
             links: Vec::new(alloc),
+            doors: Vec::new(alloc),
             ends: Vec::new(alloc),
         })
     }
@@ -99,17 +111,25 @@ impl Setting {
         }
     }
 
-    fn begin_link(&mut self, alloc: Global) -> Result<(), Why> {
-        self.links.push(Vec::new(alloc))?;
+    fn begin_link(&mut self, alloc: Global, is_data: bool) -> Result<(), Why> {
+        self.links.push(Link {
+            said: Vec::new(alloc),
+            is_data,
+        })?;
+        Ok(())
+    }
+
+    fn add_door(&mut self, text: &[u8]) -> Result<(), Why> {
+        self.doors.push(place_of(text)?)?;
         Ok(())
     }
 
     fn add_server(&mut self, alloc: Global, text: &[u8], end: &[u8]) -> Result<(), Why> {
         if self.links.is_empty() {
-            self.begin_link(alloc)?;
+            self.begin_link(alloc, false)?;
         }
         match self.links.last_mut() {
-            Some(said) => add_unescaped(alloc, said, text, end),
+            Some(link) => add_unescaped(alloc, &mut link.said, text, end),
             None => Err(Why::NoMemory),
         }
     }
@@ -119,7 +139,7 @@ impl Setting {
         match line.keyword {
             Keyword::Server => self.add_server(alloc, line.text, b"\r\n"),
             Keyword::ServerPart => self.add_server(alloc, line.text, b""),
-            _ => self.begin_link(alloc),
+            _ => self.begin_link(alloc, line.keyword == Keyword::Data),
         }
     }
 
@@ -167,6 +187,7 @@ impl Setting {
                 Ok(())
             }
             Keyword::Link => self.add_link_line(alloc, line),
+            Keyword::Door => self.add_door(line.text),
             Keyword::Ends => add_statuses(&mut self.ends, line.text),
             _ => self.add_record_line(alloc, line),
         }

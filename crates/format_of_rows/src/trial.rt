@@ -41,6 +41,14 @@ pub enum Part {
     Given,
     /// There is room for so many bytes in it.
     GivenRoom,
+    /// The source of a data link fails.
+    Data,
+    /// Nothing comes of a data link.
+    DataIdle,
+    /// The sink of what a data link is given fails.
+    DataGiven,
+    /// There is room for so many bytes in it.
+    DataRoom,
 }
 
 const PARTS: &[(Keyword, &str, Part)] = &[
@@ -54,12 +62,16 @@ const PARTS: &[(Keyword, &str, Part)] = &[
     (Keyword::Fails, "dialer", Part::Dialer),
     (Keyword::Fails, "server", Part::Server),
     (Keyword::Fails, "given", Part::Given),
+    (Keyword::Fails, "data", Part::Data),
+    (Keyword::Fails, "data-given", Part::DataGiven),
     (Keyword::Idle, "table", Part::TableIdle),
     (Keyword::Idle, "client", Part::ClientIdle),
     (Keyword::Idle, "server", Part::ServerIdle),
+    (Keyword::Idle, "data", Part::DataIdle),
     (Keyword::Room, "output", Part::OutputRoom),
     (Keyword::Room, "log", Part::LogRoom),
     (Keyword::Room, "given", Part::GivenRoom),
+    (Keyword::Room, "data-given", Part::DataRoom),
 ];
 
 /// Calls of a device, numbered from 0; for a sink's room the count of bytes.

@@ -3,7 +3,7 @@
 use crate::Why;
 use crate::escapes::unescaped;
 use crate::line::split_word;
-use fw_types::{Name, Octets, read_number};
+use fw_types::{Host, Name, Octets, read_number};
 use std::alloc::Global;
 
 /// A number of up to ten digits.
@@ -70,6 +70,22 @@ fn bytes_of(alloc: Global, digits: &[u8]) -> Result<Octets, Why> {
     match hex::decode(alloc, digits) {
         Ok(bytes) => Ok(Octets::of(bytes)),
         Err(_) => Err(Why::BadHex),
+    }
+}
+
+fn port_of(text: &[u8]) -> Result<u16, Why> {
+    match u16::try_from(number_of(text)?) {
+        Ok(port) => Ok(port),
+        Err(_) => Err(Why::BadPlace),
+    }
+}
+
+/// An IPv4 address and a port.
+pub(crate) fn place_of(text: &[u8]) -> Result<([u8; 4], u16), Why> {
+    let (addr, port) = split_word(text);
+    match Host::read(addr) {
+        Some(Host::Addr(addr)) => Ok((addr, port_of(port)?)),
+        _ => Err(Why::BadPlace),
     }
 }
 

@@ -28,6 +28,8 @@ pub struct Called {
     pub asked: Vec<u8>,
     /// What servers are given, one behind the other.
     pub given: Vec<u8>,
+    /// Where what a link is given ends in that, but for the last one; no place where nothing is said of it.
+    pub ends: Vec<usize>,
     /// How many links are hung up.
     pub hung_up: u64,
 }
@@ -66,6 +68,7 @@ impl Called {
             started: Vec::new(alloc),
             asked: Vec::new(alloc),
             given: Vec::new(alloc),
+            ends: Vec::new(alloc),
             hung_up: 0,
         }
     }
@@ -76,6 +79,10 @@ impl Called {
             Keyword::Asked => add_unescaped(alloc, &mut self.asked, line.text, b"\n"),
             Keyword::Given => add_unescaped(alloc, &mut self.given, line.text, b"\r\n"),
             Keyword::GivenPart => add_unescaped(alloc, &mut self.given, line.text, b""),
+            Keyword::GivenLink => {
+                self.ends.push(self.given.len())?;
+                Ok(())
+            }
             Keyword::HungUp => {
                 self.hung_up = number_of(line.text)?;
                 Ok(())

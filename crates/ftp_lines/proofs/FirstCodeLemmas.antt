@@ -19,14 +19,14 @@ use Rattle.ftp_lines.proofs.FirstLemmas.{found_in}
 none_given : (code : ℕ) (P : Type 0) → Some code ≡ None → P
 none_given code P h = absurd (cc (h))
 
-told_same : (line other : List ℕ) → SameCode line other → told_code line ≡ told_code other
+pub told_same : (line other : List ℕ) → SameCode line other → told_code line ≡ told_code other
 told_same line other same =
     ap (λ (b : Bool). let o : Option ℕ = cond b (Some (code_of line)) (opening_code line) in o) same.closing
     ∙ ap (λ (n : ℕ). let o : Option ℕ = cond (is_closing other) (Some n) (opening_code line) in o) same.code
     ∙ ap (λ (opens : Option ℕ). let o : Option ℕ = cond (is_closing other) (Some (code_of other)) opens in o) same.opens
 
 -- four bytes tell the code
-front_long : (a b c d : ℕ) (more : List ℕ) → front_code (a ∷ b ∷ c ∷ d ∷ more) ≡ told_code (a ∷ b ∷ c ∷ d ∷ more)
+pub front_long : (a b c d : ℕ) (more : List ℕ) → front_code (a ∷ b ∷ c ∷ d ∷ more) ≡ told_code (a ∷ b ∷ c ∷ d ∷ more)
 front_long a b c d more =
     let long : nat_le 4 (length (a ∷ b ∷ c ∷ d ∷ more)) ≡ true = le-leb 4 _ (omega arith) in
     rw long refl

@@ -1,11 +1,12 @@
-mod FirstLemmas
+pub mod FirstLemmas
 mod LineLemmas
-mod PartLemmas
+pub mod PartLemmas
 pub mod ReplyLemmas
 mod CommandLemmas
 mod Examples
 mod FeedingLemmas
-mod FirstCodeLemmas
+pub mod FirstCodeLemmas
+pub mod HeadLemmas
 mod SixLemmas
 mod ReaderStateLemmas
 mod SixPlaceLemmas

@@ -56,6 +56,10 @@ told_code line = if is_closing line then Some (code_of line) else opening_code l
 abbrev pub front_code : List ℕ → Option ℕ
 front_code front = if nat_le 4 (length front) then told_code front else None
 
+-- the code of a reply that the line with these first bytes ends, however it goes on: three digits, and then a space
+abbrev pub ending_code : List ℕ → Option ℕ
+ending_code front = if nat_le 4 (length front) && is_closing front then Some (code_of front) else None
+
 -- the code that the first of these lines tells; without one, that of the bytes that no LF has ended yet
 abbrev pub first_code_in : List (List ℕ) → List ℕ → Option ℕ
 first_code_in [] front = front_code front

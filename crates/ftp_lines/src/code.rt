@@ -2,7 +2,7 @@
 ghost use Rattle.std.specs.Prelude.{◌≡◌, IsTrue};
 ghost use Rattle.std.specs.Char.{is_ascii_digit};
 ghost use Rattle.std.specs.List.{list_all};
-ghost use Rattle.ftp_lines.specs.Reply.{code_of, front_code, has_code, is_closing, opening_code, told_code};
+ghost use Rattle.ftp_lines.specs.Reply.{code_of, ending_code, front_code, has_code, is_closing, opening_code, told_code};
 
 use fw_types::read_number;
 
@@ -65,4 +65,15 @@ pub(crate) fn front_code(front: &[u8]) -> Option<u16>
         return None;
     }
     told_code(front)
+}
+
+/// The code of a reply whose first line doesn't say that more follow, if the line with these first bytes ends it: three
+/// digits and then a space. Nothing where fewer than four bytes have come.
+pub fn ending_code(front: &[u8]) -> Option<u16>
+    ensures { result ≡ ending_code front.now }
+{
+    if front.len() >= 4 && is_closing(front) {
+        return Some(code_of(front));
+    }
+    None
 }

@@ -17,6 +17,7 @@ mod reply_step;
 mod six;
 mod six_parts;
 
+pub use code::ending_code;
 pub use command::{Command, read_command};
 pub use reply_reader::ReplyReader;
 pub use reply_step::ReplyStep;

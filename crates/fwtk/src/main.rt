@@ -29,6 +29,7 @@ usage: fwtk [-t FILE] netacl [-run] DAEMON ADDRESS [NAME]
        fwtk [-t FILE] [-r FILE] authsrv [-console] ADDRESS [NAME]
        fwtk [-t FILE] plug-gw PORT ADDRESS [NAME]
        fwtk [-t FILE] [-r FILE] tn-gw ADDRESS [NAME]
+       fwtk [-t FILE] [-r FILE] ftp-gw ADDRESS [NAME]
        fwtk [-t FILE] [-s FOLDER] [-n SLOTS] smap ADDRESS [NAME]
        fwtk [-s FOLDER] [-n SLOTS] [-m PROGRAM] smapd
        fwtk [-s FOLDER] [-n SLOTS] spool-init
@@ -39,8 +40,8 @@ usage: fwtk [-t FILE] netacl [-run] DAEMON ADDRESS [NAME]
   -s FOLDER  the folder of the mail's slots, spool in the current directory by default
   -n SLOTS  how many slots there are, 1 to 64, 8 by default
   -m PROGRAM  the program that mail is handed to, /usr/lib/sendmail by default
-fwtk(8) lists the exit statuses; netacl(8), authsrv(8), plug-gw(8), tn-gw(8), smap(8), smapd(8), netperm-table(5) and spool(5) have the
-rest.
+fwtk(8) lists the exit statuses; netacl(8), authsrv(8), plug-gw(8), tn-gw(8), ftp-gw(8), smap(8), smapd(8), netperm-table(5) and
+spool(5) have the rest.
 ";
 
 const VERSION: &[u8] = b"fwtk 2.1\n";

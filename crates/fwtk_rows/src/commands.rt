@@ -52,6 +52,7 @@ fn add_command(alloc: Global, out: &mut Vec<u8>, command: &Command) -> Result<()
         Command::Authsrv(client) if client.console => add_client(out, b"console ", &client.peer),
         Command::PlugGw(caller) => add_caller(alloc, out, caller),
         Command::TnGw(peer) => add_client(out, b"tn-gw ", peer),
+        Command::FtpGw(peer) => add_client(out, b"ftp-gw ", peer),
         Command::Smap(peer) => add_client(out, b"smap ", peer),
         Command::Authsrv(client) => add_client(out, b"authsrv ", &client.peer),
     }

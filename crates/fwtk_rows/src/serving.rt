@@ -32,6 +32,7 @@ fn client_of(words: &[Octets]) -> Option<(Service, Peer)> {
             Some((Service::Authsrv, client.peer))
         }
         Some(Order::ByTable(Command::TnGw(peer))) => Some((Service::TnGw, peer)),
+        Some(Order::ByTable(Command::FtpGw(peer))) => Some((Service::FtpGw, peer)),
         _ => None,
     }
 }
@@ -92,7 +93,7 @@ fn conn_as<H: Threads + Sync>(
     )
 }
 
-// A client of the gateway, or else of the server.
+// A client of a gateway, or else of the server.
 fn conn_over<H: Threads + Sync>(
     rt: &H,
     alloc: Global,
@@ -102,6 +103,7 @@ fn conn_over<H: Threads + Sync>(
 ) -> Ending {
     match server.service {
         Service::TnGw => conn_as(rt, alloc, &Service::TnGw, server, port, ended),
+        Service::FtpGw => conn_as(rt, alloc, &Service::FtpGw, server, port, ended),
         _ => conn_as(rt, alloc, &Service::Authsrv, server, port, ended),
     }
 }

@@ -29,6 +29,7 @@ use Rattle.session_acts.specs.Client.{GoesOn, LogFails, LogsFirst, with_line}
 use Rattle.session_acts.specs.Deeds.{Deed, DeedsAll, deeds_ran}
 use Rattle.session_acts.specs.Denying.{no_rows}
 use Rattle.session_acts.specs.Laws.{Adds}
+use Rattle.session_acts.specs.Joining.{LetsPairGo}
 use Rattle.session_acts.specs.Met.{Carrying, Clears, ClientRelays, Met, ServerCarries, ServerRelays, acts}
 use Rattle.session_acts.specs.RelayFronts.{AllIsSaid, IsFront, may_lose_down, may_lose_up}
 use Rattle.session_acts.specs.RelayLast.{told_by}
@@ -82,10 +83,10 @@ module _ {Origin : Type 0} where
       let met = h.stops.met in
       let start = at_first old session.names in
       let misses = met.server.connects in
-      let is = world_by held.mid start.client start.logs start.office (record { dialer = misses.dialer; link = None }) start.store start.names met.client met.logs met.office misses.is met.store met.names in
+      let is = world_by held.mid start.client start.logs start.office (record { dialer = misses.dialer; link = None; door = false; pair = None }) start.store start.names met.client met.logs met.office misses.is met.store met.names in
       let last = nothing_owed held.mid session.last held.answer (ap (λ (w : World Origin). w.server.link) is) (ap (λ (w : World Origin). w.office.opened) is) held.after in
       let leaves : new ≡ record old { dialer = misses.dialer } = sym session.leaves ∙ ap devices_of (sym last ∙ is) in
-      let refused : Refuses (Main dest) old.dialer misses.dialer = subst (λ (d : DialerView). Refuses (Main dest) d misses.dialer) met.server.clears misses.refused in
+      let refused : Refuses (Main dest) old.dialer misses.dialer = subst (λ (d : DialerView). Refuses (Main dest) d misses.dialer) (met.server.clears ∙ met.server.lets) misses.refused in
       subst (λ (d : Devices Origin). IsTurnedDown dest old d ending) (sym leaves) (record {
         refused = refused;
         same = refl;
@@ -117,26 +118,27 @@ module _ {Origin : Type 0} where
       let start = at_first old session.names in
       let connects = p.met.server.connects in
       let link : Speaker = record { inlet = connects.inlet; reader = unheard; outlet = connects.outlet } in
-      let linked_up : World Origin = record { client = start.client; logs = start.logs; office = start.office; server = record { dialer = connects.dialer; link = Some link }; store = start.store; names = start.names } in
-      let is : p.next ≡ linked_up = world_by p.next start.client start.logs start.office (record { dialer = connects.dialer; link = Some link }) start.store start.names p.met.client p.met.logs p.met.office connects.is p.met.store p.met.names in
+      let linked_up : World Origin = record { client = start.client; logs = start.logs; office = start.office; server = record { dialer = connects.dialer; link = Some link; door = false; pair = None }; store = start.store; names = start.names } in
+      let is : p.next ≡ linked_up = world_by p.next start.client start.logs start.office (record { dialer = connects.dialer; link = Some link; door = false; pair = None }) start.store start.names p.met.client p.met.logs p.met.office connects.is p.met.store p.met.names in
       let relay : Relayed held.dialogue linked_up mid = subst (λ (w : World Origin). Relayed held.dialogue w mid) is (relayed_from p.next mid held.dialogue p.rest) in
       let over : Linked relay.outcome link start.client mid.client linked_up.server mid.server = linked relay.outcome (flow_of relay.outcome) link start.client mid.client linked_up.server mid.server refl relay.met.client relay.met.server in
       let here = over.here in
       let there = over.carries.carries in
       let after : Speaker = record { inlet = there.inlet; reader = record { pending = []; room = there.room }; outlet = there.outlet } in
-      let up : mid.server ≡ record { dialer = connects.dialer; link = Some after } = over.carries.is ∙ ap (λ (s : Speaker). record { dialer = connects.dialer; link = Some s }) there.is in
+      let up : mid.server ≡ record { dialer = connects.dialer; link = Some after; door = false; pair = None } = over.carries.is ∙ ap (λ (s : Speaker). record { dialer = connects.dialer; link = Some s; door = false; pair = None }) there.is in
       let closed : mid.office.opened ≡ None = ap (λ (o : Office Origin). o.opened) relay.met.office in
       let hung = hangs_up mid session.last after held.answer (ap (λ (s : Server). s.link) up) closed held.after in
       let dialer = hung.server.dialer in
-      let clears : HangsUp there.inlet there.outlet connects.dialer dialer = subst (λ (s : Server). Clears s.link s.dialer dialer) up hung.server.clears in
+      let apart : hung.server.apart ≡ connects.dialer = subst (λ (s : Server). LetsPairGo s.pair s.dialer hung.server.apart) up hung.server.lets in
+      let clears : HangsUp there.inlet there.outlet connects.dialer dialer = subst (λ (d : DialerView). Clears (Some after) d dialer) apart (subst (λ (s : Server). Clears s.link hung.server.apart dialer) up hung.server.clears) in
       let client : Speaker = record { inlet = here.inlet; reader = record { pending = []; room = here.room }; outlet = here.outlet } in
-      let last = world_by session.last client start.logs start.office (record { dialer = dialer; link = None }) start.store start.names (hung.client ∙ here.is) (hung.logs ∙ relay.met.logs) (hung.office ∙ relay.met.office) hung.server.is (hung.store ∙ relay.met.store) (hung.names ∙ relay.met.names) in
+      let last = world_by session.last client start.logs start.office (record { dialer = dialer; link = None; door = false; pair = None }) start.store start.names (hung.client ∙ here.is) (hung.logs ∙ relay.met.logs) (hung.office ∙ relay.met.office) hung.server.is (hung.store ∙ relay.met.store) (hung.names ∙ relay.met.names) in
       let leaves : new ≡ record old { inlet = here.inlet; outlet = here.outlet; dialer = dialer } = sym session.leaves ∙ ap devices_of last in
       subst (λ (d : Devices Origin). IsPlugged dest old d ending) (sym leaves) (record {
         came = record { from = connects.inlet; to = connects.outlet };
         went = record { from = there.inlet; to = there.outlet };
         asked = connects.dialer;
-        comes = subst (λ (d : DialerView). ComesUp (Main dest) connects.inlet connects.outlet d connects.dialer) p.met.server.clears connects.up;
+        comes = subst (λ (d : DialerView). ComesUp (Main dest) connects.inlet connects.outlet d connects.dialer) (p.met.server.clears ∙ p.met.server.lets) connects.up;
         up = over.flow.up.end;
         down = over.flow.down.end;
         up_left = here.room;

@@ -1,6 +1,7 @@
 //! What differs in a run in which a device fails at a call that is made.
 
 use crate::comparing::{Called, Difference, Expected};
+use crate::file_gates::ftp_differs;
 use crate::gates::gate_differs;
 use crate::parts::{both, whole, with_last_word, without_line};
 use crate::plan::Plan;
@@ -8,7 +9,7 @@ use crate::relays::{refused_differs, relay_differs};
 use crate::runner::Ended;
 use crate::texts::{count_lines, first_lines, front, has_line, later_lines};
 use crate::verdicts::{
-    called_by, connect, is_connect, is_gate, is_netacl, is_plug, is_session, is_verdict, lasting,
+    called_by, connect, is_connect, is_ftp, is_gate, is_netacl, is_plug, is_session, is_verdict, lasting,
     paced_moment, stopped, untouched, usual, verdict,
 };
 use format_of_rows::Part;
@@ -208,6 +209,7 @@ fn part_differs(plan: &Plan, part: Part, was: &mut Ended, difference: &mut Diffe
             untouched_differs(plan, b"fault outside table\n", was, difference);
         }
         _ if is_gate(plan.row) => gate_differs(plan, part, was, difference),
+        _ if is_ftp(plan.row) => ftp_differs(plan, part, was, difference),
         Part::Log => log_differs(plan, was, difference),
         Part::LogRoom => log_room_differs(plan, was, difference),
         Part::Keeper => keeper_differs(plan, was, difference),

@@ -17,6 +17,8 @@ pub(crate) struct Called<'a> {
     pub(crate) asked: &'a [u8],
     /// What servers were given.
     pub(crate) given: &'a [u8],
+    /// Where what a link was given ends in that, but for the last one; no place where that may be anywhere.
+    pub(crate) ends: &'a [usize],
     /// How many links were hung up.
     pub(crate) hung_up: u64,
 }
@@ -48,6 +50,7 @@ pub(crate) const UNCALLED: Called<'static> = Called {
     started: &[],
     asked: &[],
     given: &[],
+    ends: &[],
     hung_up: 0,
 };
 
@@ -157,6 +160,11 @@ impl Difference {
         self.shown.clear();
         add_given(&mut self.shown, &helpers.dialer);
         self.shown_of(b"what servers were given", expected.given);
+        let mut end: usize = 0;
+        for (wanted, (_, to)) in expected.ends.iter().zip(helpers.dialer.ended()) {
+            end = end.saturating_add(to.bytes().len());
+            self.number_of(b"the end of what a link was given", *wanted as u64, end as u64);
+        }
     }
 
     // Compares what those were told whom the run called.

@@ -4,7 +4,7 @@ ghost use Rattle.fw_memory.specs.MemDialerView.{IsNewLink};
 
 use crate::calls::{calls_of, room_of};
 use crate::plan::Plan;
-use format_of_rows::{File, Part};
+use format_of_rows::{File, Link, Part};
 use fw_memory::{
     Calls, MemClock, MemDialer, MemDice, MemFiles, MemKeeper, MemLauncher, MemSink, MemSource,
 };
@@ -152,15 +152,39 @@ fn linked(
     Ok((MemSource::new(said, piece.max(1), fails, idle), to))
 }
 
-// A link to a server that says this.
-fn link_of(plan: &Plan, said: &[u8]) -> Result<(MemSource, MemSink), NoMemory>
+/// The ways in which a link may fail.
+#[derive(Clone, Copy)]
+struct LinkParts {
+    source: Part,
+    idle: Part,
+    sink: Part,
+    room: Part,
+}
+
+const MAIN: LinkParts = LinkParts {
+    source: Part::Server,
+    idle: Part::ServerIdle,
+    sink: Part::Given,
+    room: Part::GivenRoom,
+};
+
+const DATA: LinkParts = LinkParts {
+    source: Part::Data,
+    idle: Part::DataIdle,
+    sink: Part::DataGiven,
+    room: Part::DataRoom,
+};
+
+// A link at whose other end this is said.
+fn link_of(plan: &Plan, link: &Link) -> Result<(MemSource, MemSink), NoMemory>
     ensures { IfOk result IsNewLink }
 {
-    let fails = calls_of(plan, Part::Server)?;
-    let idle = calls_of(plan, Part::ServerIdle)?;
-    let refuses = calls_of(plan, Part::Given)?;
-    let said = Octets::copy(plan.alloc, said)?;
-    let room = room_of(plan, Part::GivenRoom);
+    let parts = if link.is_data { DATA } else { MAIN };
+    let fails = calls_of(plan, parts.source)?;
+    let idle = calls_of(plan, parts.idle)?;
+    let refuses = calls_of(plan, parts.sink)?;
+    let said = Octets::copy(plan.alloc, &link.said)?;
+    let room = room_of(plan, parts.room);
     linked(plan.alloc, said, plan.piece, fails, idle, room, refuses)
 }
 
@@ -168,8 +192,8 @@ fn links_of(plan: &Plan) -> Result<Vec<(MemSource, MemSink)>, NoMemory>
     ensures { IfOk result (λ links. All IsNewLink links.items) }
 {
     let mut links = Vec::new(plan.alloc);
-    for said in &plan.row.setting.links {
-        links.push(link_of(plan, said)?)?;
+    for link in &plan.row.setting.links {
+        links.push(link_of(plan, link)?)?;
     }
     Ok(links)
 }
@@ -177,7 +201,8 @@ fn links_of(plan: &Plan) -> Result<Vec<(MemSource, MemSink)>, NoMemory>
 fn dialer_of(plan: &Plan) -> Result<MemDialer, NoMemory> {
     let fails = calls_of(plan, Part::Dialer)?;
     let links = links_of(plan)?;
-    MemDialer::new(plan.alloc, links, Vec::new(plan.alloc), MOST_ASKED, fails)
+    let doors = Vec::from_slice(plan.alloc, &plan.row.setting.doors)?;
+    MemDialer::new(plan.alloc, links, doors, MOST_ASKED, fails)
 }
 
 fn talk_of(plan: &Plan) -> Result<Talk, NoMemory> {

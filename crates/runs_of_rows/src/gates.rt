@@ -32,6 +32,7 @@ fn asking<'a>(
             started: &[],
             asked,
             given: &[],
+            ends: &[],
             hung_up,
         },
         rest: Rest {
@@ -58,8 +59,8 @@ fn add_linked(out: &mut Text, log: &[u8]) {
     }
 }
 
-// The destinations that were asked for as the log has it.
-fn linked_of(was: &Ended) -> Text {
+/// The destinations that were asked for as the log has it.
+pub(crate) fn linked_of(was: &Ended) -> Text {
     let mut linked = Text::new();
     add_linked(&mut linked, was.devices.place.logs.bytes());
     linked
@@ -84,8 +85,13 @@ fn unlogged_differs(was: &Ended, difference: &mut Difference) {
     }
 }
 
-// The log has lines of the row, from the first on, and then its last one with this cause.
-fn log_differs(row: &Row, cause: &[u8], was: &Ended, difference: &mut Difference) {
+/// The log has lines of the row, from the first on, and then its last one with this cause.
+pub(crate) fn log_differs(
+    row: &Row,
+    cause: &[u8],
+    was: &Ended,
+    difference: &mut Difference,
+) {
     let (wanted, log) = (&row.wanted.log, was.devices.place.logs.bytes());
     let lines = count_lines(log).saturating_sub(1);
     let last = later_lines(wanted, count_lines(wanted).saturating_sub(1));

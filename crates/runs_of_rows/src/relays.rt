@@ -47,6 +47,7 @@ pub(crate) fn up_ends(
     let row = plan.row;
     let called = Called {
         given,
+        ends: &[],
         ..called_by(&row.wanted)
     };
     let expected = Expected {
@@ -65,6 +66,7 @@ pub(crate) fn refused_differs(plan: &Plan, was: &mut Ended, difference: &mut Dif
         started: &[],
         asked: &row.wanted.called.asked,
         given: &[],
+        ends: &[],
         hung_up: 0,
     };
     let log = with_last_word(&row.wanted.log, b"noroute");

@@ -29,6 +29,10 @@ fn name_of(part: Part) -> &'static [u8] {
         Part::ServerIdle => b"the server is idle at call ",
         Part::Given => b"the server takes nothing at call ",
         Part::GivenRoom => b"the server has bytes of room, ",
+        Part::Data => b"a data link fails at call ",
+        Part::DataIdle => b"a data link is idle at call ",
+        Part::DataGiven => b"a data link takes nothing at call ",
+        Part::DataRoom => b"a data link has bytes of room, ",
     }
 }
 

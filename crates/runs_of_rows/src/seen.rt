@@ -4,7 +4,7 @@ use crate::writing::{Text, add, add_hex, add_number};
 use arrayvec::ArrayVec;
 use fw_memory::{MemDialer, MemKeeper, MemLauncher, MemSource};
 use fw_outside::{Ask, Got, Source};
-use fw_types::{Dest, Name, Octets, OctetsList};
+use fw_types::{Host, Name, Octets, OctetsList};
 
 /// More calls than it takes to hear a client to its end.
 const MOST_TAKES: u32 = 8192;
@@ -55,21 +55,37 @@ pub(crate) fn add_started(out: &mut Text, launcher: &MemLauncher) {
     }
 }
 
-fn add_dest(out: &mut Text, dest: &Dest) {
-    let mut host = ArrayVec::new();
-    dest.host.write(&mut host);
-    add(out, host.as_slice());
+fn add_dest(out: &mut Text, host: &Host, port: u16) {
+    let mut text = ArrayVec::new();
+    host.write(&mut text);
+    add(out, text.as_slice());
     add(out, b" ");
-    add_number(out, u64::from(dest.port));
+    add_number(out, u64::from(port));
     add(out, b"\n");
 }
 
-/// Adds the destinations for which main links were asked, each in a line.
+fn add_place(out: &mut Text, word: &[u8], host: &Host, port: u16) {
+    add(out, word);
+    add_dest(out, host, port);
+}
+
+fn add_ask(out: &mut Text, ask: &Ask) {
+    match ask {
+        Ask::Main(dest) => add_dest(out, &dest.host, dest.port),
+        Ask::Side(dest) => add_place(out, b"side ", &dest.host, dest.port),
+        Ask::Back { addr, port } => add_place(out, b"back ", &Host::Addr(*addr), *port),
+        Ask::Door { at: Some((addr, port)) } => {
+            add_place(out, b"door ", &Host::Addr(*addr), *port);
+        }
+        Ask::Door { at: None } => add(out, b"door none\n"),
+    }
+}
+
+/// Adds what the dialer was asked for, each in a line: the destinations of main links, and the data links and doors behind a
+/// word.
 pub(crate) fn add_asked(out: &mut Text, dialer: &MemDialer) {
     for ask in dialer.asked() {
-        if let Ask::Main(dest) = ask {
-            add_dest(out, dest);
-        }
+        add_ask(out, ask);
     }
 }
 

@@ -7,8 +7,8 @@ use crate::gateways::relayed;
 use crate::plan::{Broken, Plan, UNBROKEN, WHOLE};
 use crate::runner::Runner;
 use crate::running::run_plan;
-use crate::verdicts::{is_gate, is_plug};
-use format_of_rows::{Part, Row, Tried};
+use crate::verdicts::{is_ftp, is_gate, is_plug};
+use format_of_rows::{Called, Part, Row, Tried};
 use fw_types::{Name, NoMemory, Octets};
 use std::alloc::Global;
 use std::thread::Threads;
@@ -74,11 +74,25 @@ fn table_bytes(row: &Row) -> usize {
     }
 }
 
+// How many bytes are said at the other ends of the links, of the data links or of all others.
+fn said_bytes(row: &Row, is_data: bool) -> usize {
+    let mut bytes: usize = 0;
+    for link in &row.setting.links {
+        if link.is_data == is_data {
+            bytes = bytes.saturating_add(link.said.len());
+        }
+    }
+    bytes
+}
+
 // How many bytes a device gives or is given whose calls there are more of the smaller the pieces; nothing for any other.
 fn bytes_of(row: &Row, part: Part) -> Option<usize> {
     match part {
         Part::Client => Some(row.setting.client.len()),
         Part::Table => Some(table_bytes(row)),
+        Part::Data | Part::DataGiven => Some(said_bytes(row, true)),
+        Part::Server if is_ftp(row) => Some(said_bytes(row, false)),
+        Part::Given if is_ftp(row) => None,
         Part::Given => Some(row.wanted.called.given.len()),
         Part::Server | Part::Output if is_gate(row) => Some(relayed(row).len()),
         Part::Server => Some(row.wanted.output.len()),
@@ -103,6 +117,7 @@ fn idle_of(part: Part) -> Option<Part> {
         Part::Client => Some(Part::ClientIdle),
         Part::Table => Some(Part::TableIdle),
         Part::Server => Some(Part::ServerIdle),
+        Part::Data => Some(Part::DataIdle),
         _ => None,
     }
 }
@@ -123,6 +138,11 @@ fn sweep_calls<H: Threads + Sync, R: Runner>(
     }
 }
 
+// Whether it is the output of a session whose bytes come one by one. That of the FTP gateway has other calls then.
+fn is_cut_output(plan: &Plan, part: Part) -> bool {
+    plan.piece == 1 && part == Part::Output && !is_ftp(plan.row)
+}
+
 // A device whose calls depend on the pieces fails however the bytes come, the output of a session where they come whole or
 // byte by byte, and any other one where they come whole.
 fn sweep_cut<H: Threads + Sync, R: Runner>(
@@ -138,11 +158,17 @@ fn sweep_cut<H: Threads + Sync, R: Runner>(
             let calls = calls_of(plan, tried, bytes);
             sweep_calls(rt, runner, plan, part, calls, swept)
         }
-        None if plan.piece == WHOLE || (plan.piece == 1 && part == Part::Output) => {
+        None if plan.piece == WHOLE || is_cut_output(plan, part) => {
             sweep_part(rt, runner, plan, part, tried.calls, swept)
         }
         None => Ok(()),
     }
+}
+
+// How many bytes the last link is given: of a row of the FTP gateway, the one to its server.
+fn last_given(called: &Called) -> usize {
+    let before = called.ends.last().copied().unwrap_or(0);
+    called.given.len().saturating_sub(before)
 }
 
 // The runs in which a sink lacks room.
@@ -154,13 +180,14 @@ fn sweep_room<H: Threads + Sync, R: Runner>(
     swept: &mut Swept,
 ) -> Result<(), NoMemory> {
     let wanted = &plan.row.wanted;
-    let (room, text): (Part, &[u8]) = match part {
-        Part::Output => (Part::OutputRoom, wanted.output.as_slice()),
-        Part::Log => (Part::LogRoom, wanted.log.as_slice()),
-        Part::Given => (Part::GivenRoom, wanted.called.given.as_slice()),
+    let (room, bytes) = match part {
+        Part::Output => (Part::OutputRoom, wanted.output.len()),
+        Part::Log => (Part::LogRoom, wanted.log.len()),
+        Part::Given => (Part::GivenRoom, last_given(&wanted.called)),
+        Part::DataGiven => (Part::DataRoom, said_bytes(plan.row, true)),
         _ => return Ok(()),
     };
-    sweep_part(rt, runner, plan, room, text.len() as u64, swept)
+    sweep_part(rt, runner, plan, room, bytes as u64, swept)
 }
 
 fn sweep_device<H: Threads + Sync, R: Runner>(

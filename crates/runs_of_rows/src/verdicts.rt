@@ -37,6 +37,7 @@ pub(crate) fn called_by(wanted: &Wanted) -> Called<'_> {
         started: &wanted.called.started,
         asked: &wanted.called.asked,
         given: &wanted.called.given,
+        ends: &wanted.called.ends,
         hung_up: wanted.called.hung_up,
     }
 }
@@ -180,6 +181,11 @@ pub(crate) fn is_plug(row: &Row) -> bool {
 /// Whether the words ask for a session of the Telnet gateway, and the client is permitted.
 pub(crate) fn is_gate(row: &Row) -> bool {
     has_word(row, b"tn-gw") && verdict(row).starts_with(b"permit ")
+}
+
+/// Whether the words ask for a session of the FTP gateway, and the client is permitted.
+pub(crate) fn is_ftp(row: &Row) -> bool {
+    has_word(row, b"ftp-gw") && verdict(row).starts_with(b"permit ")
 }
 
 // The last line of the log.

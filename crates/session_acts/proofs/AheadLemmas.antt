@@ -10,7 +10,7 @@ use Rattle.fw_outside.specs.declared.heard.Stop.TheVariants as stops
 use Rattle.relay_ways.specs.Carried.{Way}
 use Rattle.session_acts.specs.Relaying.{Flow, flow_of}
 use Rattle.session_acts.specs.Acts.{Act, Front, Outcome}
-use Rattle.session_acts.specs.Acts.Act.{Hear, Say, Try, Log, Note, Ask, Renew, Dial, Reach, Take, Pass, HangUp, Relay, Deposit, Allot}
+use Rattle.session_acts.specs.Acts.Act.{Hear, Say, Try, Log, Note, Ask, Renew, Dial, Reach, Take, Pass, HangUp, Relay, Deposit, Allot, TakeReply, OpenDoor, Join, Copy, Part}
 use Rattle.session_acts.specs.Deeds.{Lasts}
 use Rattle.session_acts.specs.Distance.{ahead, ahead_of_client}
 use Rattle.session_acts.specs.Met.{AtClient, Carrying, ClientRelays, Hears, Heeds, HeedsLine, IsTold, Met, acts, stop_of}
@@ -23,6 +23,7 @@ use Rattle.session_acts.specs.Forms.{IsHeardIn}
 use Rattle.session_acts.proofs.DeedLemmas.{ran_last}
 use Rattle.telnet_hearing.proofs.WholeLemmas.{some_bytes}
 use Rattle.session_acts.proofs.DepositLemmas.{HoldsThen, deposit_by, draws_ahead}
+use Rattle.session_acts.proofs.ReplyLemmas.{reply_by}
 
 pub heeds_ahead : (form : Form) (heard : Heard) (old new : Speaker) (h : Heeds form heard old new) → ahead old ≡ length h.listens.bytes + ahead new
 heeds_ahead form heard old new h =
@@ -44,14 +45,14 @@ line_nearer form (Stopped stops.Idle) old new h = absurd h
 line_nearer form (Stopped stops.Failed) old new h = absurd h
 line_nearer form (Stopped stops.Spent) old new h = absurd h
 
-hears_nearer : (form : Form) (outcome : Result Heard Silence) (old new : Speaker) → Hears form outcome old new → ahead new ≤ ahead old
+pub hears_nearer : (form : Form) (outcome : Result Heard Silence) (old new : Speaker) → Hears form outcome old new → ahead new ≤ ahead old
 hears_nearer form (Ok heard) old new h = line_nearer form heard old new h
 hears_nearer form (Err silence) old new h = heeds_nearer form (Stopped (stop_of silence)) old new h
 
 same_nearer : (old new : Speaker) → new ≡ old → ahead new ≤ ahead old
 same_nearer old new is = subst (λ (s : Speaker). ahead s ≤ ahead old) (sym is) (omega (arith))
 
-carrying_nearer : (off on : Way) (old new : Speaker) → Carrying off on old new → ahead new ≤ ahead old
+pub carrying_nearer : (off on : Way) (old new : Speaker) → Carrying off on old new → ahead new ≤ ahead old
 carrying_nearer off on old new h =
     let room = h.drains.room in
     subst (λ (s : Speaker). ahead s ≤ ahead old) (sym h.is) (omega (arith, room))
@@ -60,7 +61,7 @@ relays_nearer : (flow : Option Flow) (old new : Speaker) → ClientRelays flow o
 relays_nearer None old new h = same_nearer old new h
 relays_nearer (Some flow) old new h = carrying_nearer flow.up flow.down old new h
 
-told_nearer : (text : List ℕ) (outcome : Result (Unit {0}) (Front text)) (old new : Speaker) → IsTold text outcome old new → ahead new ≤ ahead old
+pub told_nearer : (text : List ℕ) (outcome : Result (Unit {0}) (Front text)) (old new : Speaker) → IsTold text outcome old new → ahead new ≤ ahead old
 told_nearer text outcome old new h = subst (λ (s : Speaker). ahead s ≤ ahead old) (sym h.is) (omega (arith))
 
 draws_nearer : (words : List ℕ) (old : Speaker) → HoldsThen (λ (s : Speaker). ahead s ≤ ahead old) words old
@@ -90,6 +91,11 @@ client_nearer HangUp outcome old new h = same_nearer old new h
 client_nearer Relay outcome old new h = relays_nearer (flow_of outcome) old new h
 client_nearer (Deposit sender rcpts words most) outcome old new h = deposit_by (λ (s : Speaker). ahead s ≤ ahead old) words outcome old new (draws_nearer words old) h
 client_nearer Allot outcome old new h = same_nearer old new h
+client_nearer (TakeReply how) outcome old new h = reply_by (λ (s : Speaker). ahead s ≤ ahead old) outcome old new (λ text tried told. told_nearer text tried old new told) h
+client_nearer OpenDoor outcome old new h = same_nearer old new h
+client_nearer (Join dest target) outcome old new h = same_nearer old new h
+client_nearer (Copy toward) outcome old new h = same_nearer old new h
+client_nearer Part outcome old new h = same_nearer old new h
 
 pub met_ahead : {Origin : Type 0} (act : Act) (outcome : Outcome act) (old new : World Origin) → Met act outcome old new → ahead_of_client new ≤ ahead_of_client old
 met_ahead act outcome old new met = client_nearer act outcome old.client new.client met.client

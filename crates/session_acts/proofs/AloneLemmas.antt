@@ -17,7 +17,7 @@ use Rattle.fw_outside.specs.SourceView.{SourceView}
 use Rattle.fw_types.specs.declared.ending.Ending.{Ending}
 use Rattle.fw_types.specs.declared.ending.Ending.TheVariants as endings
 use Rattle.session_acts.specs.Acts.{Act, Halt, cause_by, fault_cause, silence_cause}
-use Rattle.session_acts.specs.Acts.Act.{Hear, Say, Try, Log, Note, Ask, Renew, Dial, Reach, Take, Pass, HangUp, Relay, Deposit, Allot}
+use Rattle.session_acts.specs.Acts.Act.{Hear, Say, Try, Log, Note, Ask, Renew, Dial, Reach, Take, Pass, HangUp, Relay, Deposit, Allot, TakeReply, OpenDoor, Join, Copy, Part}
 use Rattle.session_acts.specs.Causes.{Caused, TookMost, is_spent_ending}
 use Rattle.session_acts.specs.Deeds.{done}
 use Rattle.session_acts.specs.Met.{Hears, Met, acts}
@@ -84,6 +84,11 @@ stop_alone HangUp halt old new is met = absurd (cc)
 stop_alone Relay halt old new is met = absurd (cc)
 stop_alone (Deposit sender rcpts words most) halt old new is met = deposit_alone words halt old.client new.client met.client
 stop_alone Allot halt old new is met = tt
+stop_alone (TakeReply how) halt old new is met = absurd (cc)
+stop_alone OpenDoor halt old new is met = absurd halt
+stop_alone (Join dest target) halt old new is met = absurd halt
+stop_alone (Copy toward) halt old new is met = absurd halt
+stop_alone Part halt old new is met = absurd halt
 
 spent_room : (ending : Ending) (old new : Speaker) → EndsAlone ending old new → is_spent_ending ending ≡ true → new.reader.room ≡ 0
 spent_room endings.Done old new h is = absurd (cc)

@@ -9,7 +9,7 @@ use Rattle.auth_events.specs.declared.request.Request.TheVariants as requests
 use Rattle.fw_outside.proofs.CountLemmas.{grew_by, grew_none}
 use Rattle.fw_outside.specs.Counts.{Grew}
 use Rattle.session_acts.specs.Acts.{Act, Outcome}
-use Rattle.session_acts.specs.Acts.Act.{Hear, Say, Try, Log, Note, Ask, Renew, Dial, Reach, Take, Pass, HangUp, Relay, Deposit, Allot}
+use Rattle.session_acts.specs.Acts.Act.{Hear, Say, Try, Log, Note, Ask, Renew, Dial, Reach, Take, Pass, HangUp, Relay, Deposit, Allot, TakeReply, OpenDoor, Join, Copy, Part}
 use Rattle.session_acts.specs.Deeds.{Gains}
 use Rattle.session_acts.specs.Met.{Asking, AtOffice, number_told}
 use Rattle.session_acts.specs.Talk.{CountsAsks, asked}
@@ -33,6 +33,11 @@ module _ {Origin : Type 0} where
   one_counts (Log text) outcome old new h = same_counts old new h
   one_counts (Deposit sender rcpts words most) outcome old new h = same_counts old new h
   one_counts Allot outcome old new h = same_counts old new h
+  one_counts (TakeReply how) outcome old new h = same_counts old new h
+  one_counts OpenDoor outcome old new h = same_counts old new h
+  one_counts (Join dest target) outcome old new h = same_counts old new h
+  one_counts (Copy toward) outcome old new h = same_counts old new h
+  one_counts Part outcome old new h = same_counts old new h
   one_counts (Note text) outcome old new h = same_counts old new h
   one_counts (Dial dest) outcome old new h = same_counts old new h
   one_counts (Reach dest) outcome old new h = same_counts old new h

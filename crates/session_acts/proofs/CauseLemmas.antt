@@ -27,7 +27,7 @@ use Rattle.relay_ways.specs.declared.way_end.WayEnd.{WayEnd}
 use Rattle.relay_ways.specs.declared.way_end.WayEnd.TheVariants as ways
 use Rattle.session_acts.specs.Relaying.{Flow, Stuck, stops_by}
 use Rattle.session_acts.specs.Acts.{Act, Front, Halt, cause_by, fault_cause, silence_cause}
-use Rattle.session_acts.specs.Acts.Act.{Hear, Say, Try, Log, Note, Ask, Renew, Dial, Reach, Take, Pass, HangUp, Relay, Deposit, Allot}
+use Rattle.session_acts.specs.Acts.Act.{Hear, Say, Try, Log, Note, Ask, Renew, Dial, Reach, Take, Pass, HangUp, Relay, Deposit, Allot, TakeReply, OpenDoor, Join, Copy, Part}
 use Rattle.session_acts.specs.Causes.{Caused, IsLast, KeepsAs, LinkTookMost, RelayKeeps, SessionKeeps, StaysShut, TookMost}
 use Rattle.session_acts.specs.Deeds.{DeedsAll, deeds_ran, done}
 use Rattle.session_acts.specs.Met.{Asking, Carrying, Clears, Hanging, Hears, Heeds, IsTold, Met, Passes, ServerRelays, Takes, acts}
@@ -43,12 +43,19 @@ use Rattle.session_acts.proofs.DeedLemmas.{all_last, deeds_done, deeds_parted, h
 use Rattle.session_acts.proofs.DeviceLemmas.{halted_faults, halted_idles, halted_waited, rose_within}
 use Rattle.session_acts.proofs.OwedLemmas.{closing_server}
 use Rattle.session_acts.proofs.ShutLemmas.{unshut_last}
-use Rattle.session_acts.proofs.StaysLemmas.{IsSound, LinkSound, Stays, clears_keeps, stays_both, stays_last, stays_same}
+use Rattle.session_acts.proofs.StaysLemmas.{IsSound, LinkSound, Stays, both_clear, stays_both, stays_last, stays_same}
 use Rattle.session_acts.specs.Acts.{Undeposited}
 use Rattle.session_acts.specs.Acts.Undeposited.{Lacks, Unsaid, Unheard}
 use Rattle.session_acts.specs.Acts.{deposit_cause}
 use Rattle.session_acts.specs.Depositing.{Draws}
 use Rattle.session_acts.specs.Met.{AtClientDeposit, DrawsAfter, stop_of}
+use Rattle.session_acts.specs.Acts.{Unreplied, reply_cause}
+use Rattle.session_acts.specs.Acts.Unreplied.{NotHeard, NotSaid}
+use Rattle.session_acts.specs.Met.{ClientReplies, ServerReplies}
+use Rattle.session_acts.specs.Replying.{said_of}
+use Rattle.session_acts.specs.declared.reply_use.ReplyUse.{ReplyUse}
+use Rattle.session_acts.proofs.DeviceLemmas.{DialerKeeps, same_dialer}
+use Rattle.session_acts.proofs.SideLemmas.{pair_keeps}
 
 -- ---- what a stop counts, as the session stands then
 
@@ -208,11 +215,24 @@ module _ {Origin : Type 0} where
   pass_counted text front (Some link) old new h =
       subst (λ (s : Server). HasBroken s.link) (sym h.is) (or_right (nat_lt 0 h.speaker.inlet.faults) (nat_lt 0 h.speaker.outlet.faults) (positive link.outlet.faults h.speaker.outlet.faults (dropped text front link h.speaker h.told)))
 
+  -- a server that stopped within a reply, or a client that wasn't given it
+  drawn_counted : (silence : Silence) (text : List ℕ) (link : Speaker) (speaker : Speaker) (old new : World Origin) → Draws (Some (stop_of silence)) text link speaker → new.server ≡ record (old.server) { link = Some speaker } → Counted (silence_cause ServerFault silence) old new
+  drawn_counted Quiet text link speaker old new h is =
+      inr (subst (λ (s : Server). HasIdled s.link) (sym is) (positive link.inlet.idles speaker.inlet.idles (drawn_idled text link speaker h), drawn_waited text link speaker h))
+  drawn_counted Broken text link speaker old new h is =
+      subst (λ (s : Server). HasBroken s.link) (sym is) (or_left (nat_lt 0 speaker.inlet.faults) (nat_lt 0 speaker.outlet.faults) (positive link.inlet.faults speaker.inlet.faults (drawn_faulted text link speaker h)))
+  drawn_counted Limit text link speaker old new h is = inr (subst (λ (s : Server). IsUsedUp s.link) (sym is) (drawn_up text link speaker h))
+
+  reply_counted : {how : ReplyUse} (halt : Unreplied how) (link : Option Speaker) (old new : World Origin) → ClientReplies (Err halt) old.client new.client → ServerReplies (Err halt) link old.server new.server → Counted (reply_cause halt) old new
+  reply_counted (NotHeard silence text begun) None old new c s = let clash = s.0 in absurd (cc)
+  reply_counted (NotHeard silence text begun) (Some link) old new c s = drawn_counted silence text link s.speaker old new s.draws s.is
+  reply_counted {how} (NotSaid text front) link old new c s = inr (dropped (said_of how text) front old.client new.client c)
+
   reach_counted : (dest : Dest) (halt : Unit {0}) (old new : World Origin) → Met (Reach dest) (Err halt) old new → Counted NoRoute old new
   reach_counted dest halt old new met =
       let dialing = met.server in
       let since : Rose dialing.cleared.refusals new.server.dialer.refusals = subst (λ (s : Server). Rose dialing.cleared.refusals s.dialer.refusals) (sym dialing.connects.is) (subst (λ (d : DialerView). Rose dialing.cleared.refusals d.refusals) (sym dialing.connects.refused.is) dialing.connects.refused.rose) in
-      let before = clears_keeps old.server.link old.server.dialer dialing.cleared dialing.clears in
+      let before = both_clear old.server.pair old.server.link old.server.dialer dialing.apart dialing.cleared dialing.lets dialing.clears in
       rose_within old.server.dialer.refusals dialing.cleared.refusals new.server.dialer.refusals new.server.dialer.refusals before.refusals since (omega (arith))
 
   -- a relay that stopped
@@ -287,6 +307,11 @@ module _ {Origin : Type 0} where
   stop_counted Relay halt old new met = relay_counted halt old new met
   stop_counted (Deposit sender rcpts words most) halt old new met = deposit_counted words halt old new met.client
   stop_counted Allot halt old new met = tt
+  stop_counted (TakeReply how) halt old new met = reply_counted halt old.server.link old new met.client met.server
+  stop_counted OpenDoor halt old new met = absurd halt
+  stop_counted (Join dest target) halt old new met = absurd halt
+  stop_counted (Copy toward) halt old new met = absurd halt
+  stop_counted Part halt old new met = absurd halt
 
   -- what was counted before is counted over a longer time
   pub counted_since : (cause : Cause) (old mid new : World Origin) → Stays old mid → Counted cause mid new → Counted cause old new
@@ -307,25 +332,31 @@ module _ {Origin : Type 0} where
 
   -- what hanging the link up left
   pub record Freed (link : Option Speaker) (old new : World Origin) : Type 0 where
-    pub hanging : Clears link old.server.dialer new.server.dialer
+    pub apart : DialerView
+    pub lets : DialerKeeps old.server.dialer apart
+    pub hanging : Clears link apart new.server.dialer
     pub others : Stays old new
 
   freed : (link : Option Speaker) (old new : World Origin) → old.server.link ≡ link → DeedsAll (freeing link) old new → Freed link old new
-  freed None old new is all = subst (λ (w : World Origin). Freed None old w) all (record { hanging = refl; others = stays_same old })
+  freed None old new is all = subst (λ (w : World Origin). Freed None old w) all (record { apart = old.server.dialer; lets = same_dialer old.server.dialer; hanging = refl; others = stays_same old })
   freed (Some link) old new is all =
       let hanging : Hanging old.server all.0.server = all.1.server in
-      let clears : Clears (Some link) old.server.dialer all.0.server.dialer = subst (λ (l : Option Speaker). Clears l old.server.dialer all.0.server.dialer) is (subst (λ (s : Server). Clears old.server.link old.server.dialer s.dialer) (sym hanging.is) hanging.clears) in
-      subst (λ (w : World Origin). Freed (Some link) old w) all.2 (record { hanging = clears; others = stays_last.one HangUp (Ok tt) old all.0 all.1 })
+      let clears : Clears (Some link) hanging.apart all.0.server.dialer = subst (λ (l : Option Speaker). Clears l hanging.apart all.0.server.dialer) is (subst (λ (s : Server). Clears old.server.link hanging.apart s.dialer) (sym hanging.is) hanging.clears) in
+      subst (λ (w : World Origin). Freed (Some link) old w) all.2 (record { apart = hanging.apart; lets = pair_keeps old.server.pair old.server.dialer hanging.apart hanging.lets; hanging = clears; others = stays_last.one HangUp (Ok tt) old all.0 all.1 })
 
   broken_freed : (link : Option Speaker) (old new : World Origin) → HasBroken link → Freed link old new → Rose old.server.dialer.link_faults new.server.dialer.link_faults
   broken_freed None old new broken free = absurd broken
   broken_freed (Some link) old new broken free =
-      subst (λ (d : DialerView). Rose old.server.dialer.link_faults d.link_faults) (sym free.hanging.is) (rose_true (has_broken link.inlet link.outlet) old.server.dialer.link_faults free.hanging.faults broken free.hanging.faults_rose)
+      let before = free.lets.link_faults in
+      let rose : Rose free.apart.link_faults new.server.dialer.link_faults = subst (λ (d : DialerView). Rose free.apart.link_faults d.link_faults) (sym free.hanging.is) (rose_true (has_broken link.inlet link.outlet) free.apart.link_faults free.hanging.faults broken free.hanging.faults_rose) in
+      rose_within old.server.dialer.link_faults free.apart.link_faults new.server.dialer.link_faults new.server.dialer.link_faults before rose (omega (arith))
 
   pub idle_freed : (link : Option Speaker) (old new : World Origin) → HasIdled link → Freed link old new → Rose old.server.dialer.link_idles new.server.dialer.link_idles
   idle_freed None old new idle free = absurd idle
   idle_freed (Some link) old new idle free =
-      subst (λ (d : DialerView). Rose old.server.dialer.link_idles d.link_idles) (sym free.hanging.is) (rose_true (nat_lt 0 link.inlet.idles) old.server.dialer.link_idles free.hanging.idles idle.0 free.hanging.idles_rose)
+      let before = free.lets.link_idles in
+      let rose : Rose free.apart.link_idles new.server.dialer.link_idles = subst (λ (d : DialerView). Rose free.apart.link_idles d.link_idles) (sym free.hanging.is) (rose_true (nat_lt 0 link.inlet.idles) free.apart.link_idles free.hanging.idles idle.0 free.hanging.idles_rose) in
+      rose_within old.server.dialer.link_idles free.apart.link_idles new.server.dialer.link_idles new.server.dialer.link_idles before rose (omega (arith))
 
 pub last_of : {A : Type 0} (one : A) (old new : Option (List A)) → AddsOne one old new → IsLast one new
 last_of one old None adds = tt
@@ -377,7 +408,7 @@ module _ {Origin : Type 0} where
   link_last (Some link) mid between new sound none free same = record {
     link = record { from = link.inlet; to = link.outlet };
     last =
-        subst (λ (s : Server). IsLast (record { from = link.inlet; to = link.outlet }) s.dialer.ended) (sym same) (subst (λ (d : DialerView). IsLast (record { from = link.inlet; to = link.outlet }) d.ended) (sym free.hanging.is) (last_of (record { from = link.inlet; to = link.outlet }) mid.server.dialer.ended free.hanging.ended free.hanging.adds));
+        subst (λ (s : Server). IsLast (record { from = link.inlet; to = link.outlet }) s.dialer.ended) (sym same) (subst (λ (d : DialerView). IsLast (record { from = link.inlet; to = link.outlet }) d.ended) (sym free.hanging.is) (last_of (record { from = link.inlet; to = link.outlet }) free.apart.ended free.hanging.ended free.hanging.adds));
     all = whole_link link sound none;
   }
 
@@ -457,6 +488,8 @@ module _ {Origin : Type 0} where
     refusals = stays.server.dialer.refusals;
     link_faults = stays.server.dialer.link_faults;
     link_idles = stays.server.dialer.link_idles;
+    data_faults = stays.server.dialer.data_faults;
+    data_idles = stays.server.dialer.data_idles;
     waits = stays.client.source.waits;
     link_waits = stays.server.dialer.waits;
     shut = shut;

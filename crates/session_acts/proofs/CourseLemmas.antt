@@ -16,7 +16,7 @@ use Rattle.fw_acts.specs.Runs.{Run}
 use Rattle.fw_acts.proofs.HistoryLemmas.{run_leaves, run_may}
 use Rattle.fw_types.specs.declared.ending.Ending.{Ending}
 use Rattle.session_acts.specs.Acts.{Act, Outcome}
-use Rattle.session_acts.specs.Acts.Act.{Hear, Say, Try, Log, Note, Ask, Renew, Dial, Reach, Take, Pass, HangUp, Relay, Deposit, Allot}
+use Rattle.session_acts.specs.Acts.Act.{Hear, Say, Try, Log, Note, Ask, Renew, Dial, Reach, Take, Pass, HangUp, Relay, Deposit, Allot, TakeReply, OpenDoor, Join, Copy, Part}
 use Rattle.session_acts.specs.Course.{AreBetween, Course, CourseState, Follows, IsClosed, KeepsCourse, MayAsk, MayCome, course_watch, is_between, is_opening, state_after, state_opened, state_then}
 use Rattle.session_acts.specs.Course.CourseState.{Unasked, Going, Finished}
 use Rattle.session_acts.specs.Deeds.{Deed, deed_last, deeds_ran, done, gives}
@@ -130,6 +130,11 @@ act_stands console state asks (Try text) outcome stands may = same_stands consol
 act_stands console state asks (Log text) outcome stands may = same_stands console state asks stands
 act_stands console state asks (Deposit sender rcpts words most) outcome stands may = same_stands console state asks stands
 act_stands console state asks Allot outcome stands may = same_stands console state asks stands
+act_stands console state asks (TakeReply how) outcome stands may = same_stands console state asks stands
+act_stands console state asks OpenDoor outcome stands may = same_stands console state asks stands
+act_stands console state asks (Join dest target) outcome stands may = same_stands console state asks stands
+act_stands console state asks (Copy toward) outcome stands may = same_stands console state asks stands
+act_stands console state asks Part outcome stands may = same_stands console state asks stands
 act_stands console state asks (Note text) outcome stands may = same_stands console state asks stands
 act_stands console state asks (Dial dest) outcome stands may = same_stands console state asks stands
 act_stands console state asks (Reach dest) outcome stands may = same_stands console state asks stands

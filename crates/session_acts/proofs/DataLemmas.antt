@@ -51,12 +51,12 @@ gathering_from view old first left tray is fits = record {
   number = refl;
 }
 
-some_left : (room : ℕ) → false ≡ (room == 0) → 0 < room
+pub some_left : (room : ℕ) → false ≡ (room == 0) → 0 < room
 some_left zero none = absurd (cc)
 some_left (suc room) some = omega arith
 
 -- one more byte was read
-byte_more : (bytes : List ℕ) (byte : ℕ) (old now new : LineReaderView) (first at next : SourceView) → Reads bytes old now first at → ReadsByte (Ok byte) now new at next → Reads (bytes ++ byte ∷ []) old new first next
+pub byte_more : (bytes : List ℕ) (byte : ℕ) (old now new : LineReaderView) (first at next : SourceView) → Reads bytes old now first at → ReadsByte (Ok byte) now new at next → Reads (bytes ++ byte ∷ []) old new first next
 byte_more bytes byte old now new first at next reads read =
     reads_both bytes (byte ∷ []) old now new first at next reads (subst (λ (s : SourceView). Reads (byte ∷ []) now new at s) (sym read.closes) read.reads)
 
@@ -116,7 +116,7 @@ gathered_end view fed byte old now new first at next before left tray held g rea
       lays = g.lays;
     }
 
-same_limit : (stop : Stop) → data_stop_at_limit (Some stop) ≡ byte_stops_at_limit (Err stop)
+pub same_limit : (stop : Stop) → data_stop_at_limit (Some stop) ≡ byte_stops_at_limit (Err stop)
 same_limit End = refl
 same_limit Idle = refl
 same_limit Failed = refl

@@ -54,6 +54,8 @@ pub record DialerKeeps (old new : DialerView) : Type 0 where
   pub refusals : old.refusals ≤ new.refusals
   pub link_faults : old.link_faults ≤ new.link_faults
   pub link_idles : old.link_idles ≤ new.link_idles
+  pub data_faults : old.data_faults ≤ new.data_faults
+  pub data_idles : old.data_idles ≤ new.data_idles
   pub waits : new.waits ≡ old.waits
 
 -- the source keeps its counts and its patience, and what was taken of it was room in the window
@@ -121,13 +123,15 @@ pub both_holds : (a b c : SinkView) → SinkHolds a b → SinkHolds b c → Sink
 both_holds a b c first next = record { drops = omega (arith, first.drops, next.drops); shut = both_shut a.shut b.shut c.shut first.shut next.shut }
 
 pub same_dialer : (dialer : DialerView) → DialerKeeps dialer dialer
-same_dialer dialer = record { refusals = omega (arith); link_faults = omega (arith); link_idles = omega (arith); waits = refl }
+same_dialer dialer = record { refusals = omega (arith); link_faults = omega (arith); link_idles = omega (arith); data_faults = omega (arith); data_idles = omega (arith); waits = refl }
 
 pub both_dialer : (a b c : DialerView) → DialerKeeps a b → DialerKeeps b c → DialerKeeps a c
 both_dialer a b c first next = record {
   refusals = omega (arith, first.refusals, next.refusals);
   link_faults = omega (arith, first.link_faults, next.link_faults);
   link_idles = omega (arith, first.link_idles, next.link_idles);
+  data_faults = omega (arith, first.data_faults, next.data_faults);
+  data_idles = omega (arith, first.data_idles, next.data_idles);
   waits = next.waits ∙ first.waits;
 }
 

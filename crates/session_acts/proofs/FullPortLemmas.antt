@@ -13,7 +13,7 @@ use Rattle.auth_events.specs.declared.request.Request.TheVariants as requests
 use Rattle.fw_acts.specs.Acts.{Row, PlaceTable}
 use Rattle.fw_types.specs.declared.ending.Ending.{Ending}
 use Rattle.session_acts.specs.Acts.{Act, Outcome}
-use Rattle.session_acts.specs.Acts.Act.{Hear, Say, Try, Log, Note, Ask, Renew, Dial, Reach, Take, Pass, HangUp, Relay, Deposit, Allot}
+use Rattle.session_acts.specs.Acts.Act.{Hear, Say, Try, Log, Note, Ask, Renew, Dial, Reach, Take, Pass, HangUp, Relay, Deposit, Allot, TakeReply, OpenDoor, Join, Copy, Part}
 use Rattle.session_acts.specs.Deeds.{Gains, gives}
 use Rattle.session_acts.specs.FullPort.{RefusesOn, limit_told}
 use Rattle.session_acts.specs.Met.{Asking, AtOffice, acts, number_told, reply_of}
@@ -135,6 +135,11 @@ module _ {Origin : Type 0} where
   one_refuses (Log text) outcome old new h = same_refuses old new h
   one_refuses (Deposit sender rcpts words most) outcome old new h = same_refuses old new h
   one_refuses Allot outcome old new h = same_refuses old new h
+  one_refuses (TakeReply how) outcome old new h = same_refuses old new h
+  one_refuses OpenDoor outcome old new h = same_refuses old new h
+  one_refuses (Join dest target) outcome old new h = same_refuses old new h
+  one_refuses (Copy toward) outcome old new h = same_refuses old new h
+  one_refuses Part outcome old new h = same_refuses old new h
   one_refuses (Note text) outcome old new h = same_refuses old new h
   one_refuses (Dial dest) outcome old new h = same_refuses old new h
   one_refuses (Reach dest) outcome old new h = same_refuses old new h

@@ -16,7 +16,7 @@ use Rattle.fw_types.specs.declared.ending.Ending.{Ending}
 use Rattle.relay_ways.specs.Carried.{Way}
 use Rattle.session_acts.specs.Relaying.{Flow, flow_of}
 use Rattle.session_acts.specs.Acts.{Act, Front, Outcome}
-use Rattle.session_acts.specs.Acts.Act.{Hear, Say, Try, Log, Note, Ask, Renew, Dial, Reach, Take, Pass, HangUp, Relay, Deposit, Allot}
+use Rattle.session_acts.specs.Acts.Act.{Hear, Say, Try, Log, Note, Ask, Renew, Dial, Reach, Take, Pass, HangUp, Relay, Deposit, Allot, TakeReply, OpenDoor, Join, Copy, Part}
 use Rattle.session_acts.specs.Deeds.{Gains, gives}
 use Rattle.session_acts.specs.Hearing.{AreHeard, Fate, TakesHeard, carried_up, heard_in}
 use Rattle.session_acts.specs.Hearing.Fate.{IsHeard, IsCarried}
@@ -35,6 +35,7 @@ use Rattle.fw_outside.specs.declared.heard.Stop.{Stop}
 use Rattle.session_acts.specs.Depositing.{DataLeave, Draws}
 use Rattle.session_acts.specs.Hearing.{data_if, data_in}
 use Rattle.session_acts.specs.Met.{AtClientDeposit, ClientDeposits, DrawsAfter}
+use Rattle.session_acts.proofs.ReplyLemmas.{reply_by}
 
 -- some bytes were taken, and what was pending before and these are what was heard and what is pending now
 pub record HearsOn (heards : List Fate) (old new : Speaker) : Type 0 where
@@ -163,7 +164,7 @@ data_untaken : (stop : Option Stop) (left : LineReaderView) (before after : Sour
 data_untaken None left before after h = leaves_untaken TooLong left before after h
 data_untaken (Some stop) left before after h = leaves_untaken (Stopped stop) left before after h
 
-draws_hearing : (stop : Option Stop) (data_heard : List ℕ) (old new : Speaker) → Draws stop data_heard old new → HearsOn (IsCarried data_heard ∷ []) old new
+pub draws_hearing : (stop : Option Stop) (data_heard : List ℕ) (old new : Speaker) → Draws stop data_heard old new → HearsOn (IsCarried data_heard ∷ []) old new
 draws_hearing stop data_heard old new h =
     let reads = h.reads in
     let middle = h.middle in
@@ -215,6 +216,11 @@ act_hearing HangUp outcome old new h = same_hearing old new h
 act_hearing Relay outcome old new h = relays_hearing (flow_of outcome) old new h
 act_hearing (Deposit sender rcpts words most) outcome old new h = deposit_hearing words outcome old new h
 act_hearing Allot outcome old new h = same_hearing old new h
+act_hearing (TakeReply how) outcome old new h = reply_by (λ (s : Speaker). HearsOn [] old s) outcome old new (λ text tried told. told_hearing text tried old new told) h
+act_hearing OpenDoor outcome old new h = same_hearing old new h
+act_hearing (Join dest target) outcome old new h = same_hearing old new h
+act_hearing (Copy toward) outcome old new h = same_hearing old new h
+act_hearing Part outcome old new h = same_hearing old new h
 
 -- ---- the session
 

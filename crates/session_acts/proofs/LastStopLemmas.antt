@@ -14,7 +14,7 @@ use Rattle.relay_ways.specs.declared.way_end.WayEnd.{WayEnd}
 use Rattle.relay_ways.specs.declared.way_end.WayEnd.TheVariants.{Done, ReadFault, WriteFault, Idle, Spent}
 use Rattle.session_acts.specs.Relaying.{stops_by}
 use Rattle.session_acts.specs.Acts.{Act, Halt, cause_by, fault_cause, silence_cause}
-use Rattle.session_acts.specs.Acts.Act.{Hear, Say, Try, Log, Note, Ask, Renew, Dial, Reach, Take, Pass, HangUp, Relay, Deposit, Allot}
+use Rattle.session_acts.specs.Acts.Act.{Hear, Say, Try, Log, Note, Ask, Renew, Dial, Reach, Take, Pass, HangUp, Relay, Deposit, Allot, TakeReply, OpenDoor, Join, Copy, Part}
 use Rattle.session_acts.specs.Deeds.{Deed, deed_last, done}
 use Rattle.session_acts.specs.LastStop.{StopsLast, is_no_memory, lacked_memory, one_lacked_memory}
 use Rattle.session_acts.specs.Met.{acts}
@@ -28,6 +28,9 @@ use Rattle.session_acts.specs.Acts.{Undeposited}
 use Rattle.session_acts.specs.Acts.Undeposited.{Lacks, Unsaid, Unheard}
 use Rattle.session_acts.specs.Acts.{deposit_cause}
 use Rattle.session_acts.specs.LastStop.{lacked_depositing}
+use Rattle.session_acts.specs.Acts.{Unreplied, reply_cause}
+use Rattle.session_acts.specs.Acts.Unreplied.{NotHeard, NotSaid}
+use Rattle.session_acts.specs.declared.reply_use.ReplyUse.{ReplyUse}
 
 -- these are the one act that stopped for this cause
 record IsStop (cause : Cause) (deeds : List Deed) : Type 0 where
@@ -118,6 +121,10 @@ deposit_lacks words Lacks is = refl
 deposit_lacks words (Unsaid front) is = absurd (cc)
 deposit_lacks words (Unheard silence data_heard) is = let lacks : false ≡ true = hear_lacks silence is in absurd (cc)
 
+reply_lacks : {how : ReplyUse} (halt : Unreplied how) → reply_cause halt ≡ causes.NoMemory → false ≡ true
+reply_lacks (NotHeard silence text begun) is = take_lacks silence is
+reply_lacks (NotSaid text front) is = absurd (cc)
+
 stop_lacks : (act : Act) (halt : Halt act) → cause_by act halt ≡ causes.NoMemory → lacked_memory act (Err halt) ≡ true
 stop_lacks (Hear form) halt is = hear_lacks halt is
 stop_lacks (Say text) halt is = absurd (cc)
@@ -134,6 +141,11 @@ stop_lacks HangUp halt is = absurd halt
 stop_lacks Relay halt is = relay_lacks halt.flow.up.end halt.flow.down.end halt.cause halt.is is
 stop_lacks (Deposit sender rcpts words most) halt is = deposit_lacks words halt is
 stop_lacks Allot halt is = refl
+stop_lacks (TakeReply how) halt is = reply_lacks halt is
+stop_lacks OpenDoor halt is = absurd halt
+stop_lacks (Join dest target) halt is = absurd halt
+stop_lacks (Copy toward) halt is = absurd halt
+stop_lacks Part halt is = absurd halt
 
 ending_lacks : (cause : Cause) → ending_by cause ≡ endings.NoMemory → cause ≡ causes.NoMemory
 ending_lacks causes.ClientFault is = absurd (cc)

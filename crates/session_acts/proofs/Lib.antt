@@ -2,6 +2,7 @@ pub mod Acting
 pub mod AheadLemmas
 pub mod AloneLemmas
 pub mod AskCountLemmas
+pub mod BrokenLemmas
 pub mod CauseLemmas
 pub mod ClientLemmas
 pub mod CourseLemmas
@@ -19,14 +20,20 @@ pub mod OneSessionLemmas
 pub mod OwedLemmas
 pub mod ServerlessLemmas
 pub mod OverLinksLemmas
+pub mod OverSideLemmas
 pub mod QuietLemmas
+pub mod PairLemmas
 pub mod PassingLemmas
+pub mod ServerAheadLemmas
 pub mod ServersHeardLemmas
 pub mod SaidLemmas
 pub mod SpentLemmas
 pub mod StageLemmas
 pub mod ShutLemmas
 pub mod RelayLemmas
+pub mod ReplyLemmas
+pub mod SideLemmas
+pub mod SideDeskLemmas
 pub mod RelayEndLemmas
 pub mod RelayFrontsLemmas
 pub mod RelayGivesLemmas
@@ -40,4 +47,13 @@ pub mod UsedUpLemmas
 pub mod WaitedLemmas
 mod Rows
 pub mod LastStopLemmas
+pub mod ReadingLemmas
+pub mod ReplyReadLemmas
+pub mod ReplyPassLemmas
+pub mod ReplyDeskLemmas
+pub mod GreetingLemmas
+pub mod GreetedLemmas
+pub mod GreetsLemmas
 pub mod RefusalLemmas
+pub mod OnceLemmas
+pub mod OwnLoginLemmas

@@ -18,6 +18,7 @@ use Rattle.session_acts.specs.Session.{Held, SessionAs, closing, ending_by, endi
 use Rattle.session_acts.specs.World.{Office, Server, Speaker, World, at_first, devices_of, unheard}
 use Rattle.session_acts.specs.declared.cause.Cause.{Cause}
 use Rattle.session_acts.proofs.DeedLemmas.{deeds_both, deeds_parted}
+use Rattle.fw_outside.specs.DialerView.{DialerView}
 
 ends_told : (dialogue closed : Result (Unit {0}) Cause) (opened : Option ℕ) (answer : Result Reply PortFault) → ending_told (Ok tt) closed ≡ ending_closed opened answer → ending_told dialogue closed ≡ ending_of dialogue opened answer
 ends_told (Ok done) (Ok closed) opened answer tells = tells
@@ -27,6 +28,10 @@ ends_told (Err cause) closed opened answer tells = refl
 pub closed_then : (reply : Option Reply) (opened : Option ℕ) → opened_then requests.Close reply opened ≡ None
 closed_then None opened = refl
 closed_then (Some reply) opened = refl
+
+-- no link is up, and no door stands
+abbrev pub unlinked_server : DialerView → Server
+unlinked_server dialer = record { dialer = dialer; link = None; door = false; pair = None }
 
 module _ {Origin : Type 0} where
   -- a link was hung up
@@ -71,20 +76,20 @@ module _ {Origin : Type 0} where
   held_by {dialogue = dialogue} {mid = mid} ran finishing = record { dialogue = dialogue; mid = mid; ran = ran; answer = finishing.answer; after = finishing.after; ends = finishing.ends }
 
   -- a world in which nothing was heard, no session is open and no link is up
-  at_start : (world : World Origin) → world.client.reader ≡ unheard → world.office.opened ≡ None → world.server.link ≡ None → world ≡ at_first (devices_of world) world.names
-  at_start world reader opened link =
+  at_start : (world : World Origin) → world.client.reader ≡ unheard → world.office.opened ≡ None → world.server ≡ unlinked_server world.server.dialer → world ≡ at_first (devices_of world) world.names
+  at_start world reader opened server =
       ap (λ (r : LineReaderView). record world { client = record (world.client) { reader = r } }) reader
       ∙ ap (λ (o : Option ℕ). record world { client = record (world.client) { reader = unheard }; office = record (world.office) { opened = o } }) opened
-      ∙ ap (λ (l : Option Speaker). record world { client = record (world.client) { reader = unheard }; office = record (world.office) { opened = None }; server = record (world.server) { link = l } }) link
+      ∙ ap (λ (s : Server). record world { client = record (world.client) { reader = unheard }; office = record (world.office) { opened = None }; server = s }) server
 
   -- a session that was held from there on
   pub held_session : {P : Type 0} {rows : PlaceTable (acts Origin) P} {first : Row (acts Origin) P} {old last : World Origin} {ending : Ending} (relays : Bool) → Held rows first old last ending
-      → old.client.reader ≡ unheard → old.office.opened ≡ None → old.server.link ≡ None → old.names.relays ≡ relays → SessionAs relays rows first (devices_of old) (devices_of last) ending
-  held_session {P} {rows} {first} {old} {last} {ending} relays held reader opened link lent = record {
+      → old.client.reader ≡ unheard → old.office.opened ≡ None → old.server ≡ unlinked_server old.server.dialer → old.names.relays ≡ relays → SessionAs relays rows first (devices_of old) (devices_of last) ending
+  held_session {P} {rows} {first} {old} {last} {ending} relays held reader opened server lent = record {
     names = old.names;
     lent = lent;
     last = last;
-    held = subst (λ (w : World Origin). Held rows first w last ending) (at_start old reader opened link) held;
+    held = subst (λ (w : World Origin). Held rows first w last ending) (at_start old reader opened server) held;
     leaves = refl;
   }
 

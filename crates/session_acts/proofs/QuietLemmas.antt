@@ -15,17 +15,16 @@ use Rattle.fw_outside.specs.SourceView.{SourceView}
 use Rattle.fw_outside.specs.ToldList.{IsOver}
 use Rattle.fw_outside.specs.declared.ask.Ask as asks
 use Rattle.session_acts.specs.Acts.{Act, Outcome}
-use Rattle.session_acts.specs.Acts.Act.{Hear, Say, Try, Log, Note, Ask, Renew, Dial, Reach, Take, Pass, HangUp, Relay, Deposit, Allot}
+use Rattle.session_acts.specs.Acts.Act.{Hear, Say, Try, Log, Note, Ask, Renew, Dial, Reach, Take, Pass, HangUp, Relay, Deposit, Allot, TakeReply, OpenDoor, Join, Copy, Part}
 use Rattle.session_acts.specs.Deeds.{Deed, DeedsAll, deed_last, deeds_ran, done}
 use Rattle.session_acts.specs.Met.{Met, ServerRelays, acts}
-use Rattle.session_acts.specs.Passing.{AreOver, hung_by, over_each, over_last, up_if_dialed, up_if_reached}
+use Rattle.session_acts.specs.Passing.{AreOver, hung_by, over_each, over_last, paired_after, paired_last, up_if_dialed, up_if_reached}
 use Rattle.session_acts.specs.RelayFronts.{KeepsQuiet, OverLink, before_relay, flow_by, flow_in, is_quiet, quiet_watch, unless_relay}
 use Rattle.session_acts.specs.Relaying.{Flow, flow_of}
 use Rattle.session_acts.specs.Session.{closing, freeing, owed}
-use Rattle.session_acts.specs.World.{Server, Speaker, World, unheard}
+use Rattle.session_acts.specs.World.{Pair, Server, Speaker, World, unheard}
 use Rattle.session_acts.specs.declared.cause.Cause.{Cause}
-use Rattle.session_acts.proofs.LinkedLemmas.{adds_both}
-use Rattle.session_acts.proofs.OverLinksLemmas.{Holds, Step as LinkStep, Tale, dial_step, hang_step, over_both, same_step}
+use Rattle.session_acts.proofs.OverLinksLemmas.{Holds, Known_of, PairHolds, Step as LinkStep, Tale, dial_step, hang_step, same_step, steps_both}
 use Rattle.session_acts.proofs.PassingLemmas.{new_given}
 use Rattle.session_acts.proofs.ServersHeardLemmas.{none_taken}
 
@@ -79,6 +78,11 @@ flow_on (Try text) outcome later is = refl
 flow_on (Log text) outcome later is = refl
 flow_on (Deposit sender rcpts words most) outcome later is = refl
 flow_on Allot outcome later is = refl
+flow_on (TakeReply how) outcome later is = absurd (cc)
+flow_on OpenDoor outcome later is = absurd (cc)
+flow_on (Join dest target) outcome later is = absurd (cc)
+flow_on (Copy toward) outcome later is = absurd (cc)
+flow_on Part outcome later is = absurd (cc)
 flow_on (Note text) outcome later is = refl
 flow_on (Ask request) outcome later is = refl
 flow_on (Renew name hash) outcome later is = refl
@@ -105,6 +109,11 @@ talk_on (Try text) deeds is = refl
 talk_on (Log text) deeds is = refl
 talk_on (Deposit sender rcpts words most) deeds is = refl
 talk_on Allot deeds is = refl
+talk_on (TakeReply how) deeds is = absurd (cc)
+talk_on OpenDoor deeds is = absurd (cc)
+talk_on (Join dest target) deeds is = absurd (cc)
+talk_on (Copy toward) deeds is = absurd (cc)
+talk_on Part deeds is = absurd (cc)
 talk_on (Note text) deeds is = refl
 talk_on (Ask request) deeds is = refl
 talk_on (Renew name hash) deeds is = refl
@@ -126,6 +135,11 @@ abbrev pub is_idle : (act : Act) → Outcome act → Bool
 is_idle Take outcome = false
 is_idle (Pass text) outcome = false
 is_idle Relay outcome = is_none (flow_of outcome)
+is_idle (TakeReply how) outcome = false
+is_idle OpenDoor outcome = false
+is_idle (Join dest target) outcome = false
+is_idle (Copy toward) outcome = false
+is_idle Part outcome = false
 is_idle act outcome = true
 
 abbrev pub AllIdle : List Deed → Type 0
@@ -138,6 +152,11 @@ idle_by (Try text) outcome is = refl
 idle_by (Log text) outcome is = refl
 idle_by (Deposit sender rcpts words most) outcome is = refl
 idle_by Allot outcome is = refl
+idle_by (TakeReply how) outcome is = absurd (cc)
+idle_by OpenDoor outcome is = absurd (cc)
+idle_by (Join dest target) outcome is = absurd (cc)
+idle_by (Copy toward) outcome is = absurd (cc)
+idle_by Part outcome is = absurd (cc)
 idle_by (Note text) outcome is = refl
 idle_by (Ask request) outcome is = refl
 idle_by (Renew name hash) outcome is = refl
@@ -155,6 +174,37 @@ quiet_idle (deed ∷ deeds) quiet = (idle_by deed.act deed.outcome quiet.0, quie
 pub idle_both : (first more : List Deed) → AllIdle first → AllIdle more → AllIdle (first ++ more)
 idle_both [] more a b = b
 idle_both (deed ∷ first) more a b = (a.0, idle_both first more a.1 b)
+
+-- they bring no data links up
+stays_unpaired : (act : Act) (outcome : Outcome act) → is_idle act outcome ≡ true → paired_after act outcome false ≡ false
+stays_unpaired (Hear form) outcome is = refl
+stays_unpaired (Say text) outcome is = refl
+stays_unpaired (Try text) outcome is = refl
+stays_unpaired (Log text) outcome is = refl
+stays_unpaired (Deposit sender rcpts words most) outcome is = refl
+stays_unpaired Allot outcome is = refl
+stays_unpaired (Note text) outcome is = refl
+stays_unpaired (Ask request) outcome is = refl
+stays_unpaired (Renew name hash) outcome is = refl
+stays_unpaired (Dial dest) outcome is = refl
+stays_unpaired (Reach dest) outcome is = refl
+stays_unpaired HangUp outcome is = refl
+stays_unpaired Relay outcome is = refl
+stays_unpaired Take outcome is = absurd (cc)
+stays_unpaired (Pass text) outcome is = absurd (cc)
+stays_unpaired (TakeReply how) outcome is = absurd (cc)
+stays_unpaired OpenDoor outcome is = absurd (cc)
+stays_unpaired (Join dest target) outcome is = absurd (cc)
+stays_unpaired (Copy toward) outcome is = absurd (cc)
+stays_unpaired Part outcome is = absurd (cc)
+
+pub idle_unpaired : (deeds : List Deed) → AllIdle deeds → paired_last false deeds ≡ false
+idle_unpaired [] idle = refl
+idle_unpaired (deed ∷ deeds) idle = ap (λ (b : Bool). paired_last b deeds) (stays_unpaired deed.act deed.outcome idle.0) ∙ idle_unpaired deeds idle.1
+
+pub unpaired : (pair : Option Pair) → PairHolds false pair → pair ≡ None
+unpaired None holds = refl
+unpaired (Some pair) holds = absurd holds
 
 -- ---- links over which nothing is given or taken
 
@@ -176,6 +226,8 @@ unused = record {
   WasUp = λ known link. OverLink [] [] link;
   begins = came_unused;
   ends = λ known link is. (new_given link.outlet.given is.given, new_given link.inlet.taken is.taken);
+  beside = λ toward way. ([], []);
+  unused = λ link is. (new_given link.to.given is.given, new_given link.from.taken is.taken);
 }
 
 pub all_unused : (knowns : List (List (Unit {0}))) (links : List LinkView) → AreOver unused.WasUp knowns links → AllByRecursion (OverLink [] []) links
@@ -195,49 +247,51 @@ up_then (Reach dest) outcome up = up_if_reached outcome
 up_then HangUp outcome up = None
 up_then act outcome up = up
 
-abbrev UnusedStep : List (List (Unit {0})) → Option (List (Unit {0})) → Server → Server → Type 0
-UnusedStep knowns up old new = LinkStep unused knowns up old new
+abbrev UnusedStep : List (List (Unit {0})) → Option (List (Unit {0})) → Bool → Server → Server → Type 0
+UnusedStep knowns up paired old new = LinkStep unused knowns up paired old new
 
-relay_unused : (up : Option (List (Unit {0}))) (flow : Option Flow) (link : Option Speaker) (old new : Server) → is_none flow ≡ true → Holds unused up old.link → ServerRelays flow link old new → UnusedStep [] up old new
-relay_unused up (Some flow) link old new is holds h = absurd (cc)
-relay_unused up None None old new is holds h = same_step unused up old new holds h
-relay_unused up None (Some link) old new is holds h = absurd h
+relay_unused : (up : Option (List (Unit {0}))) (paired : Bool) (flow : Option Flow) (link : Option Speaker) (old new : Server) → is_none flow ≡ true → Holds unused up old.link → PairHolds paired old.pair → ServerRelays flow link old new → UnusedStep [] up paired old new
+relay_unused up paired (Some flow) link old new is holds pairs h = absurd (cc)
+relay_unused up paired None None old new is holds pairs h = same_step unused up paired old new holds pairs h
+relay_unused up paired None (Some link) old new is holds pairs h = absurd h
 
 module _ {Origin : Type 0} where
-  idle_step : (act : Act) (outcome : Outcome act) (up : Option (List (Unit {0}))) (old new : World Origin) → is_idle act outcome ≡ true → Met act outcome old new → Holds unused up old.server.link
-      → UnusedStep (hung_by act up) (up_then act outcome up) old.server new.server
-  idle_step (Dial dest) (Ok true) up old new is met holds = dial_step unused up true dest old.server new.server holds met.server
-  idle_step (Dial dest) (Ok false) up old new is met holds = dial_step unused up false dest old.server new.server holds met.server
-  idle_step (Dial dest) (Err never) up old new is met holds = absurd never
-  idle_step (Reach dest) (Ok reached) up old new is met holds = dial_step unused up true dest old.server new.server holds met.server
-  idle_step (Reach dest) (Err halt) up old new is met holds = dial_step unused up false dest old.server new.server holds met.server
-  idle_step Take outcome up old new is met holds = absurd (cc)
-  idle_step (Pass text) outcome up old new is met holds = absurd (cc)
-  idle_step HangUp (Ok hung) up old new is met holds = hang_step unused up old.server new.server holds met.server
-  idle_step HangUp (Err never) up old new is met holds = absurd never
-  idle_step Relay outcome up old new is met holds = relay_unused up (flow_of outcome) old.server.link old.server new.server is holds met.server
-  idle_step (Hear form) outcome up old new is met holds = same_step unused up old.server new.server holds met.server
-  idle_step (Say text) outcome up old new is met holds = same_step unused up old.server new.server holds met.server
-  idle_step (Try text) outcome up old new is met holds = same_step unused up old.server new.server holds met.server
-  idle_step (Log text) outcome up old new is met holds = same_step unused up old.server new.server holds met.server
-  idle_step (Deposit sender rcpts words most) outcome up old new is met holds = same_step unused up old.server new.server holds met.server
-  idle_step Allot outcome up old new is met holds = same_step unused up old.server new.server holds met.server
-  idle_step (Note text) outcome up old new is met holds = same_step unused up old.server new.server holds met.server
-  idle_step (Ask request) outcome up old new is met holds = same_step unused up old.server new.server holds met.server
-  idle_step (Renew name hash) outcome up old new is met holds = same_step unused up old.server new.server holds met.server
+  idle_step : (act : Act) (outcome : Outcome act) (up : Option (List (Unit {0}))) (paired : Bool) (old new : World Origin) → is_idle act outcome ≡ true → Met act outcome old new → Holds unused up old.server.link → PairHolds paired old.server.pair
+      → UnusedStep (hung_by unused.beside act outcome up paired) (up_then act outcome up) (paired_after act outcome paired) old.server new.server
+  idle_step (Dial dest) (Ok true) up paired old new is met holds pairs = dial_step unused up paired true dest old.server new.server holds pairs met.server
+  idle_step (Dial dest) (Ok false) up paired old new is met holds pairs = dial_step unused up paired false dest old.server new.server holds pairs met.server
+  idle_step (Dial dest) (Err never) up paired old new is met holds pairs = absurd never
+  idle_step (Reach dest) (Ok reached) up paired old new is met holds pairs = dial_step unused up paired true dest old.server new.server holds pairs met.server
+  idle_step (Reach dest) (Err halt) up paired old new is met holds pairs = dial_step unused up paired false dest old.server new.server holds pairs met.server
+  idle_step Take outcome up paired old new is met holds pairs = absurd (cc)
+  idle_step (Pass text) outcome up paired old new is met holds pairs = absurd (cc)
+  idle_step HangUp (Ok hung) up paired old new is met holds pairs = hang_step unused up paired old.server new.server holds pairs met.server
+  idle_step HangUp (Err never) up paired old new is met holds pairs = absurd never
+  idle_step Relay outcome up paired old new is met holds pairs = relay_unused up paired (flow_of outcome) old.server.link old.server new.server is holds pairs met.server
+  idle_step (Hear form) outcome up paired old new is met holds pairs = same_step unused up paired old.server new.server holds pairs met.server
+  idle_step (Say text) outcome up paired old new is met holds pairs = same_step unused up paired old.server new.server holds pairs met.server
+  idle_step (Try text) outcome up paired old new is met holds pairs = same_step unused up paired old.server new.server holds pairs met.server
+  idle_step (Log text) outcome up paired old new is met holds pairs = same_step unused up paired old.server new.server holds pairs met.server
+  idle_step (Deposit sender rcpts words most) outcome up paired old new is met holds pairs = same_step unused up paired old.server new.server holds pairs met.server
+  idle_step Allot outcome up paired old new is met holds pairs = same_step unused up paired old.server new.server holds pairs met.server
+  idle_step (TakeReply how) outcome up paired old new is met holds pairs = absurd (cc)
+  idle_step OpenDoor outcome up paired old new is met holds pairs = absurd (cc)
+  idle_step (Join dest target) outcome up paired old new is met holds pairs = absurd (cc)
+  idle_step (Copy toward) outcome up paired old new is met holds pairs = absurd (cc)
+  idle_step Part outcome up paired old new is met holds pairs = absurd (cc)
+  idle_step (Note text) outcome up paired old new is met holds pairs = same_step unused up paired old.server new.server holds pairs met.server
+  idle_step (Ask request) outcome up paired old new is met holds pairs = same_step unused up paired old.server new.server holds pairs met.server
+  idle_step (Renew name hash) outcome up paired old new is met holds pairs = same_step unused up paired old.server new.server holds pairs met.server
 
-  pub idle_steps : (deeds : List Deed) (up : Option (List (Unit {0}))) (old new : World Origin) → AllIdle deeds → DeedsAll deeds old new → Holds unused up old.server.link
-      → UnusedStep (over_each up_then up deeds) (over_last up_then up deeds) old.server new.server
-  idle_steps [] up old new idle all holds = same_step unused up old.server new.server holds (sym (ap (λ (w : World Origin). w.server) all))
-  idle_steps (deed ∷ deeds) up old new idle all holds =
-      let step = idle_step deed.act deed.outcome up old all.0 idle.0 all.1 holds in
-      let rest = idle_steps deeds (up_then deed.act deed.outcome up) all.0 new idle.1 all.2 step.holds in
-      record {
-        links = step.links ++ rest.links;
-        ended = adds_both step.links rest.links old.server.dialer.ended all.0.server.dialer.ended new.server.dialer.ended step.ended rest.ended;
-        each = over_both unused (hung_by deed.act up) (over_each up_then (up_then deed.act deed.outcome up) deeds) step.links rest.links step.each rest.each;
-        holds = rest.holds;
-      }
+  pub idle_steps : (deeds : List Deed) (up : Option (List (Unit {0}))) (paired : Bool) (old new : World Origin) → AllIdle deeds → DeedsAll deeds old new → Holds unused up old.server.link → PairHolds paired old.server.pair
+      → UnusedStep (over_each (Known_of unused up_then) up paired deeds) (over_last up_then up deeds) (paired_last paired deeds) old.server new.server
+  idle_steps [] up paired old new idle all holds pairs = same_step unused up paired old.server new.server holds pairs (sym (ap (λ (w : World Origin). w.server) all))
+  idle_steps (deed ∷ deeds) up paired old new idle all holds pairs =
+      let step = idle_step deed.act deed.outcome up paired old all.0 idle.0 all.1 holds pairs in
+      let later = up_then deed.act deed.outcome up in
+      let left = paired_after deed.act deed.outcome paired in
+      let rest = idle_steps deeds later left all.0 new idle.1 all.2 step.holds step.pairs in
+      steps_both unused (hung_by unused.beside deed.act deed.outcome up paired) (over_each (Known_of unused up_then) later left deeds) later (over_last up_then later deeds) left (paired_last left deeds) old.server all.0.server new.server step rest
 
 -- ---- what is logged before
 

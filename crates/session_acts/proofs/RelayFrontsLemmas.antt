@@ -1,5 +1,5 @@
 -- What reached each side of a session with a relay whose rows keep quiet.
-use Rattle.std.proofs.Common.{◌≡◌, refl, sym, ap, subst, ◌∙◌, ℕ, Bool, true, List, [], ◌∷◌, ◌++◌, length, ◌⊎◌, inl, inr, Option, Some, None, Result, Ok, Err, append_assoc, append-nil}
+use Rattle.std.proofs.Common.{◌≡◌, refl, sym, ap, subst, ◌∙◌, ℕ, Bool, true, false, List, [], ◌∷◌, ◌++◌, length, ◌⊎◌, inl, inr, Option, Some, None, Result, Ok, Err, append_assoc, append-nil}
 use Rattle.std.proofs.lemmas.List.{length-append}
 use Rattle.std.specs.List.{concat}
 use Rattle.std.specs.Option.{option_map}
@@ -28,21 +28,22 @@ use Rattle.session_acts.specs.RelayLast.{Conveys, RelaysLast, StopsBefore}
 use Rattle.session_acts.specs.Relayed.{relayed, then_relay}
 use Rattle.session_acts.specs.Relaying.{Flow, flow_of}
 use Rattle.session_acts.specs.Session.{Held, RelaySession, closing, deeds_of, ending_of, freeing, owed}
-use Rattle.session_acts.specs.World.{Devices, Server, Speaker, World, at_first, devices_of}
+use Rattle.session_acts.specs.World.{Devices, IsUnlinked, Pair, Server, Speaker, World, at_first, devices_of}
 use Rattle.session_acts.specs.declared.cause.Cause.{Cause}
 use Rattle.session_acts.proofs.DeedLemmas.{all_gain, all_last, deeds_parted, held_deeds, ran_deeds}
 use Rattle.session_acts.proofs.DeviceLemmas.{shut_twice}
 use Rattle.session_acts.proofs.HearingLemmas.{HearsOn, heard_gains, held_heard}
 use Rattle.session_acts.proofs.LinkedLemmas.{adds_both, adds_one}
-use Rattle.session_acts.proofs.OverLinksLemmas.{Holds}
+use Rattle.session_acts.proofs.OverLinksLemmas.{Holds, PairHolds}
 use Rattle.session_acts.proofs.OwedLemmas.{closing_server}
-use Rattle.session_acts.proofs.QuietLemmas.{AllIdle, AllQuiet, IsUnused, all_unused, flow_behind, flow_none, idle_both, idle_steps, quiet_both, quiet_idle, quiet_owed, ran_quiet, still_unused, talk_before, unused, up_then}
+use Rattle.session_acts.proofs.QuietLemmas.{AllIdle, AllQuiet, IsUnused, all_unused, flow_behind, flow_none, idle_both, idle_steps, idle_unpaired, unpaired, quiet_both, quiet_idle, quiet_owed, ran_quiet, still_unused, talk_before, unused, up_then}
 use Rattle.session_acts.proofs.RelayEndLemmas.{EndsSo, done_ways, front_down, front_up, is_shut, relay_ends_so}
 use Rattle.session_acts.proofs.RelayGivesLemmas.{RelayOver, conveys_by, met_over}
 use Rattle.session_acts.proofs.RelayLastLemmas.{done_through, held_relays}
 use Rattle.session_acts.proofs.ServersHeardLemmas.{all_taken}
 use Rattle.session_acts.proofs.StaysLemmas.{stays_last}
 use Rattle.session_acts.proofs.ToldLemmas.{by_both, told_gains}
+use Rattle.session_acts.specs.Joining.{LetsPairGo}
 
 -- ---- what was taken of the client
 
@@ -80,11 +81,12 @@ module _ {Origin : Type 0} where
   closing_client (Some sid) answer old new all = ap (λ (w : World Origin). w.client) (sym all.2) ∙ all.1.client
 
   -- a link that is up is hung up
-  hung_up : (up : Option Speaker) (link : Speaker) (old new : World Origin) → old.server.link ≡ up → up ≡ Some link → DeedsAll (freeing up) old new → Adds (view link ∷ []) old.server.dialer.ended new.server.dialer.ended
-  hung_up None link old new was is all = absurd (cc)
-  hung_up (Some other) link old new was is all =
+  hung_up : (up : Option Speaker) (link : Speaker) (old new : World Origin) → old.server.pair ≡ None → old.server.link ≡ up → up ≡ Some link → DeedsAll (freeing up) old new → Adds (view link ∷ []) old.server.dialer.ended new.server.dialer.ended
+  hung_up None link old new none was is all = absurd (cc)
+  hung_up (Some other) link old new none was is all =
       let h = all.1.server in
-      let hangs : HangsUp link.inlet link.outlet old.server.dialer h.dialer = subst (λ (l : Option Speaker). Clears l old.server.dialer h.dialer) (was ∙ is) h.clears in
+      let apart : h.apart ≡ old.server.dialer = subst (λ (p : Option Pair). LetsPairGo p old.server.dialer h.apart) none h.lets in
+      let hangs : HangsUp link.inlet link.outlet old.server.dialer h.dialer = subst (λ (l : Option Speaker). Clears l old.server.dialer h.dialer) (was ∙ is) (subst (λ (d : DialerView). Clears old.server.link d h.dialer) apart h.clears) in
       let ended : Adds (view link ∷ []) old.server.dialer.ended h.dialer.ended = subst (λ (d : DialerView). Adds (view link ∷ []) old.server.dialer.ended d.ended) (sym hangs.is) (adds_one (view link) old.server.dialer.ended hangs.ended hangs.adds) in
       subst (λ (w : World Origin). Adds (view link ∷ []) old.server.dialer.ended w.server.dialer.ended) all.2 (subst (λ (s : Server). Adds (view link ∷ []) old.server.dialer.ended s.dialer.ended) (sym h.is) ended)
 
@@ -93,25 +95,28 @@ module _ {Origin : Type 0} where
     client : new.client ≡ old.client
     ended : Adds (view link ∷ []) old.server.dialer.ended new.server.dialer.ended
 
-  frees : (link : Speaker) (old new : World Origin) (answer : Result Reply PortFault) → old.server.link ≡ Some link → DeedsAll (owed old answer) old new → Frees link old new
-  frees link old new answer up all =
+  frees : (link : Speaker) (old new : World Origin) (answer : Result Reply PortFault) → old.server.pair ≡ None → old.server.link ≡ Some link → DeedsAll (owed old answer) old new → Frees link old new
+  frees link old new answer none up all =
       let parted = deeds_parted (freeing old.server.link) (closing old.office.opened answer) old new all in
       record {
         client = closing_client old.office.opened answer parted.mid new parted.after ∙ freeing_client old.server.link old parted.mid parted.before;
-        ended = subst (λ (s : Server). Adds (view link ∷ []) old.server.dialer.ended s.dialer.ended) (sym (closing_server old.office.opened answer parted.mid new parted.after)) (hung_up old.server.link link old parted.mid refl up parted.before);
+        ended = subst (λ (s : Server). Adds (view link ∷ []) old.server.dialer.ended s.dialer.ended) (sym (closing_server old.office.opened answer parted.mid new parted.after)) (hung_up old.server.link link old parted.mid none refl up parted.before);
       }
 
-  no_link : (world : World Origin) → world.server.link ≡ None → Holds unused None world.server.link
-  no_link world none = subst (λ (l : Option Speaker). Holds unused None l) (sym none) tt
+  no_link : (world : World Origin) → IsUnlinked world.server → Holds unused None world.server.link
+  no_link world none = subst (λ (l : Option Speaker). Holds unused None l) (sym none.main) tt
+
+  no_pair : (world : World Origin) → IsUnlinked world.server → PairHolds false world.server.pair
+  no_pair world none = subst (λ (p : Option Pair). PairHolds false p) (sym none.side) tt
 
   -- ---- no relay over a link
 
-  apart : {P : Type 0} (rows : PlaceTable (acts Origin) P) (first : Row (acts Origin) P) (old new : World Origin) (ending : Ending) (held : Held rows first old new ending) → AllIdle (deeds_of held) → old.server.link ≡ None → old.client.reader.pending ≡ []
+  apart : {P : Type 0} (rows : PlaceTable (acts Origin) P) (first : Row (acts Origin) P) (old new : World Origin) (ending : Ending) (held : Held rows first old new ending) → AllIdle (deeds_of held) → IsUnlinked old.server → old.client.reader.pending ≡ []
       → StaysApart (deeds_of held) (devices_of old) (devices_of new)
   apart rows first old new ending held idle unlinked none =
       let deeds = deeds_of held in
       let heard = held_heard rows first old new ending held none in
-      let steps = idle_steps deeds None old new idle (held_deeds held) (no_link old unlinked) in
+      let steps = idle_steps deeds None false old new idle (held_deeds held) (no_link old unlinked) (no_pair old unlinked) in
       record {
         behind = new.client.reader.pending;
         of_client = record {
@@ -151,7 +156,7 @@ module _ {Origin P : Type 0} (rows : PlaceTable (acts Origin) P) (first : Row (a
         server_told = subst (λ (s : Option Bool). IfSome s (λ (shut : Bool). shut ≡ true)) (sym there.shut) (is_shut over.link.outlet.shut);
       })
 
-  puts_through : KeepsQuiet rows first → old.server.link ≡ None → old.client.reader.pending ≡ [] → (last : RelaysLast rows first held) (flow : Flow) → flow_of last.outcome ≡ Some flow
+  puts_through : KeepsQuiet rows first → IsUnlinked old.server → old.client.reader.pending ≡ [] → (last : RelaysLast rows first held) (flow : Flow) → flow_of last.outcome ≡ Some flow
       → PutsThrough (deeds_ran last.talk) flow (devices_of old) (devices_of new) ending
   puts_through keeps unlinked none last flow is =
       let mid = held.mid in
@@ -161,10 +166,12 @@ module _ {Origin P : Type 0} (rows : PlaceTable (acts Origin) P) (first : Row (a
       let over = met_over last.outcome flow before mid last.met is in
       let up = conveys_by flow.up flow.down before.client over.link mid.client over.after over.here over.there in
       let down = conveys_by flow.down flow.up over.link before.client over.after mid.client over.there over.here in
-      let freed = frees over.after mid new held.answer over.is held.after in
+      let idle = quiet_idle talk (ran_quiet rows first old before (Ok (tt {0})) keeps last.talk) in
       let heard : HearsOn (gives heard_in talk) old.client before.client = all_gain heard_gains talk old before talked in
       let said : TellsClient (gives told talk) old before = all_gain told_gains talk old before talked in
-      let steps = idle_steps talk None old before (quiet_idle talk (ran_quiet rows first old before (Ok (tt {0})) keeps last.talk)) talked (no_link old unlinked) in
+      let steps = idle_steps talk None false old before idle talked (no_link old unlinked) (no_pair old unlinked) in
+      let none_paired : before.server.pair ≡ None = unpaired before.server.pair (subst (λ (b : Bool). PairHolds b before.server.pair) (idle_unpaired talk idle) steps.pairs) in
+      let freed = frees over.after mid new held.answer (over.pair ∙ none_paired) over.is held.after in
       let new_link : IsUnused over.link = still_unused (over_last up_then None talk) over.link (subst (λ (l : Option Speaker). Holds unused (over_last up_then None talk) l) over.was steps.holds) in
       let of_server : flow.down.taken ≡ down.bytes = down.all ∙ ap (λ (z : List ℕ). z ++ down.bytes) new_link.pending in
       let ends = last_ends last flow is in
@@ -184,13 +191,13 @@ module _ {Origin P : Type 0} (rows : PlaceTable (acts Origin) P) (first : Row (a
 
   -- ---- all sessions
 
-  stopped_fronts : KeepsQuiet rows first → old.server.link ≡ None → old.client.reader.pending ≡ [] → StopsBefore rows first held → RelaysFronts (deeds_of held) (devices_of old) (devices_of new) ending
+  stopped_fronts : KeepsQuiet rows first → IsUnlinked old.server → old.client.reader.pending ≡ [] → StopsBefore rows first held → RelaysFronts (deeds_of held) (devices_of old) (devices_of new) ending
   stopped_fronts keeps unlinked none s =
       let all = quiet_both (deeds_ran s.talk) (owed held.mid held.answer) (ran_quiet rows first old held.mid (Err s.cause) keeps s.talk) (quiet_owed held.mid held.answer) in
       let quiet : AllQuiet (deeds_of held) = subst (λ (d : List Deed). AllQuiet d) (sym s.deeds) all in
       subst (λ (f : Option Flow). FrontsOf f (deeds_of held) (devices_of old) (devices_of new) ending) (sym (flow_none (deeds_of held) quiet)) (apart (relayed rows) (then_relay first) old new ending held (quiet_idle (deeds_of held) quiet) unlinked none)
 
-  last_fronts : KeepsQuiet rows first → old.server.link ≡ None → old.client.reader.pending ≡ [] → (last : RelaysLast rows first held) (flow : Option Flow) → flow_of last.outcome ≡ flow → RelaysFronts (deeds_of held) (devices_of old) (devices_of new) ending
+  last_fronts : KeepsQuiet rows first → IsUnlinked old.server → old.client.reader.pending ≡ [] → (last : RelaysLast rows first held) (flow : Option Flow) → flow_of last.outcome ≡ flow → RelaysFronts (deeds_of held) (devices_of old) (devices_of new) ending
   last_fronts keeps unlinked none last None is =
       let relay : Deed = record { act = Relay; outcome = last.outcome } in
       let talk = deeds_ran last.talk in
@@ -207,15 +214,15 @@ module _ {Origin P : Type 0} (rows : PlaceTable (acts Origin) P) (first : Row (a
       let front : before_relay (deeds_of held) ≡ talk = ap before_relay last.deeds ∙ talk_before talk last.outcome (owed held.mid held.answer) quiet in
       subst (λ (f : Option Flow). FrontsOf f (deeds_of held) (devices_of old) (devices_of new) ending) (sym carried) (subst (λ (d : List Deed). PutsThrough d flow (devices_of old) (devices_of new) ending) (sym front) (puts_through keeps unlinked none last flow is))
 
-  fronts_by : KeepsQuiet rows first → old.server.link ≡ None → old.client.reader.pending ≡ [] → StopsBefore rows first held ⊎ RelaysLast rows first held → RelaysFronts (deeds_of held) (devices_of old) (devices_of new) ending
+  fronts_by : KeepsQuiet rows first → IsUnlinked old.server → old.client.reader.pending ≡ [] → StopsBefore rows first held ⊎ RelaysLast rows first held → RelaysFronts (deeds_of held) (devices_of old) (devices_of new) ending
   fronts_by keeps unlinked none (inl stops) = stopped_fronts keeps unlinked none stops
   fronts_by keeps unlinked none (inr last) = last_fronts keeps unlinked none last (flow_of last.outcome) refl
 
-  pub held_fronts : KeepsQuiet rows first → old.server.link ≡ None → old.client.reader.pending ≡ [] → RelaysFronts (deeds_of held) (devices_of old) (devices_of new) ending
+  pub held_fronts : KeepsQuiet rows first → IsUnlinked old.server → old.client.reader.pending ≡ [] → RelaysFronts (deeds_of held) (devices_of old) (devices_of new) ending
   held_fronts keeps unlinked none = fronts_by keeps unlinked none (held_relays rows first old new ending held)
 
 -- and so it is of a session over its devices
 pub session_fronts : {Origin P : Type 0} (rows : PlaceTable (acts Origin) P) (first : Row (acts Origin) P) (old new : Devices Origin) (ending : Ending) (session : RelaySession (relayed rows) (then_relay first) old new ending)
     → KeepsQuiet rows first → RelaysFronts (deeds_of session.held) old new ending
 session_fronts {Origin} rows first old new ending session keeps =
-    subst (λ (d : Devices Origin). RelaysFronts (deeds_of session.held) old d ending) session.leaves (held_fronts rows first (at_first old session.names) session.last ending session.held keeps refl refl)
+    subst (λ (d : Devices Origin). RelaysFronts (deeds_of session.held) old d ending) session.leaves (held_fronts rows first (at_first old session.names) session.last ending session.held keeps (record { main = refl; side = refl }) refl)

@@ -1,5 +1,5 @@
 -- What a relay gave to each side.
-use Rattle.std.proofs.Common.{◌≡◌, refl, sym, ap, subst, ◌∙◌, ℕ, List, [], ◌∷◌, ◌++◌, length, Option, Some, None, Result, Ok, Err}
+use Rattle.std.proofs.Common.{◌≡◌, refl, sym, ap, subst, ◌∙◌, ℕ, List, [], ◌∷◌, ◌++◌, length, Bool, false, Option, Some, None, Result, Ok, Err, append_assoc, append-nil}
 use Rattle.auth_events.specs.declared.port.PortFault.{PortFault}
 use Rattle.auth_events.specs.declared.reply.Reply.{Reply}
 use Rattle.fw_acts.specs.Acts.{Row, PlaceTable}
@@ -15,15 +15,15 @@ use Rattle.session_acts.specs.Acts.Act.{Relay}
 use Rattle.session_acts.specs.Deeds.{Deed, DeedsAll, deeds_ran}
 use Rattle.session_acts.specs.Laws.{Adds}
 use Rattle.session_acts.specs.Met.{Carrying, ClientRelays, Met, ServerRelays, acts}
-use Rattle.session_acts.specs.Passing.{AreOver, WasGiven, over_each, over_last, passed_over, up_after, up_with}
+use Rattle.session_acts.specs.Passing.{AreOver, WasGiven, over_each, over_last, pair_gone, paired_last, passed_over, passing_known, up_after, up_with}
 use Rattle.session_acts.specs.RelayLast.{CarriesAll, Conveys, ConveysBoth, GivesLast, RelaysLast}
 use Rattle.session_acts.specs.Relayed.{relayed, then_relay}
 use Rattle.session_acts.specs.Relaying.{Flow, Through, flow_of, given_up}
 use Rattle.session_acts.specs.Session.{Held, closing, deeds_of, freeing, owed}
-use Rattle.session_acts.specs.World.{Server, Speaker, World}
+use Rattle.session_acts.specs.World.{IsUnlinked, Pair, Server, Speaker, World}
 use Rattle.session_acts.proofs.DeedLemmas.{ran_deeds}
 use Rattle.session_acts.proofs.DeviceLemmas.{drains_grew, drains_took, supplies_given}
-use Rattle.session_acts.proofs.OverLinksLemmas.{Holds, Step, all_steps, each_both, last_over}
+use Rattle.session_acts.proofs.OverLinksLemmas.{Holds, PairHolds, Step, all_steps, each_both, last_over}
 use Rattle.session_acts.proofs.PassingLemmas.{passing, passing_step, servers_given}
 use Rattle.session_acts.proofs.RelayLastLemmas.{done_through}
 
@@ -48,10 +48,11 @@ pub record RelayOver (flow : Flow) (client client_after : Speaker) (old new : Se
   pub here : Carrying flow.up flow.down client client_after
   pub there : Carrying flow.down flow.up link after
   pub dialer : new.dialer ≡ old.dialer
+  pub pair : new.pair ≡ old.pair
 
 over_link : (flow : Flow) (link : Option Speaker) (client client_after : Speaker) (old new : Server) → old.link ≡ link → ClientRelays (Some flow) client client_after → ServerRelays (Some flow) link old new → RelayOver flow client client_after old new
 over_link flow None client client_after old new is here there = absurd there
-over_link flow (Some link) client client_after old new is here there = record { link = link; after = there.speaker; was = is; is = ap (λ (s : Server). s.link) there.is; here = here; there = there.carries; dialer = ap (λ (s : Server). s.dialer) there.is }
+over_link flow (Some link) client client_after old new is here there = record { link = link; after = there.speaker; was = is; is = ap (λ (s : Server). s.link) there.is; here = here; there = there.carries; dialer = ap (λ (s : Server). s.dialer) there.is; pair = ap (λ (s : Server). s.pair) there.is }
 
 module _ {Origin : Type 0} where
   pub met_over : (outcome : Outcome Relay) (flow : Flow) (old new : World Origin) → Met Relay outcome old new → flow_of outcome ≡ Some flow → RelayOver flow old.client new.client old.server new.server
@@ -86,29 +87,32 @@ some_held : (up : Option (List ℕ)) (link : Speaker) → Holds passing up (Some
 some_held None link holds = absurd holds
 some_held (Some passed) link holds = (passed, refl)
 
--- behind a relay over a link what is owed hangs that up, and no other
-owed_over : (passed : List ℕ) (link : Option Speaker) (after : Speaker) (opened : Option ℕ) (answer : Result Reply PortFault) (outcome : Outcome Relay) → link ≡ Some after
-    → over_each up_after (Some passed) (record { act = Relay; outcome = outcome } ∷ (freeing link ++ closing opened answer)) ≡ (passed ++ given_up (flow_of outcome)) ∷ []
-owed_over passed None after opened answer outcome is = absurd (cc)
-owed_over passed (Some link) after None answer outcome is = refl
-owed_over passed (Some link) after (Some sid) answer outcome is = refl
+-- behind a relay over a link what is owed hangs that up as the last, behind the data links that are up
+owed_over : (passed : List ℕ) (paired : Bool) (link : Option Speaker) (after : Speaker) (opened : Option ℕ) (answer : Result Reply PortFault) (outcome : Outcome Relay) → link ≡ Some after
+    → over_each passing_known (Some passed) paired (record { act = Relay; outcome = outcome } ∷ (freeing link ++ closing opened answer)) ≡ pair_gone paired ++ ((passed ++ given_up (flow_of outcome)) ∷ [])
+owed_over passed paired None after opened answer outcome is = absurd (cc)
+owed_over passed paired (Some link) after None answer outcome is = append-nil (pair_gone paired ++ ((passed ++ given_up (flow_of outcome)) ∷ []))
+owed_over passed paired (Some link) after (Some sid) answer outcome is = append-nil (pair_gone paired ++ ((passed ++ given_up (flow_of outcome)) ∷ []))
 
 module _ {Origin P : Type 0} (rows : PlaceTable (acts Origin) P) (first : Row (acts Origin) P) (old new : World Origin) (ending : Ending) where
-  pub gives_last : (held : Held (relayed rows) (then_relay first) old new ending) (last : RelaysLast rows first held) (flow : Flow) → old.server.link ≡ None → flow_of last.outcome ≡ Some flow → GivesLast (deeds_ran last.talk) flow.up old new
+  pub gives_last : (held : Held (relayed rows) (then_relay first) old new ending) (last : RelaysLast rows first held) (flow : Flow) → IsUnlinked old.server → flow_of last.outcome ≡ Some flow → GivesLast (deeds_ran last.talk) flow.up old new
   gives_last held last flow none is =
       let talk = deeds_ran last.talk in
       let over = met_over last.outcome flow last.before held.mid last.met is in
-      let start : Holds passing None old.server.link = subst (λ (l : Option Speaker). Holds passing None l) (sym none) tt in
-      let talked = all_steps passing up_after passing_step talk None old last.before (ran_deeds last.talk) start in
+      let start : Holds passing None old.server.link = subst (λ (l : Option Speaker). Holds passing None l) (sym none.main) tt in
+      let unpaired : PairHolds false old.server.pair = subst (λ (p : Option Pair). PairHolds false p) (sym none.side) tt in
+      let talked = all_steps passing up_after passing_step talk None false old last.before (ran_deeds last.talk) start unpaired in
+      let paired = paired_last false talk in
+      let earlier : List (List ℕ) = passed_over None talk ++ pair_gone paired in
       let up = some_held (over_last up_after None talk) over.link (subst (λ (l : Option Speaker). Holds passing (over_last up_after None talk) l) over.was talked.holds) in
       let rest : List Deed = record { act = Relay; outcome = last.outcome } ∷ owed held.mid held.answer in
       let all = servers_given (relayed rows) (then_relay first) old new ending held none in
-      let ends : over_each up_after (over_last up_after None talk) rest ≡ (up.0 ++ flow.up.given) ∷ [] =
-      ap (λ (u : Option (List ℕ)). over_each up_after u rest) up.1 ∙ owed_over up.0 held.mid.server.link over.after held.mid.office.opened held.answer last.outcome over.is ∙ ap (λ (f : Option Flow). (up.0 ++ given_up f) ∷ []) is in
-      let lists : passed_over None (deeds_of held) ≡ passed_over None talk ++ ((up.0 ++ flow.up.given) ∷ []) =
-      ap (λ (d : List Deed). passed_over None d) last.deeds ∙ each_both up_after None talk rest ∙ ap (λ (z : List (List ℕ)). passed_over None talk ++ z) ends in
-      let given : AreOver WasGiven (passed_over None talk ++ ((up.0 ++ flow.up.given) ∷ [])) all.links = subst (λ (z : List (List ℕ)). AreOver WasGiven z all.links) lists all.given in
-      let end = last_over passing (passed_over None talk) (up.0 ++ flow.up.given) all.links given in
+      let ends : over_each passing_known (over_last up_after None talk) paired rest ≡ pair_gone paired ++ ((up.0 ++ flow.up.given) ∷ []) =
+      ap (λ (u : Option (List ℕ)). over_each passing_known u paired rest) up.1 ∙ owed_over up.0 paired held.mid.server.link over.after held.mid.office.opened held.answer last.outcome over.is ∙ ap (λ (f : Option Flow). pair_gone paired ++ ((up.0 ++ given_up f) ∷ [])) is in
+      let lists : passed_over None (deeds_of held) ≡ earlier ++ ((up.0 ++ flow.up.given) ∷ []) =
+      ap (λ (d : List Deed). passed_over None d) last.deeds ∙ each_both passing_known None false talk rest ∙ ap (λ (z : List (List ℕ)). passed_over None talk ++ z) ends ∙ sym (append_assoc (passed_over None talk) (pair_gone paired) ((up.0 ++ flow.up.given) ∷ [])) in
+      let given : AreOver WasGiven (earlier ++ ((up.0 ++ flow.up.given) ∷ [])) all.links = subst (λ (z : List (List ℕ)). AreOver WasGiven z all.links) lists all.given in
+      let end = last_over passing earlier (up.0 ++ flow.up.given) all.links given in
       record {
         passed = up.0;
         is_passed = up.1;

@@ -8,7 +8,7 @@ use Rattle.fw_outside.specs.declared.heard.Heard.TheVariants.{Line, TooLong, Sto
 use Rattle.fw_outside.specs.declared.heard.Stop.TheVariants as stops
 use Rattle.fw_types.specs.declared.ending.Ending.{Ending}
 use Rattle.session_acts.specs.Acts.{Act, Outcome}
-use Rattle.session_acts.specs.Acts.Act.{Hear, Say, Try, Log, Note, Ask, Renew, Dial, Reach, Take, Pass, HangUp, Relay, Deposit, Allot}
+use Rattle.session_acts.specs.Acts.Act.{Hear, Say, Try, Log, Note, Ask, Renew, Dial, Reach, Take, Pass, HangUp, Relay, Deposit, Allot, TakeReply, OpenDoor, Join, Copy, Part}
 use Rattle.session_acts.specs.Deeds.{Gains, gives}
 use Rattle.session_acts.specs.Hearing.{AreHeard, Fate, carried_up, heard_in}
 use Rattle.session_acts.specs.Hearing.Fate.{IsHeard, IsCarried}
@@ -31,6 +31,7 @@ use Rattle.session_acts.specs.declared.deposited.Deposited.TheVariants.{NoSlot, 
 use Rattle.session_acts.specs.Hearing.{data_if, data_in}
 use Rattle.session_acts.specs.Met.{AtClientDeposit, ClientDeposits}
 use Rattle.std.specs.Prelude.{Result}
+use Rattle.session_acts.proofs.ReplyLemmas.{reply_by}
 
 -- ---- what is heard last
 
@@ -130,6 +131,11 @@ act_dries HangUp outcome old new h = dries_same old new (ap (λ (s : Speaker). s
 act_dries Relay outcome old new h = relay_dries (flow_of outcome) old new h
 act_dries (Deposit sender rcpts words most) outcome old new h = deposit_dries words outcome old new h
 act_dries Allot outcome old new h = dries_same old new (ap (λ (s : Speaker). s.reader) h)
+act_dries (TakeReply how) outcome old new h = reply_by (λ (s : Speaker). Dries [] old s) outcome old new (λ text tried told. dries_same old new (ap (λ (s : Speaker). s.reader) told.is)) h
+act_dries OpenDoor outcome old new h = dries_same old new (ap (λ (s : Speaker). s.reader) h)
+act_dries (Join dest target) outcome old new h = dries_same old new (ap (λ (s : Speaker). s.reader) h)
+act_dries (Copy toward) outcome old new h = dries_same old new (ap (λ (s : Speaker). s.reader) h)
+act_dries Part outcome old new h = dries_same old new (ap (λ (s : Speaker). s.reader) h)
 
 -- ---- the lines
 

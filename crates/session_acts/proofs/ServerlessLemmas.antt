@@ -8,7 +8,7 @@ use Rattle.fw_acts.specs.Runs.{DoesAll}
 use Rattle.fw_acts.proofs.HistoryLemmas.{run_leaves, run_may}
 use Rattle.fw_types.specs.declared.ending.Ending.{Ending}
 use Rattle.session_acts.specs.Acts.{Act, Outcome}
-use Rattle.session_acts.specs.Acts.Act.{Hear, Say, Try, Log, Note, Ask, Renew, Dial, Reach, Take, Pass, HangUp, Relay, Deposit, Allot}
+use Rattle.session_acts.specs.Acts.Act.{Hear, Say, Try, Log, Note, Ask, Renew, Dial, Reach, Take, Pass, HangUp, Relay, Deposit, Allot, TakeReply, OpenDoor, Join, Copy, Part}
 use Rattle.session_acts.specs.Deeds.{DeedsAll}
 use Rattle.session_acts.specs.Met.{Met, acts}
 use Rattle.session_acts.specs.Serverless.{KeepsServerless, is_serverless, serverless_watch}
@@ -26,6 +26,11 @@ module _ {Origin : Type 0} where
   met_serverless (Log text) outcome old new is met = met.server
   met_serverless (Deposit sender rcpts words most) outcome old new is met = met.server
   met_serverless Allot outcome old new is met = met.server
+  met_serverless (TakeReply how) outcome old new is met = absurd (cc)
+  met_serverless OpenDoor outcome old new is met = absurd (cc)
+  met_serverless (Join dest target) outcome old new is met = absurd (cc)
+  met_serverless (Copy toward) outcome old new is met = absurd (cc)
+  met_serverless Part outcome old new is met = absurd (cc)
   met_serverless (Note text) outcome old new is met = met.server
   met_serverless (Ask request) outcome old new is met = met.server
   met_serverless (Renew name hash) outcome old new is met = met.server

@@ -3,13 +3,14 @@ use Rattle.std.proofs.Common.{◌≡◌, refl, sym, ap, ◌∙◌, ℕ, false, L
 use mathlib.Core.Bool.{true≢false}
 use Rattle.fw_outside.specs.SinkView.{SinkView}
 use Rattle.session_acts.specs.Acts.{Act, Front, Outcome}
-use Rattle.session_acts.specs.Acts.Act.{Hear, Say, Try, Log, Note, Ask, Renew, Dial, Reach, Take, Pass, HangUp, Relay, Deposit, Allot}
+use Rattle.session_acts.specs.Acts.Act.{Hear, Say, Try, Log, Note, Ask, Renew, Dial, Reach, Take, Pass, HangUp, Relay, Deposit, Allot, TakeReply, OpenDoor, Join, Copy, Part}
 use Rattle.session_acts.specs.Deeds.{Lasts}
 use Rattle.session_acts.specs.Met.{AtClient, IsTold, May}
 use Rattle.session_acts.specs.World.{Names, Speaker, World}
 use Rattle.session_acts.proofs.StaysLemmas.{gets_keeps}
 use Rattle.session_acts.proofs.ToldLemmas.{hears_outlet}
 use Rattle.session_acts.proofs.DepositLemmas.{HoldsThen, deposit_by, draws_outlet}
+use Rattle.session_acts.proofs.ReplyLemmas.{reply_by}
 
 pub record Unshut {Origin : Type 0} (old new : World Origin) : Type 0 where
   pub names : new.names ≡ old.names
@@ -45,6 +46,11 @@ client_unshut HangUp outcome names old new h may none = same_unshut old new h
 client_unshut Relay outcome names old new h may none = absurd (true≢false (sym may ∙ none))
 client_unshut (Deposit sender rcpts words most) outcome names old new h may none = deposit_by (λ (s : Speaker). s.outlet.shut ≡ old.outlet.shut) words outcome old new (deposit_unshut words old) h
 client_unshut Allot outcome names old new h may none = same_unshut old new h
+client_unshut (TakeReply how) outcome names old new h may none = reply_by (λ (s : Speaker). s.outlet.shut ≡ old.outlet.shut) outcome old new (λ text tried told. told_unshut text tried old new told) h
+client_unshut OpenDoor outcome names old new h may none = same_unshut old new h
+client_unshut (Join dest target) outcome names old new h may none = same_unshut old new h
+client_unshut (Copy toward) outcome names old new h may none = same_unshut old new h
+client_unshut Part outcome names old new h may none = same_unshut old new h
 
 pub unshut_last : {Origin : Type 0} → Lasts Origin Unshut
 unshut_last = record {

@@ -21,7 +21,7 @@ use Rattle.relay_ways.specs.declared.way_end.WayEnd.{WayEnd}
 use Rattle.relay_ways.specs.declared.way_end.WayEnd.TheVariants as ways
 use Rattle.session_acts.specs.Relaying.{Stuck, stops_by}
 use Rattle.session_acts.specs.Acts.{Act, Answer, Front, Halt, cause_by, silence_cause}
-use Rattle.session_acts.specs.Acts.Act.{Hear, Say, Try, Log, Note, Ask, Renew, Dial, Reach, Take, Pass, HangUp, Relay, Deposit, Allot}
+use Rattle.session_acts.specs.Acts.Act.{Hear, Say, Try, Log, Note, Ask, Renew, Dial, Reach, Take, Pass, HangUp, Relay, Deposit, Allot, TakeReply, OpenDoor, Join, Copy, Part}
 use Rattle.session_acts.specs.Causes.{TakesAs, is_spent_ending, is_spent_or}
 use Rattle.session_acts.specs.Deeds.{DeedsAll, done}
 use Rattle.session_acts.specs.Met.{Carrying, Hears, Heeds, HeedsLine, IsTold, Met, acts}
@@ -43,6 +43,8 @@ use Rattle.fw_outside.specs.declared.heard.Stop.{Stop}
 use Rattle.session_acts.specs.Acts.{deposit_cause}
 use Rattle.session_acts.specs.Depositing.{Draws, data_stop_at_limit}
 use Rattle.session_acts.specs.Met.{AtClientDeposit, ClientDeposits, stop_of}
+use Rattle.session_acts.specs.Replying.{said_of}
+use Rattle.session_acts.proofs.ReplyLemmas.{reply_by}
 
 -- whether no more bytes may be taken of the client
 abbrev pub none_left : Speaker → Bool
@@ -72,7 +74,7 @@ done_left off on old new is h =
     ap none_left h.is ∙ ne_eqb h.room 0 leaves.0
 
 -- data that come to an end, or to that of the client, leave some
-draws_left : (stop : Option Stop) (data_heard : List ℕ) (old new : Speaker) → Draws stop data_heard old new → data_stop_at_limit stop ≡ false → none_left new ≡ false
+pub draws_left : (stop : Option Stop) (data_heard : List ℕ) (old new : Speaker) → Draws stop data_heard old new → data_stop_at_limit stop ≡ false → none_left new ≡ false
 draws_left stop data_heard old new h less = ap none_left h.is ∙ sym h.spent ∙ less
 
 deposited_left : (words : List ℕ) (deposited : Deposited) (data_heard : List ℕ) (old new : Speaker) → ClientDeposits words deposited data_heard old new → none_left old ≡ false → none_left new ≡ false
@@ -101,6 +103,11 @@ act_left Relay None old new met more = same_left old.client new.client met.clien
 act_left Relay (Some through) old new met more = done_left through.flow.up through.flow.down old.client new.client through.up met.client
 act_left (Deposit sender rcpts words most) answer old new met more = deposited_left words answer.0 answer.1 old.client new.client met.client more
 act_left Allot done old new met more = same_left old.client new.client met.client more
+act_left (TakeReply how) answer old new met more = told_left (said_of how answer.1) (Ok tt) old.client new.client met.client more
+act_left OpenDoor done old new met more = same_left old.client new.client met.client more
+act_left (Join dest target) done old new met more = same_left old.client new.client met.client more
+act_left (Copy toward) done old new met more = same_left old.client new.client met.client more
+act_left Part done old new met more = same_left old.client new.client met.client more
 
 -- a stop that takes all is one at the limit, or one of a relay
 abbrev pub IsSpentBy : Cause → Speaker → Type 0
@@ -159,10 +166,14 @@ silence_left fault form Quiet old new h = more_spent Idle new (heeds_left form (
 silence_left fault form Broken old new h = more_spent fault new (heeds_left form (Stopped stops.Failed) old new h ∙ sym h.listens.spent)
 silence_left fault form Limit old new h = λ none. refl
 
+-- and so it is of a server
+pub silent_left : (fault : Cause) (silence : Silence) (text : List ℕ) (old new : Speaker) → Draws (Some (stop_of silence)) text old new → IsSpentBy (silence_cause fault silence) new
+silent_left fault Quiet text old new h = more_spent Idle new (draws_left (Some stops.Idle) text old new h refl)
+silent_left fault Broken text old new h = more_spent fault new (draws_left (Some stops.Failed) text old new h refl)
+silent_left fault Limit text old new h = λ none. refl
+
 data_left : (silence : Silence) (data_heard : List ℕ) (old new : Speaker) → Draws (Some (stop_of silence)) data_heard old new → IsSpentBy (silence_cause ClientFault silence) new
-data_left Quiet data_heard old new h = more_spent Idle new (draws_left (Some stops.Idle) data_heard old new h refl)
-data_left Broken data_heard old new h = more_spent ClientFault new (draws_left (Some stops.Failed) data_heard old new h refl)
-data_left Limit data_heard old new h = λ none. refl
+data_left silence data_heard old new h = silent_left ClientFault silence data_heard old new h
 
 deposit_left : (words : List ℕ) (halt : Undeposited words) (old new : Speaker) → AtClientDeposit words (Err halt) old new → none_left old ≡ false → IsSpentBy (deposit_cause halt) new
 deposit_left words Lacks old new h more = more_spent NoMemory new (same_left old new h more)
@@ -185,6 +196,11 @@ stop_left relays HangUp halt old new met lent more none = absurd halt
 stop_left relays Relay halt old new met lent more none = relay_spent halt relays (sym lent ∙ met.may)
 stop_left relays (Deposit sender rcpts words most) halt old new met lent more none = spent_or relays (ending_by (deposit_cause halt)) (deposit_left words halt old.client new.client met.client more none)
 stop_left relays Allot halt old new met lent more none = spent_or relays (ending_by (cause_by Allot halt)) ((more_spent (cause_by Allot halt) new.client (same_left old.client new.client met.client more)) none)
+stop_left relays (TakeReply how) halt old new met lent more none = absurd (true≢false (sym none ∙ reply_by (λ (s : Speaker). none_left s ≡ false) (Err halt) old.client new.client (λ text tried told. told_left text tried old.client new.client told more) met.client))
+stop_left relays OpenDoor halt old new met lent more none = absurd halt
+stop_left relays (Join dest target) halt old new met lent more none = absurd halt
+stop_left relays (Copy toward) halt old new met lent more none = absurd halt
+stop_left relays Part halt old new met lent more none = absurd halt
 
 -- all that was taken
 none_by : (bytes : List ℕ) (left : ℕ) → most_taken ≡ length bytes + left → length bytes ≡ most_taken → (left == 0) ≡ true

@@ -15,11 +15,11 @@ use Rattle.fw_outside.specs.declared.heard.Stop.TheVariants as stops
 use Rattle.fw_types.specs.declared.dest.Dest.{Dest}
 use Rattle.relay_ways.specs.Carried.{Way}
 use Rattle.session_acts.specs.Relaying.{Flow, flow_of}
-use Rattle.session_acts.specs.Acts.{Act, Front, Outcome}
-use Rattle.session_acts.specs.Acts.Act.{Hear, Say, Try, Log, Note, Ask, Renew, Dial, Reach, Take, Pass, HangUp, Relay, Deposit, Allot}
+use Rattle.session_acts.specs.Acts.{Act, Front, Outcome, Unreplied}
+use Rattle.session_acts.specs.Acts.Act.{Hear, Say, Try, Log, Note, Ask, Renew, Dial, Reach, Take, Pass, HangUp, Relay, Deposit, Allot, TakeReply, OpenDoor, Join, Copy, Part}
 use Rattle.session_acts.specs.Deeds.{Lasts}
-use Rattle.session_acts.specs.Met.{Asking, AtClient, AtLogs, AtOffice, AtServer, Carrying, ClientRelays, Clears, ConnectsIf, Dialing, Gets, Hanging, Hears, Heeds, HeedsLine, IsTold, Met, Passes, ServerRelays, Takes, number_told, stop_of}
-use Rattle.session_acts.specs.World.{Office, Server, Speaker, World, most_taken}
+use Rattle.session_acts.specs.Met.{Asking, AtClient, AtLogs, AtOffice, AtServer, Carrying, ClientRelays, Clears, ConnectsIf, Dialing, Gets, Hanging, Hears, Heeds, HeedsLine, IsTold, Met, Passes, ServerRelays, ServerReplies, Takes, number_told, stop_of}
+use Rattle.session_acts.specs.World.{Office, Pair, Server, Speaker, World, most_taken}
 use Rattle.session_acts.specs.declared.form.Form.{Form}
 use Rattle.session_acts.specs.declared.form.Form.TheVariants.{Lines}
 use Rattle.session_acts.specs.declared.silence.Silence.{Silence}
@@ -28,6 +28,12 @@ use Rattle.fw_outside.specs.declared.heard.Stop.{Stop}
 use Rattle.session_acts.specs.Depositing.{Draws}
 use Rattle.session_acts.proofs.DepositLemmas.{HoldsThen, deposit_by}
 use Rattle.session_acts.proofs.DeviceLemmas.{draws_source}
+use Rattle.session_acts.specs.Joining.{LetsPairGo}
+use Rattle.session_acts.specs.ServersHeard.{reply_text}
+use Rattle.session_acts.specs.declared.replied.Replied.{Replied}
+use Rattle.session_acts.specs.declared.reply_use.ReplyUse.{ReplyUse}
+use Rattle.session_acts.proofs.ReplyLemmas.{reply_by, reply_draws}
+use Rattle.session_acts.proofs.SideLemmas.{SideKeeps, comes_keeps, copies_side, joining_side, opens_none_side, opens_side, pair_keeps, parting_side, refuses_keeps}
 
 -- ---- who is heard and told
 
@@ -101,6 +107,11 @@ client_keeps HangUp outcome old new h = same_speaker old new h
 client_keeps Relay outcome old new h = relays_keeps (flow_of outcome) old new h
 client_keeps (Deposit sender rcpts words most) outcome old new h = deposit_by (λ (s : Speaker). SpeakerKeeps old s) words outcome old new (deposit_keeps words old) h
 client_keeps Allot outcome old new h = same_speaker old new h
+client_keeps (TakeReply how) outcome old new h = reply_by (λ (s : Speaker). SpeakerKeeps old s) outcome old new (λ text tried told. told_keeps text tried old new told) h
+client_keeps OpenDoor outcome old new h = same_speaker old new h
+client_keeps (Join dest target) outcome old new h = same_speaker old new h
+client_keeps (Copy toward) outcome old new h = same_speaker old new h
+client_keeps Part outcome old new h = same_speaker old new h
 
 -- ---- the log
 
@@ -124,6 +135,11 @@ logs_keeps HangUp outcome old new h = same_logs old new h
 logs_keeps Relay outcome old new h = same_logs old new h
 logs_keeps (Deposit sender rcpts words most) outcome old new h = same_logs old new h
 logs_keeps Allot outcome old new h = same_logs old new h
+logs_keeps (TakeReply how) outcome old new h = same_logs old new h
+logs_keeps OpenDoor outcome old new h = same_logs old new h
+logs_keeps (Join dest target) outcome old new h = same_logs old new h
+logs_keeps (Copy toward) outcome old new h = same_logs old new h
+logs_keeps Part outcome old new h = same_logs old new h
 
 -- ---- the office
 
@@ -145,6 +161,11 @@ module _ {Origin : Type 0} where
   office_keeps (Log text) outcome old new h = same_office old new h
   office_keeps (Deposit sender rcpts words most) outcome old new h = same_office old new h
   office_keeps Allot outcome old new h = same_office old new h
+  office_keeps (TakeReply how) outcome old new h = same_office old new h
+  office_keeps OpenDoor outcome old new h = same_office old new h
+  office_keeps (Join dest target) outcome old new h = same_office old new h
+  office_keeps (Copy toward) outcome old new h = same_office old new h
+  office_keeps Part outcome old new h = same_office old new h
   office_keeps (Note text) outcome old new h = same_office old new h
   office_keeps (Dial dest) outcome old new h = same_office old new h
   office_keeps (Reach dest) outcome old new h = same_office old new h
@@ -175,13 +196,25 @@ pub record ServerKeeps (old new : Server) : Type 0 where
   pub sound : IsSound old.link → IsSound new.link
   pub patient : IsPatient old.dialer.waits old.link → IsPatient new.dialer.waits new.link
 
+-- what leaves the main link
+by_side : (old new : Server) → SideKeeps old new → ServerKeeps old new
+by_side old new side = record {
+  dialer = side.dialer;
+  sound = λ sound. subst IsSound (sym side.link) sound;
+  patient = λ patient. subst (λ (seconds : ℕ). IsPatient seconds new.link) (sym side.dialer.waits) (subst (λ (l : Option Speaker). IsPatient old.dialer.waits l) (sym side.link) patient);
+}
+
 same_server : (old new : Server) → new ≡ old → ServerKeeps old new
 same_server old new is = subst (λ (s : Server). ServerKeeps old s) (sym is) (record { dialer = same_dialer old.dialer; sound = λ sound. sound; patient = λ patient. patient })
 
 pub clears_keeps : (link : Option Speaker) (old new : DialerView) → Clears link old new → DialerKeeps old new
 clears_keeps None old new h = subst (λ (d : DialerView). DialerKeeps old d) (sym h) (same_dialer old)
 clears_keeps (Some link) old new h =
-    subst (λ (d : DialerView). DialerKeeps old d) (sym h.is) (record { refusals = omega (arith); link_faults = rose_if _ old.link_faults h.faults h.faults_rose; link_idles = rose_if _ old.link_idles h.idles h.idles_rose; waits = refl })
+    subst (λ (d : DialerView). DialerKeeps old d) (sym h.is) (record { refusals = omega (arith); link_faults = rose_if _ old.link_faults h.faults h.faults_rose; link_idles = rose_if _ old.link_idles h.idles h.idles_rose; data_faults = omega (arith); data_idles = omega (arith); waits = refl })
+
+-- a pair is let go before
+pub both_clear : (pair : Option Pair) (link : Option Speaker) (old apart new : DialerView) → LetsPairGo pair old apart → Clears link apart new → DialerKeeps old new
+both_clear pair link old apart new lets clears = both_dialer old apart new (pair_keeps pair old apart lets) (clears_keeps link apart new clears)
 
 -- dialing, where no link is up
 record Linking (old : DialerView) (new : Server) : Type 0 where
@@ -192,7 +225,7 @@ record Linking (old : DialerView) (new : Server) : Type 0 where
 connects_keeps : (up : Bool) (dest : Dest) (old : DialerView) (new : Server) → ConnectsIf up dest old new → Linking old new
 connects_keeps true dest old new h =
     subst (λ (s : Server). Linking old s) (sym h.is) (record {
-      dialer = subst (λ (d : DialerView). DialerKeeps old d) (sym h.up.is) (record { refusals = omega (arith); link_faults = omega (arith); link_idles = omega (arith); waits = refl });
+      dialer = comes_keeps _ h.inlet h.outlet old h.dialer h.up;
       sound = record {
         used = 0;
         all = refl;
@@ -202,7 +235,7 @@ connects_keeps true dest old new h =
     })
 connects_keeps false dest old new h =
     subst (λ (s : Server). Linking old s) (sym h.is) (record {
-      dialer = subst (λ (d : DialerView). DialerKeeps old d) (sym h.refused.is) (record { refusals = h.refused.rose.0; link_faults = omega (arith); link_idles = omega (arith); waits = refl });
+      dialer = refuses_keeps _ old h.dialer h.refused;
       sound = tt;
       patient = tt;
     })
@@ -210,11 +243,11 @@ connects_keeps false dest old new h =
 dialing_keeps : (dest : Dest) (up : Bool) (old new : Server) → Dialing dest up old new → ServerKeeps old new
 dialing_keeps dest up old new h =
     let linking = connects_keeps up dest h.cleared new h.connects in
-    record { dialer = both_dialer old.dialer h.cleared new.dialer (clears_keeps old.link old.dialer h.cleared h.clears) linking.dialer; sound = λ sound. linking.sound; patient = λ patient. linking.patient }
+    record { dialer = both_dialer old.dialer h.cleared new.dialer (both_clear old.pair old.link old.dialer h.apart h.cleared h.lets h.clears) linking.dialer; sound = λ sound. linking.sound; patient = λ patient. linking.patient }
 
 hanging_keeps : (old new : Server) → Hanging old new → ServerKeeps old new
 hanging_keeps old new h =
-    subst (λ (s : Server). ServerKeeps old s) (sym h.is) (record { dialer = clears_keeps old.link old.dialer h.dialer h.clears; sound = λ sound. tt; patient = λ patient. tt })
+    subst (λ (s : Server). ServerKeeps old s) (sym h.is) (record { dialer = both_clear old.pair old.link old.dialer h.apart h.dialer h.lets h.clears; sound = λ sound. tt; patient = λ patient. tt })
 
 -- a link stays sound when the server is heard or told
 link_sound : (old new : Speaker) → SpeakerKeeps old new → LinkSound old → LinkSound new
@@ -246,6 +279,12 @@ server_relays None (Some link) old new up h = absurd h
 server_relays (Some flow) None old new up h = absurd h
 server_relays (Some flow) (Some link) old new up h = link_keeps link h.speaker old new up (carrying_keeps flow.down flow.up link h.speaker h.carries) h.is
 
+replies_keeps : {how : ReplyUse} (outcome : Result (Replied × List ℕ) (Unreplied how)) (link : Option Speaker) (old new : Server) → old.link ≡ link → ServerReplies outcome link old new → ServerKeeps old new
+replies_keeps outcome None old new up h = same_server old new h.1
+replies_keeps outcome (Some link) old new up h =
+    let drawn = reply_draws outcome link h.speaker h.draws in
+    link_keeps link h.speaker old new up (draws_keeps drawn.stop (reply_text outcome) link h.speaker drawn.draws) h.is
+
 server_keeps : (act : Act) (outcome : Outcome act) (old new : Server) → AtServer act outcome old new → ServerKeeps old new
 server_keeps (Dial dest) (Ok up) old new h = dialing_keeps dest up old new h
 server_keeps (Dial dest) (Err never) old new h = absurd never
@@ -262,6 +301,16 @@ server_keeps (Try text) outcome old new h = same_server old new h
 server_keeps (Log text) outcome old new h = same_server old new h
 server_keeps (Deposit sender rcpts words most) outcome old new h = same_server old new h
 server_keeps Allot outcome old new h = same_server old new h
+server_keeps (TakeReply how) outcome old new h = replies_keeps outcome old.link old new refl h
+server_keeps OpenDoor (Ok (Some at)) old new h = by_side old new (opens_side at.0 at.1 old new h)
+server_keeps OpenDoor (Ok None) old new h = by_side old new (opens_none_side old new h)
+server_keeps OpenDoor (Err never) old new h = absurd never
+server_keeps (Join dest target) (Ok joined) old new h = by_side old new (joining_side dest target joined old new h)
+server_keeps (Join dest target) (Err never) old new h = absurd never
+server_keeps (Copy toward) (Ok carried) old new h = by_side old new (copies_side toward carried old.pair old new h)
+server_keeps (Copy toward) (Err never) old new h = absurd never
+server_keeps Part (Ok done) old new h = by_side old new (parting_side old new h)
+server_keeps Part (Err never) old new h = absurd never
 server_keeps (Note text) outcome old new h = same_server old new h
 server_keeps (Ask request) outcome old new h = same_server old new h
 server_keeps (Renew name hash) outcome old new h = same_server old new h

@@ -3,7 +3,7 @@ use Rattle.std.proofs.Common.{arith, eq-eqb, ◌≡◌, refl, sym, ap, subst, �
 use Rattle.std.specs.Prelude.{min}
 use Rattle.std.proofs.lemmas.List.{length-append}
 use Rattle.session_acts.specs.Acts.{Act, Outcome, Undeposited}
-use Rattle.session_acts.specs.Acts.Act.{Hear, Say, Try, Log, Note, Ask, Renew, Dial, Reach, Take, Pass, HangUp, Relay, Deposit, Allot}
+use Rattle.session_acts.specs.Acts.Act.{Hear, Say, Try, Log, Note, Ask, Renew, Dial, Reach, Take, Pass, HangUp, Relay, Deposit, Allot, TakeReply, OpenDoor, Join, Copy, Part}
 use Rattle.session_acts.specs.Acts.Undeposited.{Lacks, Unsaid, Unheard}
 use Rattle.session_acts.specs.Deeds.{Gains, Lasts}
 use Rattle.session_acts.specs.Depositing.{AreOfBody, AtStoreDeposit, IsFilled, IsGivenUp, IsKept, Lends, PutsBrokenAt, PutsBrokenLast, PutsFree, PutsFull, StoreDeposits, mail_of}
@@ -211,6 +211,11 @@ act_grows HangUp outcome old new h = grows_same old new h
 act_grows Relay outcome old new h = grows_same old new h
 act_grows (Deposit sender rcpts words most) outcome old new h = deposit_grows sender rcpts words most outcome old new h
 act_grows Allot outcome old new h = grows_same old new h
+act_grows (TakeReply how) outcome old new h = grows_same old new h
+act_grows OpenDoor outcome old new h = grows_same old new h
+act_grows (Join dest target) outcome old new h = grows_same old new h
+act_grows (Copy toward) outcome old new h = grows_same old new h
+act_grows Part outcome old new h = grows_same old new h
 
 -- ---- one after another
 

@@ -8,7 +8,7 @@ use Rattle.auth_events.specs.declared.request.Request.{Request}
 use Rattle.auth_events.specs.declared.request.Request.TheVariants as requests
 use Rattle.fw_outside.specs.DiceView.{DiceView}
 use Rattle.session_acts.specs.Acts.{Act, Outcome}
-use Rattle.session_acts.specs.Acts.Act.{Hear, Say, Try, Log, Note, Ask, Renew, Dial, Reach, Take, Pass, HangUp, Relay, Deposit, Allot}
+use Rattle.session_acts.specs.Acts.Act.{Hear, Say, Try, Log, Note, Ask, Renew, Dial, Reach, Take, Pass, HangUp, Relay, Deposit, Allot, TakeReply, OpenDoor, Join, Copy, Part}
 use Rattle.session_acts.specs.Deeds.{Gains}
 use Rattle.session_acts.specs.Laws.{Adds}
 use Rattle.session_acts.specs.Met.{Asking, AtOffice, Renewing, is_password, number_told, opened_then, reply_of}
@@ -73,6 +73,11 @@ module _ {Origin : Type 0} where
   entered_one (Log text) outcome old new h = same_talk old new h
   entered_one (Deposit sender rcpts words most) outcome old new h = same_talk old new h
   entered_one Allot outcome old new h = same_talk old new h
+  entered_one (TakeReply how) outcome old new h = same_talk old new h
+  entered_one OpenDoor outcome old new h = same_talk old new h
+  entered_one (Join dest target) outcome old new h = same_talk old new h
+  entered_one (Copy toward) outcome old new h = same_talk old new h
+  entered_one Part outcome old new h = same_talk old new h
   entered_one (Note text) outcome old new h = same_talk old new h
   entered_one (Dial dest) outcome old new h = same_talk old new h
   entered_one (Reach dest) outcome old new h = same_talk old new h
@@ -127,6 +132,11 @@ module _ {Origin : Type 0} where
   thrown_one (Log text) outcome old new h = same_dice old new h
   thrown_one (Deposit sender rcpts words most) outcome old new h = same_dice old new h
   thrown_one Allot outcome old new h = same_dice old new h
+  thrown_one (TakeReply how) outcome old new h = same_dice old new h
+  thrown_one OpenDoor outcome old new h = same_dice old new h
+  thrown_one (Join dest target) outcome old new h = same_dice old new h
+  thrown_one (Copy toward) outcome old new h = same_dice old new h
+  thrown_one Part outcome old new h = same_dice old new h
   thrown_one (Note text) outcome old new h = same_dice old new h
   thrown_one (Dial dest) outcome old new h = same_dice old new h
   thrown_one (Reach dest) outcome old new h = same_dice old new h

@@ -8,7 +8,7 @@ use Rattle.fw_outside.specs.declared.heard.Stop.TheVariants as stops
 use Rattle.session_acts.specs.Relaying.{Flow, flow_of, given_down}
 use Rattle.session_acts.proofs.DeviceLemmas.{supplies_given}
 use Rattle.session_acts.specs.Acts.{Act, Front, Outcome}
-use Rattle.session_acts.specs.Acts.Act.{Hear, Say, Try, Log, Note, Ask, Renew, Dial, Reach, Take, Pass, HangUp, Relay, Deposit, Allot}
+use Rattle.session_acts.specs.Acts.Act.{Hear, Say, Try, Log, Note, Ask, Renew, Dial, Reach, Take, Pass, HangUp, Relay, Deposit, Allot, TakeReply, OpenDoor, Join, Copy, Part}
 use Rattle.session_acts.specs.Deeds.{Gains}
 use Rattle.session_acts.specs.Laws.{TellsClient, TellsLog, got, logged, told}
 use Rattle.session_acts.specs.Met.{ClientRelays, Gets, Hears, HeedsLine, Met}
@@ -23,6 +23,7 @@ use Rattle.fw_outside.specs.declared.heard.Stop.{Stop}
 use Rattle.session_acts.specs.Laws.{words_if, words_told}
 use Rattle.session_acts.specs.Met.{AtClientDeposit, ClientDeposits, DrawsAfter, IsTold, stop_of}
 use Rattle.session_acts.proofs.DepositLemmas.{draws_outlet}
+use Rattle.session_acts.proofs.ReplyLemmas.{reply_as}
 
 pub by_nothing : (bytes : Option (List ℕ)) → bytes ≡ grown bytes []
 by_nothing None = refl
@@ -103,6 +104,11 @@ module _ {Origin : Type 0} where
   told_one Relay outcome old new met = relays_told (flow_of outcome) old.client new.client met.client
   told_one (Deposit sender rcpts words most) outcome old new met = deposit_told words outcome old.client new.client met.client
   told_one Allot outcome old new met = same_client old new met.client
+  told_one (TakeReply how) outcome old new met = reply_as (λ (bytes : List ℕ). TellsClient bytes old new) outcome old.client new.client (λ text tried told. words_given text tried old.client new.client told) met.client
+  told_one OpenDoor outcome old new met = same_client old new met.client
+  told_one (Join dest target) outcome old new met = same_client old new met.client
+  told_one (Copy toward) outcome old new met = same_client old new met.client
+  told_one Part outcome old new met = same_client old new met.client
 
   pub told_gains : Gains Origin told TellsClient
   told_gains = record {
@@ -128,6 +134,11 @@ module _ {Origin : Type 0} where
   logged_one Relay outcome old new met = same_sink old.logs new.logs met.logs
   logged_one (Deposit sender rcpts words most) outcome old new met = same_sink old.logs new.logs met.logs
   logged_one Allot outcome old new met = same_sink old.logs new.logs met.logs
+  logged_one (TakeReply how) outcome old new met = same_sink old.logs new.logs met.logs
+  logged_one OpenDoor outcome old new met = same_sink old.logs new.logs met.logs
+  logged_one (Join dest target) outcome old new met = same_sink old.logs new.logs met.logs
+  logged_one (Copy toward) outcome old new met = same_sink old.logs new.logs met.logs
+  logged_one Part outcome old new met = same_sink old.logs new.logs met.logs
 
   pub logged_gains : Gains Origin logged TellsLog
   logged_gains = record {

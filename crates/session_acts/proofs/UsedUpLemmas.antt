@@ -12,22 +12,30 @@ use Rattle.fw_acts.proofs.RanLemmas.{stopped}
 use Rattle.fw_outside.specs.declared.heard.Heard.{Heard}
 use Rattle.fw_types.specs.declared.dest.Dest.{Dest}
 use Rattle.fw_types.specs.declared.ending.Ending.{Ending}
-use Rattle.session_acts.specs.Acts.{Act, Answer, Front, Halt, cause_by, silence_cause}
-use Rattle.session_acts.specs.Acts.Act.{Hear, Say, Try, Log, Note, Ask, Renew, Dial, Reach, Take, Pass, HangUp, Relay, Deposit, Allot}
+use Rattle.session_acts.specs.Acts.{Act, Answer, Front, Halt, Unreplied, cause_by, reply_cause, silence_cause}
+use Rattle.session_acts.specs.Acts.Unreplied.{NotHeard, NotSaid}
+use Rattle.session_acts.specs.Acts.Act.{Hear, Say, Try, Log, Note, Ask, Renew, Dial, Reach, Take, Pass, HangUp, Relay, Deposit, Allot, TakeReply, OpenDoor, Join, Copy, Part}
 use Rattle.session_acts.specs.Causes.{is_spent_or}
 use Rattle.session_acts.specs.Deeds.{deeds_ran, done}
-use Rattle.session_acts.specs.Met.{Dialing, Met, Passes, ServerRelays, Takes, acts}
+use Rattle.session_acts.specs.Met.{Dialing, Met, Passes, ServerRelays, ServerReplies, Takes, acts}
 use Rattle.session_acts.specs.Relaying.{Through}
 use Rattle.session_acts.specs.Session.{SessionAs, ending_by, ending_of}
 use Rattle.session_acts.specs.World.{Devices, Names, Server, Speaker, World, at_first, most_taken}
 use Rattle.session_acts.specs.declared.cause.Cause.{Cause}
-use Rattle.session_acts.specs.declared.cause.Cause.TheVariants.{ServerFault}
+use Rattle.session_acts.specs.declared.cause.Cause.TheVariants.{ClientFault, ServerFault}
 use Rattle.session_acts.specs.declared.form.Form.TheVariants.{Lines}
 use Rattle.session_acts.specs.declared.silence.Silence.{Silence}
 use Rattle.session_acts.proofs.DeedLemmas.{all_last, deeds_done, ran_deeds}
 use Rattle.session_acts.proofs.KeptLemmas.{names_last}
-use Rattle.session_acts.proofs.SpentLemmas.{done_left, line_left, none_left, relay_spent, silence_left, spent_or, told_left}
+use Rattle.session_acts.proofs.SpentLemmas.{done_left, draws_left, line_left, silent_left, none_left, relay_spent, silence_left, spent_or, told_left}
 use Rattle.session_acts.proofs.StaysLemmas.{IsSound, LinkSound, stays_last}
+use Rattle.fw_outside.specs.declared.heard.Stop.TheVariants as stops
+use Rattle.session_acts.specs.Joining.{OpensAt}
+use Rattle.session_acts.specs.Replying.{said_of}
+use Rattle.session_acts.specs.declared.replied.Replied.{Replied}
+use Rattle.session_acts.specs.declared.replied.Replied.TheVariants.{Whole, Ended}
+use Rattle.session_acts.specs.declared.reply_use.ReplyUse.{ReplyUse}
+use Rattle.session_acts.proofs.SideLemmas.{copies_side, joining_side}
 
 -- whether no more bytes may be taken over the link that is up
 abbrev used_up : Option Speaker → Bool
@@ -59,6 +67,15 @@ link_rests : (link : Option Speaker) (old new : Server) → old.link ≡ link �
 link_rests None old new up h more = same_link old new h more
 link_rests (Some link) old new up h more = absurd h
 
+link_replies : (how : ReplyUse) (answer : Replied × List ℕ) (link : Option Speaker) (old new : Server) → old.link ≡ link → ServerReplies {how = how} (Ok answer) link old new → used_up old.link ≡ false → used_up new.link ≡ false
+link_replies how answer None old new up h more = same_link old new h.1 more
+link_replies how (Whole code six, text) (Some link) old new up h more = ap (λ (s : Server). used_up s.link) h.is ∙ draws_left None text link h.speaker h.draws refl
+link_replies how (Ended, text) (Some link) old new up h more = ap (λ (s : Server). used_up s.link) h.is ∙ draws_left (Some stops.End) text link h.speaker h.draws refl
+
+link_opens : (at : Option (List ℕ × ℕ)) (old new : Server) → OpensAt (Ok at) old new → used_up old.link ≡ false → used_up new.link ≡ false
+link_opens (Some at) old new h more = ap (λ (s : Server). used_up s.link) h.is ∙ more
+link_opens None old new h more = ap (λ (s : Server). used_up s.link) h.is ∙ more
+
 link_left : {Origin : Type 0} (act : Act) (answer : Answer act) (old new : World Origin) → Met act (Ok answer) old new → used_up old.server.link ≡ false → used_up new.server.link ≡ false
 link_left (Dial dest) up old new met more = link_connects up dest old.server new.server met.server
 link_left (Reach dest) up old new met more = link_connects true dest old.server new.server met.server
@@ -73,6 +90,11 @@ link_left (Try text) tried old new met more = same_link old.server new.server me
 link_left (Log text) done old new met more = same_link old.server new.server met.server more
 link_left (Deposit sender rcpts words most) done old new met more = same_link old.server new.server met.server more
 link_left Allot done old new met more = same_link old.server new.server met.server more
+link_left (TakeReply how) answer old new met more = link_replies how answer old.server.link old.server new.server refl met.server more
+link_left OpenDoor at old new met more = link_opens at old.server new.server met.server more
+link_left (Join dest target) joined old new met more = ap used_up (joining_side dest target joined old.server new.server met.server).link ∙ more
+link_left (Copy toward) carried old new met more = ap used_up (copies_side toward carried old.server.pair old.server new.server met.server).link ∙ more
+link_left Part done old new met more = ap (λ (s : Server). used_up s.link) met.server.is ∙ more
 link_left (Note text) done old new met more = same_link old.server new.server met.server more
 link_left (Ask request) reply old new met more = same_link old.server new.server met.server more
 link_left (Renew name hash) salted old new met more = same_link old.server new.server met.server more
@@ -87,6 +109,17 @@ take_stops relays silence None old new h all = let clash = h.0 in absurd (cc)
 take_stops relays silence (Some link) old new h all =
     spent_or relays (ending_by (silence_cause ServerFault silence)) (silence_left ServerFault Lines silence link h.speaker h.hears (sym (ap (λ (s : Server). used_up s.link) h.is) ∙ all))
 
+-- a reply that wasn't said
+unsaid_left : (how : ReplyUse) (text : List ℕ) (front : Front (said_of how text)) (link : Option Speaker) (old new : Server) → ServerReplies {how = how} (Err (NotSaid text front)) link old new → used_up new.link ≡ false
+unsaid_left how text front None old new h = let clash = h.0 in absurd (cc)
+unsaid_left how text front (Some link) old new h = ap (λ (s : Server). used_up s.link) h.is ∙ draws_left None text link h.speaker h.draws refl
+
+reply_stops : (how : ReplyUse) (relays : Bool) (halt : Unreplied how) (link : Option Speaker) (old new : Server) → old.link ≡ link → ServerReplies {how = how} (Err halt) link old new → used_up old.link ≡ false → used_up new.link ≡ true → is_spent_or relays (ending_by (reply_cause halt)) ≡ true
+reply_stops how relays (NotHeard silence text begun) None old new up h more all = let clash = h.0 in absurd (cc)
+reply_stops how relays (NotHeard silence text begun) (Some link) old new up h more all =
+    spent_or relays (ending_by (silence_cause ServerFault silence)) (silent_left ServerFault silence text link h.speaker h.draws (sym (ap (λ (s : Server). used_up s.link) h.is) ∙ all))
+reply_stops how relays (NotSaid text front) link old new up h more all = not_used ClientFault relays (used_up new.link) (unsaid_left how text front link old new h) all
+
 stop_used : {Origin : Type 0} (relays : Bool) (act : Act) (halt : Halt act) (old new : World Origin) → Met act (Err halt) old new → old.names.relays ≡ relays → used_up old.server.link ≡ false → used_up new.server.link ≡ true → is_spent_or relays (ending_by (cause_by act halt)) ≡ true
 stop_used relays (Hear form) halt old new met lent more all = not_used (cause_by (Hear form) halt) relays (used_up new.server.link) (same_link old.server new.server met.server more) all
 stop_used relays (Say text) halt old new met lent more all = not_used (cause_by (Say text) halt) relays (used_up new.server.link) (same_link old.server new.server met.server more) all
@@ -94,6 +127,11 @@ stop_used relays (Try text) halt old new met lent more all = absurd halt
 stop_used relays (Log text) halt old new met lent more all = not_used (cause_by (Log text) halt) relays (used_up new.server.link) (same_link old.server new.server met.server more) all
 stop_used relays (Deposit sender rcpts words most) halt old new met lent more all = not_used (cause_by (Deposit sender rcpts words most) halt) relays (used_up new.server.link) (same_link old.server new.server met.server more) all
 stop_used relays Allot halt old new met lent more all = not_used (cause_by Allot halt) relays (used_up new.server.link) (same_link old.server new.server met.server more) all
+stop_used relays (TakeReply how) halt old new met lent more all = reply_stops how relays halt old.server.link old.server new.server refl met.server more all
+stop_used relays OpenDoor halt old new met lent more all = absurd halt
+stop_used relays (Join dest target) halt old new met lent more all = absurd halt
+stop_used relays (Copy toward) halt old new met lent more all = absurd halt
+stop_used relays Part halt old new met lent more all = absurd halt
 stop_used relays (Note text) halt old new met lent more all = absurd halt
 stop_used relays (Ask request) halt old new met lent more all = not_used (cause_by (Ask request) halt) relays (used_up new.server.link) (same_link old.server new.server met.server more) all
 stop_used relays (Renew name hash) halt old new met lent more all = not_used (cause_by (Renew name hash) halt) relays (used_up new.server.link) (same_link old.server new.server met.server more) all

@@ -33,7 +33,7 @@ module _ {Origin : Type 0} where
     rose = rose;
     link = record { from = link.inlet; to = link.outlet };
     last =
-        subst (λ (s : Server). IsLast (record { from = link.inlet; to = link.outlet }) s.dialer.ended) (sym same) (subst (λ (d : DialerView). IsLast (record { from = link.inlet; to = link.outlet }) d.ended) (sym free.hanging.is) (last_of (record { from = link.inlet; to = link.outlet }) mid.server.dialer.ended free.hanging.ended free.hanging.adds));
+        subst (λ (s : Server). IsLast (record { from = link.inlet; to = link.outlet }) s.dialer.ended) (sym same) (subst (λ (d : DialerView). IsLast (record { from = link.inlet; to = link.outlet }) d.ended) (sym free.hanging.is) (last_of (record { from = link.inlet; to = link.outlet }) free.apart.ended free.hanging.ended free.hanging.adds));
     waited = idle.1 ∙ patient ∙ waits;
   }
 

@@ -29,6 +29,8 @@ pub record KeepsAs {Origin : Type 0} (relays : Bool) (old new : Devices Origin) 
   pub refusals : old.dialer.refusals ≤ new.dialer.refusals
   pub link_faults : old.dialer.link_faults ≤ new.dialer.link_faults
   pub link_idles : old.dialer.link_idles ≤ new.dialer.link_idles
+  pub data_faults : old.dialer.data_faults ≤ new.dialer.data_faults
+  pub data_idles : old.dialer.data_idles ≤ new.dialer.data_idles
   pub waits : new.inlet.waits ≡ old.inlet.waits
   pub link_waits : new.dialer.waits ≡ old.dialer.waits
   pub shut : StaysShut relays old.outlet.shut new.outlet.shut

@@ -9,14 +9,18 @@ pub mod Denying
 pub mod Distance
 pub mod Forms
 pub mod FullPort
+pub mod Greeting
 pub mod Hearing
 pub mod Intake
+pub mod Joining
 pub mod Laws
 pub mod Link
 pub mod Met
 pub mod Passing
 pub mod ServersHeard
 pub mod Relayed
+pub mod Replying
+pub mod ReplyRest
 pub mod Relaying
 pub mod RelayFronts
 pub mod RelayLast
@@ -29,3 +33,6 @@ pub mod World
 pub mod LastStop
 pub mod Dummies
 pub mod Serverless
+pub mod Side
+pub mod Once
+pub mod OwnLogin

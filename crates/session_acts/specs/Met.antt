@@ -1,5 +1,6 @@
 -- What an act, with its outcome, does to each part of what the session meets.
 use Rattle.std.specs.Prelude.{◌≡◌, ℕ, ◌-◌, ◌^◌, ◌≤◌, Bool, true, false, List, [], length, Option, Some, None, Result, Ok, Err, unwrap_or}
+use Rattle.std.specs.Option.{option_map}
 use Rattle.auth_events.specs.Port.{Asks, Port}
 use Rattle.auth_events.specs.declared.port.PortFault.{PortFault}
 use Rattle.auth_events.specs.declared.reply.Reply.{Reply}
@@ -22,21 +23,29 @@ use Rattle.fw_outside.specs.declared.heard.Stop.{Stop}
 use Rattle.fw_outside.specs.declared.heard.Stop.TheVariants as stops
 use Rattle.fw_types.specs.declared.dest.Dest.{Dest}
 use Rattle.relay_ways.specs.Carried.{Drains, Supplies, Way}
+use Rattle.relay_ways.specs.declared.way_end.WayEnd.{WayEnd}
 use Rattle.spool_rack.specs.Store.{StoreView}
-use Rattle.session_acts.specs.Acts.{Act, Answer, Front, Halt, Outcome, Undeposited, cause_by}
-use Rattle.session_acts.specs.Acts.Act.{Hear, Say, Try, Log, Note, Ask, Renew, Dial, Reach, Take, Pass, HangUp, Relay, Deposit, Allot}
+use Rattle.session_acts.specs.Acts.{Act, Answer, Front, Halt, Outcome, Undeposited, Unreplied, cause_by}
+use Rattle.session_acts.specs.Acts.Act.{Hear, Say, Try, Log, Note, Ask, Renew, Dial, Reach, Take, Pass, HangUp, Relay, Deposit, Allot, TakeReply, OpenDoor, Join, Copy, Part}
 use Rattle.session_acts.specs.Acts.Undeposited.{Lacks, Unsaid, Unheard}
+use Rattle.session_acts.specs.Acts.Unreplied.{NotHeard, NotSaid}
 use Rattle.session_acts.specs.Depositing.{AtStoreDeposit, Draws}
 use Rattle.session_acts.specs.Forms.{ListensIn}
+use Rattle.session_acts.specs.Joining.{Copies, Joins, LetsPairGo, OpensAt, Parts}
 use Rattle.session_acts.specs.Relaying.{Flow, Through, flow_of}
+use Rattle.session_acts.specs.Replying.{IsReplied, said_of}
 use Rattle.session_acts.specs.World.{Names, Office, Server, Speaker, World, unheard}
 use Rattle.session_acts.specs.declared.cause.Cause.{Cause}
 use Rattle.session_acts.specs.declared.deposited.Deposited.{Deposited}
 use Rattle.session_acts.specs.declared.deposited.Deposited.TheVariants.{NoSlot, NotBegun, Kept, TooLarge, Faulted, Ended}
 use Rattle.session_acts.specs.declared.form.Form.{Form}
 use Rattle.session_acts.specs.declared.form.Form.TheVariants.{Lines}
+use Rattle.session_acts.specs.declared.replied.Replied.{Replied}
+use Rattle.session_acts.specs.declared.replied.Replied.TheVariants as replied
+use Rattle.session_acts.specs.declared.reply_use.ReplyUse.{ReplyUse}
 use Rattle.session_acts.specs.declared.silence.Silence.{Silence}
 use Rattle.session_acts.specs.declared.silence.Silence.TheVariants.{Quiet, Broken, Limit}
+use Rattle.session_acts.specs.declared.toward.Toward.{Toward}
 
 -- ---- what is heard and said
 
@@ -122,6 +131,30 @@ AtClientDeposit words (Err Lacks) old new = new ≡ old
 AtClientDeposit words (Err (Unsaid front)) old new = IsTold words (Err front) old new
 AtClientDeposit words (Err (Unheard silence data_heard)) old new = DrawsAfter words (Some (stop_of silence)) data_heard old new
 
+-- ---- replies of a server
+
+-- the text of a reply, or what came of it, was heard of the server
+abbrev pub DrawsAnswer : Replied → List ℕ → Speaker → Speaker → Type 0
+DrawsAnswer (replied.Whole code six) text old new = Draws None text old new
+DrawsAnswer replied.Ended text old new = Draws (Some stops.End) text old new
+
+abbrev pub DrawsReply : {how : ReplyUse} → Result (Replied × List ℕ) (Unreplied how) → Speaker → Speaker → Type 0
+DrawsReply (Ok answer) old new = DrawsAnswer answer.0 answer.1 old new
+DrawsReply (Err (NotHeard silence text begun)) old new = Draws (Some (stop_of silence)) text old new
+DrawsReply (Err (NotSaid text front)) old new = Draws None text old new
+
+-- what an outcome says of the text
+abbrev pub IsOfText : {how : ReplyUse} → Result (Replied × List ℕ) (Unreplied how) → Type 0
+IsOfText (Ok answer) = IsReplied answer.0 answer.1
+IsOfText (Err (NotHeard silence text begun)) = IsReplied replied.Ended text
+IsOfText (Err (NotSaid text front)) = Unit {0}
+
+-- and the client was told what is to be said of it
+abbrev pub ClientReplies : {how : ReplyUse} → Result (Replied × List ℕ) (Unreplied how) → Speaker → Speaker → Type 0
+ClientReplies {how} (Ok answer) old new = IsTold (said_of how answer.1) (Ok tt) old new
+ClientReplies {how} (Err (NotHeard silence text begun)) old new = IsTold begun.part (Ok tt) old new
+ClientReplies {how} (Err (NotSaid text front)) old new = IsTold (said_of how text) (Err front) old new
+
 -- ---- the client and the log
 
 abbrev pub ClientRelays : Option Flow → Speaker → Speaker → Type 0
@@ -134,6 +167,7 @@ AtClient (Say text) outcome old new = IsTold text outcome old new
 AtClient (Try text) outcome old new = IsTriedTold text outcome old new
 AtClient Relay outcome old new = ClientRelays (flow_of outcome) old new
 AtClient (Deposit sender rcpts words most) outcome old new = AtClientDeposit words outcome old new
+AtClient (TakeReply how) outcome old new = ClientReplies outcome old new
 AtClient act outcome old new = new ≡ old
 
 abbrev pub AtLogs : (act : Act) → Outcome act → SinkView → SinkView → Type 0
@@ -200,10 +234,13 @@ abbrev pub Clears : Option Speaker → DialerView → DialerView → Type 0
 Clears None old new = new ≡ old
 Clears (Some link) old new = HangsUp link.inlet link.outlet old new
 
+-- A pair of data links that is up is let go and the door closed, and then a main link that is up is hung up.
 pub record Hanging (old new : Server) : Type 0 where
+  pub apart : DialerView
+  pub lets : LetsPairGo old.pair old.dialer apart
   pub dialer : DialerView
-  pub clears : Clears old.link old.dialer dialer
-  pub is : new ≡ record { dialer = dialer; link = None }
+  pub clears : Clears old.link apart dialer
+  pub is : new ≡ record { dialer = dialer; link = None; door = false; pair = None }
 
 -- a link came up, of which nothing was heard yet
 pub record Connects (dest : Dest) (cleared : DialerView) (new : Server) : Type 0 where
@@ -211,22 +248,24 @@ pub record Connects (dest : Dest) (cleared : DialerView) (new : Server) : Type 0
   pub outlet : SinkView
   pub dialer : DialerView
   pub up : ComesUp (asks.Main dest) inlet outlet cleared dialer
-  pub is : new ≡ record { dialer = dialer; link = Some (record { inlet = inlet; reader = unheard; outlet = outlet }) }
+  pub is : new ≡ record { dialer = dialer; link = Some (record { inlet = inlet; reader = unheard; outlet = outlet }); door = false; pair = None }
 
 -- none came up
 pub record Misses (dest : Dest) (cleared : DialerView) (new : Server) : Type 0 where
   pub dialer : DialerView
   pub refused : Refuses (asks.Main dest) cleared dialer
-  pub is : new ≡ record { dialer = dialer; link = None }
+  pub is : new ≡ record { dialer = dialer; link = None; door = false; pair = None }
 
 abbrev pub ConnectsIf : Bool → Dest → DialerView → Server → Type 0
 ConnectsIf true dest cleared new = Connects dest cleared new
 ConnectsIf false dest cleared new = Misses dest cleared new
 
--- a link that is up is hung up, and then the destination is dialed
+-- the same is done to what is up, and then the destination is dialed
 pub record Dialing (dest : Dest) (up : Bool) (old new : Server) : Type 0 where
+  pub apart : DialerView
+  pub lets : LetsPairGo old.pair old.dialer apart
   pub cleared : DialerView
-  pub clears : Clears old.link old.dialer cleared
+  pub clears : Clears old.link apart cleared
   pub connects : ConnectsIf up dest cleared new
 
 abbrev pub Dials : Dest → Result Bool ⊥ → Server → Server → Type 0
@@ -263,6 +302,18 @@ abbrev pub HangsUpServer : Result (Unit {0}) ⊥ → Server → Server → Type 
 HangsUpServer (Ok done) old new = Hanging old new
 HangsUpServer (Err never) old new = ⊥
 
+-- a reply was taken of the server
+pub record RepliesOver {how : ReplyUse} (outcome : Result (Replied × List ℕ) (Unreplied how)) (link : Speaker) (old new : Server) : Type 0 where
+  pub speaker : Speaker
+  pub of_text : IsOfText outcome
+  pub draws : DrawsReply outcome link speaker
+  pub is : new ≡ record old { link = Some speaker }
+
+-- where no link is up, that is the end, of which nothing came
+abbrev pub ServerReplies : {how : ReplyUse} → Result (Replied × List ℕ) (Unreplied how) → Option Speaker → Server → Server → Type 0
+ServerReplies outcome None old new = (outcome ≡ Ok (replied.Ended, [])) × (new ≡ old)
+ServerReplies outcome (Some link) old new = RepliesOver outcome link old new
+
 -- the other end of the link
 pub record ServerCarries (flow : Flow) (link : Speaker) (old new : Server) : Type 0 where
   pub speaker : Speaker
@@ -282,6 +333,11 @@ AtServer Take outcome old new = Takes outcome old.link old new
 AtServer (Pass text) outcome old new = Passes text outcome old.link old new
 AtServer HangUp outcome old new = HangsUpServer outcome old new
 AtServer Relay outcome old new = ServerRelays (flow_of outcome) old.link old new
+AtServer (TakeReply how) outcome old new = ServerReplies outcome old.link old new
+AtServer OpenDoor outcome old new = OpensAt outcome old new
+AtServer (Join dest target) outcome old new = Joins dest target outcome old new
+AtServer (Copy toward) outcome old new = Copies toward outcome old.pair old new
+AtServer Part outcome old new = Parts outcome old new
 AtServer act outcome old new = new ≡ old
 
 -- ---- the mail store
@@ -351,3 +407,18 @@ pub record DepositDone {Origin : Type 0} (sender : List ℕ) (rcpts : List (List
 abbrev pub Deposits : {Origin : Type 0} → List ℕ → List (List ℕ) → List ℕ → ℕ → Result Deposited Cause → World Origin → World Origin → Type 0
 Deposits sender rcpts words most (Ok deposited) old new = DepositDone sender rcpts words most deposited old new
 Deposits sender rcpts words most (Err cause) old new = Stops (Deposit sender rcpts words most) cause old new
+
+-- a reply was taken, of which this text came, or the session stopped at it
+pub record ReplyDone {Origin : Type 0} (how : ReplyUse) (is_replied : Replied) (old new : World Origin) : Type 0 where
+  pub text : List ℕ
+  pub met : Met (TakeReply how) (Ok (is_replied, text)) old new
+
+abbrev pub Replies : {Origin : Type 0} → ReplyUse → Result Replied Cause → World Origin → World Origin → Type 0
+Replies how (Ok is_replied) old new = ReplyDone how is_replied old new
+Replies how (Err cause) old new = Stops (TakeReply how) cause old new
+
+-- a copy was made, whatever it carried, whose way ended so; or no data links were up
+pub record CopyDone {Origin : Type 0} (toward : Toward) (ended : Option WayEnd) (old new : World Origin) : Type 0 where
+  pub carried : Option Way
+  pub is : ended ≡ option_map (λ way. way.end) carried
+  pub met : Met (Copy toward) (Ok carried) old new

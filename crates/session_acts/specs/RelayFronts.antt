@@ -12,7 +12,7 @@ use Rattle.fw_types.specs.declared.ending.Ending.{Ending}
 use Rattle.fw_types.specs.declared.ending.Ending.TheVariants as endings
 use Rattle.relay_ways.specs.Way.{most_in_piece}
 use Rattle.session_acts.specs.Acts.{Act, Outcome}
-use Rattle.session_acts.specs.Acts.Act.{Pass, Relay, Take}
+use Rattle.session_acts.specs.Acts.Act.{Copy, Join, OpenDoor, Part, Pass, Relay, Take, TakeReply}
 use Rattle.session_acts.specs.Deeds.{Deed, gives}
 use Rattle.session_acts.specs.Hearing.{AreHeard, Fate, heard_in}
 use Rattle.session_acts.specs.Laws.{Adds, told}
@@ -23,11 +23,16 @@ use Rattle.session_acts.specs.World.{Devices}
 
 -- ---- what rows keep
 
--- an act that takes nothing of a server and gives nothing to one
+-- an act that takes nothing of a server and gives nothing to one, and has nothing to do with data links
 abbrev pub is_quiet : Act → Bool
 is_quiet Take = false
 is_quiet (Pass text) = false
 is_quiet Relay = false
+is_quiet (TakeReply how) = false
+is_quiet OpenDoor = false
+is_quiet (Join dest target) = false
+is_quiet (Copy toward) = false
+is_quiet Part = false
 is_quiet act = true
 
 -- only such acts may come

@@ -6,7 +6,7 @@ use Rattle.fw_outside.specs.Counts.{Rose}
 use Rattle.fw_types.specs.declared.ending.Ending.{Ending}
 use Rattle.fw_types.specs.declared.ending.Ending.TheVariants.{ServerFault, Idle, NoRoute, Spent}
 use Rattle.session_acts.specs.Acts.{Act}
-use Rattle.session_acts.specs.Acts.Act.{Dial, Reach, Take, Pass, HangUp, Relay}
+use Rattle.session_acts.specs.Acts.Act.{Dial, Reach, Take, Pass, HangUp, Relay, TakeReply, OpenDoor, Join, Copy, Part}
 use Rattle.session_acts.specs.Causes.{Caused, TookAtMost, TookMost, is_spent_ending}
 use Rattle.session_acts.specs.Met.{acts}
 use Rattle.session_acts.specs.World.{Devices, most_taken}
@@ -19,6 +19,11 @@ is_serverless Take = false
 is_serverless (Pass text) = false
 is_serverless HangUp = false
 is_serverless Relay = false
+is_serverless (TakeReply how) = false
+is_serverless OpenDoor = false
+is_serverless (Join dest target) = false
+is_serverless (Copy toward) = false
+is_serverless Part = false
 is_serverless act = true
 
 -- only such acts may come

@@ -1,20 +1,32 @@
 -- What a session hears of its servers and what it relays of them: over each link, from where it came up to where it was
 -- hung up.
-use Rattle.std.specs.Prelude.{◌≡◌, ℕ, ◌≤◌, List, [], ◌∷◌, ◌++◌, length, Option, Some, None}
+use Rattle.std.specs.Prelude.{◌≡◌, ℕ, ◌≤◌, false, List, [], ◌∷◌, ◌++◌, length, Option, Some, None, Result, Ok, Err}
 use Rattle.std.specs.List.{concat}
 use Rattle.fw_outside.specs.Counts.{Grew}
 use Rattle.fw_outside.specs.DialerView.{LinkView}
 use Rattle.fw_outside.specs.SourceView.{SourceView}
-use Rattle.session_acts.specs.Acts.{Act, Outcome}
-use Rattle.session_acts.specs.Acts.Act.{Dial, HangUp, Reach, Relay, Take}
+use Rattle.session_acts.specs.Acts.{Act, Outcome, Unreplied}
+use Rattle.session_acts.specs.Acts.Unreplied.{NotHeard, NotSaid}
+use Rattle.relay_ways.specs.Carried.{Way}
+use Rattle.session_acts.specs.Acts.Act.{Dial, HangUp, Reach, Relay, Take, TakeReply}
 use Rattle.session_acts.specs.Deeds.{Deed}
 use Rattle.session_acts.specs.Hearing.{AreHeard, Fate, heard_by}
 use Rattle.session_acts.specs.Hearing.Fate.{IsHeard, IsCarried}
 use Rattle.session_acts.specs.Laws.{Adds}
-use Rattle.session_acts.specs.Passing.{AreOver, IsGiven, over_each, up_if_dialed, up_if_reached, up_with}
+use Rattle.session_acts.specs.Passing.{AreOver, IsGiven, Known, over_each, up_if_dialed, up_if_reached, up_with}
 use Rattle.session_acts.specs.Relaying.{Flow, flow_of}
 use Rattle.session_acts.specs.World.{World}
 use Rattle.session_acts.specs.declared.form.Form.TheVariants.{Lines}
+use Rattle.session_acts.specs.declared.replied.Replied.{Replied}
+use Rattle.session_acts.specs.declared.reply_use.ReplyUse.{ReplyUse}
+use Rattle.session_acts.specs.declared.toward.Toward.{Toward}
+use Rattle.session_acts.specs.declared.toward.Toward.TheVariants as toward
+
+-- the text that came of a reply
+abbrev pub reply_text : {how : ReplyUse} → Result (Replied × List ℕ) (Unreplied how) → List ℕ
+reply_text (Ok answer) = answer.1
+reply_text (Err (NotHeard silence text begun)) = text
+reply_text (Err (NotSaid text front)) = text
 
 abbrev pub carried_down : Option Flow → List Fate
 carried_down None = []
@@ -27,11 +39,21 @@ heard_after (Reach dest) outcome up = up_if_reached outcome
 heard_after HangUp outcome up = None
 heard_after Take outcome up = up_with up (IsHeard Lines (heard_by outcome) ∷ [])
 heard_after Relay outcome up = up_with up (carried_down (flow_of outcome))
+heard_after (TakeReply how) outcome up = up_with up (IsCarried (reply_text outcome) ∷ [])
 heard_after act outcome up = up
 
--- what was heard and relayed of the server over each link that these deeds hung up, one after another
+-- what was taken of each data link by a copy
+abbrev pub copy_heard : Toward → Way → List Fate × List Fate
+copy_heard toward.Client way = (IsCarried way.taken ∷ [], [])
+copy_heard toward.Server way = ([], IsCarried way.taken ∷ [])
+
+abbrev pub heard_known : Known Fate
+heard_known = record { after = heard_after; beside = copy_heard }
+
+-- what was heard and relayed of the server over each link that these deeds hung up, and what was copied of each data link
+-- that they let go, one after another, where no pair of data links was up before
 abbrev pub heard_over : Option (List Fate) → List Deed → List (List Fate)
-heard_over up deeds = over_each heard_after up deeds
+heard_over up deeds = over_each heard_known up false deeds
 
 -- All that was taken over a link is the pieces that were heard or relayed, one after another, and then at most 4,096 bytes
 -- that weren't heard.

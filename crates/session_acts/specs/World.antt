@@ -1,8 +1,8 @@
 -- What a session meets, in five parts: the client, the log, the office where it asks, the server, and the mail store.
-use Rattle.std.specs.Prelude.{ℕ, ◌-◌, ◌^◌, Bool, List, [], Option, None}
+use Rattle.std.specs.Prelude.{◌≡◌, ℕ, ◌-◌, ◌^◌, Bool, false, List, [], Option, None}
 use Rattle.auth_events.specs.Port.{Port}
 use Rattle.fw_outside.specs.ClockView.{ClockView}
-use Rattle.fw_outside.specs.DialerView.{DialerView}
+use Rattle.fw_outside.specs.DialerView.{DialerView, LinkView}
 use Rattle.fw_outside.specs.DiceView.{DiceView}
 use Rattle.fw_outside.specs.LineReaderView.{LineReaderView}
 use Rattle.fw_outside.specs.SinkView.{SinkView}
@@ -24,10 +24,23 @@ pub record Office (Origin : Type 0) : Type 0 where
   pub dice : DiceView
   pub opened : Option ℕ
 
--- the dialer, and the server at the other end of the link that is up, if one is
+-- a pair of data links: one to the server, and one to the client
+pub record Pair : Type 0 where
+  pub far : LinkView
+  pub near : LinkView
+
+-- the dialer, and the server at the other end of the main link that is up, if one is; whether a door stands at which the
+-- client's data link can be accepted; and the data links that are up, if a pair is
 pub record Server : Type 0 where
   pub dialer : DialerView
   pub link : Option Speaker
+  pub door : Bool
+  pub pair : Option Pair
+
+-- no link is up
+pub record IsUnlinked (server : Server) : Type 0 where
+  pub main : server.link ≡ None
+  pub side : server.pair ≡ None
 
 -- what stays: the names of the references to the devices, and whether the session is lent threads, so that it may relay
 pub record Names : Type 0 where
@@ -72,13 +85,13 @@ no_store = record { queues = None; handed = None; out = []; no_free = 2 ^ 64 - 1
 abbrev pub devices_with : {Origin : Type 0} → Port Origin → SourceView → SinkView → SinkView → DialerView → ClockView → DiceView → Devices Origin
 devices_with port inlet outlet logs dialer clock dice = mail_devices_with port inlet outlet logs dialer clock dice no_store
 
--- at first nothing was heard, no session is open and no link is up
+-- at first nothing was heard, no session is open, no link is up and no door stands
 abbrev pub at_first : {Origin : Type 0} → Devices Origin → Names → World Origin
 at_first devices names = record {
   client = record { inlet = devices.inlet; reader = unheard; outlet = devices.outlet };
   logs = devices.logs;
   office = record { port = devices.port; clock = devices.clock; dice = devices.dice; opened = None };
-  server = record { dialer = devices.dialer; link = None };
+  server = record { dialer = devices.dialer; link = None; door = false; pair = None };
   store = devices.store;
   names = names;
 }

@@ -2,20 +2,25 @@
 ghost use Rattle.std.specs.Prelude.{◌≡◌, ◌∷◌, [], is_some, Ok, Err};
 ghost use Rattle.auth_events.specs.Port.{Port};
 ghost use Rattle.fw_outside.specs.DiceView.{DiceView};
-ghost use Rattle.session_acts.specs.Acts.{fault_cause, silence_cause};
-ghost use Rattle.session_acts.specs.Link.{link_view};
+ghost use Rattle.session_acts.specs.Acts.{fault_cause};
+ghost use Rattle.session_acts.specs.Link.{server_view};
 ghost use Rattle.session_acts.specs.Met.{Asking, opened_then, reply_of};
 
+use crate::causes::silence_cause;
 use crate::depositing::deposit;
+use crate::joining::{carry, put_pair};
 use crate::link::{Link, heed, pass_text, put_up, take_line};
-use crate::{Cause, Deposited, Form, Silence, Stage};
+use crate::pair::DataPair;
+use crate::replying::take_reply;
+use crate::{Cause, Deposited, Form, Joined, Replied, ReplyUse, Stage, Target, Toward};
 use auth_events::{AuthPort, PortFault, Reply, Request};
-use fw_outside::{Clock, Dialer, Dice, Failed, Heard, LineReader, Sink, Source};
+use fw_outside::{Clock, Dialed, Dialer, Dice, Failed, Heard, LineReader, Sink, Source};
 use fw_types::{Dest, Name, OctetsList};
+use relay_ways::WayEnd;
 use spool_rack::MailStore;
 use std::alloc::Global;
 
-/// The devices that a session is lent. The link stands outside of it, so that whoever lends it learns what became of it.
+/// The devices that a session is lent. The links stand outside of it, so that whoever lends them learns what became of them.
 #[derive(Drop)]
 pub(crate) struct Desk<
     'p,
@@ -24,6 +29,8 @@ pub(crate) struct Desk<
     'g,
     'd,
     'l,
+    'a,
+    'o,
     'c,
     'r,
     'm,
@@ -42,6 +49,8 @@ pub(crate) struct Desk<
     pub(crate) logs: &'g mut G,
     pub(crate) dialer: &'d mut D,
     pub(crate) link: &'l mut Option<Link<D::In, D::Out>>,
+    pub(crate) pair: &'a mut Option<DataPair<D::DataIn, D::DataOut>>,
+    pub(crate) door: &'o mut Option<D::Door>,
     pub(crate) clock: &'c mut C,
     pub(crate) dice: &'r mut R,
     pub(crate) store: &'m mut M,
@@ -56,16 +65,6 @@ fn fault_cause(fault: PortFault) -> Cause
     match fault {
         PortFault::NoMemory => Cause::NoMemory,
         PortFault::Link | PortFault::Strange => Cause::AuthFault,
-    }
-}
-
-fn silence_cause(fault: Cause, silence: Silence) -> Cause
-    ensures { result ≡ silence_cause fault silence }
-{
-    match silence {
-        Silence::Quiet => Cause::Idle,
-        Silence::Broken => fault,
-        Silence::Limit => Cause::Spent,
     }
 }
 
@@ -106,8 +105,8 @@ fn ask<P: AuthPort, C: Clock>(
     reply
 }
 
-impl<'p, 's, 'k, 'g, 'd, 'l, 'c, 'r, 'm, P, S, K, G, D, C, R, M> Stage
-    for Desk<'p, 's, 'k, 'g, 'd, 'l, 'c, 'r, 'm, P, S, K, G, D, C, R, M>
+impl<'p, 's, 'k, 'g, 'd, 'l, 'a, 'o, 'c, 'r, 'm, P, S, K, G, D, C, R, M> Stage
+    for Desk<'p, 's, 'k, 'g, 'd, 'l, 'a, 'o, 'c, 'r, 'm, P, S, K, G, D, C, R, M>
 where
     P: AuthPort,
     S: Source,
@@ -124,9 +123,9 @@ where
       client = record { inlet = S.source_view d.from.now; reader = d.reader; outlet = K.sink_view d.to.now };
       logs = G.sink_view d.logs.now;
       office = record { port = P.port d.port.now; clock = C.clock_view d.clock.now; dice = R.dice_view d.dice.now; opened = d.opened };
-      server = record { dialer = D.dialer_view d.dialer.now; link = link_view D.In.source_view D.Out.sink_view d.link.now };
+      server = server_view D.In.source_view D.Out.sink_view D.DataIn.source_view D.DataOut.sink_view (D.dialer_view d.dialer.now) d.link.now d.pair.now d.door.now;
       store = M.store_view d.store.now;
-      names = record { devices = d.port.ghost_name ∷ d.from.ghost_name ∷ d.to.ghost_name ∷ d.logs.ghost_name ∷ d.dialer.ghost_name ∷ d.link.ghost_name ∷ d.clock.ghost_name ∷ d.dice.ghost_name ∷ d.store.ghost_name ∷ []; relays = d.relays };
+      names = record { devices = d.port.ghost_name ∷ d.from.ghost_name ∷ d.to.ghost_name ∷ d.logs.ghost_name ∷ d.dialer.ghost_name ∷ d.link.ghost_name ∷ d.pair.ghost_name ∷ d.door.ghost_name ∷ d.clock.ghost_name ∷ d.dice.ghost_name ∷ d.store.ghost_name ∷ []; relays = d.relays };
     } };
 
     fn is_open(&self) -> bool {
@@ -213,6 +212,8 @@ where
     }
 
     fn hang_up(&mut self) {
+        self.part();
+        *self.door = None;
         if let Some(up) = self.link.take() {
             self.dialer.hang_up(up.from, up.to);
         }
@@ -237,6 +238,72 @@ where
             words,
             most,
         )
+    }
+
+    fn take_reply(&mut self, how: ReplyUse) -> Result<Replied, Cause> {
+        take_reply(how, self.link, self.to)
+    }
+
+    fn open_door(&mut self) -> Option<([u8; 4], u16)> {
+        let (door, addr, port) = self.dialer.door()?;
+        let place = addr;
+        *self.door = Some(door);
+        Some((place, port))
+    }
+
+    fn join(&mut self, dest: &Dest, target: Target) -> Joined {
+        self.part();
+        if !self.is_linked() {
+            return Joined::Unready;
+        }
+        match target {
+            Target::Addr { addr, port } => match self.dialer.side(dest) {
+                Dialed::Refused => Joined::NoSide,
+                Dialed::Up(far_from, far_to) => match self.dialer.back(addr, port) {
+                    Dialed::Refused => {
+                        self.dialer.let_go(far_from, far_to);
+                        Joined::NoNear
+                    }
+                    Dialed::Up(from, to) => {
+                        put_pair(self.pair, far_from, far_to, from, to);
+                        Joined::Up
+                    }
+                },
+            },
+            Target::AtDoor => match self.door.take() {
+                None => Joined::Unready,
+                Some(mut door) => match self.dialer.side(dest) {
+                    Dialed::Refused => Joined::NoSide,
+                    Dialed::Up(far_from, far_to) => match self.dialer.accept(&mut door) {
+                        Dialed::Refused => {
+                            self.dialer.let_go(far_from, far_to);
+                            Joined::NoNear
+                        }
+                        Dialed::Up(from, to) => {
+                            put_pair(self.pair, far_from, far_to, from, to);
+                            Joined::Up
+                        }
+                    },
+                },
+            },
+        }
+    }
+
+    fn copy(&mut self, toward: Toward) -> Option<WayEnd> {
+        let Some(mut both) = self.pair.take() else {
+            return None;
+        };
+        let end = carry(toward, &mut both);
+        self.dialer.let_go(both.far_from, both.far_to);
+        self.dialer.let_go(both.near_from, both.near_to);
+        Some(end)
+    }
+
+    fn part(&mut self) {
+        if let Some(up) = self.pair.take() {
+            self.dialer.let_go(up.far_from, up.far_to);
+            self.dialer.let_go(up.near_from, up.near_to);
+        }
     }
 
     fn allot(&mut self, lacks: bool) -> Result<(), Cause> {

@@ -18,7 +18,7 @@ ghost use Rattle.session_acts.specs.Denying.{denying_row, no_rows};
 ghost use Rattle.session_acts.specs.FullPort.{RefusesOn};
 ghost use Rattle.session_acts.specs.Hearing.{TakesHeard, heard_in};
 ghost use Rattle.session_acts.specs.LastStop.{StopsLast, one_lacked_memory};
-ghost use Rattle.session_acts.specs.Laws.{CallsDialer, CountsRefusals, LinksDialer, TellsClient, TellsLog, called, linked, logged, refused, told};
+ghost use Rattle.session_acts.specs.Laws.{CallsDialer, CountsBroken, CountsRefusals, LinksDialer, TellsClient, TellsLog, broken_off, called, linked, logged, refused, told};
 ghost use Rattle.session_acts.specs.Met.{Met, acts};
 ghost use Rattle.session_acts.specs.Passing.{GivesServers, passed_over};
 ghost use Rattle.session_acts.specs.RelayFronts.{KeepsQuiet, RelaysFronts};
@@ -31,7 +31,7 @@ ghost use Rattle.session_acts.specs.ServersHeard.{HearsServers, heard_over};
 ghost use Rattle.session_acts.specs.Session.{Held, RelaySession, Session, SessionAs, deeds_of};
 ghost use Rattle.session_acts.specs.Stored.{CountsFaulted, CountsUnslotted, PutsAllBack, PutsMails, faulted, kept, unslotted};
 ghost use Rattle.session_acts.specs.Talk.{CountsAsks, Entered, ThrowsSalts, answered, asked, is_entered, is_refused_as_full, said_of, thrown};
-ghost use Rattle.session_acts.specs.World.{Devices, Speaker, World, devices_of, most_taken};
+ghost use Rattle.session_acts.specs.World.{Devices, IsUnlinked, Speaker, World, devices_of, most_taken};
 ghost use Rattle.session_acts.specs.declared.cause.Cause.{Cause};
 
 /// What a client was given by a session is what its deeds say and try to say, one after another: of a text at which the
@@ -66,20 +66,23 @@ pub fn the_log_is_told<Origin, P>()
         (held : Held rows first old new ending) → TellsLog (gives logged (deeds_of held)) old new }
 {}
 
-/// What the dialer was asked by a session is the destinations that it dialed and reached, in order.
+/// What the dialer was asked by a session is the destinations that it dialed and reached, and the doors and data links that
+/// it asked for, in order.
 pub fn the_dialer_is_asked<Origin, P>()
     ensures { (rows : PlaceTable (acts Origin) P) (first : Row (acts Origin) P) (old new : World Origin) (ending : Ending)
         (held : Held rows first old new ending) → CallsDialer (gives called (deeds_of held)) old new }
 {}
 
-/// As many links were hung up in a session as came up in it, where the dialer tells (`links`), and none is up at its end
-/// (`none`).
+/// As many links were hung up or let go in a session as came up in it, where the dialer tells (`links`). At its end no main
+/// link is up (`none`), nor are data links, where no link was up before (`apart`).
 pub fn the_links_are_hung_up<Origin, P>()
     ensures links { (rows : PlaceTable (acts Origin) P) (first : Row (acts Origin) P) (old new : World Origin)
         (ending : Ending) (held : Held rows first old new ending) →
         LinksDialer (gives linked (deeds_of held)) old new }
     ensures none { (rows : PlaceTable (acts Origin) P) (first : Row (acts Origin) P) (old new : World Origin)
         (ending : Ending) → Held rows first old new ending → new.server.link ≡ None }
+    ensures apart { (rows : PlaceTable (acts Origin) P) (first : Row (acts Origin) P) (old new : World Origin)
+        (ending : Ending) → Held rows first old new ending → IsUnlinked old.server → new.server.pair ≡ None }
 {}
 
 /// A session whose rows speak with no server leaves the dialer as it was.
@@ -100,20 +103,21 @@ pub fn no_server_ends_it<Origin, P>()
 
 /// What servers were given, where no link was up before: of each link that was hung up in a session, where the dialer tells,
 /// the texts that were passed over it, one after another, from where it came up to where it was hung up; of a text at which
-/// the link failed, a front.
+/// the link failed, a front. Of two data links that were let go, the one to the server before the client's, one was given what
+/// a copy gave it, and the other nothing.
 pub fn the_servers_are_given<Origin, P>()
     ensures { (rows : PlaceTable (acts Origin) P) (first : Row (acts Origin) P) (old new : World Origin) (ending : Ending)
-        (held : Held rows first old new ending) → old.server.link ≡ None →
+        (held : Held rows first old new ending) → IsUnlinked old.server →
         GivesServers (passed_over None (deeds_of held)) old new }
 {}
 
 /// What was heard of servers, where no link was up before: over each link that was hung up in a session, where the dialer
 /// tells, what was taken is what was heard and relayed over it, one piece after another, from where it came up to where it
-/// was hung up: each line with its end, what was read for nothing where no line was heard, and what a relay took. Behind that
-/// at most 4,096 bytes were taken, which weren't heard.
+/// was hung up: each line with its end, each reply, what was read for nothing where no line was heard, and what a relay took.
+/// Behind that at most 4,096 bytes were taken, which weren't heard. Of a data link that was let go it is what a copy took of it.
 pub fn the_servers_are_heard<Origin, P>()
     ensures { (rows : PlaceTable (acts Origin) P) (first : Row (acts Origin) P) (old new : World Origin) (ending : Ending)
-        (held : Held rows first old new ending) → old.server.link ≡ None →
+        (held : Held rows first old new ending) → IsUnlinked old.server →
         HearsServers (heard_over None (deeds_of held)) old new }
 {}
 
@@ -216,10 +220,18 @@ pub fn the_memory_was_lacking<Origin, P>()
         (held : Held rows first old new ending) → ending ≡ NoMemory → one_lacked_memory (deeds_of held) ≡ true }
 {}
 
-/// The dialer counted each destination that a session dialed or reached in vain, up to its last count.
+/// The dialer counted each destination that a session dialed or reached in vain, and each door and data link that it refused,
+/// up to its last count.
 pub fn the_refusals_are_counted<Origin, P>()
     ensures { (rows : PlaceTable (acts Origin) P) (first : Row (acts Origin) P) (old new : World Origin) (ending : Ending)
         (held : Held rows first old new ending) → CountsRefusals (gives refused (deeds_of held)) old new }
+{}
+
+/// The dialer counted each copy between data links that failed or was idle, as a fault or as idleness of a data link, unless
+/// one of these counts stands at its last value.
+pub fn the_broken_copies_are_counted<Origin, P>()
+    ensures { (rows : PlaceTable (acts Origin) P) (first : Row (acts Origin) P) (old new : World Origin) (ending : Ending)
+        (held : Held rows first old new ending) → CountsBroken (gives broken_off (deeds_of held)) old new }
 {}
 
 /// A session with a relay at the end of its dialogue: either the dialogue stopped, and there was no relay; or it came to its
@@ -245,7 +257,7 @@ pub fn a_relay_carries<Origin, P>()
         CarriesAll through.flow old new }
     ensures given { (rows : PlaceTable (acts Origin) P) (first : Row (acts Origin) P) (old new : World Origin) (ending : Ending)
         (held : Held (relayed rows) (then_relay first) old new ending) (last : RelaysLast rows first held) (flow : Flow) →
-        old.server.link ≡ None → flow_of last.outcome ≡ Some flow → GivesLast (deeds_ran last.talk) flow.up old new }
+        IsUnlinked old.server → flow_of last.outcome ≡ Some flow → GivesLast (deeds_ran last.talk) flow.up old new }
 {}
 
 /// What reached each side of a session with a relay whose rows take nothing of a server and give it nothing, where no link was
@@ -261,7 +273,7 @@ pub fn a_relay_carries<Origin, P>()
 pub fn fronts_are_relayed<Origin, P>()
     ensures held { (rows : PlaceTable (acts Origin) P) (first : Row (acts Origin) P) (old new : World Origin)
         (ending : Ending) (held : Held (relayed rows) (then_relay first) old new ending) → KeepsQuiet rows first →
-        old.server.link ≡ None → old.client.reader.pending ≡ [] →
+        IsUnlinked old.server → old.client.reader.pending ≡ [] →
         RelaysFronts (deeds_of held) (devices_of old) (devices_of new) ending }
     ensures session { (rows : PlaceTable (acts Origin) P) (first : Row (acts Origin) P) (old new : Devices Origin)
         (ending : Ending) (session : RelaySession (relayed rows) (then_relay first) old new ending) →

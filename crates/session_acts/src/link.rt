@@ -1,9 +1,9 @@
 //! The link to a server, while it is up.
 ghost use Rattle.std.specs.Prelude.{◌≡◌};
-ghost use Rattle.fw_outside.specs.DialerView.{DialerView};
 ghost use Rattle.fw_outside.specs.SinkView.{SinkView};
 ghost use Rattle.session_acts.specs.Link.{IsPutUp, PassesSo, link_view, outcome_of};
 ghost use Rattle.session_acts.specs.Met.{Hears, Takes};
+ghost use Rattle.session_acts.specs.World.{Server};
 ghost use Rattle.session_acts.specs.declared.form.Form.TheVariants.{Lines, Telnet};
 
 use crate::{Form, Silence};
@@ -96,9 +96,9 @@ pub(crate) fn put_up<I: Source, O: Sink>(
 
 // The next line of the server, one that is too long, or the end, which it is too where no link is up.
 pub(crate) fn take_line<I: Source, O: Sink>(link: &mut Option<Link<I, O>>) -> Result<Heard, Silence>
-    ensures { (dialer : DialerView) → Takes result (link_view I.source_view O.sink_view link.old)
-        (record { dialer = dialer; link = link_view I.source_view O.sink_view link.old })
-        (record { dialer = dialer; link = link_view I.source_view O.sink_view link.new }) }
+    ensures { (server : Server) → Takes result (link_view I.source_view O.sink_view link.old)
+        (record server { link = link_view I.source_view O.sink_view link.old })
+        (record server { link = link_view I.source_view O.sink_view link.new }) }
 {
     let Some(mut up) = link.take() else {
         return Ok(Heard::Stopped(Stop::End));

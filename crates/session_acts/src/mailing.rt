@@ -73,6 +73,8 @@ where
         (M.store_view store.new)) }
 {
     let mut link = None;
+    let mut pair = None;
+    let mut door = None;
     let mut desk = Desk {
         port,
         from,
@@ -80,6 +82,8 @@ where
         logs,
         dialer,
         link: &mut link,
+        pair: &mut pair,
+        door: &mut door,
         clock,
         dice,
         store,

@@ -17,10 +17,10 @@ use spool_rack::MailStore;
 use std::thread::Threads;
 
 // The session over these devices, before anything was heard, with no session open and no link up.
-fn relayed_at<'p, 's, 'k, 'g, 'd, 'l, 'c, 'r, 'm, H, P, S, K, G, D, C, R, M, T>(
+fn relayed_at<'p, 's, 'k, 'g, 'd, 'l, 'a, 'o, 'c, 'r, 'm, H, P, S, K, G, D, C, R, M, T>(
     rt: &H,
     script: &T,
-    desk: &mut Desk<'p, 's, 'k, 'g, 'd, 'l, 'c, 'r, 'm, P, S, K, G, D, C, R, M>,
+    desk: &mut Desk<'p, 's, 'k, 'g, 'd, 'l, 'a, 'o, 'c, 'r, 'm, P, S, K, G, D, C, R, M>,
 ) -> Ending
 where
     H: Threads + Sync,
@@ -37,6 +37,8 @@ where
     requires opened { desk.old.opened ≡ None }
     requires lent { desk.old.relays ≡ true }
     requires link { desk.old.link.now ≡ None }
+    requires pair { desk.old.pair.now ≡ None }
+    requires door { desk.old.door.now ≡ None }
     ensures session { RelaySession (relayed (T.rows script.now P.Origin)) (then_relay (T.first script.now P.Origin))
         (mail_devices_with (P.port desk.old.port.now) (S.source_view desk.old.from.now) (K.sink_view desk.old.to.now)
         (G.sink_view desk.old.logs.now) (D.dialer_view desk.old.dialer.now) (C.clock_view desk.old.clock.now)
@@ -51,6 +53,8 @@ where
     ensures same_logs { desk.new.logs.ghost_name ≡ desk.old.logs.ghost_name }
     ensures same_dialer { desk.new.dialer.ghost_name ≡ desk.old.dialer.ghost_name }
     ensures same_link { desk.new.link.ghost_name ≡ desk.old.link.ghost_name }
+    ensures same_pair { desk.new.pair.ghost_name ≡ desk.old.pair.ghost_name }
+    ensures same_door { desk.new.door.ghost_name ≡ desk.old.door.ghost_name }
     ensures same_clock { desk.new.clock.ghost_name ≡ desk.old.clock.ghost_name }
     ensures same_dice { desk.new.dice.ghost_name ≡ desk.old.dice.ghost_name }
     ensures same_store { desk.new.store.ghost_name ≡ desk.old.store.ghost_name }
@@ -94,6 +98,8 @@ where
         result }
 {
     let mut link = None;
+    let mut pair = None;
+    let mut door = None;
     let mut desk = Desk {
         port,
         from,
@@ -101,6 +107,8 @@ where
         logs,
         dialer,
         link: &mut link,
+        pair: &mut pair,
+        door: &mut door,
         clock,
         dice,
         store,

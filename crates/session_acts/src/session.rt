@@ -109,9 +109,9 @@ fn held<T: Script, D: Stage>(script: &T, stage: &mut D) -> Ending
 }
 
 // The session over these devices, before anything was heard, with no session open and no link up.
-pub(crate) fn session_at<'p, 's, 'k, 'g, 'd, 'l, 'c, 'r, 'm, P, S, K, G, D, C, R, M, T>(
+pub(crate) fn session_at<'p, 's, 'k, 'g, 'd, 'l, 'a, 'o, 'c, 'r, 'm, P, S, K, G, D, C, R, M, T>(
     script: &T,
-    desk: &mut Desk<'p, 's, 'k, 'g, 'd, 'l, 'c, 'r, 'm, P, S, K, G, D, C, R, M>,
+    desk: &mut Desk<'p, 's, 'k, 'g, 'd, 'l, 'a, 'o, 'c, 'r, 'm, P, S, K, G, D, C, R, M>,
 ) -> Ending
 where
     P: AuthPort,
@@ -127,6 +127,8 @@ where
     requires opened { desk.old.opened ≡ None }
     requires alone { desk.old.relays ≡ false }
     requires link { desk.old.link.now ≡ None }
+    requires pair { desk.old.pair.now ≡ None }
+    requires door { desk.old.door.now ≡ None }
     ensures session { Session (T.rows script.now P.Origin) (T.first script.now P.Origin)
         (mail_devices_with (P.port desk.old.port.now) (S.source_view desk.old.from.now) (K.sink_view desk.old.to.now)
         (G.sink_view desk.old.logs.now) (D.dialer_view desk.old.dialer.now) (C.clock_view desk.old.clock.now)
@@ -141,6 +143,8 @@ where
     ensures same_logs { desk.new.logs.ghost_name ≡ desk.old.logs.ghost_name }
     ensures same_dialer { desk.new.dialer.ghost_name ≡ desk.old.dialer.ghost_name }
     ensures same_link { desk.new.link.ghost_name ≡ desk.old.link.ghost_name }
+    ensures same_pair { desk.new.pair.ghost_name ≡ desk.old.pair.ghost_name }
+    ensures same_door { desk.new.door.ghost_name ≡ desk.old.door.ghost_name }
     ensures same_clock { desk.new.clock.ghost_name ≡ desk.old.clock.ghost_name }
     ensures same_dice { desk.new.dice.ghost_name ≡ desk.old.dice.ghost_name }
     ensures same_store { desk.new.store.ghost_name ≡ desk.old.store.ghost_name }

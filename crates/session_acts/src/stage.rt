@@ -1,13 +1,14 @@
 ghost use Rattle.std.specs.Prelude.{◌≡◌, ◌≤◌, false, is_err, is_some, Ok};
-ghost use Rattle.session_acts.specs.Acts.Act.{Allot, Ask, Dial, HangUp, Hear, Log, Pass, Reach, Renew, Say, Take};
-ghost use Rattle.session_acts.specs.Met.{Acted, Deposits, Jotted, Met, Tried, is_password};
+ghost use Rattle.session_acts.specs.Acts.Act.{Allot, Ask, Dial, HangUp, Hear, Join, Log, OpenDoor, Part, Pass, Reach, Renew, Say, Take};
+ghost use Rattle.session_acts.specs.Met.{Acted, CopyDone, Deposits, Jotted, Met, Replies, Tried, is_password};
 ghost use Rattle.session_acts.specs.World.{World};
 ghost use Rattle.slot_bytes.specs.Layout.{IsEnvelope};
 
-use crate::{Cause, Deposited, Form};
+use crate::{Cause, Deposited, Form, Joined, Replied, ReplyUse, Target, Toward};
 use auth_events::{Reply, Request};
 use fw_outside::Heard;
 use fw_types::{Dest, Name, OctetsList};
+use relay_ways::WayEnd;
 use std::alloc::Global;
 
 /// Where a session takes place: its acts, one by one.
@@ -58,11 +59,11 @@ pub trait Stage {
     fn renew(&mut self, name: Name, hash: [u8; 16]) -> Result<([u8; 8], Reply), Cause>
         ensures { Acted (Renew name hash) result (world self.old) (world self.new) };
 
-    /// Hangs up a link that is up and asks for a link to the destination; whether it came up.
+    /// Hangs up a link that is up, as `hang_up`, and asks for a link to the destination; whether it came up.
     fn dial(&mut self, dest: &Dest) -> bool
         ensures { Met (Dial dest.now) (Ok result) (world self.old) (world self.new) };
 
-    /// Hangs up a link that is up and asks for a link to the destination, which has to come up.
+    /// Hangs up a link that is up, as `hang_up`, and asks for a link to the destination, which has to come up.
     fn reach(&mut self, dest: &Dest) -> Result<(), Cause>
         ensures { Acted (Reach dest.now) result (world self.old) (world self.new) };
 
@@ -74,7 +75,7 @@ pub trait Stage {
     fn pass(&mut self, text: &[u8]) -> Result<(), Cause>
         ensures { Acted (Pass text.now) result (world self.old) (world self.new) };
 
-    /// Hangs up a link that is up.
+    /// Lets go the data links that are up and closes a door that stands, and hangs up a link that is up.
     fn hang_up(&mut self)
         ensures { Met HangUp (Ok tt) (world self.old) (world self.new) };
 
@@ -93,6 +94,29 @@ pub trait Stage {
         requires envelope { IsEnvelope sender.now rcpts.now }
         requires small { most ≤ 67108864 }
         ensures { Deposits sender.now rcpts.now words.now most result (world self.old) (world self.new) };
+
+    /// Takes the server's next reply (RFC 959, 4.2) and gives the client what is to be said of it, as it comes. The server's
+    /// end comes first where no link is up. The bytes behind the reply stay.
+    fn take_reply(&mut self, how: ReplyUse) -> Result<Replied, Cause>
+        ensures { Replies how result (world self.old) (world self.new) };
+
+    /// Asks for a door for the client's data link, which replaces one that stands if it opens; its IPv4 address and port.
+    fn open_door(&mut self) -> Option<([u8; 4], u16)>
+        ensures { Met OpenDoor (Ok result) (world self.old) (world self.new) };
+
+    /// Lets go the data links that are up, and asks for two beside the main link: one to the destination, and then the
+    /// client's. Where that is refused the first is let go. A door at which the client's is wanted is closed then.
+    fn join(&mut self, dest: &Dest, target: Target) -> Joined
+        ensures { Met (Join dest.now target) (Ok result) (world self.old) (world self.new) };
+
+    /// Copies all that comes over one data link to the other, at most 2^40 bytes, and lets both go; how that ended. Nothing
+    /// where no data links are up.
+    fn copy(&mut self, toward: Toward) -> Option<WayEnd>
+        ensures { CopyDone toward result (world self.old) (world self.new) };
+
+    /// Lets go the data links that are up.
+    fn part(&mut self)
+        ensures { Met Part (Ok tt) (world self.old) (world self.new) };
 
     /// Stops the session where it lacks memory of its own.
     fn allot(&mut self, lacks: bool) -> Result<(), Cause>

@@ -1,7 +1,7 @@
 -- A message is taken in behind the line that asks for it, and behind each such line.
 use Rattle.std.proofs.Common.{◌≡◌, refl, sym, ap, subst, ◌∙◌, ℕ, List, [], ◌∷◌, ◌++◌, length, Ok, Err, append_assoc, append-nil}
 use Rattle.session_acts.specs.Acts.{Act, Answer, Outcome}
-use Rattle.session_acts.specs.Acts.Act.{Hear, Say, Try, Log, Note, Ask, Renew, Dial, Reach, Take, Pass, HangUp, Relay, Deposit, Allot}
+use Rattle.session_acts.specs.Acts.Act.{Hear, Say, Try, Log, Note, Ask, Renew, Dial, Reach, Take, Pass, HangUp, Relay, Deposit, Allot, TakeReply, OpenDoor, Join, Copy, Part}
 use Rattle.session_acts.specs.Deeds.{Deed}
 use Rattle.session_acts.specs.declared.form.Form.TheVariants.{Lines, Telnet}
 use Rattle.smap_gate.specs.Gate.{Gate}
@@ -41,6 +41,11 @@ step_asked gate past owing (Hear Telnet) answer traces may sender rcpts is = abs
 step_asked gate past owing (Say text) answer traces may sender rcpts is = absurd (no_message sender rcpts is)
 step_asked gate past owing (Log text) answer traces may sender rcpts is = absurd (no_message sender rcpts is)
 step_asked gate past owing Allot answer traces may sender rcpts is = absurd (no_message sender rcpts is)
+step_asked gate past owing (TakeReply how) answer traces may sender rcpts is = absurd may
+step_asked gate past owing OpenDoor answer traces may sender rcpts is = absurd may
+step_asked gate past owing (Join dest target) answer traces may sender rcpts is = absurd may
+step_asked gate past owing (Copy toward) answer traces may sender rcpts is = absurd may
+step_asked gate past owing Part answer traces may sender rcpts is = absurd may
 step_asked gate past owing (Deposit from to words most) answer traces may sender rcpts is = absurd (no_more gate (length to) answer.0 sender rcpts is)
 step_asked gate past owing (Try text) answer traces may sender rcpts is = absurd may
 step_asked gate past owing (Note text) answer traces may sender rcpts is = absurd may
@@ -122,6 +127,11 @@ taken_by gate owing sender rcpts is (Hear form) may = absurd (no_message sender 
 taken_by gate owing sender rcpts is (Say text) may = absurd (no_message sender rcpts (sym may.0 ∙ is))
 taken_by gate owing sender rcpts is (Log text) may = absurd (not_line text sender rcpts (sym may ∙ is))
 taken_by gate owing sender rcpts is Allot may = absurd (not_memory sender rcpts (sym may ∙ is))
+taken_by gate owing sender rcpts is (TakeReply how) may = absurd may
+taken_by gate owing sender rcpts is OpenDoor may = absurd may
+taken_by gate owing sender rcpts is (Join dest target) may = absurd may
+taken_by gate owing sender rcpts is (Copy toward) may = absurd may
+taken_by gate owing sender rcpts is Part may = absurd may
 taken_by gate owing sender rcpts is (Try text) may = absurd may
 taken_by gate owing sender rcpts is (Note text) may = absurd may
 taken_by gate owing sender rcpts is (Ask request) may = absurd may

@@ -11,7 +11,7 @@ use Rattle.fw_outside.specs.declared.heard.Heard.{Heard}
 use Rattle.fw_outside.specs.declared.heard.Heard.TheVariants.{Line, TooLong, Stopped}
 use Rattle.fw_types.specs.declared.ending.Ending.{Ending}
 use Rattle.session_acts.specs.Acts.{Act, Outcome}
-use Rattle.session_acts.specs.Acts.Act.{Hear, Say, Try, Log, Note, Ask, Renew, Dial, Reach, Take, Pass, HangUp, Relay, Deposit, Allot}
+use Rattle.session_acts.specs.Acts.Act.{Hear, Say, Try, Log, Note, Ask, Renew, Dial, Reach, Take, Pass, HangUp, Relay, Deposit, Allot, TakeReply, OpenDoor, Join, Copy, Part}
 use Rattle.session_acts.specs.Deeds.{Deed, deed_last, deeds_ran, done, gives}
 use Rattle.session_acts.specs.Hearing.{Fate, heard_in}
 use Rattle.session_acts.specs.Met.{acts}
@@ -152,6 +152,11 @@ act_silent Relay outcome may = absurd may
 act_silent (Say text) outcome may = refl
 act_silent (Log text) outcome may = refl
 act_silent Allot outcome may = refl
+act_silent (TakeReply how) outcome may = refl
+act_silent OpenDoor outcome may = refl
+act_silent (Join dest target) outcome may = refl
+act_silent (Copy toward) outcome may = refl
+act_silent Part outcome may = refl
 act_silent (Try text) outcome may = refl
 act_silent (Note text) outcome may = refl
 act_silent (Ask request) outcome may = refl

@@ -9,7 +9,7 @@ use Rattle.fw_outside.specs.declared.heard.Heard.{Heard}
 use Rattle.fw_outside.specs.declared.heard.Heard.TheVariants.{Line, TooLong, Stopped}
 use Rattle.fw_types.specs.declared.ending.Ending.{Ending}
 use Rattle.session_acts.specs.Acts.{Act, Answer, Halt}
-use Rattle.session_acts.specs.Acts.Act.{Hear, Say, Try, Log, Note, Ask, Renew, Dial, Reach, Take, Pass, HangUp, Relay, Deposit, Allot}
+use Rattle.session_acts.specs.Acts.Act.{Hear, Say, Try, Log, Note, Ask, Renew, Dial, Reach, Take, Pass, HangUp, Relay, Deposit, Allot, TakeReply, OpenDoor, Join, Copy, Part}
 use Rattle.session_acts.specs.Deeds.{Deed, deed_last, deeds_ran, done}
 use Rattle.session_acts.specs.Met.{acts}
 use Rattle.session_acts.specs.Session.{Held}
@@ -117,6 +117,11 @@ act_due gate owing (Say text) may = ap line_wanted may.0
 act_due gate owing (Hear form) may = ap line_wanted may.0
 act_due gate owing (Log text) may = ap line_wanted may
 act_due gate owing Allot may = ap line_wanted may
+act_due gate owing (TakeReply how) may = absurd may
+act_due gate owing OpenDoor may = absurd may
+act_due gate owing (Join dest target) may = absurd may
+act_due gate owing (Copy toward) may = absurd may
+act_due gate owing Part may = absurd may
 act_due gate owing (Deposit sender rcpts words most) may = ap line_wanted may.0
 act_due gate owing (Try text) may = absurd may
 act_due gate owing (Note text) may = absurd may
@@ -135,6 +140,11 @@ act_wants gate owing (Say text) answer may = refl
 act_wants gate owing (Hear form) answer may = heard_quiet gate owing.place answer
 act_wants gate owing (Log text) answer may = refl
 act_wants gate owing Allot answer may = refl
+act_wants gate owing (TakeReply how) answer may = absurd may
+act_wants gate owing OpenDoor answer may = absurd may
+act_wants gate owing (Join dest target) answer may = absurd may
+act_wants gate owing (Copy toward) answer may = absurd may
+act_wants gate owing Part answer may = absurd may
 act_wants gate owing (Deposit sender rcpts words most) answer may = behind_wants gate (length rcpts) answer.0
 act_wants gate owing (Try text) answer may = absurd may
 act_wants gate owing (Note text) answer may = absurd may
@@ -154,6 +164,11 @@ stop_wants gate (Say text) halt = refl
 stop_wants gate (Hear form) halt = refl
 stop_wants gate (Log text) halt = refl
 stop_wants gate Allot halt = refl
+stop_wants gate (TakeReply how) halt = refl
+stop_wants gate OpenDoor halt = absurd halt
+stop_wants gate (Join dest target) halt = absurd halt
+stop_wants gate (Copy toward) halt = absurd halt
+stop_wants gate Part halt = absurd halt
 stop_wants gate (Try text) halt = refl
 stop_wants gate (Note text) halt = refl
 stop_wants gate (Ask request) halt = refl

@@ -10,7 +10,7 @@ use Rattle.fw_acts.specs.Ran.{Comes}
 use Rattle.fw_acts.proofs.HistoryLemmas.{run_may}
 use Rattle.fw_types.specs.declared.ending.Ending.{Ending}
 use Rattle.session_acts.specs.Acts.{Act, Answer, Halt}
-use Rattle.session_acts.specs.Acts.Act.{Hear, Say, Try, Log, Note, Ask, Renew, Dial, Reach, Take, Pass, HangUp, Relay, Deposit, Allot}
+use Rattle.session_acts.specs.Acts.Act.{Hear, Say, Try, Log, Note, Ask, Renew, Dial, Reach, Take, Pass, HangUp, Relay, Deposit, Allot, TakeReply, OpenDoor, Join, Copy, Part}
 use Rattle.session_acts.specs.Deeds.{Deed, deed_last, done, gives}
 use Rattle.session_acts.specs.Met.{acts}
 use Rattle.session_acts.specs.Session.{Held, closing, deeds_of, freeing, owed}
@@ -56,6 +56,11 @@ step_fits gate owing standing (Hear form) answer may fits = record {
 }
 step_fits gate owing standing (Log text) answer may fits = record { place = fits.place; asks = λ sender rcpts is. absurd (no_message sender rcpts is) }
 step_fits gate owing standing Allot answer may fits = record { place = fits.place; asks = λ sender rcpts is. absurd (no_message sender rcpts is) }
+step_fits gate owing standing (TakeReply how) answer may fits = absurd may
+step_fits gate owing standing OpenDoor answer may fits = absurd may
+step_fits gate owing standing (Join dest target) answer may fits = absurd may
+step_fits gate owing standing (Copy toward) answer may fits = absurd may
+step_fits gate owing standing Part answer may fits = absurd may
 step_fits gate owing standing (Deposit from to words most) answer may fits = record { place = fits.place; asks = λ sender rcpts is. absurd (no_more gate (length to) answer.0 sender rcpts is) }
 step_fits gate owing standing (Try text) answer may fits = absurd may
 step_fits gate owing standing (Note text) answer may fits = absurd may
@@ -75,6 +80,11 @@ step_keeps gate owing standing (Say text) answer may fits = refl
 step_keeps gate owing standing (Hear form) answer may fits = refl
 step_keeps gate owing standing (Log text) answer may fits = refl
 step_keeps gate owing standing Allot answer may fits = refl
+step_keeps gate owing standing (TakeReply how) answer may fits = absurd may
+step_keeps gate owing standing OpenDoor answer may fits = absurd may
+step_keeps gate owing standing (Join dest target) answer may fits = absurd may
+step_keeps gate owing standing (Copy toward) answer may fits = absurd may
+step_keeps gate owing standing Part answer may fits = absurd may
 step_keeps gate owing standing (Try text) answer may fits = absurd may
 step_keeps gate owing standing (Note text) answer may fits = absurd may
 step_keeps gate owing standing (Ask request) answer may fits = absurd may
@@ -93,6 +103,11 @@ stop_keeps (Say text) halt standing = refl
 stop_keeps (Hear form) halt standing = refl
 stop_keeps (Log text) halt standing = refl
 stop_keeps Allot halt standing = refl
+stop_keeps (TakeReply how) halt standing = refl
+stop_keeps OpenDoor halt standing = absurd halt
+stop_keeps (Join dest target) halt standing = absurd halt
+stop_keeps (Copy toward) halt standing = absurd halt
+stop_keeps Part halt standing = absurd halt
 stop_keeps (Try text) halt standing = refl
 stop_keeps (Note text) halt standing = refl
 stop_keeps (Ask request) halt standing = refl

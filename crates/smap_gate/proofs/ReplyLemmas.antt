@@ -12,7 +12,7 @@ use Rattle.fw_outside.specs.declared.heard.Heard.{Heard}
 use Rattle.fw_outside.specs.declared.heard.Heard.TheVariants.{Line, TooLong, Stopped}
 use Rattle.fw_types.specs.declared.ending.Ending.{Ending}
 use Rattle.session_acts.specs.Acts.{Act, Answer, Halt, Undeposited}
-use Rattle.session_acts.specs.Acts.Act.{Hear, Say, Try, Log, Note, Ask, Renew, Dial, Reach, Take, Pass, HangUp, Relay, Deposit, Allot}
+use Rattle.session_acts.specs.Acts.Act.{Hear, Say, Try, Log, Note, Ask, Renew, Dial, Reach, Take, Pass, HangUp, Relay, Deposit, Allot, TakeReply, OpenDoor, Join, Copy, Part}
 use Rattle.session_acts.specs.Acts.Undeposited.{Lacks, Unsaid, Unheard}
 use Rattle.session_acts.specs.Deeds.{Deed, deed_last, done, gives}
 use Rattle.session_acts.specs.Laws.{told, words_if, words_told}
@@ -146,6 +146,11 @@ step_tells gate owing (Say text) answer words_left told_left end may later = sai
 step_tells gate owing (Hear form) answer words_left told_left end may later = quiet_then owing.text ((to_heard gate owing.place answer).text ++ words_left) told_left end may.1 later
 step_tells gate owing (Log text) answer words_left told_left end may later = later
 step_tells gate owing Allot answer words_left told_left end may later = later
+step_tells gate owing (TakeReply how) answer words_left told_left end may later = absurd may
+step_tells gate owing OpenDoor answer words_left told_left end may later = absurd may
+step_tells gate owing (Join dest target) answer words_left told_left end may later = absurd may
+step_tells gate owing (Copy toward) answer words_left told_left end may later = absurd may
+step_tells gate owing Part answer words_left told_left end may later = absurd may
 step_tells gate owing (Deposit sender rcpts words most) answer words_left told_left end may later =
     sent_then owing.text (words_if answer.0 texts.go_ahead) (words_if answer.0 words) (end_text answer.0) words_left told_left end may.1 (ap (λ (w : List ℕ). words_if answer.0 w) (sym may.2)) later
 step_tells gate owing (Try text) answer words_left told_left end may later = absurd may
@@ -165,6 +170,11 @@ step_place gate owing (Say text) answer = refl
 step_place gate owing (Hear form) answer = refl
 step_place gate owing (Log text) answer = refl
 step_place gate owing Allot answer = refl
+step_place gate owing (TakeReply how) answer = refl
+step_place gate owing OpenDoor answer = refl
+step_place gate owing (Join dest target) answer = refl
+step_place gate owing (Copy toward) answer = refl
+step_place gate owing Part answer = refl
 step_place gate owing (Deposit sender rcpts words most) answer = refl
 step_place gate owing (Try text) answer = refl
 step_place gate owing (Note text) answer = refl
@@ -236,6 +246,11 @@ stop_breaks gate owing (Say text) halt may = record {
 stop_breaks gate owing (Hear form) halt may = all_left owing.text []
 stop_breaks gate owing (Log text) halt may = all_left owing.text []
 stop_breaks gate owing Allot halt may = all_left owing.text []
+stop_breaks gate owing (TakeReply how) halt may = absurd may
+stop_breaks gate owing OpenDoor halt may = absurd may
+stop_breaks gate owing (Join dest target) halt may = absurd may
+stop_breaks gate owing (Copy toward) halt may = absurd may
+stop_breaks gate owing Part halt may = absurd may
 stop_breaks gate owing (Deposit sender rcpts words most) halt may =
     subst (λ (z : List ℕ). Breaks z texts.go_ahead (words_told {words = words} (Err halt))) (sym may.1) (message_breaks {words = words} halt may.2)
 stop_breaks gate owing (Try text) halt may = absurd may

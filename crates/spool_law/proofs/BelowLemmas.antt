@@ -1,7 +1,7 @@
 -- The numbers of the messages that were answered for.
 use Rattle.std.proofs.Common.{◌≡◌, ◌<◌, ◌⊎◌, inl, inr, List, sym, refl, subst}
 use Rattle.std.specs.List.{Contains}
-use Rattle.spool_law.specs.World.{Letter, OfLetter, World, formatted}
+use Rattle.spool_law.specs.World.{Letter, OfLetter, Use, World, formatted}
 use Rattle.spool_law.specs.Events.{Event, ArePossible, after_all}
 use Rattle.spool_law.specs.Safe.{Stands}
 use Rattle.spool_law.proofs.WorldLemmas.{IsSound, sound_always}

@@ -8,7 +8,7 @@ use Rattle.fw_disk.specs.Moments.{Now}
 use Rattle.fw_types.specs.declared.ending.Ending.{Ending}
 use Rattle.fw_acts.specs.Acts.{PlaceTable, Row}
 use Rattle.session_acts.specs.Acts.{Act, Outcome, Undeposited}
-use Rattle.session_acts.specs.Acts.Act.{Hear, Say, Try, Log, Note, Ask, Renew, Dial, Reach, Take, Pass, HangUp, Relay, Deposit, Allot}
+use Rattle.session_acts.specs.Acts.Act.{Hear, Say, Try, Log, Note, Ask, Renew, Dial, Reach, Take, Pass, HangUp, Relay, Deposit, Allot, TakeReply, OpenDoor, Join, Copy, Part}
 use Rattle.session_acts.specs.Acts.Undeposited.{Lacks, Unsaid, Unheard}
 use Rattle.session_acts.specs.Deeds.{Gains, gives}
 use Rattle.session_acts.specs.Depositing.{AtStoreDeposit, IsKept, Lends, PutsBrokenAt, PutsBrokenLast, PutsFree, PutsFull, StoreDeposits, filled_in, letter_of, mail_of, opened_in, AreOfBody}
@@ -156,6 +156,11 @@ act_grows count HangUp outcome old new h = same_grows count old new h
 act_grows count Relay outcome old new h = same_grows count old new h
 act_grows count (Deposit sender rcpts words most) outcome old new h = deposit_grows count sender rcpts words most outcome old new h
 act_grows count Allot outcome old new h = same_grows count old new h
+act_grows count (TakeReply how) outcome old new h = same_grows count old new h
+act_grows count OpenDoor outcome old new h = same_grows count old new h
+act_grows count (Join dest target) outcome old new h = same_grows count old new h
+act_grows count (Copy toward) outcome old new h = same_grows count old new h
+act_grows count Part outcome old new h = same_grows count old new h
 
 -- ---- a session
 

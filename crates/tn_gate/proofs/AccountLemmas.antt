@@ -1,5 +1,6 @@
 -- What is noted of deeds, one after another, and that it comes to what the definitions say of the whole list.
 use Rattle.std.proofs.Common.{◌≡◌, refl, sym, ap, subst, ◌∙◌, ℕ, Bool, true, false, List, [], ◌∷◌, ◌++◌, map, Option, Some, None, Result, Ok, Err, append_assoc, append-nil}
+use Rattle.std.specs.List.{AllByRecursion}
 use Rattle.std.proofs.lemmas.List.{map-append}
 use Rattle.std.proofs.lemmas.List.Elements.{filter_map-append}
 use Rattle.auth_events.specs.declared.reply.Reply.{Reply}
@@ -9,7 +10,7 @@ use Rattle.fw_outside.specs.declared.ask.Ask.TheVariants.{Main}
 use Rattle.fw_outside.specs.declared.heard.Heard.{Heard}
 use Rattle.fw_types.specs.declared.dest.Dest.{Dest}
 use Rattle.session_acts.specs.Acts.{Act, Outcome}
-use Rattle.session_acts.specs.Acts.Act.{Hear, Say, Try, Log, Note, Ask, Renew, Dial, Reach, Take, Pass, HangUp, Relay, Deposit, Allot}
+use Rattle.session_acts.specs.Acts.Act.{Hear, Say, Try, Log, Note, Ask, Renew, Dial, Reach, Take, Pass, HangUp, Relay, Deposit, Allot, TakeReply, OpenDoor, Join, Copy, Part}
 use Rattle.session_acts.specs.Deeds.{Deed, gives}
 use Rattle.session_acts.specs.Hearing.{heard_by}
 use Rattle.session_acts.specs.Laws.{called}
@@ -125,6 +126,11 @@ total_by gate deeds later n HangUp outcome = later (note gate n HangUp outcome)
 total_by gate deeds later n Relay outcome = later (note gate n Relay outcome)
 total_by gate deeds later n (Deposit sender rcpts words most) outcome = later (note gate n (Deposit sender rcpts words most) outcome)
 total_by gate deeds later n Allot outcome = later (note gate n Allot outcome)
+total_by gate deeds later n (TakeReply how) outcome = later (note gate n (TakeReply how) outcome)
+total_by gate deeds later n OpenDoor outcome = later (note gate n OpenDoor outcome)
+total_by gate deeds later n (Join dest target) outcome = later (note gate n (Join dest target) outcome)
+total_by gate deeds later n (Copy toward) outcome = later (note gate n (Copy toward) outcome)
+total_by gate deeds later n Part outcome = later (note gate n Part outcome)
 
 total_from : (gate : Gate) (deeds : List Deed) → AllFrom gate deeds
 total_from gate [] n = nothing_more gate n
@@ -142,30 +148,44 @@ CallsFrom gate deeds = (n : Noted) → map Main (noted_after gate n deeds).calls
 dialed_more : (calls : List Dest) (dest : Dest) (more : List outside.Ask) → map Main (calls ++ dest ∷ []) ++ more ≡ map Main calls ++ (Main dest ∷ more)
 dialed_more calls dest more = ap (λ (z : List outside.Ask). z ++ more) (map-append Main calls (dest ∷ [])) ∙ append_assoc (map Main calls) (Main dest ∷ []) more
 
-calls_by : (gate : Gate) (deeds : List Deed) → CallsFrom gate deeds → (n : Noted) (act : Act) (outcome : Outcome act)
+-- an act that asks the dialer for more than a main link
+abbrev pub asks_beside : Act → Bool
+asks_beside OpenDoor = true
+asks_beside (Join dest target) = true
+asks_beside act = false
+
+abbrev pub AllMain : List Deed → Type 0
+AllMain deeds = AllByRecursion (λ (deed : Deed). asks_beside deed.act ≡ false) deeds
+
+calls_by : (gate : Gate) (deeds : List Deed) → CallsFrom gate deeds → (n : Noted) (act : Act) (outcome : Outcome act) → asks_beside act ≡ false
     → map Main (noted_after gate (note gate n act outcome) deeds).calls ≡ map Main n.calls ++ gives called (deed_of act outcome ∷ deeds)
-calls_by gate deeds later n (Hear form) outcome = later (note gate n (Hear form) outcome)
-calls_by gate deeds later n (Ask request) outcome = later (note gate n (Ask request) outcome)
-calls_by gate deeds later n (Renew name hash) outcome = later (note gate n (Renew name hash) outcome)
-calls_by gate deeds later n (Say text) outcome = later (note gate n (Say text) outcome)
-calls_by gate deeds later n (Try text) outcome = later (note gate n (Try text) outcome)
-calls_by gate deeds later n (Log text) outcome = later (note gate n (Log text) outcome)
-calls_by gate deeds later n (Note text) outcome = later (note gate n (Note text) outcome)
-calls_by gate deeds later n (Dial dest) outcome = later (note gate n (Dial dest) outcome) ∙ dialed_more n.calls dest (gives called deeds)
-calls_by gate deeds later n (Reach dest) outcome = later (note gate n (Reach dest) outcome) ∙ dialed_more n.calls dest (gives called deeds)
-calls_by gate deeds later n Take outcome = later (note gate n Take outcome)
-calls_by gate deeds later n (Pass text) outcome = later (note gate n (Pass text) outcome)
-calls_by gate deeds later n HangUp outcome = later (note gate n HangUp outcome)
-calls_by gate deeds later n Relay outcome = later (note gate n Relay outcome)
-calls_by gate deeds later n (Deposit sender rcpts words most) outcome = later (note gate n (Deposit sender rcpts words most) outcome)
-calls_by gate deeds later n Allot outcome = later (note gate n Allot outcome)
+calls_by gate deeds later n (Hear form) outcome main = later (note gate n (Hear form) outcome)
+calls_by gate deeds later n (Ask request) outcome main = later (note gate n (Ask request) outcome)
+calls_by gate deeds later n (Renew name hash) outcome main = later (note gate n (Renew name hash) outcome)
+calls_by gate deeds later n (Say text) outcome main = later (note gate n (Say text) outcome)
+calls_by gate deeds later n (Try text) outcome main = later (note gate n (Try text) outcome)
+calls_by gate deeds later n (Log text) outcome main = later (note gate n (Log text) outcome)
+calls_by gate deeds later n (Note text) outcome main = later (note gate n (Note text) outcome)
+calls_by gate deeds later n (Dial dest) outcome main = later (note gate n (Dial dest) outcome) ∙ dialed_more n.calls dest (gives called deeds)
+calls_by gate deeds later n (Reach dest) outcome main = later (note gate n (Reach dest) outcome) ∙ dialed_more n.calls dest (gives called deeds)
+calls_by gate deeds later n Take outcome main = later (note gate n Take outcome)
+calls_by gate deeds later n (Pass text) outcome main = later (note gate n (Pass text) outcome)
+calls_by gate deeds later n HangUp outcome main = later (note gate n HangUp outcome)
+calls_by gate deeds later n Relay outcome main = later (note gate n Relay outcome)
+calls_by gate deeds later n (Deposit sender rcpts words most) outcome main = later (note gate n (Deposit sender rcpts words most) outcome)
+calls_by gate deeds later n Allot outcome main = later (note gate n Allot outcome)
+calls_by gate deeds later n (TakeReply how) outcome main = later (note gate n (TakeReply how) outcome)
+calls_by gate deeds later n OpenDoor outcome main = absurd (cc)
+calls_by gate deeds later n (Join dest target) outcome main = absurd (cc)
+calls_by gate deeds later n (Copy toward) outcome main = later (note gate n (Copy toward) outcome)
+calls_by gate deeds later n Part outcome main = later (note gate n Part outcome)
 
-calls_from : (gate : Gate) (deeds : List Deed) → CallsFrom gate deeds
-calls_from gate [] n = sym (append-nil (map Main n.calls))
-calls_from gate (deed ∷ deeds) n = calls_by gate deeds (calls_from gate deeds) n deed.act deed.outcome
+calls_from : (gate : Gate) (deeds : List Deed) → AllMain deeds → CallsFrom gate deeds
+calls_from gate [] main n = sym (append-nil (map Main n.calls))
+calls_from gate (deed ∷ deeds) main n = calls_by gate deeds (calls_from gate deeds main.1) n deed.act deed.outcome main.0
 
-pub all_calls : (gate : Gate) (deeds : List Deed) → map Main (noted_after gate (at_start gate) deeds).calls ≡ gives called deeds
-all_calls gate deeds = calls_from gate deeds (at_start gate)
+pub all_calls : (gate : Gate) (deeds : List Deed) → AllMain deeds → map Main (noted_after gate (at_start gate) deeds).calls ≡ gives called deeds
+all_calls gate deeds main = calls_from gate deeds main (at_start gate)
 
 -- ---- what was done
 
@@ -189,6 +209,11 @@ deeds_by gate deeds later n HangUp outcome = later (note gate n HangUp outcome) 
 deeds_by gate deeds later n Relay outcome = later (note gate n Relay outcome) ∙ append_assoc n.deeds (deed_of Relay outcome ∷ []) deeds
 deeds_by gate deeds later n (Deposit sender rcpts words most) outcome = later (note gate n (Deposit sender rcpts words most) outcome) ∙ append_assoc n.deeds (deed_of (Deposit sender rcpts words most) outcome ∷ []) deeds
 deeds_by gate deeds later n Allot outcome = later (note gate n Allot outcome) ∙ append_assoc n.deeds (deed_of Allot outcome ∷ []) deeds
+deeds_by gate deeds later n (TakeReply how) outcome = later (note gate n (TakeReply how) outcome) ∙ append_assoc n.deeds (deed_of (TakeReply how) outcome ∷ []) deeds
+deeds_by gate deeds later n OpenDoor outcome = later (note gate n OpenDoor outcome) ∙ append_assoc n.deeds (deed_of OpenDoor outcome ∷ []) deeds
+deeds_by gate deeds later n (Join dest target) outcome = later (note gate n (Join dest target) outcome) ∙ append_assoc n.deeds (deed_of (Join dest target) outcome ∷ []) deeds
+deeds_by gate deeds later n (Copy toward) outcome = later (note gate n (Copy toward) outcome) ∙ append_assoc n.deeds (deed_of (Copy toward) outcome ∷ []) deeds
+deeds_by gate deeds later n Part outcome = later (note gate n Part outcome) ∙ append_assoc n.deeds (deed_of Part outcome ∷ []) deeds
 
 deeds_from : (gate : Gate) (deeds : List Deed) → DeedsFrom gate deeds
 deeds_from gate [] n = sym (append-nil n.deeds)
@@ -227,6 +252,11 @@ talk_by gate deeds later n HangUp outcome = later (note gate n HangUp outcome)
 talk_by gate deeds later n Relay outcome = later (note gate n Relay outcome)
 talk_by gate deeds later n (Deposit sender rcpts words most) outcome = later (note gate n (Deposit sender rcpts words most) outcome)
 talk_by gate deeds later n Allot outcome = later (note gate n Allot outcome)
+talk_by gate deeds later n (TakeReply how) outcome = later (note gate n (TakeReply how) outcome)
+talk_by gate deeds later n OpenDoor outcome = later (note gate n OpenDoor outcome)
+talk_by gate deeds later n (Join dest target) outcome = later (note gate n (Join dest target) outcome)
+talk_by gate deeds later n (Copy toward) outcome = later (note gate n (Copy toward) outcome)
+talk_by gate deeds later n Part outcome = later (note gate n Part outcome)
 
 talk_from : (gate : Gate) (deeds : List Deed) → TalkFrom gate deeds
 talk_from gate [] n = sym (append-nil (n.talk ++ n.said))

@@ -20,7 +20,7 @@ use Rattle.fw_outside.specs.declared.heard.Heard.TheVariants.{Stopped}
 use Rattle.fw_outside.specs.declared.heard.Stop.{Stop}
 use Rattle.fw_types.specs.declared.ending.Ending.{Ending}
 use Rattle.session_acts.specs.Acts.{Act, Halt, Outcome}
-use Rattle.session_acts.specs.Acts.Act.{Hear, Say, Try, Log, Note, Ask, Renew, Dial, Reach, Take, Pass, HangUp, Relay, Deposit, Allot}
+use Rattle.session_acts.specs.Acts.Act.{Hear, Say, Try, Log, Note, Ask, Renew, Dial, Reach, Take, Pass, HangUp, Relay, Deposit, Allot, TakeReply, OpenDoor, Join, Copy, Part}
 use Rattle.session_acts.specs.Deeds.{Deed, deed_last, deeds_ran, done, gives}
 use Rattle.session_acts.specs.Hearing.{heard_by, heard_in}
 use Rattle.session_acts.specs.Laws.{called}
@@ -124,6 +124,11 @@ module _ (gate : Gate) (before : List Deed) where
   due_is Relay outcome is = clash is
   due_is (Deposit sender rcpts words most) outcome is = clash is
   due_is Allot outcome is = clash is
+  due_is (TakeReply how) outcome is = clash is
+  due_is OpenDoor outcome is = clash is
+  due_is (Join dest target) outcome is = clash is
+  due_is (Copy toward) outcome is = clash is
+  due_is Part outcome is = clash is
 
   ends_is : (act : Act) (outcome : Outcome act) → ends_at gate here act outcome ≡ ends_dialogue gate before act outcome
   ends_is (Hear form) outcome = ap (λ (b : Bool). is_last_heard b (heard_by outcome)) commands_is
@@ -141,6 +146,11 @@ module _ (gate : Gate) (before : List Deed) where
   ends_is Relay outcome = refl
   ends_is (Deposit sender rcpts words most) outcome = refl
   ends_is Allot outcome = refl
+  ends_is (TakeReply how) outcome = refl
+  ends_is OpenDoor outcome = refl
+  ends_is (Join dest target) outcome = refl
+  ends_is (Copy toward) outcome = refl
+  ends_is Part outcome = refl
 
 -- ---- a stop, and what is owed
 
@@ -165,6 +175,11 @@ stop_none gate p HangUp halt may = absurd halt
 stop_none gate p Relay halt may = may.asks
 stop_none gate p (Deposit sender rcpts words most) halt may = absurd may.asks
 stop_none gate p Allot halt may = absurd may.asks
+stop_none gate p (TakeReply how) halt may = absurd may.asks
+stop_none gate p OpenDoor halt may = absurd halt
+stop_none gate p (Join dest target) halt may = absurd halt
+stop_none gate p (Copy toward) halt may = absurd halt
+stop_none gate p Part halt may = absurd halt
 
 none_behind : (text : List ℕ) (answer : Result Reply PortFault) → behind_opening text (reply_of answer) requests.Close ≡ None
 none_behind text (Ok (replies.Opened sid)) = refl
@@ -242,6 +257,11 @@ asks_by p HangUp outcome gate deeds may later = later
 asks_by p Relay outcome gate deeds may later = later
 asks_by p (Deposit sender rcpts words most) outcome gate deeds may later = absurd may.asks
 asks_by p Allot outcome gate deeds may later = absurd may.asks
+asks_by p (TakeReply how) outcome gate deeds may later = absurd may.asks
+asks_by p OpenDoor outcome gate deeds may later = absurd may.asks
+asks_by p (Join dest target) outcome gate deeds may later = absurd may.asks
+asks_by p (Copy toward) outcome gate deeds may later = absurd may.asks
+asks_by p Part outcome gate deeds may later = absurd may.asks
 
 asks_next : (gate : Gate) (p : Point) (deeds : List Deed) → AllFit gate p deeds → AsksNext p.due deeds
 asks_next gate p [] fit = fit
@@ -280,6 +300,11 @@ calls_none HangUp outcome is = refl
 calls_none Relay outcome is = refl
 calls_none (Deposit sender rcpts words most) outcome is = refl
 calls_none Allot outcome is = refl
+calls_none (TakeReply how) outcome is = refl
+calls_none OpenDoor outcome is = absurd (true≢false is)
+calls_none (Join dest target) outcome is = absurd (true≢false is)
+calls_none (Copy toward) outcome is = refl
+calls_none Part outcome is = refl
 
 none_called : (gate : Gate) (p : Point) (deeds : List Deed) → p.over ≡ true → AllFit gate p deeds → gives called deeds ≡ []
 none_called gate p [] over fit = refl
@@ -302,6 +327,11 @@ hears_none HangUp outcome rest is none = none
 hears_none Relay outcome rest is none = refl
 hears_none (Deposit sender rcpts words most) outcome rest is none = absurd (true≢false is)
 hears_none Allot outcome rest is none = none
+hears_none (TakeReply how) outcome rest is none = none
+hears_none OpenDoor outcome rest is none = none
+hears_none (Join dest target) outcome rest is none = none
+hears_none (Copy toward) outcome rest is none = none
+hears_none Part outcome rest is none = none
 
 none_heard_after : (gate : Gate) (p : Point) (deeds : List Deed) → p.over ≡ true → AllFit gate p deeds → gives heard_in (before_relay deeds) ≡ []
 none_heard_after gate p [] over fit = refl

@@ -19,7 +19,7 @@ use Rattle.gate_rules.specs.Verdict.{allows}
 use Rattle.md5.specs.Md5.{md5}
 use Rattle.otp_md5.specs.Hexadecimal.{read_of}
 use Rattle.session_acts.specs.Acts.{Act, Outcome}
-use Rattle.session_acts.specs.Acts.Act.{Hear, Say, Log, Ask, Dial, Reach, HangUp, Relay, Deposit}
+use Rattle.session_acts.specs.Acts.Act.{Hear, Say, Log, Ask, Dial, Reach, HangUp, Relay, Deposit, OpenDoor, Join}
 use Rattle.session_acts.specs.Hearing.{heard_by}
 use Rattle.session_acts.specs.Met.{acts, reply_of}
 use Rattle.session_acts.specs.Talk.{answered, asked, opened_after}
@@ -91,6 +91,8 @@ goes_on (Hear form) = true
 goes_on (Dial dest) = true
 goes_on (Reach dest) = true
 goes_on (Deposit sender rcpts words most) = true
+goes_on OpenDoor = true
+goes_on (Join dest target) = true
 goes_on act = false
 
 abbrev pub MayAsk : Option Request → Act → Type 0

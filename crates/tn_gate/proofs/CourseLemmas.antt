@@ -21,7 +21,7 @@ use Rattle.fw_types.specs.declared.dest.Dest.{Dest}
 use Rattle.fw_types.specs.declared.ending.Ending.{Ending}
 use Rattle.gate_rules.specs.Verdict.{allows}
 use Rattle.session_acts.specs.Acts.{Act, Outcome}
-use Rattle.session_acts.specs.Acts.Act.{Hear, Say, Try, Log, Note, Ask, Renew, Dial, Reach, Take, Pass, HangUp, Relay, Deposit, Allot}
+use Rattle.session_acts.specs.Acts.Act.{Hear, Say, Try, Log, Note, Ask, Renew, Dial, Reach, Take, Pass, HangUp, Relay, Deposit, Allot, TakeReply, OpenDoor, Join, Copy, Part}
 use Rattle.session_acts.specs.Course.{Course, CourseState, MayCome, state_after}
 use Rattle.session_acts.specs.Course.CourseState.{Unasked, Going, Finished}
 use Rattle.session_acts.specs.Deeds.{Deed, deed_last, deeds_ran, done, gives}
@@ -163,6 +163,11 @@ act_so state asks HangUp outcome s may = other_so state asks HangUp outcome s ma
 act_so state asks Relay outcome s may = other_so state asks Relay outcome s may
 act_so state asks (Deposit sender rcpts words most) outcome s may = other_so state asks (Deposit sender rcpts words most) outcome s may
 act_so state asks Allot outcome s may = other_so state asks Allot outcome s may
+act_so state asks (TakeReply how) outcome s may = other_so state asks (TakeReply how) outcome s may
+act_so state asks OpenDoor outcome s may = other_so state asks OpenDoor outcome s may
+act_so state asks (Join dest target) outcome s may = other_so state asks (Join dest target) outcome s may
+act_so state asks (Copy toward) outcome s may = other_so state asks (Copy toward) outcome s may
+act_so state asks Part outcome s may = other_so state asks Part outcome s may
 
 -- ---- which session is open
 

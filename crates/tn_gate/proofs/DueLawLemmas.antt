@@ -12,7 +12,7 @@ use Rattle.fw_acts.proofs.HistoryLemmas.{run_leaves, run_may}
 use Rattle.fw_types.specs.declared.dest.Dest.{Dest}
 use Rattle.fw_types.specs.declared.ending.Ending.{Ending}
 use Rattle.session_acts.specs.Acts.{Act, Halt, Outcome}
-use Rattle.session_acts.specs.Acts.Act.{Hear, Say, Try, Log, Note, Ask, Renew, Dial, Reach, Take, Pass, HangUp, Relay, Deposit, Allot}
+use Rattle.session_acts.specs.Acts.Act.{Hear, Say, Try, Log, Note, Ask, Renew, Dial, Reach, Take, Pass, HangUp, Relay, Deposit, Allot, TakeReply, OpenDoor, Join, Copy, Part}
 use Rattle.session_acts.specs.Client.{line_logged}
 use Rattle.session_acts.specs.Deeds.{Deed, deed_last, deeds_ran, done}
 use Rattle.session_acts.specs.Hearing.{heard_by}
@@ -75,6 +75,11 @@ free_stop gate deeds HangUp halt = absurd halt
 free_stop gate deeds Relay halt = record { due = refl; line = tt }
 free_stop gate deeds (Deposit sender rcpts words most) halt = record { due = refl; line = tt }
 free_stop gate deeds Allot halt = record { due = refl; line = tt }
+free_stop gate deeds (TakeReply how) halt = record { due = refl; line = tt }
+free_stop gate deeds OpenDoor halt = absurd halt
+free_stop gate deeds (Join dest target) halt = absurd halt
+free_stop gate deeds (Copy toward) halt = absurd halt
+free_stop gate deeds Part halt = absurd halt
 
 free_close : (gate : Gate) (deeds : List Deed) (answer : Result Reply PortFault) → IsFree (behind gate deeds (Ask requests.Close) answer)
 free_close gate deeds (Ok reply) = record { due = refl; line = tt }

@@ -22,7 +22,7 @@ use Rattle.fw_types.specs.declared.ending.Ending.{Ending}
 use Rattle.fw_types.specs.declared.host.Host.{Host}
 use Rattle.gate_rules.specs.Verdict.{allows}
 use Rattle.session_acts.specs.Acts.{Act, Halt, Outcome}
-use Rattle.session_acts.specs.Acts.Act.{Hear, Say, Try, Log, Note, Ask, Renew, Dial, Reach, Take, Pass, HangUp, Relay, Deposit, Allot}
+use Rattle.session_acts.specs.Acts.Act.{Hear, Say, Try, Log, Note, Ask, Renew, Dial, Reach, Take, Pass, HangUp, Relay, Deposit, Allot, TakeReply, OpenDoor, Join, Copy, Part}
 use Rattle.session_acts.specs.Deeds.{Deed, deed_last, deeds_ran, done, gives}
 use Rattle.session_acts.specs.Laws.{called}
 use Rattle.session_acts.specs.Met.{acts, stop_of}
@@ -39,13 +39,14 @@ use Rattle.tn_gate.specs.Dialogue.{heard_form, tn_row, tn_rows}
 use Rattle.tn_gate.specs.Gate.{Gate, asks_login}
 use Rattle.tn_gate.specs.Laws.{AsksExactly, DialsCleared, IsCleared}
 use Rattle.tn_gate.specs.declared.place.Place.{Place}
-use Rattle.tn_gate.proofs.AccountLemmas.{Noted, Talk, all_asked, all_calls, all_deeds, all_talk, asks_now, at_start, deed_of, note, noted_after, noted_both, total, turn}
+use Rattle.tn_gate.proofs.AccountLemmas.{AllMain, Noted, Talk, all_asked, all_calls, all_deeds, all_talk, asks_beside, asks_now, at_start, deed_of, note, noted_after, noted_both, total, turn}
 use Rattle.tn_gate.proofs.WatchLemmas.{Behind, May, MayDial, first_keeps, rows_keep, tn_watch}
 
 -- ---- deeds that come where they may
 
 record Fits (gate : Gate) (n : Noted) (deed : Deed) : Type 0 where
   dials : (dest : Dest) → called deed.act deed.outcome ≡ Main dest ∷ [] → MayDial gate dest n
+  main : asks_beside deed.act ≡ false
 
 abbrev AllFit : Gate → Noted → List Deed → Type 0
 AllFit gate n [] = Unit {0}
@@ -62,11 +63,11 @@ dest_in (Main dest ∷ more) other = dest
 dest_in calls other = other
 
 fits_by : (gate : Gate) (n : Noted) (act : Act) (outcome : Outcome act) → May gate n act → Fits gate n (deed_of act outcome)
-fits_by gate n (Say text) outcome may = record { dials = λ dest is. no_call dest is }
-fits_by gate n (Dial dest) outcome may = record { dials = λ other is. subst (λ (d : Dest). MayDial gate d n) (ap (λ (z : List outside.Ask). dest_in z dest) is) may.0 }
-fits_by gate n (Hear form) outcome may = record { dials = λ dest is. no_call dest is }
-fits_by gate n (Log line) outcome may = record { dials = λ dest is. no_call dest is }
-fits_by gate n (Ask request) outcome may = record { dials = λ dest is. no_call dest is }
+fits_by gate n (Say text) outcome may = record { dials = λ dest is. no_call dest is; main = refl }
+fits_by gate n (Dial dest) outcome may = record { dials = λ other is. subst (λ (d : Dest). MayDial gate d n) (ap (λ (z : List outside.Ask). dest_in z dest) is) may.0; main = refl }
+fits_by gate n (Hear form) outcome may = record { dials = λ dest is. no_call dest is; main = refl }
+fits_by gate n (Log line) outcome may = record { dials = λ dest is. no_call dest is; main = refl }
+fits_by gate n (Ask request) outcome may = record { dials = λ dest is. no_call dest is; main = refl }
 fits_by gate n (Try text) outcome may = absurd may
 fits_by gate n (Note text) outcome may = absurd may
 fits_by gate n (Renew name hash) outcome may = absurd may
@@ -77,15 +78,20 @@ fits_by gate n HangUp outcome may = absurd may
 fits_by gate n Relay outcome may = absurd may
 fits_by gate n (Deposit sender rcpts words most) outcome may = absurd may
 fits_by gate n Allot outcome may = absurd may
+fits_by gate n (TakeReply how) outcome may = absurd may
+fits_by gate n OpenDoor outcome may = absurd may
+fits_by gate n (Join dest target) outcome may = absurd may
+fits_by gate n (Copy toward) outcome may = absurd may
+fits_by gate n Part outcome may = absurd may
 
 fits_hang_up : (gate : Gate) (n : Noted) (outcome : Outcome HangUp) → Fits gate n (deed_of HangUp outcome)
-fits_hang_up gate n outcome = record { dials = λ dest is. no_call dest is }
+fits_hang_up gate n outcome = record { dials = λ dest is. no_call dest is; main = refl }
 
 fits_relay : (gate : Gate) (n : Noted) (outcome : Outcome Relay) → Fits gate n (deed_of Relay outcome)
-fits_relay gate n outcome = record { dials = λ dest is. no_call dest is }
+fits_relay gate n outcome = record { dials = λ dest is. no_call dest is; main = refl }
 
 fits_close : (gate : Gate) (n : Noted) (outcome : Outcome (Ask requests.Close)) → Fits gate n (deed_of (Ask requests.Close) outcome)
-fits_close gate n outcome = record { dials = λ dest is. no_call dest is }
+fits_close gate n outcome = record { dials = λ dest is. no_call dest is; main = refl }
 
 fit_both : (gate : Gate) (n : Noted) (first more : List Deed) → AllFit gate n first → AllFit gate (noted_after gate n first) more → AllFit gate n (first ++ more)
 fit_both gate n [] more a b = b
@@ -125,6 +131,11 @@ stop_behind gate n HangUp halt may = absurd may
 stop_behind gate n Relay halt may = absurd may
 stop_behind gate n (Deposit sender rcpts words most) halt may = absurd may
 stop_behind gate n Allot halt may = absurd may
+stop_behind gate n (TakeReply how) halt may = absurd may
+stop_behind gate n OpenDoor halt may = absurd halt
+stop_behind gate n (Join dest target) halt may = absurd halt
+stop_behind gate n (Copy toward) halt may = absurd halt
+stop_behind gate n Part halt may = absurd halt
 
 -- ---- what is owed
 
@@ -256,6 +267,11 @@ record Followed (gate : Gate) (dialogue : Result (Unit {0}) Cause) (deeds : List
   quiet : IsQuiet gate (noted_after gate (at_start gate) talk) more
   is : deeds ≡ talk ++ more
 
+-- so nothing but main links was asked for
+fits_main : (gate : Gate) (n : Noted) (deeds : List Deed) → AllFit gate n deeds → AllMain deeds
+fits_main gate n [] fit = tt
+fits_main gate n (deed ∷ deeds) fit = (fit.0.main, fits_main gate (note gate n deed.act deed.outcome) deeds fit.1)
+
 session_fits : (gate : Gate) (dialogue : Result (Unit {0}) Cause) (deeds : List Deed) → Followed gate dialogue deeds → AllFit gate (at_start gate) deeds
 session_fits gate dialogue deeds f =
     subst (λ (d : List Deed). AllFit gate (at_start gate) d) (sym f.is) (fit_both gate (at_start gate) f.talk f.more f.accounts.fit f.quiet.fit)
@@ -277,7 +293,7 @@ session_counts gate dialogue deeds f =
       rest = f.accounts.rest;
       is =
           ap (λ (z : List Dest). map Main z) (sym (all_asked gate deeds) ∙ all) ∙ map-append Main (noted_after gate start deeds).calls f.accounts.rest
-          ∙ ap (λ (z : List outside.Ask). z ++ map Main f.accounts.rest) (all_calls gate deeds);
+          ∙ ap (λ (z : List outside.Ask). z ++ map Main f.accounts.rest) (all_calls gate deeds (fits_main gate start deeds (session_fits gate dialogue deeds f)));
       whole = f.accounts.whole;
     }
 

@@ -17,7 +17,7 @@ use Rattle.relay_ways.specs.Ending as ways
 use Rattle.relay_ways.specs.declared.way_end.WayEnd.{WayEnd}
 use Rattle.relay_ways.specs.declared.way_end.WayEnd.TheVariants as ends
 use Rattle.session_acts.specs.Acts.{Act, Halt, Outcome, cause_by, fault_cause, silence_cause}
-use Rattle.session_acts.specs.Acts.Act.{Hear, Say, Try, Log, Note, Ask, Renew, Dial, Reach, Take, Pass, HangUp, Relay, Deposit, Allot}
+use Rattle.session_acts.specs.Acts.Act.{Hear, Say, Try, Log, Note, Ask, Renew, Dial, Reach, Take, Pass, HangUp, Relay, Deposit, Allot, TakeReply, OpenDoor, Join, Copy, Part}
 use Rattle.session_acts.specs.Deeds.{Deed, deed_last, deeds_ran, done, gives}
 use Rattle.session_acts.specs.Hearing.{Fate, carried_up, heard_by, heard_in}
 use Rattle.session_acts.specs.Met.{Met, acts}
@@ -70,6 +70,11 @@ own_by gate n HangUp may = absurd may
 own_by gate n Relay may = absurd may
 own_by gate n (Deposit sender rcpts words most) may = absurd may
 own_by gate n Allot may = absurd may
+own_by gate n (TakeReply how) may = absurd may
+own_by gate n OpenDoor may = absurd may
+own_by gate n (Join dest target) may = absurd may
+own_by gate n (Copy toward) may = absurd may
+own_by gate n Part may = absurd may
 
 abbrev AllOwn : Gate → List Deed → Type 0
 AllOwn gate [] = Unit {0}
@@ -139,6 +144,11 @@ same_by gate HangUp outcome deeds own same = absurd own
 same_by gate Relay outcome deeds own same = absurd own
 same_by gate (Deposit sender rcpts words most) outcome deeds own same = absurd own
 same_by gate Allot outcome deeds own same = absurd own
+same_by gate (TakeReply how) outcome deeds own same = absurd own
+same_by gate OpenDoor outcome deeds own same = absurd own
+same_by gate (Join dest target) outcome deeds own same = absurd own
+same_by gate (Copy toward) outcome deeds own same = absurd own
+same_by gate Part outcome deeds own same = absurd own
 
 same_both : (gate : Gate) (first more : List Deed) → AllOwn gate first → Same more → Same (first ++ more)
 same_both gate [] more own same = same
@@ -189,6 +199,11 @@ act_unasked gate HangUp outcome own none = absurd own
 act_unasked gate Relay outcome own none = absurd own
 act_unasked gate (Deposit sender rcpts words most) outcome own none = absurd own
 act_unasked gate Allot outcome own none = absurd own
+act_unasked gate (TakeReply how) outcome own none = absurd own
+act_unasked gate OpenDoor outcome own none = absurd own
+act_unasked gate (Join dest target) outcome own none = absurd own
+act_unasked gate (Copy toward) outcome own none = absurd own
+act_unasked gate Part outcome own none = absurd own
 
 all_unasked : (gate : Gate) (deeds : List Deed) → AllOwn gate deeds → asks_login gate.options ≡ false → gives asked deeds ≡ []
 all_unasked gate [] own none = refl
@@ -229,6 +244,11 @@ plain_stops gate HangUp halt own none = absurd own
 plain_stops gate Relay halt own none = absurd own
 plain_stops gate (Deposit sender rcpts words most) halt own none = absurd own
 plain_stops gate Allot halt own none = absurd own
+plain_stops gate (TakeReply how) halt own none = absurd own
+plain_stops gate OpenDoor halt own none = absurd halt
+plain_stops gate (Join dest target) halt own none = absurd halt
+plain_stops gate (Copy toward) halt own none = absurd halt
+plain_stops gate Part halt own none = absurd halt
 
 routed_hears : (silence : Silence) → is_routed (silence_cause causes.ClientFault silence) ≡ true
 routed_hears Quiet = refl
@@ -256,6 +276,11 @@ routed_stops gate HangUp halt own = absurd own
 routed_stops gate Relay halt own = absurd own
 routed_stops gate (Deposit sender rcpts words most) halt own = absurd own
 routed_stops gate Allot halt own = absurd own
+routed_stops gate (TakeReply how) halt own = absurd own
+routed_stops gate OpenDoor halt own = absurd halt
+routed_stops gate (Join dest target) halt own = absurd halt
+routed_stops gate (Copy toward) halt own = absurd halt
+routed_stops gate Part halt own = absurd halt
 
 -- no relay stops for such a cause
 abbrev failed : Cause → Result (Unit {0}) Cause

@@ -14,7 +14,7 @@ ghost use Rattle.session_acts.specs.Relayed.{relayed, then_relay};
 ghost use Rattle.session_acts.specs.Said.{lines_said};
 ghost use Rattle.session_acts.specs.Session.{Held, RelaySession, deeds_of};
 ghost use Rattle.session_acts.specs.Talk.{Entered, asked};
-ghost use Rattle.session_acts.specs.World.{Devices, World, devices_of};
+ghost use Rattle.session_acts.specs.World.{Devices, IsUnlinked, World, devices_of};
 ghost use Rattle.tn_gate.specs.Asked.{lines_in, turns_of};
 ghost use Rattle.tn_gate.specs.Asking.{AsksWhatIsDue};
 ghost use Rattle.tn_gate.specs.Course.{OpensOnce};
@@ -120,7 +120,7 @@ pub fn the_login_is_this_sessions<Origin>()
 /// its devices.
 pub fn fronts_are_relayed<Origin>()
     ensures held { (gate : Gate) (old new : World Origin) (ending : Ending)
-        (held : Held (relayed (tn_rows gate)) (then_relay (tn_row gate)) old new ending) → old.server.link ≡ None →
+        (held : Held (relayed (tn_rows gate)) (then_relay (tn_row gate)) old new ending) → IsUnlinked old.server →
         old.client.reader.pending ≡ [] → RelaysFronts (deeds_of held) (devices_of old) (devices_of new) ending }
     ensures session { (gate : Gate) (old new : Devices Origin) (ending : Ending)
         (session : RelaySession (relayed (tn_rows gate)) (then_relay (tn_row gate)) old new ending) →

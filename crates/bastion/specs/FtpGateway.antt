@@ -1,0 +1,84 @@
+-- A client of `ftp-gw`: what it is told, for which destinations the dialer is asked, and what the servers are given.
+use Rattle.std.specs.Prelude.{◌≡◌, ℕ, false, List, [], None, Err}
+use Rattle.auth_events.specs.Login.{login_in}
+use Rattle.auth_machine.specs.Port.{BookOrigin}
+use Rattle.client_service.specs.Endings.{refusal_reply}
+use Rattle.fw_acts.specs.Acts.{Row, PlaceTable}
+use Rattle.ftp_gate.specs.Dialogue.{ftp_row, ftp_rows}
+use Rattle.ftp_gate.specs.Gate.{Gate, gate_at}
+use Rattle.ftp_gate.specs.Known.{known}
+use Rattle.ftp_gate.specs.Laws.{AsksDue, AsksExactly, DenialsLogged, DialsCleared, GivesPassage, JoinsOwn, PassesUnblocked}
+use Rattle.ftp_gate.specs.declared.place.Place.{Place}
+use Rattle.fw_types.specs.declared.ending.Ending.{Ending}
+use Rattle.fw_types.specs.declared.ending.Ending.TheVariants.{Done}
+use Rattle.fw_types.specs.declared.peer.Peer.{Peer}
+use Rattle.gate_rules.specs.declared.service.Service.TheVariants as services
+use Rattle.session_acts.specs.Deeds.{Deed, gives}
+use Rattle.session_acts.specs.Hearing.{TakesHeard, heard_in}
+use Rattle.session_acts.specs.LastStop.{StopsLast}
+use Rattle.session_acts.specs.Laws.{CountsBroken, CountsRefusals, LinksDialer, broken_off, linked, refused}
+use Rattle.session_acts.specs.Met.{acts}
+use Rattle.session_acts.specs.Passing.{GivesServers, passed_over}
+use Rattle.session_acts.specs.ServersHeard.{HearsServers, heard_over}
+use Rattle.session_acts.specs.Session.{Held, deeds_of}
+use Rattle.session_acts.specs.Talk.{Entered, answered, asked}
+use Rattle.session_acts.specs.World.{World}
+use Rattle.session_acts.specs.declared.cause.Cause.{Cause}
+use Rattle.bastion.specs.AtGateway.{IsGatedAs, OfGateway}
+use Rattle.bastion.specs.Inputs.{Inputs}
+use Rattle.bastion.specs.WorldView.{WorldView}
+use Rattle.bastion.specs.declared.words.Command.TheVariants.{FtpGw}
+
+-- the rows of its session, by the line that permits it
+abbrev pub serving_rows : Inputs → Peer → ℕ → PlaceTable (acts BookOrigin) Place
+serving_rows inputs peer line = ftp_rows (gate_at inputs.rules line peer)
+
+abbrev pub serving_row : Inputs → Peer → ℕ → Row (acts BookOrigin) Place
+serving_row inputs peer line = ftp_row
+
+-- whether a login is known to stand is what the requests and their answers tell
+abbrev pub LoginsTold : Gate → Type 0
+LoginsTold gate = (deeds : List Deed) → (known gate deeds).login ≡ login_in (answered (gives asked deeds))
+
+-- What holds of a session of the gateway. It goes by the lines that it heard of the client, which are what it took of the
+-- client. The destinations that it asked for are those that the client's commands ask for: all of them in a session that is
+-- done, else up to where the dialogue stopped. Each was asked for right behind its connect line, which the log has whole, and
+-- behind the permission for its host with `-extnd`; the permission line allows it; the verb isn't denied, and where a login is
+-- asked for before it, one stands in what this session asked and was answered. The server was given what the commands are passed
+-- as, in order, and nothing else: all of it in a session that is done, else a front of it; so no command that is blocked. Data
+-- links were asked for at the host of the server that is linked, and at the client's own address or at a door. What the client
+-- was told as a denial, the log was given right before, whole.
+pub record IsUpheld (gate : Gate) {old new : World BookOrigin} {ending : Ending} (held : Held (ftp_rows gate) ftp_row old new ending) : Type 0 where
+  pub lines : TakesHeard (gives heard_in (deeds_of held)) old.client new.client
+  pub exactly : AsksExactly gate held
+  pub all : ending ≡ Done → exactly.rest ≡ []
+  pub cleared : DialsCleared gate (deeds_of held)
+  pub passage : GivesPassage gate held
+  pub passed : ending ≡ Done → passage.rest ≡ []
+  pub unblocked : PassesUnblocked gate (deeds_of held)
+  pub joins : JoinsOwn gate (deeds_of held)
+  pub denials : DenialsLogged gate (deeds_of held)
+  pub requests : AsksDue gate (deeds_of held)
+  pub logins : LoginsTold gate
+  -- each request was asked for the session that was open, at a moment of the clock
+  pub entered : Entered (gives asked (deeds_of held)) old.office new.office
+  -- what each server was given over its link is what was passed over it, and what was taken of it is what was heard of it: the
+  -- replies, and what was copied over data links
+  pub given : GivesServers (passed_over None (deeds_of held)) old new
+  pub replies : HearsServers (heard_over None (deeds_of held)) old new
+  -- as many links were hung up as came up, and none is up at the end; each destination, door and data link that was refused was
+  -- counted, and each copy that broke off
+  pub links : LinksDialer (gives linked (deeds_of held)) old new
+  pub over : (new.server.link ≡ None) × (new.server.pair ≡ None)
+  pub refusals : CountsRefusals (gives refused (deeds_of held)) old new
+  pub broken : CountsBroken (gives broken_off (deeds_of held)) old new
+  -- where the session stopped, at the log, say, nothing but what was owed was done after
+  pub stops : (cause : Cause) → held.dialogue ≡ Err cause → StopsLast cause held
+
+-- a session of the gateway was held
+pub record OfFtp (peer : Peer) (inputs : Inputs) (status : ℕ) (old new : WorldView) : Type 0 where
+  pub at : OfGateway false (FtpGw peer) services.FtpGw peer (serving_rows inputs peer) (serving_row inputs peer) inputs status old new
+  pub upheld : IsUpheld (gate_at inputs.rules at.line peer) at.session.held
+
+abbrev pub IsServing : List ℕ → Peer → ℕ → WorldView → WorldView → Type 0
+IsServing name peer status old new = IsGatedAs name (FtpGw peer) services.FtpGw peer refusal_reply (OfFtp peer) status old new

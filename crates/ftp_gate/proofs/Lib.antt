@@ -1,0 +1,22 @@
+mod AccountLemmas
+mod BaseLemmas
+pub mod CourseLemmas
+pub mod DueLemmas
+pub mod EndLemmas
+mod KeepLemmas
+mod KindLemmas
+mod KnownLemmas
+pub mod LawLemmas
+mod LoginLeaves
+mod OrderLemmas
+pub mod OwnLemmas
+mod RowLemmas
+mod ServedLeaves
+mod ServerLemmas
+pub mod SessionLemmas
+mod StartLemmas
+mod TurnLemmas
+pub mod UnnamedLemmas
+mod UserLeaves
+mod UserLemmas
+mod WatchLemmas

@@ -1,0 +1,11 @@
+use Rattle.ftp_gate.proofs.LawLemmas.{held_copies, held_doors, held_own}
+use Rattle.ftp_gate.proofs.laws.data_links_are_the_sessions_own.Goals as goal
+
+pub returns-clause-joins : goal.returns-clause-joins
+returns-clause-joins g c = λ gate old new ending held. held_own gate old new ending held
+
+pub returns-clause-doors : goal.returns-clause-doors
+returns-clause-doors g c = λ gate old new ending held. held_doors gate old new ending held
+
+pub returns-clause-copies : goal.returns-clause-copies
+returns-clause-copies g c = λ gate old new ending held. held_copies gate old new ending held

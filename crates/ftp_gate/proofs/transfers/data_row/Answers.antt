@@ -1,0 +1,5 @@
+use Rattle.session_acts.proofs.Acting.{did}
+use Rattle.ftp_gate.proofs.transfers.data_row.Goals as goal
+
+pub returns : goal.returns
+returns g c = did c.in_ok-replied.ensures.met c.passive_row.ensures

@@ -1,0 +1,15 @@
+pub mod Dialogue
+pub mod Distance
+pub mod Due
+pub mod Dummies
+pub mod Ends
+pub mod Gate
+pub mod Kind
+pub mod Known
+pub mod Laws
+pub mod LogLines
+pub mod Naming
+pub mod Order
+pub mod Passage
+pub mod Texts
+pub mod User

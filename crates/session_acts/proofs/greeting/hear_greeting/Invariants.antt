@@ -1,0 +1,10 @@
+use Rattle.std.proofs.Common.{◌+◌, length}
+use Rattle.session_acts.proofs.GreetsLemmas.{Greets}
+use Rattle.session_acts.proofs.greeting.hear_greeting.Given as goal
+
+abbrev pub invariant-loop-byte : goal.invariant-loop-byte
+invariant-loop-byte g l =
+    Greets l.replies.fed l.head.items l.fn.reader l.reader (g.I.Source.source_view l.fn.from) (g.I.Source.source_view l.from) (g.K.Sink.sink_view l.fn.to) (g.K.Sink.sink_view l.to)
+
+abbrev pub decreases-loop-byte : goal.decreases-loop-byte
+decreases-loop-byte g l = length l.reader.pending + l.reader.room

@@ -1,0 +1,6 @@
+/// Whom data go to.
+#[derive(Clone, Copy, Debug, PartialEq, Eq)]
+pub enum Toward {
+    Client,
+    Server,
+}
