@@ -37,8 +37,8 @@ abbrev pub LineIf : Option (List ℕ) → SinkView → SinkView → Type 0
 LineIf None old new = new ≡ old
 LineIf (Some text) old new = (told : Result (Unit {0}) sink.Failed) × Gives told text old new
 
--- A round was held, and the run came to this outcome by it: the numbers of a round that went to its end were printed, and behind
--- what the round left in the log its fault line was given, where it has one.
+-- A round was held, and the run came to this outcome by it: the output was given the numbers of a round that went to its end, or a
+-- front of them where it failed, and behind what the round left in the log its fault line was given, where it has one.
 pub record HandsSome (post : Post) (status : ℕ) (old new : WorldView) : Type 0 where
   pub answer : Result Round RoundFault
   pub trouble : Option Trouble
