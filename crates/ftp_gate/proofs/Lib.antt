@@ -5,7 +5,7 @@ pub mod DueLemmas
 pub mod EndLemmas
 mod KeepLemmas
 mod KindLemmas
-mod KnownLemmas
+pub mod KnownLemmas
 pub mod LawLemmas
 mod LoginLeaves
 mod OrderLemmas
