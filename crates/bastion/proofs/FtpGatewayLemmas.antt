@@ -1,10 +1,15 @@
 -- From what a client of `ftp-gw` did to the headline, and to a run in which no count rose.
-use Rattle.std.proofs.Common.{◌≡◌, ◌∙◌, ℕ, List, refl, sym, subst, ◌⊎◌, true, false}
+use Rattle.std.proofs.Common.{◌≡◌, ◌∙◌, ℕ, List, length, refl, sym, ap, subst, ◌⊎◌, true, false}
 use Rattle.std.specs.Prelude.{Result}
-use Rattle.auth_machine.specs.Port.{BookOrigin}
+use Rattle.auth_events.specs.Port.{Port, places}
+use Rattle.auth_machine.specs.Port.{BookOrigin, book_port}
 use Rattle.client_service.specs.Endings.{refusal_reply}
 use Rattle.ftp_gate.proofs.KnownLemmas.{login_known}
-use Rattle.ftp_gate.proofs.LawLemmas.{held_asked, held_asks, held_cleared, held_gives, held_logged, held_own, held_unblocked}
+use Rattle.ftp_gate.proofs.CourseLemmas.{held_once}
+use Rattle.ftp_gate.proofs.DueLemmas.{held_due}
+use Rattle.ftp_gate.proofs.EndLemmas.{held_ended, held_there}
+use Rattle.ftp_gate.proofs.LawLemmas.{held_asked, held_asks, held_caused, held_cleared, held_copies, held_doors, held_gives, held_logged, held_own, held_right, held_unblocked}
+use Rattle.ftp_gate.proofs.OwnLemmas.{whole_login}
 use Rattle.ftp_gate.specs.Gate.{Gate, gate_at}
 use Rattle.ftp_gate.specs.Laws.{IsDone}
 use Rattle.fw_types.specs.declared.ending.Ending.TheVariants as endings
@@ -23,9 +28,11 @@ use Rattle.session_acts.proofs.PassingLemmas.{servers_given}
 use Rattle.session_acts.proofs.RefusalLemmas.{refused_gains}
 use Rattle.session_acts.proofs.ServersHeardLemmas.{servers_heard}
 use Rattle.session_acts.proofs.TalkLemmas.{entered_gains}
-use Rattle.session_acts.specs.Deeds.{Deed}
+use Rattle.session_acts.specs.Deeds.{Deed, gives}
+use Rattle.session_acts.specs.OwnLogin.{LoginStandsIn, number_opened}
 use Rattle.session_acts.specs.Session.{deeds_of}
-use Rattle.session_acts.specs.World.{IsUnlinked, World, at_first}
+use Rattle.session_acts.specs.Talk.{asked}
+use Rattle.session_acts.specs.World.{Devices, IsUnlinked, World, at_first}
 use Rattle.session_acts.specs.declared.cause.Cause.{Cause}
 use Rattle.bastion.specs.AtGateway.{Comes, OfGateway, begins_at}
 use Rattle.bastion.specs.Complete.{IsServedAtGate, IsServedFiles}
@@ -59,6 +66,12 @@ module _ (peer : Peer) (inputs : Inputs) (status : ℕ) (old new : WorldView) (a
   abbrev last : World BookOrigin
   last = at.session.last
 
+  port_is : last.office.port ≡ book_port at.book
+  port_is = ap (λ (d : Devices BookOrigin). d.port) at.session.leaves
+
+  own : last.office.port.mine ≡ places (length last.office.port.seen)
+  own = subst (λ (p : Port BookOrigin). p.mine ≡ places (length p.seen)) (sym port_is) refl
+
   unlinked : IsUnlinked begun.server
   unlinked = record { main = refl; side = refl }
 
@@ -68,7 +81,7 @@ module _ (peer : Peer) (inputs : Inputs) (status : ℕ) (old new : WorldView) (a
       let held = at.session.held in
       subst (λ (d : Result (Unit {0}) Cause). IsDone d) (sym (done_only held.dialogue held.mid.office.opened held.answer (sym is ∙ held.ends))) tt
 
-  upheld : IsUpheld gate at.session.held
+  upheld : IsUpheld gate at.book.history at.session.held
   upheld = record {
     lines = held_heard (serving_rows inputs peer at.line) (serving_row inputs peer at.line) begun last at.ending at.session.held refl;
     exactly = held_asks gate begun last at.ending at.session.held;
@@ -80,7 +93,18 @@ module _ (peer : Peer) (inputs : Inputs) (status : ℕ) (old new : WorldView) (a
     joins = held_own gate begun last at.ending at.session.held;
     denials = held_logged gate begun last at.ending at.session.held;
     requests = held_asked gate begun last at.ending at.session.held;
-    logins = λ some. login_known gate some;
+    logins =
+        λ before after deed is outward needs.
+        subst (λ (p : Port BookOrigin). LoginStandsIn (number_opened (gives asked deeds)) (gives asked before) p.seen) port_is (whole_login gate begun last at.ending at.session.held refl refl own before after deed is outward needs);
+    known_by = λ some. login_known gate some;
+    doors = held_doors gate begun last at.ending at.session.held;
+    copies = held_copies gate begun last at.ending at.session.held;
+    due = held_due gate begun last at.ending at.session.held;
+    causes = held_caused gate begun last at.ending at.session.held;
+    acts = held_right gate begun last at.ending at.session.held;
+    opened = held_once gate begun last at.ending at.session.held refl;
+    ends = held_there gate begun last at.ending at.session.held;
+    ended = λ finish. held_ended gate begun last at.ending at.session.held finish;
     entered = all_gain entered_gains deeds begun last (held_deeds at.session.held);
     given = servers_given (serving_rows inputs peer at.line) (serving_row inputs peer at.line) begun last at.ending at.session.held unlinked;
     replies = servers_heard (serving_rows inputs peer at.line) (serving_row inputs peer at.line) begun last at.ending at.session.held unlinked;
