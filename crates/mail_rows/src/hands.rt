@@ -66,7 +66,7 @@ impl Untaken {
 fn count_full(slots: &[u8]) -> u64 {
     let mut count = 0u64;
     for word in slots.split(|byte| *byte == b',') {
-        if word == b"w" {
+        if word == b"w".as_slice() {
             count = count.saturating_add(1);
         }
     }
@@ -91,7 +91,7 @@ fn add_turns(out: &mut Told, slots: &[u8], untaken: Untaken) -> u64 {
     let mut hand = 0u64;
     let mut which = 0u64;
     for word in slots.split(|byte| *byte == b',') {
-        if word == b"w" {
+        if word == b"w".as_slice() {
             if hand == untaken.hand {
                 which = slot;
             }
@@ -123,7 +123,7 @@ fn add_letters(out: &mut Told, slots: &[u8], untaken: Untaken) {
     let mut hand = 0u64;
     add_word(out, b"");
     for word in slots.split(|byte| *byte == b',') {
-        if word == b"w" {
+        if word == b"w".as_slice() {
             add(out, untaken.letter(hand, again));
             hand = hand.saturating_add(1);
         } else {
