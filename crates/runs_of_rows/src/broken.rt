@@ -9,8 +9,8 @@ use crate::relays::{refused_differs, relay_differs};
 use crate::runner::Ended;
 use crate::texts::{count_lines, first_lines, front, has_line, later_lines};
 use crate::verdicts::{
-    called_by, connect, is_connect, is_ftp, is_gate, is_netacl, is_plug, is_session, is_verdict, lasting,
-    paced_moment, stopped, untouched, usual, verdict,
+    called_by, connect, is_connect, is_ftp, is_gate, is_netacl, is_plug, is_session, is_verdict,
+    lasting, paced_moment, stopped, untouched, usual, verdict,
 };
 use format_of_rows::Part;
 

@@ -163,7 +163,11 @@ impl Difference {
         let mut end: usize = 0;
         for (wanted, (_, to)) in expected.ends.iter().zip(helpers.dialer.ended()) {
             end = end.saturating_add(to.bytes().len());
-            self.number_of(b"the end of what a link was given", *wanted as u64, end as u64);
+            self.number_of(
+                b"the end of what a link was given",
+                *wanted as u64,
+                end as u64,
+            );
         }
     }
 

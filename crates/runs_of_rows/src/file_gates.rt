@@ -54,11 +54,7 @@ fn asked_of(was: &Ended) -> Text {
 fn mains_differ(was: &Ended, difference: &mut Difference) {
     let (asked, linked) = (asked_of(was), linked_of(was));
     let mains = mains_of(asked.as_slice());
-    difference.text_of(
-        b"the destinations",
-        linked.as_slice(),
-        mains.as_slice(),
-    );
+    difference.text_of(b"the destinations", linked.as_slice(), mains.as_slice());
 }
 
 // How many denials of a verb or a destination the client was told.
@@ -200,7 +196,11 @@ fn short_log_differs(plan: &Plan, log: &[u8], was: &mut Ended, difference: &mut 
 fn lasting_differs(plan: &Plan, was: &mut Ended, difference: &mut Difference) {
     let row = plan.row;
     let log = was.devices.place.logs.bytes();
-    difference.number_of(b"the status", u64::from(status_of(row)), u64::from(was.status));
+    difference.number_of(
+        b"the status",
+        u64::from(status_of(row)),
+        u64::from(was.status),
+    );
     difference.text_of(
         b"the verdict",
         first_lines(&row.wanted.log, 1),
@@ -254,7 +254,11 @@ fn data_differs(plan: &Plan, was: &mut Ended, difference: &mut Difference) {
     let told = early_output(row);
     let (wanted, status) = (u64::from(status_of(row)), u64::from(was.status));
     difference.number_of(b"the status", wanted, status);
-    difference.text_of(b"the output", told.as_slice(), was.devices.talk.output.bytes());
+    difference.text_of(
+        b"the output",
+        told.as_slice(),
+        was.devices.talk.output.bytes(),
+    );
     difference.text_of(b"the log", &row.wanted.log, was.devices.place.logs.bytes());
     difference.text_of(
         b"what was asked for",

@@ -86,12 +86,7 @@ fn unlogged_differs(was: &Ended, difference: &mut Difference) {
 }
 
 /// The log has lines of the row, from the first on, and then its last one with this cause.
-pub(crate) fn log_differs(
-    row: &Row,
-    cause: &[u8],
-    was: &Ended,
-    difference: &mut Difference,
-) {
+pub(crate) fn log_differs(row: &Row, cause: &[u8], was: &Ended, difference: &mut Difference) {
     let (wanted, log) = (&row.wanted.log, was.devices.place.logs.bytes());
     let lines = count_lines(log).saturating_sub(1);
     let last = later_lines(wanted, count_lines(wanted).saturating_sub(1));

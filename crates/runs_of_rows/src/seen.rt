@@ -74,7 +74,9 @@ fn add_ask(out: &mut Text, ask: &Ask) {
         Ask::Main(dest) => add_dest(out, &dest.host, dest.port),
         Ask::Side(dest) => add_place(out, b"side ", &dest.host, dest.port),
         Ask::Back { addr, port } => add_place(out, b"back ", &Host::Addr(*addr), *port),
-        Ask::Door { at: Some((addr, port)) } => {
+        Ask::Door {
+            at: Some((addr, port)),
+        } => {
             add_place(out, b"door ", &Host::Addr(*addr), *port);
         }
         Ask::Door { at: None } => add(out, b"door none\n"),
