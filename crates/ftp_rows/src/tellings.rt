@@ -70,11 +70,16 @@ fn add_dest(out: &mut Told, dest: &Dest) {
     add_number(out, u64::from(dest.port));
 }
 
-fn add_addr(out: &mut Told, addr: [u8; 4], port: u16) {
+fn add_addr(out: &mut Told, addr: &[u8; 4], port: u16) {
     for octet in addr {
-        add_number(out, u64::from(octet));
+        add_number(out, u64::from(*octet));
     }
     add_number(out, u64::from(port));
+}
+
+fn add_place(out: &mut Told, place: &([u8; 4], u16)) {
+    let addr = place.0;
+    add_addr(out, &addr, place.1);
 }
 
 fn add_ask(out: &mut Told, ask: &Ask) {
@@ -89,13 +94,11 @@ fn add_ask(out: &mut Told, ask: &Ask) {
         }
         Ask::Back { addr, port } => {
             add_word(out, b"back");
-            add_addr(out, *addr, *port);
+            add_addr(out, addr, *port);
         }
-        Ask::Door {
-            at: Some((addr, port)),
-        } => {
+        Ask::Door { at: Some(place) } => {
             add_word(out, b"door");
-            add_addr(out, *addr, *port);
+            add_place(out, place);
         }
         Ask::Door { at: None } => add_word(out, b"no door"),
     }

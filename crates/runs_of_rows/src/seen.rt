@@ -69,16 +69,23 @@ fn add_place(out: &mut Text, word: &[u8], host: &Host, port: u16) {
     add_dest(out, host, port);
 }
 
+fn add_addr(out: &mut Text, word: &[u8], addr: &[u8; 4], port: u16) {
+    let octets = *addr;
+    let host = Host::Addr(octets);
+    add_place(out, word, &host, port);
+}
+
+fn add_door(out: &mut Text, place: &([u8; 4], u16)) {
+    let addr = place.0;
+    add_addr(out, b"door ", &addr, place.1);
+}
+
 fn add_ask(out: &mut Text, ask: &Ask) {
     match ask {
         Ask::Main(dest) => add_dest(out, &dest.host, dest.port),
         Ask::Side(dest) => add_place(out, b"side ", &dest.host, dest.port),
-        Ask::Back { addr, port } => add_place(out, b"back ", &Host::Addr(*addr), *port),
-        Ask::Door {
-            at: Some((addr, port)),
-        } => {
-            add_place(out, b"door ", &Host::Addr(*addr), *port);
-        }
+        Ask::Back { addr, port } => add_addr(out, b"back ", addr, *port),
+        Ask::Door { at: Some(place) } => add_door(out, place),
         Ask::Door { at: None } => add(out, b"door none\n"),
     }
 }
