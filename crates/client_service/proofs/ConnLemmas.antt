@@ -126,6 +126,7 @@ module _ {Origin : Type 0} where
     breaks = same_low old.port.faults new.port.faults (ap (λ (p : Port Origin). p.faults) port);
     strays = same_low old.port.odd new.port.odd (ap (λ (p : Port Origin). p.odd) port);
     asks = same_low old.port.asks new.port.asks (ap (λ (p : Port Origin). p.asks) port);
+    came = h.came;
     refusals = h.refusals;
     link_faults = h.link_faults;
     link_idles = h.link_idles;

@@ -3,6 +3,7 @@ pub mod AheadLemmas
 pub mod AloneLemmas
 pub mod AskCountLemmas
 pub mod BrokenLemmas
+pub mod CameLemmas
 pub mod CauseLemmas
 pub mod ClientLemmas
 pub mod CourseLemmas
