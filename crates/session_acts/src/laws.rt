@@ -73,8 +73,9 @@ pub fn the_dialer_is_asked<Origin, P>()
         (held : Held rows first old new ending) → CallsDialer (gives called (deeds_of held)) old new }
 {}
 
-/// As many links were hung up or let go in a session as came up in it, where the dialer tells (`links`). At its end no main
-/// link is up (`none`), nor are data links, where no link was up before (`apart`).
+/// As many links were hung up or let go in a session as came up by its deeds, where the dialer tells; and the dialer counted so
+/// many come up, and none beside them, unless that count stands at its last value (`links`). At its end no main link is up
+/// (`none`), nor are data links, where no link was up before (`apart`).
 pub fn the_links_are_hung_up<Origin, P>()
     ensures links { (rows : PlaceTable (acts Origin) P) (first : Row (acts Origin) P) (old new : World Origin)
         (ending : Ending) (held : Held rows first old new ending) →
