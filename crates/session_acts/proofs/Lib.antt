@@ -42,6 +42,7 @@ pub mod RelayLastLemmas
 pub mod TalkLemmas
 pub mod ToldLemmas
 pub mod StaysLemmas
+pub mod StandingLemmas
 pub mod StoredLemmas
 pub mod TurnLemmas
 pub mod UsedUpLemmas

@@ -29,6 +29,7 @@ ghost use Rattle.session_acts.specs.Said.{SaysLines};
 ghost use Rattle.session_acts.specs.Serverless.{CausedAlone, KeepsServerless, TakesExactly};
 ghost use Rattle.session_acts.specs.ServersHeard.{HearsServers, heard_over};
 ghost use Rattle.session_acts.specs.Session.{Held, RelaySession, Session, SessionAs, deeds_of};
+ghost use Rattle.session_acts.specs.Standing.{AreReady, standing_of};
 ghost use Rattle.session_acts.specs.Stored.{CountsFaulted, CountsUnslotted, PutsAllBack, PutsMails, faulted, kept, unslotted};
 ghost use Rattle.session_acts.specs.Talk.{CountsAsks, Entered, ThrowsSalts, answered, asked, is_entered, is_refused_as_full, said_of, thrown};
 ghost use Rattle.session_acts.specs.World.{Devices, IsUnlinked, Speaker, World, devices_of, most_taken};
@@ -84,6 +85,13 @@ pub fn the_links_are_hung_up<Origin, P>()
         (ending : Ending) → Held rows first old new ending → new.server.link ≡ None }
     ensures apart { (rows : PlaceTable (acts Origin) P) (first : Row (acts Origin) P) (old new : World Origin)
         (ending : Ending) → Held rows first old new ending → IsUnlinked old.server → new.server.pair ≡ None }
+{}
+
+/// Data links aren't asked for exactly where they can't be: where no main link is up, by the deeds before, or none of the doors
+/// that these opened stands where one is wanted.
+pub fn data_links_are_asked_for_where_they_can_be<Origin, P>()
+    ensures { (rows : PlaceTable (acts Origin) P) (first : Row (acts Origin) P) (old new : World Origin) (ending : Ending)
+        (held : Held rows first old new ending) → AreReady (standing_of old.server) (deeds_of held) }
 {}
 
 /// A session whose rows speak with no server leaves the dialer as it was.
