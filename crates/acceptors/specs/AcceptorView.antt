@@ -1,0 +1,86 @@
+-- Who waits for the clients of a server: what that means, and what its calls do to that.
+use Rattle.std.specs.Prelude.{◌≡◌, ℕ, Bool, true, List, [], ◌∷◌, Option}
+use Rattle.fw_outside.specs.ClockView.{ClockView}
+use Rattle.fw_outside.specs.Counts.{Rose}
+use Rattle.fw_outside.specs.DiceView.{DiceView}
+use Rattle.fw_outside.specs.DialerView.{DialerView, IsNewSink}
+use Rattle.fw_outside.specs.SinkView.{SinkView}
+use Rattle.fw_outside.specs.SourceView.{SourceView, fresh}
+use Rattle.fw_outside.specs.ToldList.{AddsOne, IsOver, grown}
+use Rattle.gate_rules.specs.declared.service.Service.{Service}
+use Rattle.gate_rules.specs.declared.service.Service.TheVariants as services
+use Rattle.acceptors.specs.declared.caller.Guest.{Guest}
+
+-- ---- a client
+
+-- a client with what its devices mean
+pub record Visit : Type 0 where
+  pub guest : Guest
+  pub from : SourceView
+  pub to : SinkView
+  pub logs : SinkView
+  pub dialer : DialerView
+  pub clock : ClockView
+  pub dice : DiceView
+
+-- any service but the access wrapper, which has no session
+abbrev pub HasSessions : Service → Type 0
+HasSessions (services.Netacl label) = ⊥
+HasSessions services.TnGw = Unit {0}
+HasSessions services.FtpGw = Unit {0}
+HasSessions (services.PlugGw port) = Unit {0}
+HasSessions services.Smap = Unit {0}
+HasSessions services.Authsrv = Unit {0}
+
+-- a new dialer: nothing was asked or hung up, nothing is counted, and links wait an hour
+pub record IsNewDialer (dialer : DialerView) : Type 0 where
+  pub unasked : IsOver dialer.asked
+  pub none_ended : IsOver dialer.ended
+  pub refusals : dialer.refusals ≡ 0
+  pub link_faults : dialer.link_faults ≡ 0
+  pub link_idles : dialer.link_idles ≡ 0
+  pub data_faults : dialer.data_faults ≡ 0
+  pub data_idles : dialer.data_idles ≡ 0
+  pub waits : dialer.waits ≡ 3600
+
+-- a client as it comes: of a service with sessions, and all its devices are new
+pub record IsFresh (visit : Visit) : Type 0 where
+  pub served : HasSessions visit.guest.service
+  pub left : Option (List ℕ)
+  pub from : visit.from ≡ fresh left
+  pub to : IsNewSink visit.to
+  pub logs : IsNewSink visit.logs
+  pub dialer : IsNewDialer visit.dialer
+  pub clock : IsOver visit.clock.told
+  pub dice : IsOver visit.dice.told
+
+-- ---- who waits for clients
+
+-- the clients that came, and those that were taken back, with their devices as they stood then, where it tells; whether no
+-- more come; and how often waiting failed
+pub record AcceptorView : Type 0 where
+  pub handed : Option (List Guest)
+  pub took : Option (List Visit)
+  pub over : Bool
+  pub faults : ℕ
+
+-- a client came
+pub record Comes (visit : Visit) (old new : AcceptorView) : Type 0 where
+  pub new_one : IsFresh visit
+  pub is : new ≡ record old { handed = grown old.handed (visit.guest ∷ []) }
+
+-- no more come
+pub record Ends (old new : AcceptorView) : Type 0 where
+  pub is : new ≡ record old { over = true }
+
+-- waiting failed, which is counted, and no more come
+pub record Fails (old new : AcceptorView) : Type 0 where
+  pub count : ℕ
+  pub rose : Rose old.faults count
+  pub is : new ≡ record old { over = true; faults = count }
+
+-- a client was taken back
+pub record TakesBack (visit : Visit) (old new : AcceptorView) : Type 0 where
+  pub took : Option (List Visit)
+  pub adds : AddsOne visit old.took took
+  pub is : new ≡ record old { took = took }
