@@ -12,7 +12,7 @@
 //! which no link or door is left. [`MemLauncher`] starts nothing: it fails at the calls that it is told, and if it has no memory to note a
 //! program, and answers as it is told at each other. [`MemMailer`] hands nothing on: each call answers as it is told, and past
 //! that it accepts; what it accepts it keeps, and where there is no memory for that it answers so. [`MemDisk`] fails at the calls that it is told, and if it has no
-//! memory for a change; a crash of it leaves an image of its medium, which a number picks. [`MemPacer`] doesn't rest.
+//! memory for a change; a crash of it leaves an image of its medium, which a number picks.
 #![tactic(auto)]
 
 mod call_counter;
@@ -26,7 +26,6 @@ mod mem_files;
 mod mem_keeper;
 mod mem_launcher;
 mod mem_mailer;
-mod mem_pacer;
 mod mem_sink;
 mod mem_source;
 mod past;
@@ -42,6 +41,5 @@ pub use mem_files::MemFiles;
 pub use mem_keeper::MemKeeper;
 pub use mem_launcher::MemLauncher;
 pub use mem_mailer::MemMailer;
-pub use mem_pacer::MemPacer;
 pub use mem_sink::MemSink;
 pub use mem_source::MemSource;

@@ -1,6 +1,5 @@
 //! What the firewall's programs meet outside themselves: bytes that come, bytes that go, files, a clock, dice, the
-//! keeper of the users' records, the dialer that makes links to other hosts, the launcher that starts programs, and the pacer
-//! that rests between rounds of work.
+//! keeper of the users' records, the dialer that makes links to other hosts, and the launcher that starts programs.
 //!
 //! Each kind of device is a trait with one ghost member, a plain record that says what the device means: what was taken
 //! from it and is left, what was given to it, and how often it failed. Each method has a clause that says what its
@@ -28,7 +27,6 @@ mod keeper;
 mod launcher;
 mod line_reader;
 mod line_text;
-mod pacer;
 mod sink;
 mod source;
 mod started;
@@ -48,7 +46,6 @@ pub use keep_fault::KeepFault;
 pub use keeper::Keeper;
 pub use launcher::Launcher;
 pub use line_reader::LineReader;
-pub use pacer::Pacer;
 pub use sink::Sink;
 pub use source::{Got, Source};
 pub use started::Started;

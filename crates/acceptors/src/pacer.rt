@@ -1,4 +1,10 @@
-use fw_outside::Pacer;
+//! Who rests between rounds of work.
+
+/// Rests between rounds of work. No clause speaks of time.
+pub trait Pacer: Drop {
+    /// Rests for a while.
+    fn rest(&mut self);
+}
 
 /// A pacer that doesn't rest.
 #[derive(Drop)]
