@@ -1,12 +1,13 @@
 -- Who waits for the clients of a server: what that means, and what its calls do to that.
-use Rattle.std.specs.Prelude.{◌≡◌, ℕ, Bool, true, List, [], ◌∷◌, Option}
+use Rattle.std.specs.Prelude.{◌≡◌, ℕ, ◌+◌, ◌-◌, ◌<◌, Bool, true, List, [], ◌∷◌, Option, IfSome}
+use Rattle.std.specs.Option.{option_map}
 use Rattle.fw_outside.specs.ClockView.{ClockView}
 use Rattle.fw_outside.specs.Counts.{Rose}
 use Rattle.fw_outside.specs.DiceView.{DiceView}
 use Rattle.fw_outside.specs.DialerView.{DialerView, IsNewSink}
 use Rattle.fw_outside.specs.SinkView.{SinkView}
 use Rattle.fw_outside.specs.SourceView.{SourceView, fresh}
-use Rattle.fw_outside.specs.ToldList.{AddsOne, IsOver, grown}
+use Rattle.fw_outside.specs.ToldList.{IsOver, grown}
 use Rattle.gate_rules.specs.declared.service.Service.{Service}
 use Rattle.gate_rules.specs.declared.service.Service.TheVariants as services
 use Rattle.acceptors.specs.declared.caller.Guest.{Guest}
@@ -56,18 +57,19 @@ pub record IsFresh (visit : Visit) : Type 0 where
 
 -- ---- who waits for clients
 
--- the clients that came, and those that were taken back, with their devices as they stood then, where it tells; whether no
--- more come; and how often waiting failed
+-- the clients that came, and those that were taken back, with their devices as they stood then, where it tells; how many of
+-- those that came weren't taken back yet, where it tells; whether no more come; and how often waiting failed
 pub record AcceptorView : Type 0 where
   pub handed : Option (List Guest)
   pub took : Option (List Visit)
+  pub out : Option ℕ
   pub over : Bool
   pub faults : ℕ
 
 -- a client came
 pub record Comes (visit : Visit) (old new : AcceptorView) : Type 0 where
   pub new_one : IsFresh visit
-  pub is : new ≡ record old { handed = grown old.handed (visit.guest ∷ []) }
+  pub is : new ≡ record old { handed = grown old.handed (visit.guest ∷ []); out = option_map (λ n. n + 1) old.out }
 
 -- no more come
 pub record Ends (old new : AcceptorView) : Type 0 where
@@ -79,8 +81,10 @@ pub record Fails (old new : AcceptorView) : Type 0 where
   pub rose : Rose old.faults count
   pub is : new ≡ record old { over = true; faults = count }
 
+-- a client that came isn't taken back yet
+abbrev pub HasOut : AcceptorView → Type 0
+HasOut door = IfSome door.out (λ n. 0 < n)
+
 -- a client was taken back
 pub record TakesBack (visit : Visit) (old new : AcceptorView) : Type 0 where
-  pub took : Option (List Visit)
-  pub adds : AddsOne visit old.took took
-  pub is : new ≡ record old { took = took }
+  pub is : new ≡ record old { took = grown old.took (visit ∷ []); out = option_map (λ n. n - 1) old.out }

@@ -1,5 +1,5 @@
 -- Who waits for clients in memory.
-use Rattle.std.specs.Prelude.{◌≡◌, ℕ, Bool, true, false, ◌||◌, nat_lt, not, List, [], ◌∷◌, ◌++◌, length, map, None, Some, if◌then◌else◌}
+use Rattle.std.specs.Prelude.{◌≡◌, ℕ, ◌+◌, ◌-◌, ◌≤◌, Bool, true, false, List, [], ◌∷◌, ◌++◌, length, map, Some}
 use Rattle.fw_memory.specs.CallsView.{CallsView, comes_at}
 use Rattle.fw_memory.specs.MemClockView.{MemClockView, clock_view_of}
 use Rattle.fw_memory.specs.MemDialerView.{MemDialerView, dialer_view_of}
@@ -36,8 +36,8 @@ visit_of c = record {
 abbrev pub IsNewCaller : MemCaller → Type 0
 IsNewCaller caller = IsFresh (visit_of caller)
 
--- the clients to come, the calls that fail, and how many calls there were; those that came; those that were taken back, how many
--- fit, and whether there were more; whether no more come, and the count of failures
+-- the clients to come, the calls that fail, and how many calls there were; those that came; those that were taken back, and how
+-- many fit; whether no more come, and the count of failures
 pub record MemAcceptorView : Type 0 where
   pub callers : List MemCaller
   pub fails : CallsView
@@ -45,22 +45,25 @@ pub record MemAcceptorView : Type 0 where
   pub handed : List Guest
   pub took : List MemCaller
   pub room : ℕ
-  pub took_past : Bool
   pub over : Bool
   pub faults : ℕ
 
--- it tells all, but not whom it took back once there was no room for one
+-- there is room for the clients to come among those that came, and for those among those that were taken back
+pub record HasPlace (m : MemAcceptorView) (handed_room took_room : ℕ) : Type 0 where
+  pub handed_fits : m.room ≤ handed_room
+  pub took_fits : m.room ≤ took_room
+  pub to_come : length m.handed + length m.callers ≤ m.room
+  pub back : length m.took ≤ length m.handed
+
+-- it tells all
 abbrev pub acceptor_view_of : MemAcceptorView → AcceptorView
 acceptor_view_of m = record {
   handed = Some m.handed;
-  took = if m.took_past then None else Some (map visit_of m.took);
+  took = Some (map visit_of m.took);
+  out = Some (length m.handed - length m.took);
   over = m.over;
   faults = m.faults;
 }
-
--- whether there is room for one more that is taken back
-abbrev pub has_room : MemAcceptorView → Bool
-has_room m = nat_lt (length m.took) m.room
 
 -- the next client came
 pub record GivesNext (caller : MemCaller) (old new : MemAcceptorView) : Type 0 where

@@ -1,5 +1,5 @@
 //! Who waits for the clients of a server.
-ghost use Rattle.acceptors.specs.AcceptorView.{AcceptorView, Comes, Ends, Fails, TakesBack};
+ghost use Rattle.acceptors.specs.AcceptorView.{AcceptorView, Comes, Ends, Fails, HasOut, TakesBack};
 ghost use Rattle.acceptors.specs.Knocks.{IfEnd, IfFailed, IfSession};
 
 use crate::caller::{Caller, Knock};
@@ -31,7 +31,8 @@ pub trait Acceptor: Drop {
 
     type Rand: Dice;
 
-    /// The clients that came and those that were taken back, whether no more come, and the count of failures.
+    /// The clients that came, those that were taken back and how many weren't yet, whether no more come, and the count of
+    /// failures.
     ghost acceptor_view: { Self → AcceptorView };
 
     /// Waits for the next client. One that comes is of a service with sessions, and its devices are new.
@@ -50,11 +51,12 @@ pub trait Acceptor: Drop {
         ensures end { IfEnd result (Ends (acceptor_view self.old) (acceptor_view self.new)) }
         ensures failed { IfFailed result (Fails (acceptor_view self.old) (acceptor_view self.new)) };
 
-    /// Takes a client back after its session. An acceptor that tells whom it took back may stop telling.
+    /// Takes a client back after its session.
     fn back(
         &mut self,
         caller: Caller<Self::From, Self::To, Self::Logs, Self::Dial, Self::Tick, Self::Rand>,
     )
+        requires { HasOut (acceptor_view self.old) }
         ensures { TakesBack (record {
           guest = record { service = caller.service; peer = caller.peer };
           from = Self.From.source_view caller.from;

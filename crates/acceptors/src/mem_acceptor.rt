@@ -1,8 +1,8 @@
 //! Who waits for clients in memory.
-ghost use Rattle.std.specs.Prelude.{◌≡◌, ◌<◌, ◌+◌, ◌∷◌, [], ◌++◌, ◌||◌, All, IfNone, IfOk, IfSome, false, if◌then◌else◌, length, not, true};
-ghost use Rattle.acceptors.specs.AcceptorView.{Comes, Ends, Fails, TakesBack};
+ghost use Rattle.std.specs.Prelude.{◌≡◌, ◌<◌, ◌+◌, ◌≤◌, ◌∷◌, [], ◌++◌, All, IfNone, IfOk, IfSome, false, length, true};
+ghost use Rattle.acceptors.specs.AcceptorView.{Comes, Ends, Fails, HasOut, TakesBack};
 ghost use Rattle.acceptors.specs.Knocks.{IfEnd, IfFailed, IfSession};
-ghost use Rattle.acceptors.specs.MemAcceptorView.{AnswersNext, IsNewCaller, acceptor_view_of, guest_of, has_room, visit_of};
+ghost use Rattle.acceptors.specs.MemAcceptorView.{AnswersNext, IsNewCaller, acceptor_view_of, guest_of, visit_of};
 ghost use Rattle.fw_memory.specs.CallsView.{comes_at};
 ghost use Rattle.fw_outside.specs.Counts.{Rose, counted};
 
@@ -25,15 +25,14 @@ pub struct MemAcceptor {
     handed: Vec<Guest>,
     took: Vec<MemCaller>,
     room: usize,
-    took_past: bool,
     over: bool,
     faults: u64,
 }
 
 impl Model for MemAcceptor {
-    ghost use Rattle.std.specs.Prelude.{◌+◌, ◌≤◌, All, length, vec_len};
+    ghost use Rattle.std.specs.Prelude.{All};
     ghost use Rattle.std.specs.Vec.{vec_capacity};
-    ghost use Rattle.acceptors.specs.MemAcceptorView.{IsNewCaller, MemAcceptorView};
+    ghost use Rattle.acceptors.specs.MemAcceptorView.{HasPlace, IsNewCaller, MemAcceptorView};
 
     ghost Value = { MemAcceptorView };
 
@@ -44,18 +43,25 @@ impl Model for MemAcceptor {
       handed = m.handed.items;
       took = m.took.items;
       room = m.room;
-      took_past = m.took_past;
       over = m.over;
       faults = m.faults;
     } };
 
-    ghost invariant = { λ m. (m.room ≤ vec_capacity m.took) × (m.room ≤ vec_capacity m.handed)
-        × (vec_len m.handed + length m.callers.items ≤ m.room) × All IsNewCaller m.callers.items };
+    ghost invariant = { λ m. HasPlace (record {
+      callers = m.callers.items;
+      fails = m.fails;
+      calls = m.calls;
+      handed = m.handed.items;
+      took = m.took.items;
+      room = m.room;
+      over = m.over;
+      faults = m.faults;
+    }) (vec_capacity m.handed) (vec_capacity m.took) × All IsNewCaller m.callers.items };
 }
 
 impl MemAcceptor {
     /// Hands out these clients, in order. Its calls of `next` are numbered from 0; those in `fails` fail. There is room to
-    /// take as many back; past it whom it took back isn't told.
+    /// take them all back.
     pub fn new(
         alloc: Global,
         callers: Vec<MemCaller>,
@@ -69,7 +75,6 @@ impl MemAcceptor {
           handed = [];
           took = [];
           room = length callers.items;
-          took_past = false;
           over = false;
           faults = 0;
         }) }
@@ -84,13 +89,12 @@ impl MemAcceptor {
             handed,
             took,
             room,
-            took_past: false,
             over: false,
             faults: 0,
         })
     }
 
-    /// Those that were taken back, as they stood then: all of them, or the first ones, for which there was room.
+    /// Those that were taken back, as they stood then.
     pub fn took(&self) -> &[MemCaller]
         ensures { result.now ≡ self.now.took }
     {
@@ -127,6 +131,7 @@ impl MemAcceptor {
         ensures next { IfSome result (λ caller. self.old.callers ≡ caller ∷ self.new.callers) }
         ensures none { IfNone result ((self.old.callers ≡ []) × (self.new.callers ≡ [])) }
         ensures room { IfSome result (λ _. length self.new.handed + length self.new.callers < self.new.room) }
+        ensures back { length self.new.took ≤ length self.new.handed }
         ensures is { self.new ≡ record self.old { callers = self.new.callers } }
     {
         self.callers.pop_front()
@@ -141,9 +146,7 @@ impl MemAcceptor {
             service: caller.service.twin(),
             peer: caller.peer.twin(),
         };
-        if self.handed.push(guest).is_err() {
-            unreachable!();
-        }
+        self.handed.push_reserved(guest);
     }
 }
 
@@ -186,18 +189,10 @@ impl Acceptor for MemAcceptor {
     }
 
     fn back(&mut self, caller: MemCaller)
+        requires { HasOut (acceptor_view_of self.old) }
         ensures takes { TakesBack (visit_of caller) (acceptor_view_of self.old) (acceptor_view_of self.new) }
-        ensures kept { self.new ≡ record self.old {
-          took = (if has_room self.old then self.old.took ++ caller ∷ [] else self.old.took);
-          took_past = self.old.took_past || not (has_room self.old);
-        } }
+        ensures kept { self.new ≡ record self.old { took = self.old.took ++ caller ∷ [] } }
     {
-        if self.took.len() >= self.room {
-            self.took_past = true;
-            return;
-        }
-        if self.took.push(caller).is_err() {
-            unreachable!();
-        }
+        self.took.push_reserved(caller);
     }
 }
