@@ -1,0 +1,83 @@
+//! The passes of all workers meet, and what they did is gathered.
+ghost use Rattle.std.specs.Prelude.{◌≡◌, ◌≤◌, ◌∷◌, [], length, map};
+ghost use Rattle.std.specs.Vec.{vec_capacity};
+ghost use Rattle.fwtk_serve.specs.Meeting.{HavePasses, passes_of};
+ghost use Rattle.fwtk_serve.specs.Passes.{IsApart, MetAll};
+ghost use Rattle.fwtk_serve.specs.Stepping.{worker_with};
+ghost use Rattle.fwtk_serve.specs.Working.{short_count};
+ghost use Rattle.turn_lock.specs.Known.{IsPassOf};
+
+use crate::report::Served;
+use crate::starting::another;
+use crate::worker::{Worker, WorkerOf};
+use acceptors::Acceptor;
+use auth_port::{Book, Pass, Turns};
+use fw_outside::Keeper;
+
+/// The doors, their sessions, and how many workers wanted memory.
+#[derive(Drop)]
+pub(crate) struct Gathered<A> {
+    pub(crate) doors: Vec<A>,
+    pub(crate) sessions: Vec<Vec<Served>>,
+    pub(crate) short: u32,
+}
+
+// The pass meets another. That one meets a pass of no places first, which shows that its own rise.
+fn meet_one<K: Keeper>(turns: &Turns<Book<K>>, pass: &mut Pass<Book<K>>, other: Pass<Book<K>>)
+    requires pass { IsPassOf turns.now pass.old }
+    requires other { IsPassOf turns.now other }
+    ensures met { MetAll turns.now (other ∷ []) pass.old pass.new }
+    ensures own { IsPassOf turns.now pass.new }
+{
+    let mut other = other;
+    let spare = another(turns, &mut other);
+    turns.meet(&mut other, spare);
+    turns.meet(pass, other);
+}
+
+// The number after one more, if there is one more.
+fn counted(short: bool, count: u32) -> u32 {
+    if short { count.saturating_add(1) } else { count }
+}
+
+/// The pass meets those of all workers. There is room for what is gathered.
+pub(crate) fn meet_all<K: Keeper, A: Acceptor>(
+    turns: &Turns<Book<K>>,
+    pass: &mut Pass<Book<K>>,
+    workers: Vec<WorkerOf<A, K>>,
+    room: Gathered<A>,
+) -> Gathered<A>
+    requires pass { IsPassOf turns.now pass.old }
+    requires apart { IsApart pass.old }
+    requires workers { HavePasses turns.now
+        (map (λ w. worker_with (A.acceptor_view w.door) w.sessions.items w.short w.pass) workers.items) }
+    requires none { (room.doors.items ≡ []) × (room.sessions.items ≡ []) × (room.short ≡ 0) }
+    requires doors { length workers.items ≤ vec_capacity room.doors }
+    requires sessions { length workers.items ≤ vec_capacity room.sessions }
+    ensures met { MetAll turns.now
+        (passes_of (map (λ w. worker_with (A.acceptor_view w.door) w.sessions.items w.short w.pass) workers.items))
+        pass.old pass.new }
+    ensures own { IsPassOf turns.now pass.new }
+    ensures doors { map A.acceptor_view result.doors.items ≡ map (λ w. A.acceptor_view w.door) workers.items }
+    ensures sessions { map (λ s. s.items) result.sessions.items ≡ map (λ w. w.sessions.items) workers.items }
+    ensures short { result.short ≡ short_count
+        (map (λ w. record { door = A.acceptor_view w.door; sessions = w.sessions.items; short = w.short }) workers.items) }
+{
+    let mut gathered = room;
+    for worker in workers {
+        let Worker {
+            door,
+            pass: other,
+            sessions,
+            short,
+        } = worker;
+        match other {
+            Some(other) => meet_one(turns, pass, other),
+            None => unreachable!(),
+        }
+        gathered.doors.push_reserved(door);
+        gathered.sessions.push_reserved(sessions);
+        gathered.short = counted(short, gathered.short);
+    }
+    gathered
+}
