@@ -1,12 +1,14 @@
 //! A server.
-ghost use Rattle.std.specs.Prelude.{◌≡◌, ◌≤◌, All, IfOk, length, map};
+ghost use Rattle.std.specs.Prelude.{◌≡◌, ◌≤◌, [], All, IfOk, length, map};
+ghost use Rattle.std.specs.Vec.{vec_capacity};
 ghost use denote.Param.Send.{IsSync};
 ghost use Rattle.auth_machine.specs.History.{CountsUnkept, HasRecords, IsLegal};
 ghost use Rattle.auth_machine.specs.Port.{book_origin};
 ghost use Rattle.fwtk_serve.specs.Meeting.{HasWorked, HaveWorked, IsReady};
 ghost use Rattle.fwtk_serve.specs.RulesFor.{MayServe, no_rules};
 ghost use Rattle.fwtk_serve.specs.Stepping.{worker_with};
-ghost use Rattle.fwtk_serve.specs.Working.{ServedAll};
+ghost use Rattle.fwtk_serve.specs.Working.{ServedAll, split_off};
+ghost use Rattle.turn_lock.specs.Known.{IsPassOf};
 ghost use mathlib.Core.List.{IsPrefix};
 
 use crate::choosing::no_rules;
@@ -16,6 +18,7 @@ use crate::starting::workers_of;
 use crate::worker::{Worker, WorkerOf};
 use crate::working::work;
 use acceptors::Acceptor;
+use auth_events::Entry;
 use auth_port::{Book, Pass, Turns};
 use fw_outside::Keeper;
 use fw_types::NoMemory;
@@ -56,6 +59,69 @@ fn all_work<H, K, A>(
             (worker_with (A.acceptor_view worker.exit.now.door) worker.exit.now.sessions.items worker.exit.now.short worker.exit.now.pass) }
     { work(rt, alloc, rules, none, turns, worker) };
     for_each_mut(rt, workers, threads, &at_door);
+}
+
+// The keeper and the history of a book, whose history shows what it is.
+fn close<K: Keeper>(book: Book<K>) -> (K, Vec<Entry>)
+    ensures history { result.1.items ≡ book.history }
+    ensures legal { IsLegal book.origin result.1.items }
+    ensures within { length result.1.items ≤ book.limit }
+    ensures keeper { HasRecords book.origin result.1.items (K.keeper_view result.0) }
+    ensures unkept { CountsUnkept book.failed_before result.1.items (K.keeper_view result.0) }
+{
+    let _ = book.history();
+    book.close()
+}
+
+// The workers begin, work, and meet; and the book is closed. There is room for them, and for what is gathered of them.
+fn serve_over<H, K, A>(
+    rt: &H,
+    alloc: Global,
+    rules: &[(Service, Rules)],
+    none: &Rules,
+    turns: Turns<Book<K>>,
+    pass: Pass<Book<K>>,
+    doors: Vec<A>,
+    room: Vec<WorkerOf<A, K>>,
+    gathered: Gathered<A>,
+) -> Report<K, A>
+where
+    H: Threads + Wait + Sync,
+    K: Keeper + Send,
+    A: Acceptor + Send,
+    requires none { none.now ≡ no_rules }
+    requires may { All MayServe rules.now }
+    requires pass { IsPassOf turns pass }
+    requires first { pass ≡ split_off turns pass.seen }
+    requires workers { (room.items ≡ []) × (length doors.items ≤ vec_capacity room) }
+    requires gathers { (gathered.doors.items ≡ []) × (gathered.sessions.items ≡ []) × (gathered.short ≡ 0) }
+    requires doors { length doors.items ≤ vec_capacity gathered.doors }
+    requires sessions { length doors.items ≤ vec_capacity gathered.sessions }
+    ensures legal { IsLegal turns.origin.origin result.history.items }
+    ensures begins { IsPrefix pass.seen result.history.items }
+    ensures within { length result.history.items ≤ turns.limit }
+    ensures keeper { HasRecords turns.origin.origin result.history.items (K.keeper_view result.keeper) }
+    ensures unkept { CountsUnkept turns.origin.failed_before result.history.items (K.keeper_view result.keeper) }
+    ensures doors { ServedAll rules.now pass.seen result.history.items turns.limit turns.origin
+        (map A.acceptor_view doors.items) (map A.acceptor_view result.doors.items)
+        (map (λ s. s.items) result.sessions.items) result.short }
+{
+    let mut pass = pass;
+    let mut workers = workers_of(alloc, &turns, &mut pass, doors, room);
+    all_work(rt, alloc, rules, none, &turns, workers.as_mut_slice());
+    let Gathered {
+        doors,
+        sessions,
+        short,
+    } = meet_all(&turns, &mut pass, workers, gathered);
+    let (keeper, history) = close(turns.close(rt, pass));
+    Report {
+        keeper,
+        history,
+        sessions,
+        doors,
+        short,
+    }
 }
 
 /// Serves the clients of all doors over one book, side by side, until no more come, by the rules of their services; a client

@@ -1,3 +1,4 @@
+//! Who serves the clients of a door.
 use crate::report::Served;
 use auth_port::{Book, Pass};
 
