@@ -1,5 +1,6 @@
 -- The passes of all workers, which are met in the end.
-use Rattle.std.specs.Prelude.{◌≡◌, ℕ, List, [], ◌∷◌, ◌++◌, All}
+use Rattle.std.specs.Prelude.{◌≡◌, ℕ, List, [], ◌∷◌, ◌++◌}
+use Rattle.std.specs.List.{AllByRecursion}
 use Rattle.std.specs.List.Sorted.{IsStrictlyIncreasing}
 use Rattle.auth_events.specs.declared.entry.Entry.{Entry}
 use Rattle.auth_machine.specs.Port.{BookOrigin}
@@ -28,6 +29,6 @@ pub record IsMet (seen : List Entry) (pass : Pass) : Type 0 where
 pub record MetAll (lock : Lock BookOrigin) (others : List Pass) (old new : Pass) : Type 0 where
   pub seen : List Entry
   pub begins : IsPrefix old.seen seen
-  pub met : All (IsMet seen) others
+  pub met : AllByRecursion (IsMet seen) others
   pub is : new ≡ knowing lock seen old.mine (old.met ++ held_by others)
   pub apart : IsApart new

@@ -78,6 +78,7 @@ pub record Held (rules : RuleBook) (lock : Lock BookOrigin) (first last : Known 
   pub peer : served.peer ≡ fresh.guest.peer
   pub places : served.places ≡ port.mine
   pub full : port.full ≡ full_at lock.limit port.seen
+  pub origin : port.origin ≡ record { lock = lock; first = first }
   pub pass : last ≡ pass_of port
   pub begins : IsPrefix first.seen last.seen
 

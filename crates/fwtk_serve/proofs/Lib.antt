@@ -1,0 +1,3 @@
+pub mod DoorLemmas
+pub mod PassLemmas
+pub mod SessionLemmas
