@@ -1,5 +1,5 @@
 //! The passes of all workers meet, and what they did is gathered.
-ghost use Rattle.std.specs.Prelude.{◌≡◌, ◌≤◌, ◌∷◌, [], length, map};
+ghost use Rattle.std.specs.Prelude.{◌≡◌, ◌+◌, ◌-◌, ◌^◌, ◌≤◌, ◌∷◌, [], if◌then◌else◌, length, map, min};
 ghost use Rattle.std.specs.Vec.{vec_capacity};
 ghost use Rattle.fwtk_serve.specs.Meeting.{HavePasses, passes_of};
 ghost use Rattle.fwtk_serve.specs.Passes.{IsApart, MetAll};
@@ -36,7 +36,9 @@ fn meet_one<K: Keeper>(turns: &Turns<Book<K>>, pass: &mut Pass<Book<K>>, other: 
 }
 
 // The number after one more, if there is one more.
-fn counted(short: bool, count: u32) -> u32 {
+fn counted(short: bool, count: u32) -> u32
+    ensures { result ≡ min (count + (if short then 1 else 0)) (2 ^ 32 - 1) }
+{
     if short { count.saturating_add(1) } else { count }
 }
 

@@ -1,7 +1,6 @@
 //! A server.
 ghost use Rattle.std.specs.Prelude.{◌≡◌, ◌≤◌, [], All, IfOk, length, map};
 ghost use Rattle.std.specs.Vec.{vec_capacity};
-ghost use denote.Param.Send.{IsSync};
 ghost use Rattle.auth_machine.specs.History.{CountsUnkept, HasRecords, IsLegal};
 ghost use Rattle.auth_machine.specs.Port.{book_origin};
 ghost use Rattle.fwtk_serve.specs.Meeting.{HasWorked, HaveWorked, IsReady};
@@ -52,7 +51,7 @@ fn all_work<H, K, A>(
         return;
     }
     let at_door = |_at: usize, worker: &mut Worker<A, Pass<Book<K>>>|
-        requires { IsSync H.row × (none.now ≡ no_rules) × All MayServe rules.now
+        requires { (none.now ≡ no_rules) × All MayServe rules.now
             × IsReady turns.now (worker_with (A.acceptor_view worker.now.door) worker.now.sessions.items worker.now.short worker.now.pass) }
         ensures { HasWorked rules.entry.now turns.entry.now
             (worker_with (A.acceptor_view worker.entry.now.door) worker.entry.now.sessions.items worker.entry.now.short worker.entry.now.pass)

@@ -1,0 +1,30 @@
+//! A server over clients in memory: a client whose service has no rules, and two doors at each of which a client of `authsrv`
+//! opens a session and ends it.
+#![tactic(auto)]
+
+mod clients;
+mod scenes;
+mod telling;
+
+use lines_of_rows::{Told, add, add_word};
+use scenes::{tell_two_doors, tell_without_rules};
+use std::alloc::Global;
+use std::sync::Wait;
+use std::thread::Threads;
+use std::{io, str};
+
+fn tell<H: Threads + Wait + Sync>(rt: &H, alloc: Global, out: &mut Told) {
+    add_word(out, b"without rules:");
+    tell_without_rules(rt, alloc, out);
+    add(out, b"\ntwo doors:");
+    tell_two_doors(rt, alloc, out);
+}
+
+fn main(rt: HostRuntime) -> io::Result<()> {
+    let mut out = Told::new();
+    tell(&rt, rt.alloc(), &mut out);
+    match str::from_utf8(out.as_slice()) {
+        Ok(text) => println!(rt; "{text}"),
+        Err(_) => println!(rt; "no text"),
+    }
+}
