@@ -1,8 +1,7 @@
--- One session of a worker.
+-- What a worker does with one client, or where none comes.
 -- No public clause cites these: they say what private functions do.
-use Rattle.std.specs.Prelude.{◌≡◌, ℕ, ◌-◌, Bool, List, [], ◌∷◌, ◌++◌, Option, Some}
-use Rattle.std.specs.Option.{option_map}
-use Rattle.acceptors.specs.AcceptorView.{AcceptorView, TakesBack, Visit}
+use Rattle.std.specs.Prelude.{◌≡◌, Bool, true, false, List, [], ◌∷◌, ◌++◌, Option, Some}
+use Rattle.acceptors.specs.AcceptorView.{AcceptorView, Comes, IsFresh, TakesBack, Visit}
 use Rattle.auth_machine.specs.Port.{BookOrigin}
 use Rattle.gate_rules.specs.Reading.{RuleBook}
 use Rattle.gate_rules.specs.declared.service.Service.{Service}
@@ -28,3 +27,27 @@ pub record ServesOne (rules : List (Service × RuleBook)) (lock : Lock BookOrigi
   pub back : TakesBack taken old.at.door new.at.door
   pub sessions : new.at.sessions ≡ old.at.sessions ++ served ∷ []
   pub short : new.at.short ≡ old.at.short
+
+-- the same worker at a door that is left so
+abbrev pub at_door : WorkerView → AcceptorView → WorkerView
+at_door worker door = record worker { at = record (worker.at) { door = door } }
+
+-- a client came, and was served
+pub record ServesNext (rules : List (Service × RuleBook)) (lock : Lock BookOrigin) (old new : WorkerView) : Type 0 where
+  pub fresh : Visit
+  pub came : AcceptorView
+  pub comes : Comes fresh old.at.door came
+  pub serves : ServesOne rules lock (at_door old came) new fresh
+
+-- the worker ends: nobody came; no more come, or memory is short
+pub record Stops (old new : WorkerView) : Type 0 where
+  pub pass : new.pass ≡ old.pass
+  pub sessions : new.at.sessions ≡ old.at.sessions
+  pub handed : new.at.door.handed ≡ old.at.door.handed
+  pub took : new.at.door.took ≡ old.at.door.took
+  pub over : new.at.short ≡ false → new.at.door.over ≡ true
+
+-- whether it goes on
+abbrev pub StepsOn : Bool → List (Service × RuleBook) → Lock BookOrigin → WorkerView → WorkerView → Type 0
+StepsOn true rules lock old new = ServesNext rules lock old new
+StepsOn false rules lock old new = Stops old new

@@ -1,11 +1,11 @@
 //! What a worker does at its door.
-ghost use Rattle.std.specs.Prelude.{◌≡◌, ◌<◌, All, false, vec_len};
+ghost use Rattle.std.specs.Prelude.{◌≡◌, ◌<◌, All, vec_len};
 ghost use Rattle.std.specs.Vec.{vec_capacity};
 ghost use Rattle.acceptors.specs.AcceptorView.{HasOut, IsFresh};
 ghost use Rattle.fwtk_serve.specs.Meeting.{HasPass, HasWorked, IsReady};
 ghost use Rattle.fwtk_serve.specs.RulesFor.{MayServe, no_rules};
 ghost use Rattle.fwtk_serve.specs.Sessions.{visit_with};
-ghost use Rattle.fwtk_serve.specs.Stepping.{ServesOne, worker_with};
+ghost use Rattle.fwtk_serve.specs.Stepping.{ServesOne, StepsOn, worker_with};
 ghost use Rattle.turn_lock.specs.Known.{IsPassOf};
 
 use crate::choosing::rules_for;
@@ -57,7 +57,42 @@ fn serve_one<H, K, A>(
     worker.door.back(caller);
 }
 
-/// Serves the clients of its door until no more come. Before each it takes the memory to report it, and ends where there is none.
+// Serves the next client that comes, for whose report it takes the memory first. Whether one was served: else no more come, or
+// there was no memory.
+fn serve_next<H, K, A>(
+    rt: &H,
+    alloc: Global,
+    rules: &[(Service, Rules)],
+    none: &Rules,
+    turns: &Turns<Book<K>>,
+    worker: &mut WorkerOf<A, K>,
+) -> bool
+where
+    H: Threads + Wait + Sync,
+    K: Keeper,
+    A: Acceptor,
+    requires none { none.now ≡ no_rules }
+    requires may { All MayServe rules.now }
+    requires pass { HasPass (IsPassOf turns.now) worker.old.pass }
+    ensures { StepsOn result rules.now turns.now
+        (worker_with (A.acceptor_view worker.old.door) worker.old.sessions.items worker.old.short worker.old.pass)
+        (worker_with (A.acceptor_view worker.new.door) worker.new.sessions.items worker.new.short worker.new.pass) }
+{
+    if worker.sessions.reserve(1).is_err() {
+        worker.short = true;
+        return false;
+    }
+    match worker.door.next() {
+        Knock::Session(caller) => {
+            serve_one(rt, alloc, rules, none, turns, worker, caller);
+            true
+        }
+        Knock::End => false,
+        Knock::Failed => false,
+    }
+}
+
+/// Serves the clients of its door until no more come, or there is no memory to report one more.
 pub(crate) fn work<H, K, A>(
     rt: &H,
     alloc: Global,
@@ -78,14 +113,8 @@ pub(crate) fn work<H, K, A>(
         (worker_with (A.acceptor_view worker.new.door) worker.new.sessions.items worker.new.short worker.new.pass) }
 {
     for _ in rt.forever() {
-        if worker.sessions.reserve(1).is_err() {
-            worker.short = true;
+        if !serve_next(rt, alloc, rules, none, turns, worker) {
             return;
-        }
-        match worker.door.next() {
-            Knock::Session(caller) => serve_one(rt, alloc, rules, none, turns, worker, caller),
-            Knock::End => return,
-            Knock::Failed => return,
         }
     }
     unreachable!()
