@@ -1,3 +1,4 @@
 pub mod DoorLemmas
 pub mod PassLemmas
+pub mod ReportLemmas
 pub mod SessionLemmas
