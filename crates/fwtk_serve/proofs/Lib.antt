@@ -1,4 +1,5 @@
 pub mod DoorLemmas
+pub mod EachLemmas
 pub mod PassLemmas
 pub mod ReportLemmas
 pub mod SessionLemmas
