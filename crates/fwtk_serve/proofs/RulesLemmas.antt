@@ -32,11 +32,14 @@ same_served FtpGw (PlugGw b) book has same served = absurd (cc)
 same_served Smap (PlugGw b) book has same served = absurd (cc)
 same_served Authsrv (PlugGw b) book has same served = absurd (cc)
 
+choose : (service : Service) (one : Service × RuleBook) (more : RuleBook) → HasSessions service → IsServed one.0 one.1 → IsServed service more
+    → (same : Bool) → is_same_service one.0 service ≡ same → IsServed service (cond same one.1 more)
+choose service one more has served rest true is = same_served one.0 service one.1 has is served
+choose service one more has served rest false is = rest
+
 -- the first of the service, or none
 pub chosen_served : (service : Service) → HasSessions service → (all : List (Service × RuleBook)) → ((k : ℕ) (d : Service × RuleBook) → k < length all → MayServe (slice_index_or all k d)) → IsServed service (rules_for service all)
 chosen_served service has [] may = none_served service has
-chosen_served service has (one ∷ more) may = choose (is_same_service one.0 service) refl
-  where
-    choose : (same : Bool) → is_same_service one.0 service ≡ same → IsServed service (cond same one.1 (rules_for service more))
-    choose true is = same_served one.0 service one.1 has is (may 0 one (omega (arith))).served
-    choose false is = chosen_served service has more (λ k d lt. may (suc k) d (omega (arith, lt)))
+chosen_served service has (one ∷ more) may =
+    choose service one (rules_for service more) has (may 0 one (omega arith)).served (chosen_served service has more (λ k d lt. may (suc k) d (omega (arith, lt))))
+    (is_same_service one.0 service) refl
