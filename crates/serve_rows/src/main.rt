@@ -1,13 +1,15 @@
-//! A server over clients in memory: a client whose service has no rules, and two doors at each of which a client of `authsrv`
-//! opens a session and ends it.
+//! A server over clients in memory: a client whose service has no rules, and two doors, at each of which a client of `authsrv`
+//! ends its session once the other was greeted.
 #![tactic(auto)]
 
 mod clients;
+mod greeted;
+mod meeting_door;
 mod scenes;
 mod telling;
 
 use lines_of_rows::{Told, add, add_word};
-use scenes::{tell_two_doors, tell_without_rules};
+use scenes::{tell_side_by_side, tell_without_rules};
 use std::alloc::Global;
 use std::sync::Wait;
 use std::thread::Threads;
@@ -16,8 +18,8 @@ use std::{io, str};
 fn tell<H: Threads + Wait + Sync>(rt: &H, alloc: Global, out: &mut Told) {
     add_word(out, b"without rules:");
     tell_without_rules(rt, alloc, out);
-    add(out, b"\ntwo doors:");
-    tell_two_doors(rt, alloc, out);
+    add(out, b"\nside by side:");
+    tell_side_by_side(rt, alloc, out);
 }
 
 fn main(rt: HostRuntime) -> io::Result<()> {

@@ -1,5 +1,5 @@
 //! What is told of a report.
-use acceptors::MemAcceptor;
+use acceptors::Acceptor;
 use fw_memory::MemKeeper;
 use fw_types::Ending;
 use fwtk_serve::{Report, Served};
@@ -20,7 +20,7 @@ fn tell_served(out: &mut Told, served: &Served) {
     tell_ending(out, served.ending);
     add_word(out, b"with");
     add_number(out, served.places.len() as u64);
-    add_word(out, b"entries");
+    add_word(out, b"entries of its own");
 }
 
 fn tell_sessions(out: &mut Told, sessions: &[Served]) {
@@ -31,7 +31,7 @@ fn tell_sessions(out: &mut Told, sessions: &[Served]) {
 }
 
 /// The sessions of each door, how many entries there are, and how many workers wanted memory.
-pub(crate) fn tell_report(out: &mut Told, report: &Report<MemKeeper, MemAcceptor>) {
+pub(crate) fn tell_report<A: Acceptor>(out: &mut Told, report: &Report<MemKeeper, A>) {
     for sessions in &report.sessions {
         tell_sessions(out, sessions);
     }
