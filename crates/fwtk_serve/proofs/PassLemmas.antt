@@ -48,7 +48,7 @@ met_none lock pass own apart = record {
 }
 
 -- all that were met see no more later than is seen then
-met_later : (seen later : List Entry) (others : List Pass) → IsPrefix seen later → AllByRecursion (IsMet seen) others → AllByRecursion (IsMet later) others
+pub met_later : (seen later : List Entry) (others : List Pass) → IsPrefix seen later → AllByRecursion (IsMet seen) others → AllByRecursion (IsMet later) others
 met_later seen later [] front met = tt
 met_later seen later (other ∷ others) front met =
     (record { begins = front_trans other.seen seen later met.0.begins front; rise = met.0.rise }, met_later seen later others front met.1)

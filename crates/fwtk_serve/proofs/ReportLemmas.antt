@@ -8,17 +8,34 @@ use Rattle.auth_events.specs.declared.entry.Entry.{Entry}
 use Rattle.auth_machine.specs.Port.{BookOrigin}
 use Rattle.gate_rules.specs.Reading.{RuleBook}
 use Rattle.gate_rules.specs.declared.service.Service.{Service}
-use Rattle.turn_lock.specs.Known.{Lock, knowing}
+use Rattle.turn_lock.specs.Known.{IsPassOf, Lock, knowing}
 use Rattle.turn_lock.specs.Places.{NoneTwice}
-use Rattle.fwtk_serve.specs.Meeting.{HasWorked, HaveWorked, WorkerView, passes_of, starting, with_pass}
+use Rattle.fwtk_serve.specs.Meeting.{HasPass, HasWorked, HavePasses, HaveWorked, WorkerView, passes_of, starting, with_pass}
 use Rattle.fwtk_serve.specs.Passes.{IsApart, IsMet, MetAll, Pass, held_by}
 use Rattle.fwtk_serve.specs.Sessions.{ServedView, places_of}
-use Rattle.fwtk_serve.specs.Working.{DoorView, ServedDoor, ServedDoors, Worked, all_places, split_off}
+use Rattle.fwtk_serve.specs.Working.{DoorView, ServedAll, ServedDoor, ServedDoors, Worked, all_places, short_count, split_off}
+use Rattle.fwtk_serve.proofs.PassLemmas.{met_later}
 use Rattle.fwtk_serve.proofs.SessionLemmas.{met_served, mine_served}
+use mathlib.Core.List.{IsPrefix}
 
 pass_or : Pass → Option Pass → Pass
 pass_or other None = other
 pass_or other (Some pass) = pass
+
+at_doors : (news : List WorkerView) → map (λ (d : DoorView). d.door) (map (λ (w : WorkerView). w.at) news) ≡ map (λ (w : WorkerView). w.at.door) news
+at_doors [] = refl
+at_doors (w ∷ ws) = ap (λ (l : List AcceptorView). w.at.door ∷ l) (at_doors ws)
+
+at_sessions : (news : List WorkerView) → map (λ (d : DoorView). d.sessions) (map (λ (w : WorkerView). w.at) news) ≡ map (λ (w : WorkerView). w.at.sessions) news
+at_sessions [] = refl
+at_sessions (w ∷ ws) = ap (λ (l : List (List ServedView)). w.at.sessions ∷ l) (at_sessions ws)
+
+-- who has worked has a pass of the lock
+pub have_passes : (rules : List (Service × RuleBook)) (lock : Lock BookOrigin) (olds news : List WorkerView) → HaveWorked rules lock olds news → HavePasses lock news
+have_passes rules lock [] [] worked = tt
+have_passes rules lock (old ∷ olds) (new ∷ news) worked = (subst (HasPass (IsPassOf lock)) (sym worked.0.has) worked.0.own, have_passes rules lock olds news worked.1)
+have_passes rules lock [] (new ∷ news) worked = absurd worked
+have_passes rules lock (old ∷ olds) [] worked = absurd worked
 
 module _ (rules : List (Service × RuleBook)) (lock : Lock BookOrigin) (before : List Entry) where
   -- ---- one worker
@@ -80,3 +97,21 @@ module _ (rules : List (Service × RuleBook)) (lock : Lock BookOrigin) (before :
           ∙ ap₂ (λ (a b : List ℕ). a ++ (b ++ held_by (passes_of news))) mine met
           ∙ places_held olds news worked in
       subst NoneTwice all h.apart
+
+  -- ---- the whole
+
+  pub served_all : (olds : List AcceptorView) (news : List WorkerView) (old new : Pass) (history : List Entry) (doors : List AcceptorView) (sessions : List (List ServedView)) (short : ℕ)
+      → HaveWorked rules lock (begun olds) news → old.mine ≡ [] → old.met ≡ [] → MetAll lock (passes_of news) old new → IsPrefix new.seen history
+      → doors ≡ map (λ (w : WorkerView). w.at.door) news → sessions ≡ map (λ (w : WorkerView). w.at.sessions) news → short ≡ short_count (map (λ (w : WorkerView). w.at) news)
+      → ServedAll rules before history lock.limit lock.origin olds doors sessions short
+  served_all olds news old new history doors sessions short worked mine met h front doors_are sessions_are short_is =
+      let later : IsPrefix h.seen history = subst (λ (s : List Entry). IsPrefix s history) (ap (λ (p : Pass). p.seen) h.is) front in
+      record {
+        home = lock.home;
+        news = map (λ (w : WorkerView). w.at) news;
+        doors_are = at_doors news ∙ sym doors_are;
+        sessions_are = at_sessions news ∙ sym sessions_are;
+        short_is = short_is;
+        served = doors_served history olds news worked (met_later h.seen history (passes_of news) later h.met);
+        apart = places_apart olds news old new worked mine met h;
+      }

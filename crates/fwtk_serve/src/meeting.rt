@@ -60,10 +60,12 @@ pub(crate) fn meet_all<K: Keeper, A: Acceptor>(
         (passes_of (map (λ w. worker_with (A.acceptor_view w.door) w.sessions.items w.short w.pass) workers.items))
         pass.old pass.new }
     ensures own { IsPassOf turns.now pass.new }
-    ensures doors { map A.acceptor_view result.doors.items ≡ map (λ w. A.acceptor_view w.door) workers.items }
-    ensures sessions { map (λ s. s.items) result.sessions.items ≡ map (λ w. w.sessions.items) workers.items }
-    ensures short { result.short ≡ short_count
-        (map (λ w. record { door = A.acceptor_view w.door; sessions = w.sessions.items; short = w.short }) workers.items) }
+    ensures doors { map A.acceptor_view result.doors.items ≡ map (λ w. w.at.door)
+        (map (λ w. worker_with (A.acceptor_view w.door) w.sessions.items w.short w.pass) workers.items) }
+    ensures sessions { map (λ s. s.items) result.sessions.items ≡ map (λ w. w.at.sessions)
+        (map (λ w. worker_with (A.acceptor_view w.door) w.sessions.items w.short w.pass) workers.items) }
+    ensures short { result.short ≡ short_count (map (λ w. w.at)
+        (map (λ w. worker_with (A.acceptor_view w.door) w.sessions.items w.short w.pass) workers.items)) }
 {
     let mut gathered = room;
     for worker in workers {
