@@ -8,12 +8,13 @@ use Rattle.auth_events.specs.declared.entry.Entry.{Entry}
 use Rattle.auth_events.specs.declared.reply.Reply.{Reply}
 use Rattle.auth_events.specs.declared.request.Request.{Request}
 use Rattle.auth_machine.specs.Answers.{full_of}
-use Rattle.auth_machine.specs.Port.{BookOrigin}
+use Rattle.auth_machine.specs.History.{IsLegal}
+use Rattle.auth_machine.specs.Port.{BookOrigin, full_at}
 use Rattle.turn_lock.proofs.Fronts.{front_self, front_trans}
 use Rattle.turn_lock.specs.Known.{IsPassOf, Known, TookTurn}
 use Rattle.auth_port.proofs.SharedLemmas.{TakesTurn, front_more, history_full, history_lacks, history_made, history_stays, pass_full, pass_lacks, pass_made, port_full, port_lacks, port_made, port_stays}
 use Rattle.auth_port.specs.Asking.{AsksInTurn}
-use Rattle.auth_port.specs.Shared.{FoundFull, GoesOn, LackedMemory, MadeEntry, RepliesInOne, SharedOrigin, pass_of, shared_port}
+use Rattle.auth_port.specs.Shared.{FoundFull, GoesOn, LackedMemory, MadeEntry, RepliesInOne, SeesLegal, SharedOrigin, pass_of, shared_port}
 use Rattle.auth_port.specs.declared.asking.Answered.{Answered}
 use Rattle.auth_port.specs.declared.asking.Answered.TheVariants as answers
 
@@ -42,17 +43,24 @@ module _ (sid at : ℕ) (request : Request) (o : SharedOrigin) (mine items : Lis
 
   pub goes_made : (place : ℕ) (reply : Reply) → Turned (answers.Entered place reply) → items ≡ mine ++ place ∷ [] → GoesOn o items now
   goes_made place reply t is =
-      places (mine ++ place ∷ []) is record { is = pass_made sid at request place reply o pass.seen mine now (taken (answers.Entered place reply) t); begins = later (made_front place reply t) }
+      let k = taken (answers.Entered place reply) t in
+      places (mine ++ place ∷ []) is record {
+        is = pass_made sid at request place reply o pass.seen mine now k;
+        begins = later (made_front place reply t);
+        legal = λ _. (history_made sid at request place reply o pass.seen mine now true 0 0 k).legal;
+      }
 
   pub goes_full : (told : ℕ) → Turned (answers.Full told) → items ≡ mine → GoesOn o items now
   goes_full told t is =
       let k = taken (answers.Full told) t in
-      places mine is record { is = pass_full sid at request told o pass.seen mine now k; begins = later (history_full sid at request told o pass.seen mine now true 0 0 k).begins }
+      let h = history_full sid at request told o pass.seen mine now true 0 0 k in
+      places mine is record { is = pass_full sid at request told o pass.seen mine now k; begins = later h.begins; legal = λ _. h.legal }
 
   pub goes_lacking : Turned answers.NoMemory → items ≡ mine → GoesOn o items now
   goes_lacking t is =
       let k = taken answers.NoMemory t in
-      places mine is record { is = pass_lacks sid at request o pass.seen mine now k; begins = later (history_lacks sid at request o pass.seen mine now true 0 0 k).begins }
+      let h = history_lacks sid at request o pass.seen mine now true 0 0 k in
+      places mine is record { is = pass_lacks sid at request o pass.seen mine now k; begins = later h.begins; legal = λ legal. h.legal (on.legal legal) }
 
   module _ (refused : Bool) (asks more : ℕ) (old : Port SharedOrigin) (view_is : shared_port o pass.seen mine refused asks ≡ old) where
     abbrev was : Port SharedOrigin
@@ -127,3 +135,12 @@ hands_back o mine pass refused asks self view_is on = (
   subst (λ (p : Port SharedOrigin). IsPassOf p.origin.lock pass) view_is (subst (IsPassOf o.lock) (sym on.is) record { home = refl; limit = refl; origin = refl }),
   subst (λ (p : Port SharedOrigin). IsPrefix p.origin.first.seen p.seen) view_is on.begins,
 )
+
+pub legal_at_end : (o : SharedOrigin) (mine : List ℕ) (pass : Known Entry BookOrigin) (refused : Bool) (asks : ℕ) (self : Port SharedOrigin) → shared_port o pass.seen mine refused asks ≡ self → GoesOn o mine pass
+    → IsLegal self.origin.lock.origin.origin self.origin.first.seen → SeesLegal self
+legal_at_end o mine pass refused asks self view_is on =
+    subst (λ (p : Port SharedOrigin). IsLegal p.origin.lock.origin.origin p.origin.first.seen → SeesLegal p) view_is on.legal
+
+pub full_at_end : (o : SharedOrigin) (seen : List Entry) (mine : List ℕ) (refused : Bool) (asks : ℕ) (self : Port SharedOrigin) → shared_port o seen mine refused asks ≡ self → self.full ≡ full_at self.origin.lock.limit self.seen
+full_at_end o seen mine refused asks self view_is =
+    subst (λ (p : Port SharedOrigin). p.full ≡ full_at p.origin.lock.limit p.seen) view_is refl

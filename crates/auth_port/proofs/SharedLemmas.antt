@@ -172,7 +172,12 @@ port_full sid at request told o seen mine now refused asks more grew t =
 pub history_lacks : (sid at : ℕ) (request : Request) (o : SharedOrigin) (seen : List Entry) (mine : List ℕ) (now : Known Entry BookOrigin) (refused : Bool) (asks more : ℕ)
     → TakesTurn sid at request answers.NoMemory o seen mine now → LackedMemory (shared_port o seen mine refused asks) (shared_port o now.seen mine refused more)
 history_lacks sid at request o seen mine now refused asks more t =
-    record { begins = stayed seen t.found t.seen now.seen t.begins (lacking_in sid at request o seen mine now t) (ap (λ (k : Known Entry BookOrigin). k.seen) t.is); mine = refl }
+    let is : now.seen ≡ t.seen = ap (λ (k : Known Entry BookOrigin). k.seen) t.is in
+    record {
+      begins = stayed seen t.found t.seen now.seen t.begins (lacking_in sid at request o seen mine now t) is;
+      legal = λ _. subst (IsLegal o.lock.origin.origin) (sym is) t.did.asked.legal;
+      mine = refl;
+    }
 
 -- a port that has seen more, and made no entry
 lacked : (o : SharedOrigin) (seen later : List Entry) (mine : List ℕ) (refused : Bool) (asks more : ℕ) → Grew 1 asks more → IsPrefix seen later → Stays (full_at o.lock.limit seen) (full_at o.lock.limit later)
@@ -205,7 +210,7 @@ port_stays o seen mine refused asks more grew = lacked o seen seen mine refused 
     same (Some limit) = refl
 
 pub history_stays : (o : SharedOrigin) (seen : List Entry) (mine : List ℕ) (refused : Bool) (asks more : ℕ) → LackedMemory (shared_port o seen mine refused asks) (shared_port o seen mine refused more)
-history_stays o seen mine refused asks more = record { begins = front_self seen; mine = refl }
+history_stays o seen mine refused asks more = record { begins = front_self seen; legal = λ legal. legal; mine = refl }
 
 -- a pass that is handed in
 pub at_first : (lock : Lock BookOrigin) (pass : Known Entry BookOrigin) → IsPassOf lock pass → GoesOn (record { lock = lock; first = pass }) [] pass
@@ -214,4 +219,5 @@ at_first lock pass of =
     record {
       is = λ i. record { seen = pass.seen; mine = sym none i; met = pass.met; home = of.home i; limit = of.limit i; origin = of.origin i };
       begins = front_self pass.seen;
+      legal = λ legal. legal;
     }

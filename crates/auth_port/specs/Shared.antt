@@ -35,10 +35,12 @@ shared_port origin seen mine refused asks = record {
 abbrev pub knows : SharedOrigin → List Entry → List ℕ → Known Entry BookOrigin
 knows origin seen mine = knowing origin.lock seen (origin.first.mine ++ mine) origin.first.met
 
--- a pass goes on from what it knew at first: it has seen all that it had seen then, and has those places and these
+-- a pass goes on from what it knew at first: it has seen all that it had seen then, and has those places and these; and what it
+-- has seen is legal, if what it had seen then was
 pub record GoesOn (origin : SharedOrigin) (mine : List ℕ) (pass : Known Entry BookOrigin) : Type 0 where
   pub is : pass ≡ knows origin pass.seen mine
   pub begins : IsPrefix origin.first.seen pass.seen
+  pub legal : IsLegal origin.lock.origin.origin origin.first.seen → IsLegal origin.lock.origin.origin pass.seen
 
 -- what the pass of a port knows
 abbrev pub pass_of : Port SharedOrigin → Known Entry BookOrigin
@@ -73,6 +75,7 @@ pub record FoundFull (told : ℕ) (old new : Port SharedOrigin) : Type 0 where
 -- no entry was made, for want of memory
 pub record LackedMemory (old new : Port SharedOrigin) : Type 0 where
   pub begins : IsPrefix old.seen new.seen
+  pub legal : SeesLegal old → SeesLegal new
   pub mine : new.mine ≡ old.mine
 
 abbrev pub RepliesInOne : Option ℕ → ℕ → ℕ → Request → Reply → Port SharedOrigin → Port SharedOrigin → Type 0

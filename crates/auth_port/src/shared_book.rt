@@ -2,7 +2,9 @@
 ghost use Rattle.std.specs.Prelude.{◌≡◌, [], false};
 ghost use mathlib.Core.List.{IsPrefix};
 ghost use Rattle.auth_events.specs.Port.{Asks};
-ghost use Rattle.auth_port.specs.Shared.{AnswersInOne, pass_of, shared_port};
+ghost use Rattle.auth_machine.specs.History.{IsLegal};
+ghost use Rattle.auth_machine.specs.Port.{full_at};
+ghost use Rattle.auth_port.specs.Shared.{AnswersInOne, SeesLegal, pass_of, shared_port};
 ghost use Rattle.fw_outside.specs.Counts.{Grew};
 ghost use Rattle.turn_lock.specs.Known.{IsPassOf};
 
@@ -71,12 +73,15 @@ impl<'a, H, K: Keeper> SharedBook<'a, H, K> {
         }
     }
 
-    /// The pass, and the places of the entries that this port made, in order.
+    /// The pass, and the places of the entries that this port made, in order. All that it has seen is legal, if what the pass
+    /// had seen at first was; and it was full exactly where it had seen as many entries as fit.
     pub fn into_pass(self) -> (Pass<Book<K>>, Vec<u64>)
         ensures pass { result.0 ≡ pass_of self.entry }
         ensures given { IsPassOf self.entry.origin.lock result.0 }
         ensures begins { IsPrefix self.entry.origin.first.seen self.entry.seen }
         ensures places { result.1.items ≡ self.entry.mine }
+        ensures legal { IsLegal self.entry.origin.lock.origin.origin self.entry.origin.first.seen → SeesLegal self.entry }
+        ensures full { self.entry.full ≡ full_at self.entry.origin.lock.limit self.entry.seen }
     {
         let SharedBook { pass, mine, .. } = self;
         (pass, mine)

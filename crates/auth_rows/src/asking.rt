@@ -125,10 +125,23 @@ impl Row {
     }
 }
 
+fn compare_reply(line: &Line<'_>, row: &Row, reply: &Reply) -> Result<(), Fault> {
+    let told = told_of(reply);
+    check(
+        line,
+        row.told.as_slice() == told.as_slice(),
+        told.as_slice(),
+    )
+}
+
 // Asks this, and compares the reply, or that there is none, with what the row says.
 fn ask_row(line: &Line<'_>, stage: &mut Stage, row: &Row, request: Request) -> Result<(), Fault> {
     match stage.ask(row.sid, row.at, request) {
-        Ok(reply) => check(line, row.is_told(&reply), told_of(&reply).as_slice()),
+        Ok(reply) => {
+            let compared = compare_reply(line, row, &reply);
+            drop(reply);
+            compared
+        }
         Err(PortFault::NoMemory) => Err(Fault::NoMemory),
         Err(_) => check(line, row.is_told_nothing(), &NO_ANSWER),
     }

@@ -4,7 +4,7 @@ ghost use Rattle.fw_memory.specs.MemDialerView.{IsNewLink};
 
 use crate::fault::{Fault, Line, check};
 use crate::stage::Stage;
-use crate::talk::{Break, Device, add_line, calls_of, name_of, wanted};
+use crate::talk::{Break, Device, add_line, both, name_of, set_call, set_calls, wanted};
 use arrayvec::ArrayVec;
 use fw_memory::{Calls, MemClock, MemDialer, MemSink, MemSource};
 use fw_outside::Ask;
@@ -48,8 +48,8 @@ pub(crate) struct Gateway {
 fn link(alloc: Global, bytes: &[u8]) -> Result<(MemSource, MemSink), NoMemory>
     ensures { IfOk result IsNewLink }
 {
-    let to = MemSink::new(alloc, 4096, Calls::none())?;
     let bytes = Octets::copy(alloc, bytes)?;
+    let to = MemSink::new(alloc, 4096, Calls::none())?;
     Ok((MemSource::new(bytes, 7, Calls::none(), Calls::none()), to))
 }
 
@@ -152,15 +152,27 @@ impl Gateway {
     // Takes in how the devices are.
     fn take_device(&mut self, alloc: Global, word: &str, text: &[u8]) -> Result<(), NoMemory> {
         match word {
-            "clock" => self.clock = numbers_of(alloc, text)?,
-            "source" => self.source = calls_of(alloc, text)?,
-            "idle" => self.idle = calls_of(alloc, text)?,
-            "sink" => self.sink = calls_of(alloc, text)?,
+            "clock" => {
+                self.clock = numbers_of(alloc, text)?;
+                Ok(())
+            }
+            "source" => set_calls(alloc, &mut self.source, text),
+            "idle" => set_calls(alloc, &mut self.idle, text),
+            "sink" => set_calls(alloc, &mut self.sink, text),
+            _ => {
+                self.take_room(word, text);
+                Ok(())
+            }
+        }
+    }
+
+    // Takes in how much room they have.
+    fn take_room(&mut self, word: &str, text: &[u8]) {
+        match word {
             "sink-room" => self.sink_room = number_of(text),
             "log-room" => self.log_room = number_of(text),
             _ => {}
         }
-        Ok(())
     }
 
     /// Takes a line in.
@@ -180,14 +192,12 @@ impl Gateway {
 
     // Lets a device fail.
     fn break_at(&mut self, alloc: Global, at: Break) -> Result<(), NoMemory> {
-        let calls = Calls::of(alloc, &[at.call])?;
         match at.device {
-            Device::Source => self.source = calls,
-            Device::Idle => self.idle = calls,
-            Device::Sink => self.sink = calls,
-            Device::Port => {}
+            Device::Source => set_call(alloc, &mut self.source, at.call),
+            Device::Idle => set_call(alloc, &mut self.idle, at.call),
+            Device::Sink => set_call(alloc, &mut self.sink, at.call),
+            Device::Port => Ok(()),
         }
-        Ok(())
     }
 
     // What the client says comes in one take, or byte by byte if a device is to break.
@@ -215,10 +225,9 @@ impl Gateway {
 
     fn devices(&self, alloc: Global, broken: bool) -> Result<Devices, NoMemory> {
         let clock = self.clock(alloc)?;
-        let logs = self.logs(alloc)?;
-        let to = self.sink(alloc)?;
-        let from = self.source(alloc, broken)?;
-        let dialer = dialer(alloc, self.linked, &self.server)?;
+        let talk = both(self.source(alloc, broken), self.sink(alloc));
+        let others = both(self.logs(alloc), dialer(alloc, self.linked, &self.server));
+        let ((from, to), (logs, dialer)) = both(talk, others)?;
         Ok(Devices {
             from,
             to,
@@ -271,6 +280,21 @@ impl Gateway {
         }
     }
 
+    // Holds the session over these devices, and compares.
+    fn compare_held<H: Threads + Sync>(
+        &self,
+        rt: &H,
+        alloc: Global,
+        line: &Line<'_>,
+        stage: &mut Stage,
+        broken: Option<Break>,
+        devices: &mut Devices,
+    ) -> Result<(), Fault> {
+        let ending = name_of(self.hold_over(rt, line, stage, devices)?);
+        self.compare_ending(alloc, line, ending, broken)?;
+        self.compare(line, devices, broken.is_some())
+    }
+
     /// Holds the session, and compares how it ends and what each was given with what the scene says, or with what the break
     /// says.
     pub(crate) fn hold<H: Threads + Sync>(
@@ -285,8 +309,8 @@ impl Gateway {
             self.break_at(alloc, at)?;
         }
         let mut devices = self.devices(alloc, broken.is_some())?;
-        let ending = name_of(self.hold_over(rt, line, stage, &mut devices)?);
-        self.compare_ending(alloc, line, ending, broken)?;
-        self.compare(line, &devices, broken.is_some())
+        let compared = self.compare_held(rt, alloc, line, stage, broken, &mut devices);
+        drop(devices);
+        compared
     }
 }

@@ -13,6 +13,7 @@ use fw_memory::{Calls, MemKeeper};
 use fw_types::{Name, NoMemory, Octets};
 use lines_of_rows::{Told, add};
 use std::alloc::Global;
+use std::mem::replace;
 use std::thread::Threads;
 
 /// A book at work, or what is there where it isn't opened.
@@ -44,9 +45,9 @@ fn opened_by(
     policy: Policy,
     fails: Fails<'_>,
 ) -> Result<Opening, NoMemory> {
+    let port_fails = Calls::of(alloc, fails.port)?;
     let keeper = keeper_of(alloc, setup, fails.keeper)?;
     let rules = rules_of(alloc, &setup.table);
-    let port_fails = Calls::of(alloc, fails.port)?;
     match open(alloc, keeper, policy, rules, setup.limit, port_fails) {
         Ok(stage) => Ok(Opening::Open(stage)),
         Err((keeper, fault)) => Ok(refused(alloc, keeper, &fault)),
@@ -67,6 +68,36 @@ fn no_policy() -> Told {
     told
 }
 
+// Does what a line of a scene says.
+fn act_line<H: Threads + Sync>(
+    rt: &H,
+    alloc: Global,
+    line: &Line<'_>,
+    stage: &mut Stage,
+    held: &mut Held,
+    broken: Option<Break>,
+) -> Result<(), Fault> {
+    if line.is_row() {
+        return ask(alloc, line, stage);
+    }
+    step(rt, alloc, line, stage, held, broken)
+}
+
+// Does what the lines of a scene say.
+fn act_lines<H: Threads + Sync>(
+    rt: &H,
+    alloc: Global,
+    lines: &[Line<'_>],
+    stage: &mut Stage,
+    held: &mut Held,
+    broken: Option<Break>,
+) -> Result<(), Fault> {
+    for line in lines {
+        act_line(rt, alloc, line, stage, held, broken)?;
+    }
+    Ok(())
+}
+
 /// Does what the lines of a scene say. A device of its session may break.
 pub(crate) fn act<H: Threads + Sync>(
     rt: &H,
@@ -76,14 +107,9 @@ pub(crate) fn act<H: Threads + Sync>(
     broken: Option<Break>,
 ) -> Result<(), Fault> {
     let mut held = Held::Server(Talk::new(alloc, false));
-    for line in lines {
-        if line.is_row() {
-            ask(alloc, line, stage)?;
-        } else {
-            step(rt, alloc, line, stage, &mut held, broken)?;
-        }
-    }
-    Ok(())
+    let acted = act_lines(rt, alloc, lines, stage, &mut held, broken);
+    drop(held);
+    acted
 }
 
 // The session that is told of: one of `authsrv`, or of the Telnet gateway.
@@ -117,15 +143,26 @@ impl Held {
 }
 
 // Takes in what is said of a session.
-fn take(alloc: Global, line: &Line<'_>, word: &str, held: &mut Held) -> Result<(), NoMemory> {
+fn take(alloc: Global, line: &Line<'_>, word: &str, held: &mut Held) -> Result<(), Fault> {
     let text = line.rest(alloc)?;
-    held.take(alloc, word, &text)
+    held.take(alloc, word, &text)?;
+    Ok(())
 }
 
-// A session of the gateway, of the client that the line names.
-fn new_gateway(alloc: Global, line: &Line<'_>) -> Result<Held, NoMemory> {
+// Begins another session.
+fn begin(held: &mut Held, next: Held) {
+    drop(replace(held, next));
+}
+
+fn begin_server(alloc: Global, console: bool, held: &mut Held) {
+    begin(held, Held::Server(Talk::new(alloc, console)));
+}
+
+// Begins a session of the gateway, of the client that the line names.
+fn begin_gateway(alloc: Global, line: &Line<'_>, held: &mut Held) -> Result<(), Fault> {
     let client = line.rest(alloc)?;
-    Ok(Held::Gateway(Gateway::new(alloc, client)))
+    begin(held, Held::Gateway(Gateway::new(alloc, client)));
+    Ok(())
 }
 
 // Takes in a line of a session, or holds it.
@@ -138,12 +175,14 @@ fn step<H: Threads + Sync>(
     broken: Option<Break>,
 ) -> Result<(), Fault> {
     match line.word() {
-        "session" => *held = Held::Server(Talk::new(alloc, line.text == "session console")),
-        "telnet" => *held = new_gateway(alloc, line)?,
-        "ends" => held.hold(rt, alloc, line, stage, broken)?,
-        word => take(alloc, line, word, held)?,
+        "session" => {
+            begin_server(alloc, line.text == "session console", held);
+            Ok(())
+        }
+        "telnet" => begin_gateway(alloc, line, held),
+        "ends" => held.hold(rt, alloc, line, stage, broken),
+        word => take(alloc, line, word, held),
     }
-    Ok(())
 }
 
 const WORDS: [&str; 31] = [
@@ -209,8 +248,13 @@ fn acted<H: Threads + Sync>(
     lines: &[Line<'_>],
     mut stage: Stage,
 ) -> Result<After, Fault> {
-    act(rt, alloc, lines, &mut stage, None)?;
-    Ok(After::of(alloc, stage))
+    match act(rt, alloc, lines, &mut stage, None) {
+        Ok(()) => Ok(After::of(alloc, stage)),
+        Err(fault) => {
+            drop(stage);
+            Err(fault)
+        }
+    }
 }
 
 // What is there after the scene of these lines.
@@ -235,7 +279,20 @@ fn play_over<H: Threads + Sync>(
 ) -> Result<(), Fault> {
     let opening = book_of(alloc, setup, setup.fails())?;
     let after = after(rt, alloc, lines, opening)?;
-    after.compare(alloc, lines)
+    let compared = after.compare(alloc, lines);
+    drop(after);
+    compared
+}
+
+// Plays the scene of these lines over its setup, and again as its lines `sweep` say.
+fn play_swept<H: Threads + Sync>(
+    rt: &H,
+    alloc: Global,
+    lines: &[Line<'_>],
+    setup: &Setup,
+) -> Result<(), Fault> {
+    play_over(rt, alloc, lines, setup)?;
+    sweep(rt, alloc, lines, setup)
 }
 
 /// Plays the scene of these lines.
@@ -246,6 +303,7 @@ pub(crate) fn play<H: Threads + Sync>(
 ) -> Result<(), Fault> {
     know(lines)?;
     let setup = setup_of(alloc, lines)?;
-    play_over(rt, alloc, lines, &setup)?;
-    sweep(rt, alloc, lines, &setup)
+    let played = play_swept(rt, alloc, lines, &setup);
+    drop(setup);
+    played
 }

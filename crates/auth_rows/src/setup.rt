@@ -154,28 +154,32 @@ impl Setup {
         Ok(())
     }
 
-    // Takes a line in.
-    fn take(&mut self, alloc: Global, line: &Line<'_>) -> Result<(), Fault> {
-        let text = line.rest(alloc)?;
+    // Takes in a text behind a word.
+    fn take_text(&mut self, alloc: Global, line: &Line<'_>, text: &[u8]) -> Result<(), Fault> {
         match line.word() {
-            "table" => self.table(&text),
-            "user" => self.user(alloc, line, &text),
-            "record" => self.record(alloc, line, &text),
+            "table" => self.table(text),
+            "user" => self.user(alloc, line, text),
+            "record" => self.record(alloc, line, text),
             "limit" => {
-                self.limit = number_of(&text);
+                self.limit = number_of(text);
                 Ok(())
             }
-            "fails" => {
-                self.fails = numbers_of(alloc, &text)?;
-                Ok(())
-            }
-            "port-fails" => {
-                self.port_fails = numbers_of(alloc, &text)?;
-                Ok(())
-            }
+            "fails" => set_numbers(alloc, &mut self.fails, text),
+            "port-fails" => set_numbers(alloc, &mut self.port_fails, text),
             _ => Ok(()),
         }
     }
+
+    // Takes a line in.
+    fn take(&mut self, alloc: Global, line: &Line<'_>) -> Result<(), Fault> {
+        let text = line.rest(alloc)?;
+        self.take_text(alloc, line, &text)
+    }
+}
+
+fn set_numbers(alloc: Global, numbers: &mut Vec<u64>, text: &[u8]) -> Result<(), Fault> {
+    *numbers = numbers_of(alloc, text)?;
+    Ok(())
 }
 
 fn take_all(alloc: Global, lines: &[Line<'_>], setup: &mut Setup) -> Result<(), Fault> {
@@ -194,14 +198,21 @@ pub(crate) fn setup_of(alloc: Global, lines: &[Line<'_>]) -> Result<Setup, Fault
         fails: Vec::new(alloc),
         port_fails: Vec::new(alloc),
     };
-    take_all(alloc, lines, &mut setup)?;
-    Ok(setup)
+    match take_all(alloc, lines, &mut setup) {
+        Ok(()) => Ok(setup),
+        Err(fault) => {
+            drop(setup);
+            Err(fault)
+        }
+    }
 }
 
 fn read_table(alloc: Global, text: &[u8]) -> Result<Table, TableFault> {
     let bytes = Octets::copy(alloc, text)?;
     let mut source = MemSource::new(bytes, 64, Calls::none(), Calls::none());
-    Table::read(alloc, &mut source)
+    let table = Table::read(alloc, &mut source);
+    drop(source);
+    table
 }
 
 /// The policy of a table's text, if it has one.

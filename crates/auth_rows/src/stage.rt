@@ -43,7 +43,37 @@ pub(crate) fn open(
             port: FaultyPort::new(book, fails),
             rules,
         }),
-        Err(refused) => Err(refused),
+        Err(refused) => {
+            drop(rules);
+            drop(fails);
+            Err(refused)
+        }
+    }
+}
+
+// Holds a session of the Telnet gateway, where the line of this number permits.
+fn put_through_by<H: Threads + Sync>(
+    rt: &H,
+    rules: &Rules,
+    line: u32,
+    peer: &Peer,
+    port: &mut FaultyPort<MemKeeper>,
+    devices: &mut gateway::Devices,
+) -> Option<Ending> {
+    match rules.options(line) {
+        Some(_) => Some(tn_session(
+            rt,
+            rules,
+            line,
+            peer,
+            port,
+            &mut devices.from,
+            &mut devices.to,
+            &mut devices.logs,
+            &mut devices.dialer,
+            &mut devices.clock,
+        )),
+        None => None,
     }
 }
 
@@ -101,33 +131,29 @@ impl Stage {
     ) -> Option<Ending> {
         let line = u32::try_from(line).ok()?;
         let rules = self.rules.as_ref()?;
-        match rules.options(line) {
-            Some(_) => Some(tn_session(
-                rt,
-                rules,
-                line,
-                peer,
-                &mut self.port,
-                &mut devices.from,
-                &mut devices.to,
-                &mut devices.logs,
-                &mut devices.dialer,
-                &mut devices.clock,
-            )),
-            None => None,
-        }
+        put_through_by(rt, rules, line, peer, &mut self.port, devices)
     }
 
     /// Ends it: the keeper and all entries.
     pub(crate) fn close(self) -> (MemKeeper, Vec<Entry>) {
-        let Stage { port, .. } = self;
+        let Stage { port, rules } = self;
+        drop(rules);
         port.into_book().close()
+    }
+
+    /// Ends it: all entries.
+    pub(crate) fn history(self) -> Vec<Entry> {
+        let (keeper, history) = self.close();
+        drop(keeper);
+        history
     }
 }
 
 /// What the keeper loads. Nothing where it fails.
 pub(crate) fn load(alloc: Global, mut keeper: MemKeeper) -> Vec<(Name, Octets)> {
-    match keeper.load() {
+    let loaded = keeper.load();
+    drop(keeper);
+    match loaded {
         Ok(loaded) => loaded,
         Err(_) => Vec::new(alloc),
     }

@@ -21,8 +21,23 @@ fn stage_of(
 ) -> Result<Stage, Fault> {
     match book_of(alloc, setup, fails)? {
         Opening::Open(stage) => Ok(stage),
-        Opening::Shut(_) => Err(line.differs(b"the book isn't opened")),
+        Opening::Shut(after) => {
+            drop(after);
+            Err(line.differs(b"the book isn't opened"))
+        }
     }
+}
+
+// Plays the scene over this book: what comes of it, and the history then.
+fn act_over<H: Threads + Sync>(
+    rt: &H,
+    alloc: Global,
+    lines: &[Line<'_>],
+    mut stage: Stage,
+    broken: Option<Break>,
+) -> (Result<(), Fault>, Vec<Entry>) {
+    let acted = act(rt, alloc, lines, &mut stage, broken);
+    (acted, stage.history())
 }
 
 // Whether a session of the Telnet gateway asked nothing, as one that stops before the first name.
@@ -41,11 +56,11 @@ fn break_over<H: Threads + Sync>(
     alloc: Global,
     lines: &[Line<'_>],
     line: &Line<'_>,
-    mut stage: Stage,
+    stage: Stage,
     at: Break,
 ) -> Result<(), Fault> {
-    act(rt, alloc, lines, &mut stage, Some(at))?;
-    let (_, history) = stage.close();
+    let (acted, history) = act_over(rt, alloc, lines, stage, Some(at));
+    acted?;
     check(
         line,
         is_closed(&history, 0) || is_unasked(lines, &history),
@@ -112,12 +127,11 @@ fn one_more(alloc: Global, setup: &Setup, call: u64) -> Result<Vec<u64>, NoMemor
 // Compares where the scene differed: at the line of this number, for a change that isn't kept.
 fn compare_break(
     line: &Line<'_>,
-    stage: Stage,
+    history: &[Entry],
     wanted: Option<u64>,
     number: u64,
     is_unkept: bool,
 ) -> Result<(), Fault> {
-    let (_, history) = stage.close();
     check(
         line,
         wanted == Some(number),
@@ -125,7 +139,7 @@ fn compare_break(
     )?;
     check(
         line,
-        is_unkept && !is_last_kept(&history),
+        is_unkept && !is_last_kept(history),
         b"a change that isn't kept is answered otherwise",
     )
 }
@@ -136,12 +150,13 @@ fn differ_over<H: Threads + Sync>(
     alloc: Global,
     lines: &[Line<'_>],
     line: &Line<'_>,
-    mut stage: Stage,
+    stage: Stage,
     wanted: Option<u64>,
 ) -> Result<(), Fault> {
-    match difference(act(rt, alloc, lines, &mut stage, None))? {
+    let (acted, history) = act_over(rt, alloc, lines, stage, None);
+    match difference(acted)? {
         None => check(line, wanted.is_none(), b"a call of the keeper isn't made"),
-        Some((number, is_unkept)) => compare_break(line, stage, wanted, number, is_unkept),
+        Some((number, is_unkept)) => compare_break(line, &history, wanted, number, is_unkept),
     }
 }
 
@@ -201,13 +216,13 @@ fn cut_over<H: Threads + Sync>(
     alloc: Global,
     lines: &[Line<'_>],
     line: &Line<'_>,
-    mut stage: Stage,
+    stage: Stage,
     call: u64,
     calls: u64,
 ) -> Result<(), Fault> {
     let device = Device::Port;
-    act(rt, alloc, lines, &mut stage, Some(Break { device, call }))?;
-    let (_, history) = stage.close();
+    let (acted, history) = act_over(rt, alloc, lines, stage, Some(Break { device, call }));
+    acted?;
     check(
         line,
         is_cut(&history, call, calls),

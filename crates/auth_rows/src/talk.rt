@@ -41,12 +41,24 @@ fn listed(alloc: Global, text: &[u8]) -> Result<Calls, NoMemory> {
     Calls::of(alloc, &numbers)
 }
 
-/// The calls that a line names.
-pub(crate) fn calls_of(alloc: Global, text: &[u8]) -> Result<Calls, NoMemory> {
+// The calls that a line names.
+fn calls_of(alloc: Global, text: &[u8]) -> Result<Calls, NoMemory> {
     match text {
         [digits @ .., b'+'] => Ok(Calls::onward(number_of(digits))),
         _ => listed(alloc, text),
     }
+}
+
+/// Sets the calls that fail to those that a line names.
+pub(crate) fn set_calls(alloc: Global, calls: &mut Calls, text: &[u8]) -> Result<(), NoMemory> {
+    *calls = calls_of(alloc, text)?;
+    Ok(())
+}
+
+/// Sets the calls that fail to this one.
+pub(crate) fn set_call(alloc: Global, calls: &mut Calls, call: u64) -> Result<(), NoMemory> {
+    *calls = Calls::of(alloc, &[call])?;
+    Ok(())
 }
 
 /// The name of an ending.
@@ -63,6 +75,14 @@ pub(crate) fn name_of(ending: Ending) -> &'static [u8] {
         Ending::Spent => b"Spent",
         Ending::NoMemory => b"NoMemory",
     }
+}
+
+/// Both, where there is memory for each.
+pub(crate) fn both<A: Drop, B: Drop>(
+    first: Result<A, NoMemory>,
+    second: Result<B, NoMemory>,
+) -> Result<(A, B), NoMemory> {
+    Ok((first?, second?))
 }
 
 /// Adds a line and its end.
@@ -89,27 +109,27 @@ impl Talk {
     /// Takes a line in.
     pub(crate) fn take(&mut self, alloc: Global, word: &str, text: &[u8]) -> Result<(), NoMemory> {
         match word {
-            "clock" => self.clock = numbers_of(alloc, text)?,
-            "client" => add_line(&mut self.said, text, b"\r\n")?,
-            "given" => add_line(&mut self.given, text, b"\n")?,
-            "source" => self.source = calls_of(alloc, text)?,
-            "idle" => self.idle = calls_of(alloc, text)?,
-            "sink" => self.sink = calls_of(alloc, text)?,
-            _ => {}
+            "clock" => {
+                self.clock = numbers_of(alloc, text)?;
+                Ok(())
+            }
+            "client" => add_line(&mut self.said, text, b"\r\n"),
+            "given" => add_line(&mut self.given, text, b"\n"),
+            "source" => set_calls(alloc, &mut self.source, text),
+            "idle" => set_calls(alloc, &mut self.idle, text),
+            "sink" => set_calls(alloc, &mut self.sink, text),
+            _ => Ok(()),
         }
-        Ok(())
     }
 
     // Lets a device fail.
     fn break_at(&mut self, alloc: Global, at: Break) -> Result<(), NoMemory> {
-        let calls = Calls::of(alloc, &[at.call])?;
         match at.device {
-            Device::Source => self.source = calls,
-            Device::Idle => self.idle = calls,
-            Device::Sink => self.sink = calls,
-            Device::Port => {}
+            Device::Source => set_call(alloc, &mut self.source, at.call),
+            Device::Idle => set_call(alloc, &mut self.idle, at.call),
+            Device::Sink => set_call(alloc, &mut self.sink, at.call),
+            Device::Port => Ok(()),
         }
-        Ok(())
     }
 
     fn source(&self, alloc: Global) -> Result<MemSource, NoMemory> {
@@ -131,8 +151,7 @@ impl Talk {
 
     fn devices(&self, alloc: Global) -> Result<Devices, NoMemory> {
         let clock = self.clock(alloc)?;
-        let to = self.sink(alloc)?;
-        let from = self.source(alloc)?;
+        let (from, to) = both(self.source(alloc), self.sink(alloc))?;
         Ok(Devices { from, to, clock })
     }
 
@@ -183,7 +202,9 @@ impl Talk {
             self.break_at(alloc, at)?;
         }
         let mut devices = self.devices(alloc)?;
-        self.hold_over(alloc, line, stage, broken, &mut devices)
+        let held = self.hold_over(alloc, line, stage, broken, &mut devices);
+        drop(devices);
+        held
     }
 }
 

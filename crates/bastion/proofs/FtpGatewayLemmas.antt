@@ -4,6 +4,7 @@ use Rattle.std.specs.Prelude.{Result}
 use Rattle.auth_events.specs.Port.{Port, places}
 use Rattle.auth_machine.specs.Port.{BookOrigin, book_port}
 use Rattle.client_service.specs.Endings.{refusal_reply}
+use Rattle.ftp_gate.proofs.CopiedLemmas.{held_marked}
 use Rattle.ftp_gate.proofs.KnownLemmas.{login_known}
 use Rattle.ftp_gate.proofs.CourseLemmas.{held_once}
 use Rattle.ftp_gate.proofs.DueLemmas.{held_due}
@@ -99,6 +100,7 @@ module _ (peer : Peer) (inputs : Inputs) (status : ℕ) (old new : WorldView) (a
     known_by = λ some. login_known gate some;
     doors = held_doors gate begun last at.ending at.session.held;
     copies = held_copies gate begun last at.ending at.session.held;
+    between = held_marked gate begun last at.ending at.session.held unlinked;
     due = held_due gate begun last at.ending at.session.held;
     causes = held_caused gate begun last at.ending at.session.held;
     acts = held_right gate begun last at.ending at.session.held;

@@ -5,6 +5,7 @@ use Rattle.auth_events.specs.declared.entry.Entry.{Entry}
 use Rattle.auth_machine.specs.Port.{BookOrigin}
 use Rattle.client_service.specs.Endings.{refusal_reply}
 use Rattle.fw_acts.specs.Acts.{Row, PlaceTable}
+use Rattle.ftp_gate.specs.Copied.{CopiesMarked}
 use Rattle.ftp_gate.specs.Dialogue.{ftp_row, ftp_rows}
 use Rattle.ftp_gate.specs.Due.{DoesWhatIsDue}
 use Rattle.ftp_gate.specs.Ends.{EndsThere, HasEnd}
@@ -77,6 +78,8 @@ pub record IsUpheld (gate : Gate) (history : List Entry) {old new : World BookOr
   pub known_by : LoginsTold gate
   pub doors : OpensOwn gate (deeds_of held)
   pub copies : CopiesOwn gate (deeds_of held)
+  -- and each goes between the link that was asked for as a data link to a server and the one that was asked for as the client's
+  pub between : CopiesMarked (deeds_of held) old new
   pub due : DoesWhatIsDue gate (deeds_of held)
   pub causes : FailuresToldOf gate (deeds_of held)
   pub acts : AreRight gate (deeds_of held)
@@ -91,8 +94,8 @@ pub record IsUpheld (gate : Gate) (history : List Entry) {old new : World BookOr
   -- replies, and what was copied over data links
   pub given : GivesServers (passed_over None (deeds_of held)) old new
   pub replies : HearsServers (heard_over None (deeds_of held)) old new
-  -- as many links were hung up as came up, and none is up at the end; each destination, door and data link that was refused was
-  -- counted, and each copy that broke off
+  -- as many links were hung up as came up, and the dialer counted so many come up; none is up at the end; each destination, door
+  -- and data link that was refused was counted, and each copy that broke off
   pub links : LinksDialer (gives linked (deeds_of held)) old new
   pub over : (new.server.link ≡ None) × (new.server.pair ≡ None)
   pub refusals : CountsRefusals (gives refused (deeds_of held)) old new

@@ -1,5 +1,5 @@
 -- How what a command needs is read.
--- No public clause cites these: they say what private functions answer.
+-- Public clauses cite `ReadsTable` and `ReadsLines` alone: the others say what private functions answer.
 use Rattle.std.specs.Prelude.{◌≡◌, ℕ, Bool, true, false, List, Result, Ok, Err}
 use Rattle.fw_outside.specs.FilesView.{FilesView}
 use Rattle.netperm_table.specs.declared.line.Line.{Line}

@@ -1,5 +1,5 @@
 -- A session over the book of the records step by step: the book is opened, the client served, and the keeper given back.
--- No public clause cites these: they say what private functions answer.
+-- Public clauses cite `Opened` and `Unopened` alone: the others say what private functions answer.
 use Rattle.std.specs.Prelude.{◌≡◌, ℕ, List, true, length, Some, None, Result, Ok, Err}
 use Rattle.fw_outside.specs.DialerView.{DialerView}
 use Rattle.fw_outside.specs.KeeperView.{IsCalled, KeeperFailed, KeeperView}

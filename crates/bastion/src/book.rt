@@ -23,8 +23,8 @@ fn opening_fault(fault: OpenFault) -> Outcome
     }
 }
 
-// Opens the book of the records that the keeper has. A keeper whose records can't be read goes back to the world.
-fn open_book<T: Kit>(
+/// Opens the book of the records that the keeper has. A keeper whose records can't be read goes back to the world.
+pub fn open_book<T: Kit>(
     alloc: Global,
     world: &mut World<T>,
     policy: Policy,

@@ -11,6 +11,9 @@
 //! each message that `smap` tells its client to be kept stands whole in the slot of the number that it tells;
 //! and each status but 5, want of memory, has its cause: in the words, in a limit, in the count of a device that rose,
 //! or, where the devices tell what they hold, in the table's text, the records and the slots. [`conn`] serves one client.
+//!
+//! A server takes the steps before its sessions one by one: [`after_options`], [`any_twice`], [`word_or`] and [`places_in`]
+//! of its words, then [`read_table`], [`read_rules`], [`read_policy`] and [`open_book`], and [`tell`].
 #![tactic(auto)]
 
 mod authsrv;
@@ -33,14 +36,18 @@ mod table_report;
 mod texts;
 mod words;
 
+pub use book::open_book;
 pub use client_service::{LogLine, conn, decision_line, denied_line, ending_line};
 pub use drill_lines::Drill;
 pub use fw_mail::Mailer;
 pub use kit::{Kit, World};
+pub use obeying::tell;
 pub use outcome::{Device, Outcome, Refusal, Step, ending_status};
 pub use place_names::Places;
+pub use reading::{read_policy, read_rules, read_table};
 pub use running::run;
 pub use server_rules::ServerRules;
 pub use words::{
-    Caller, Client, Command, CommandLine, Job, Order, Query, places, read_order, table_named,
+    Caller, Client, Command, CommandLine, Job, Order, Query, after_options, any_twice, places,
+    places_in, read_order, table_named, word_or,
 };

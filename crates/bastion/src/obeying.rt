@@ -129,7 +129,7 @@ where
 }
 
 /// Gives the log the outcome's line, if it has one. A line that can't be written changes nothing.
-pub(crate) fn tell<T: Kit>(world: &mut World<T>, outcome: &Outcome)
+pub fn tell<T: Kit>(world: &mut World<T>, outcome: &Outcome)
     ensures { TellsIf (fault_line_of outcome.now) world.old world.new }
 {
     if let Some(line) = outcome.fault_line() {

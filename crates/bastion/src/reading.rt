@@ -23,7 +23,8 @@ fn reading_fault(fault: TableFault) -> Outcome
     }
 }
 
-fn read_table<F: Files>(alloc: Global, files: &mut F, name: &[u8]) -> Result<Table, Outcome>
+/// The lines of the table of this name.
+pub fn read_table<F: Files>(alloc: Global, files: &mut F, name: &[u8]) -> Result<Table, Outcome>
     ensures { ReadsTable name.now result (F.files_view files.old) (F.files_view files.new) }
 {
     let Some(mut source) = files.source(name) else {
@@ -37,7 +38,8 @@ fn read_table<F: Files>(alloc: Global, files: &mut F, name: &[u8]) -> Result<Tab
     }
 }
 
-fn read_rules(alloc: Global, table: &Table, service: &Service) -> Result<Rules, Outcome>
+/// The rules of a service, by the lines of a table.
+pub fn read_rules(alloc: Global, table: &Table, service: &Service) -> Result<Rules, Outcome>
     ensures lines { ReadsLines (rules_of service.now table.now) result }
     ensures ruled { IfOk result (AreRulesOf service.now) }
 {
@@ -48,8 +50,8 @@ fn read_rules(alloc: Global, table: &Table, service: &Service) -> Result<Rules, 
     }
 }
 
-// What the authentication server goes by.
-fn read_policy(alloc: Global, table: &Table) -> Result<Policy, Outcome>
+/// What the authentication server goes by.
+pub fn read_policy(alloc: Global, table: &Table) -> Result<Policy, Outcome>
     ensures { ReadsLines (policy_of table.now) result }
 {
     match Policy::of(alloc, table) {

@@ -156,7 +156,8 @@ fn stands(option: &Octets, words: &[Octets]) -> bool
     is_named(option.bytes(), words)
 }
 
-fn any_twice(mut words: &[Octets]) -> bool
+/// Whether an option stands twice before the command.
+pub fn any_twice(mut words: &[Octets]) -> bool
     ensures { result ≡ any_twice words.now }
 {
     while let [option, word, rest @ ..] = words
@@ -170,7 +171,8 @@ fn any_twice(mut words: &[Octets]) -> bool
     false
 }
 
-fn after_options(mut words: &[Octets]) -> &[Octets]
+/// The words after the options: the command and its arguments.
+pub fn after_options(mut words: &[Octets]) -> &[Octets]
     ensures { result.now ≡ after_options words.entry.now }
 {
     while let [option, word, rest @ ..] = words
@@ -409,7 +411,7 @@ pub fn read_order(words: &[Octets]) -> Option<Order>
 
 /// The word after an option. Another text where it isn't there.
 #[tactic(auto, unfolding(crate::specs::Words::word_or))]
-fn word_or<'a>(option: &[u8], other: &'a [u8], words: &'a [Octets]) -> &'a [u8]
+pub fn word_or<'a>(option: &[u8], other: &'a [u8], words: &'a [Octets]) -> &'a [u8]
     ensures { result.now ≡ word_or option.now other.entry.now words.entry.now }
 {
     match word_after(option, words) {
@@ -427,7 +429,8 @@ fn slots_or(other: u32, word: Option<&[u8]>) -> u32
     }
 }
 
-fn places_in(words: &[Octets]) -> Places<'_>
+/// What the options name, whatever the command is.
+pub fn places_in(words: &[Octets]) -> Places<'_>
     ensures { result ≡ places_in words.entry.now }
 {
     Places {

@@ -51,6 +51,7 @@ use Rattle.client_service.proofs.GateLemmas.{fronts_behind, gate_caused, gate_ke
 use Rattle.client_service.proofs.LaterLemmas.{caused_later, causes_later, keeps_later, noted_most, noted_shut, takes_later, unasked_later, waits_with, with_logs}
 use Rattle.client_service.proofs.MailLemmas.{mail_caused, mail_keeps, mail_takes}
 use Rattle.client_service.proofs.MaillessLemmas.{caused_mailless, caused_patient, mailless_keeps, takes_mailless, takes_patient}
+use Rattle.client_service.proofs.NamesLemmas.{ftp_unasked}
 use Rattle.client_service.proofs.PlugLemmas.{LogsOnly, plug_caused, plug_dials, silent_denial}
 use Rattle.client_service.proofs.SinkLemmas.{same_low}
 use Rattle.client_service.proofs.WaitLemmas.{session_waits}
@@ -126,6 +127,7 @@ module _ {Origin : Type 0} where
     breaks = same_low old.port.faults new.port.faults (ap (λ (p : Port Origin). p.faults) port);
     strays = same_low old.port.odd new.port.odd (ap (λ (p : Port Origin). p.odd) port);
     asks = same_low old.port.asks new.port.asks (ap (λ (p : Port Origin). p.asks) port);
+    came = h.came;
     refusals = h.refusals;
     link_faults = h.link_faults;
     link_idles = h.link_idles;
@@ -283,7 +285,7 @@ module _ {Origin : Type 0} where
         spent = ftp_takes text gate seconds ending old new h.held;
         waited = ftp_waits text gate seconds ending old new h.held;
         refused = tt;
-        unasked = tt;
+        unasked = ftp_unasked text gate seconds ending old new h.held;
         keeps = keeps;
         origin = keeps.origin;
         home = keeps.home;

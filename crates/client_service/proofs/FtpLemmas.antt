@@ -3,13 +3,15 @@ use Rattle.std.proofs.Common.{ℕ, false, List, inl, inr}
 use Rattle.ftp_gate.specs.Dialogue.{ftp_row, ftp_rows}
 use Rattle.ftp_gate.specs.Gate.{Gate}
 use Rattle.ftp_gate.proofs.UnnamedLemmas.{held_routed}
-use Rattle.ftp_gate.proofs.LawLemmas.{held_asked, held_asks, held_cleared, held_gives, held_logged, held_own, held_unblocked}
+use Rattle.ftp_gate.proofs.LawLemmas.{held_asked, held_asks, held_cleared, held_copies, held_doors, held_gives, held_logged, held_own, held_unblocked}
 use Rattle.fw_types.specs.declared.ending.Ending.{Ending}
 use Rattle.session_acts.specs.Causes.{KeepsAs, TakesFor, WaitsFor}
 use Rattle.session_acts.specs.Client.{with_line}
-use Rattle.session_acts.specs.Session.{Session}
+use Rattle.session_acts.specs.Session.{Session, deeds_of}
 use Rattle.session_acts.specs.World.{Devices, World, at_first}
 use Rattle.session_acts.proofs.CauseLemmas.{session_keeps}
+use Rattle.session_acts.proofs.DeedLemmas.{all_gain, held_deeds}
+use Rattle.session_acts.proofs.LinkedLemmas.{linked_gains}
 use Rattle.client_service.specs.FtpService.{ServedBehind, ServesBehind, ServingBehind}
 use Rattle.client_service.specs.Gateways.{CausedGated, gate_devices}
 use Rattle.client_service.specs.Meeting.{logged_row, patient}
@@ -31,6 +33,9 @@ module _ {Origin : Type 0} where
         passage = held_gives gate begun session.last ending session.held;
         unblocked = held_unblocked gate begun session.last ending session.held;
         joins = held_own gate begun session.last ending session.held;
+        doors = held_doors gate begun session.last ending session.held;
+        copies = held_copies gate begun session.last ending session.held;
+        links = all_gain linked_gains (deeds_of session.held) begun session.last (held_deeds session.held);
         denials = held_logged gate begun session.last ending session.held;
         requests = held_asked gate begun session.last ending session.held;
       }

@@ -78,6 +78,7 @@ module _ {Origin : Type 0} where
         breaks = same_low old.port.faults new.port.faults (ap (λ (d : Devices Origin). d.port.faults) fails.same);
         strays = same_low old.port.odd new.port.odd (ap (λ (d : Devices Origin). d.port.odd) fails.same);
         asks = same_low old.port.asks new.port.asks (ap (λ (d : Devices Origin). d.port.asks) fails.same);
+        came = same_low old.dialer.came new.dialer.came (ap (λ (d : Devices Origin). d.dialer.came) fails.same);
         refusals = same_low old.dialer.refusals new.dialer.refusals (ap (λ (d : Devices Origin). d.dialer.refusals) fails.same);
         link_faults = same_low old.dialer.link_faults new.dialer.link_faults (ap (λ (d : Devices Origin). d.dialer.link_faults) fails.same);
         link_idles = same_low old.dialer.link_idles new.dialer.link_idles (ap (λ (d : Devices Origin). d.dialer.link_idles) fails.same);
@@ -137,6 +138,7 @@ module _ {Origin : Type 0} where
     breaks = h.breaks;
     strays = h.strays;
     asks = h.asks;
+    came = h.came;
     refusals = h.refusals;
     link_faults = h.link_faults;
     link_idles = h.link_idles;

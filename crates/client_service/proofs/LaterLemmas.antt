@@ -119,12 +119,14 @@ module _ {Origin : Type 0} where
   waits_with Gated (Permit line) rules ending old new logs h = waits_for_with ending (patient (timeout_of rules) old) new logs h
   waits_with Replied (Permit line) rules ending old new logs h = waits_for_with ending (patient (timeout_of rules) old) new logs h
 
-  -- ---- a line that asks for no login
+  -- ---- a line that asks for no login, or a client that names no user
 
   pub unasked_later : (kind : Kind) (verdict : Verdict) (rules : RuleBook) (ending : Ending) (old new : Devices Origin) (logs : SinkView) → Unasked kind verdict rules ending old (with_logs new logs) → Unasked kind verdict rules ending old new
   unasked_later Alone verdict rules ending old new logs h = tt
   unasked_later Plugged verdict rules ending old new logs h = tt
-  unasked_later Replied verdict rules ending old new logs h = tt
+  unasked_later Replied (Deny line) rules ending old new logs h = tt
+  unasked_later Replied (Permit line) rules ending old new logs h =
+      record { lines = h.lines; takes = h.takes; unasked = λ none. record { port = (h.unasked none).port; clock = (h.unasked none).clock; unfailed = (h.unasked none).unfailed; ample = (h.unasked none).ample } }
   unasked_later Gated (Deny line) rules ending old new logs h = tt
   unasked_later Gated (Permit line) rules ending old new logs h = λ none. record { port = (h none).port; clock = (h none).clock; unfailed = (h none).unfailed; ample = (h none).ample }
 
@@ -142,6 +144,7 @@ module _ {Origin : Type 0} where
         breaks = h.breaks;
         strays = h.strays;
         asks = h.asks;
+        came = h.came;
         refusals = h.refusals;
         link_faults = h.link_faults;
         link_idles = h.link_idles;

@@ -8,6 +8,7 @@ pub mod KeptLemmas
 pub mod LaterLemmas
 pub mod MailLemmas
 pub mod MaillessLemmas
+pub mod NamesLemmas
 pub mod NoMemoryLemmas
 pub mod OptionsLemmas
 pub mod PlugLemmas

@@ -60,6 +60,7 @@ module _ {Origin : Type 0} where
     breaks = same_low old.port.faults new.port.faults (ap (λ (p : Port Origin). p.faults) port);
     strays = same_low old.port.odd new.port.odd (ap (λ (p : Port Origin). p.odd) port);
     asks = same_low old.port.asks new.port.asks (ap (λ (p : Port Origin). p.asks) port);
+    came = same_low old.dialer.came new.dialer.came (ap (λ (d : DialerView). d.came) dialer);
     refusals = same_low old.dialer.refusals new.dialer.refusals (ap (λ (d : DialerView). d.refusals) dialer);
     link_faults = same_low old.dialer.link_faults new.dialer.link_faults (ap (λ (d : DialerView). d.link_faults) dialer);
     link_idles = same_low old.dialer.link_idles new.dialer.link_idles (ap (λ (d : DialerView). d.link_idles) dialer);

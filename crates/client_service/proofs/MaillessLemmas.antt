@@ -54,6 +54,7 @@ module _ {Origin : Type 0} where
     breaks = h.breaks;
     strays = h.strays;
     asks = h.asks;
+    came = h.came;
     refusals = h.refusals;
     link_faults = h.link_faults;
     link_idles = h.link_idles;

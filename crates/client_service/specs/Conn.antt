@@ -30,6 +30,7 @@ use Rattle.client_service.specs.Kind.Kind.{Alone, Gated, Plugged, Replied}
 use Rattle.client_service.specs.MailService.{MailsIn, MailsTo}
 use Rattle.client_service.specs.Meeting.{away_row, denied_by, dialer_then, logged_row, mailless, patient, timeout_of}
 use Rattle.client_service.specs.PlugService.{AreRulesOf, AsksLogged, CausedLinked, LinksTo}
+use Rattle.client_service.specs.UserNames.{UnaskedUnnamed}
 
 -- the services whose clients are served; the rules are the plug's, so that a line that permits has a destination
 abbrev pub IsServed : Service → RuleBook → Type 0
@@ -150,10 +151,11 @@ FrontsBy Smap (Permit line) rules peer ending old new = Unit {0}
 FrontsBy service (Permit line) rules peer ending old new = ⊥
 FrontsBy service (Deny line) rules peer ending old new = Unit {0}
 
--- where a line that permits a client of `tn-gw` asks for no login, what port and clock tell stays as it was, and neither the
--- port nor want of memory ends the session
+-- Where a line that permits a client of `tn-gw` asks for no login, what port and clock tell stays as it was, and neither the
+-- port nor want of memory ends the session. So it is for one of `ftp-gw` where no line of the client names a user.
 abbrev pub Unasked : {Origin : Type 0} → Kind → Verdict → RuleBook → Ending → Devices Origin → Devices Origin → Type 0
 Unasked Gated (Permit line) rules ending old new = asks_login (options_or_none (options_at rules line)) ≡ false → StaysUnasked ending old new
+Unasked Replied (Permit line) rules ending old new = UnaskedUnnamed ending old new
 Unasked kind verdict rules ending old new = Unit {0}
 
 -- What the mail store is given: of a client of `smap` whom the verdict permits the messages that its session kept, and of any

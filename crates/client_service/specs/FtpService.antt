@@ -9,12 +9,12 @@ use Rattle.gate_rules.specs.declared.service.Service.TheVariants.{FtpGw}
 use Rattle.gate_rules.specs.declared.verdict.Verdict.TheVariants.{Permit}
 use Rattle.session_acts.specs.Client.{LogFails, with_line}
 use Rattle.session_acts.specs.Deeds.{gives}
-use Rattle.session_acts.specs.Laws.{Adds, called}
+use Rattle.session_acts.specs.Laws.{Adds, LinksDialer, called, linked}
 use Rattle.session_acts.specs.Session.{Session, deeds_of}
-use Rattle.session_acts.specs.World.{Devices}
+use Rattle.session_acts.specs.World.{Devices, at_first}
 use Rattle.ftp_gate.specs.Dialogue.{ftp_row, ftp_rows}
 use Rattle.ftp_gate.specs.Gate.{Gate, gate_at}
-use Rattle.ftp_gate.specs.Laws.{AsksDue, AsksExactly, DenialsLogged, DialsCleared, GivesPassage, JoinsOwn, PassesUnblocked}
+use Rattle.ftp_gate.specs.Laws.{AsksDue, AsksExactly, CopiesOwn, DenialsLogged, DialsCleared, GivesPassage, JoinsOwn, OpensOwn, PassesUnblocked}
 use Rattle.client_service.specs.Decision.{decision_text}
 use Rattle.client_service.specs.Endings.{NotedIf, ending_line}
 use Rattle.client_service.specs.Gateways.{HeldAs, gate_devices}
@@ -41,9 +41,10 @@ pub record Serves {Origin : Type 0} (line : ℕ) (rules : RuleBook) (peer : Peer
 -- The session of the gateway was held behind this line. The dialer, if it tells, was asked for what these deeds ask for, in
 -- order, and for nothing else. The destinations are those that the client's commands ask for, up to where the dialogue stopped;
 -- each comes where it may. The server was given what the commands are passed as, up to where the dialogue stopped, and nothing
--- else; each is of a command that isn't blocked. Data links are the session's own. What the client was told as a denial the log
--- was given right before, whole; a text that is no name is denied without a line. And each request is one that its command asks
--- for.
+-- else; each is of a command that isn't blocked. Data links are the session's own, and so are doors and copies. As many links
+-- were hung up or let go as came up by these deeds, and the dialer counted so many come up. What the client was told as a denial
+-- the log was given right before, whole; a text that is no name is denied without a line. And each request is one that its
+-- command asks for.
 pub record ServesBehind {Origin : Type 0} (line : List ℕ) (gate : Gate) (ending : Ending) (old new : Devices Origin) : Type 0 where
   pub session : Session (ftp_rows gate) ftp_row (with_line line old) new ending
   pub asked : Adds (gives called (deeds_of session.held)) old.dialer.asked new.dialer.asked
@@ -52,6 +53,9 @@ pub record ServesBehind {Origin : Type 0} (line : List ℕ) (gate : Gate) (endin
   pub passage : GivesPassage gate session.held
   pub unblocked : PassesUnblocked gate (deeds_of session.held)
   pub joins : JoinsOwn gate (deeds_of session.held)
+  pub doors : OpensOwn gate (deeds_of session.held)
+  pub copies : CopiesOwn gate (deeds_of session.held)
+  pub links : LinksDialer (gives linked (deeds_of session.held)) (at_first (with_line line old) session.names) session.last
   pub denials : DenialsLogged gate (deeds_of session.held)
   pub requests : AsksDue gate (deeds_of session.held)
 

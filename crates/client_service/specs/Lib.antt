@@ -10,3 +10,4 @@ pub mod Meeting
 pub mod Options
 pub mod PlugService
 pub mod TurningAway
+pub mod UserNames

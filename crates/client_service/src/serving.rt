@@ -215,14 +215,15 @@ where
     // and what was given to the client one of what was taken of the server: all of it, unless a source or a sink failed. For
     // `tn-gw` this is behind what the session heard and told before, and of the same session it is said what the dialer was
     // asked for, and when, and which lines the log was given. For `ftp-gw` it is said of the session what the dialer was asked
-    // for, and when, what the server was given, and that each denial was logged before it was told.
+    // for, and when, how many links came up, what the server was given, and that each denial was logged before it was told.
     ensures fronts { FrontsBy service.now (verdict_of rules.now peer.now) rules.now peer.now result
         (mail_devices_with (P.port port.old) (S.source_view from.old) (K.sink_view to.old) (G.sink_view logs.old)
         (D.dialer_view dialer.old) (C.clock_view clock.old) (R.dice_view dice.old) (M.store_view store.old))
         (mail_devices_with (P.port port.new) (S.source_view from.new) (K.sink_view to.new) (G.sink_view logs.new)
         (D.dialer_view dialer.new) (C.clock_view clock.new) (R.dice_view dice.new) (M.store_view store.new)) }
     // Where the line that permits a client of `tn-gw` asks for no login, what port and clock tell is as it was, and the ending
-    // is neither the port's nor want of memory.
+    // is neither the port's nor want of memory. So it is for a client of `ftp-gw` whom the rules permit, where none of the lines
+    // that were taken of it is AUTHORIZE with a name.
     ensures unasked { Unasked (kind_of service.now (verdict_of rules.now peer.now)) (verdict_of rules.now peer.now) rules.now result
         (mail_devices_with (P.port port.old) (S.source_view from.old) (K.sink_view to.old) (G.sink_view logs.old)
         (D.dialer_view dialer.old) (C.clock_view clock.old) (R.dice_view dice.old) (M.store_view store.old))

@@ -1,5 +1,6 @@
 mod AccountLemmas
 mod BaseLemmas
+pub mod CopiedLemmas
 pub mod CourseLemmas
 pub mod DueLemmas
 pub mod EndLemmas

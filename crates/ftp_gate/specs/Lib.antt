@@ -1,3 +1,4 @@
+pub mod Copied
 pub mod Dialogue
 pub mod Distance
 pub mod Due

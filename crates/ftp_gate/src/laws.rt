@@ -9,7 +9,8 @@ ghost use Rattle.session_acts.specs.Once.{OpensOnce};
 ghost use Rattle.session_acts.specs.OwnLogin.{LoginStandsIn, number_opened};
 ghost use Rattle.session_acts.specs.Session.{Held, deeds_of};
 ghost use Rattle.session_acts.specs.Talk.{Entered, answered, asked};
-ghost use Rattle.session_acts.specs.World.{World};
+ghost use Rattle.session_acts.specs.World.{IsUnlinked, World};
+ghost use Rattle.ftp_gate.specs.Copied.{CopiesMarked};
 ghost use Rattle.ftp_gate.specs.Dialogue.{ftp_row, ftp_rows};
 ghost use Rattle.ftp_gate.specs.Due.{DoesWhatIsDue};
 ghost use Rattle.ftp_gate.specs.Ends.{EndsThere, HasEnd};
@@ -63,6 +64,14 @@ pub fn data_links_are_the_sessions_own<Origin>()
         OpensOwn gate (deeds_of held) }
     ensures copies { (gate : Gate) (old new : World Origin) (ending : Ending) (held : Held (ftp_rows gate) ftp_row old new ending) →
         CopiesOwn gate (deeds_of held) }
+{}
+
+/// At each copy two links were let go, where the dialer tells, and no link was up before the session. By their marks one was asked
+/// for as a data link to a server, and the other as one to an address or at a door. What a copy to the client carried was taken
+/// of the first and given to the second, and of a copy to the server the other way; nothing else went over either.
+pub fn each_copy_goes_between_its_links<Origin>()
+    ensures { (gate : Gate) (old new : World Origin) (ending : Ending) (held : Held (ftp_rows gate) ftp_row old new ending) →
+        IsUnlinked old.server → CopiesMarked (deeds_of held) old new }
 {}
 
 /// Behind each deed comes next what is due, if something is; and no line is logged, no destination and no request asked for but

@@ -7,6 +7,7 @@ use Rattle.fw_outside.specs.declared.ask.Ask.{Ask}
 use Rattle.fw_outside.specs.declared.ask.Ask.TheVariants.{Door}
 use Rattle.fw_outside.specs.declared.dialed.Dialed.{Dialed}
 use Rattle.fw_outside.specs.declared.dialed.Dialed.TheVariants.{Up, Refused}
+use Rattle.fw_outside.specs.declared.mark.Mark.{Mark}
 use Rattle.fw_memory.specs.CallsView.{CallsView, comes_at}
 use Rattle.fw_memory.specs.MemSinkView.{MemSinkView, sink_view_of}
 use Rattle.fw_memory.specs.MemSourceView.{MemSourceView, source_view_of}
@@ -25,6 +26,7 @@ pub record MemDialerView : Type 0 where
   pub ended : List (MemSourceView × MemSinkView)
   pub ended_room : ℕ
   pub ended_past : Bool
+  pub came : ℕ
   pub refusals : ℕ
   pub link_faults : ℕ
   pub link_idles : ℕ
@@ -52,6 +54,7 @@ abbrev pub dialer_view_of : MemDialerView → DialerView
 dialer_view_of d = record {
   asked = if d.asked_past then None else Some d.asked;
   ended = if d.ended_past then None else Some (map link_view_of d.ended);
+  came = d.came;
   refusals = d.refusals;
   link_faults = d.link_faults;
   link_idles = d.link_idles;
@@ -89,8 +92,8 @@ abbrev pub is_up : {I O : Type 0} → Dialed I O → Bool
 is_up (Up from to) = true
 is_up Refused = false
 
--- one more call was made, its entry stands where there is room, it is counted where it is refused, and what was told
--- stands
+-- one more call was made, its entry stands where there is room, it is counted where it brings a link up and where it is refused,
+-- and what was told stands
 pub record CountsAsk (ask : Ask) (old new : MemDialerView) : Type 0 where
   pub doors : new.doors ≡ old.doors
   pub room : new.room ≡ old.room
@@ -101,6 +104,7 @@ pub record CountsAsk (ask : Ask) (old new : MemDialerView) : Type 0 where
   pub ended : new.ended ≡ old.ended
   pub ended_room : new.ended_room ≡ old.ended_room
   pub ended_past : new.ended_past ≡ old.ended_past
+  pub came : new.came ≡ (if brings_up old then counted old.came else old.came)
   pub refusals : new.refusals ≡ (if brings_up old then old.refusals else counted old.refusals)
   pub link_faults : new.link_faults ≡ old.link_faults
   pub link_idles : new.link_idles ≡ old.link_idles
@@ -120,6 +124,7 @@ pub record CountsDoor (at : Option (List ℕ × ℕ)) (old new : MemDialerView) 
   pub ended : new.ended ≡ old.ended
   pub ended_room : new.ended_room ≡ old.ended_room
   pub ended_past : new.ended_past ≡ old.ended_past
+  pub came : new.came ≡ old.came
   pub refusals : new.refusals ≡ (if opens old then old.refusals else counted old.refusals)
   pub link_faults : new.link_faults ≡ old.link_faults
   pub link_idles : new.link_idles ≡ old.link_idles
@@ -127,7 +132,7 @@ pub record CountsDoor (at : Option (List ℕ × ℕ)) (old new : MemDialerView) 
   pub data_idles : new.data_idles ≡ old.data_idles
   pub waits : new.waits ≡ old.waits
 
--- one more call of `accept` was made, it is counted where it is refused, and what was told and asked stands
+-- one more call of `accept` was made, it is counted where it brings a link up and where it is refused, and what was told and asked stands
 pub record CountsAccept (old new : MemDialerView) : Type 0 where
   pub doors : new.doors ≡ old.doors
   pub room : new.room ≡ old.room
@@ -138,6 +143,7 @@ pub record CountsAccept (old new : MemDialerView) : Type 0 where
   pub ended : new.ended ≡ old.ended
   pub ended_room : new.ended_room ≡ old.ended_room
   pub ended_past : new.ended_past ≡ old.ended_past
+  pub came : new.came ≡ (if accepts old then counted old.came else old.came)
   pub refusals : new.refusals ≡ (if accepts old then old.refusals else counted old.refusals)
   pub link_faults : new.link_faults ≡ old.link_faults
   pub link_idles : new.link_idles ≡ old.link_idles
@@ -145,10 +151,11 @@ pub record CountsAccept (old new : MemDialerView) : Type 0 where
   pub data_idles : new.data_idles ≡ old.data_idles
   pub waits : new.waits ≡ old.waits
 
--- the link is the first of those to come, and waits as the dialer says
-abbrev pub IsNextLink : MemSourceView → MemSinkView → MemDialerView → MemDialerView → Type 0
-IsNextLink from to old new =
-    (source : MemSourceView) × (from ≡ record source { waits = old.waits }) × (old.links ≡ (source, to) ∷ new.links)
+-- the link is the first of those to come, marked so, and waits as the dialer says
+abbrev pub IsNextLink : Mark → MemSourceView → MemSinkView → MemDialerView → MemDialerView → Type 0
+IsNextLink mark from to old new =
+    (source : MemSourceView) × (sink : MemSinkView) × (from ≡ record source { waits = old.waits; mark = mark })
+    × (to ≡ record sink { mark = mark }) × (old.links ≡ (source, sink) ∷ new.links)
 
 -- what stands after a main link was hung up
 pub record CountsHangUp (from : MemSourceView) (to : MemSinkView) (old new : MemDialerView) : Type 0 where
@@ -162,6 +169,7 @@ pub record CountsHangUp (from : MemSourceView) (to : MemSinkView) (old new : Mem
   pub ended : new.ended ≡ (if has_ended_room old then old.ended ++ (from, to) ∷ [] else old.ended)
   pub ended_past : new.ended_past ≡ (old.ended_past || not (has_ended_room old))
   pub ended_room : new.ended_room ≡ old.ended_room
+  pub came : new.came ≡ old.came
   pub refusals : new.refusals ≡ old.refusals
   pub link_faults : new.link_faults ≡ (if has_broken (source_view_of from) (sink_view_of to) then counted old.link_faults else old.link_faults)
   pub link_idles : new.link_idles ≡ (if nat_lt 0 from.idles then counted old.link_idles else old.link_idles)
@@ -181,6 +189,7 @@ pub record CountsLetGo (from : MemSourceView) (to : MemSinkView) (old new : MemD
   pub ended : new.ended ≡ (if has_ended_room old then old.ended ++ (from, to) ∷ [] else old.ended)
   pub ended_past : new.ended_past ≡ (old.ended_past || not (has_ended_room old))
   pub ended_room : new.ended_room ≡ old.ended_room
+  pub came : new.came ≡ old.came
   pub refusals : new.refusals ≡ old.refusals
   pub link_faults : new.link_faults ≡ old.link_faults
   pub link_idles : new.link_idles ≡ old.link_idles

@@ -2,9 +2,11 @@
 use Rattle.std.specs.Prelude.{◌≡◌, ℕ, ◌-◌, ◌+◌, nat_le, Bool, not, ◌&&◌, List, ◌++◌, take, length, Some, if◌then◌else◌}
 use Rattle.fw_outside.specs.Counts.{counted}
 use Rattle.fw_outside.specs.SinkView.{SinkView}
+use Rattle.fw_outside.specs.declared.mark.Mark.{Mark}
 use Rattle.fw_memory.specs.CallsView.{CallsView, comes_at}
 
--- the bytes given, whether the end was told, how many bytes fit, the calls that fail, how many calls there were, and the count of failures
+-- the bytes given, whether the end was told, how many bytes fit, the calls that fail, how many calls there were, the count of failures,
+-- and as what its link was asked for
 pub record MemSinkView : Type 0 where
   pub given : List ℕ
   pub shut : Bool
@@ -12,10 +14,11 @@ pub record MemSinkView : Type 0 where
   pub fails : CallsView
   pub calls : ℕ
   pub faults : ℕ
+  pub mark : Mark
 
 -- it tells all
 abbrev pub sink_view_of : MemSinkView → SinkView
-sink_view_of t = record { given = Some t.given; shut = Some t.shut; faults = t.faults }
+sink_view_of t = record { given = Some t.given; shut = Some t.shut; faults = t.faults; mark = t.mark }
 
 -- whether a gift is taken whole: this call isn't told to fail, and there is room
 abbrev pub holds_all : MemSinkView → List ℕ → Bool

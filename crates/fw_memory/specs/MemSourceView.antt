@@ -3,12 +3,14 @@ use Rattle.std.specs.Prelude.{◌≡◌, ℕ, ◌==◌, ◌-◌, ◌^◌, min, L
 use Rattle.fw_outside.specs.declared.source.Got.{Got}
 use Rattle.fw_outside.specs.declared.source.Got.TheVariants.{Bytes, End, Idle}
 use Rattle.fw_outside.specs.declared.failed.Failed.{Failed}
+use Rattle.fw_outside.specs.declared.mark.Mark.{Mark}
+use Rattle.fw_outside.specs.declared.mark.Mark.TheVariants.{Own}
 use Rattle.fw_outside.specs.Counts.{counted}
 use Rattle.fw_memory.specs.CallsView.{CallsView, comes_at}
 use Rattle.fw_outside.specs.SourceView.{SourceView}
 
 -- the bytes taken and left, how many come at a call at most, the calls that fail and those that are idle, how many calls
--- there were, the counts, how long it waits, and how long it waited when nothing came last
+-- there were, the counts, how long it waits, how long it waited when nothing came last, and as what its link was asked for
 pub record MemSourceView : Type 0 where
   pub taken : List ℕ
   pub left : List ℕ
@@ -20,8 +22,9 @@ pub record MemSourceView : Type 0 where
   pub idles : ℕ
   pub waits : ℕ
   pub waited : ℕ
+  pub mark : Mark
 
--- a new source: nothing is taken or counted, and it waits an hour
+-- a new source of no dialer: nothing is taken or counted, and it waits an hour
 abbrev pub new_mem_source : List ℕ → ℕ → CallsView → CallsView → MemSourceView
 new_mem_source bytes piece fails idle = record {
   taken = [];
@@ -34,6 +37,7 @@ new_mem_source bytes piece fails idle = record {
   idles = 0;
   waits = 3600;
   waited = 0;
+  mark = Own;
 }
 
 -- it tells all
@@ -46,6 +50,7 @@ source_view_of s = record {
   idles = s.idles;
   waits = s.waits;
   waited = s.waited;
+  mark = s.mark;
 }
 
 -- what comes into a buffer of this length: the end, or as many bytes as fit

@@ -1,15 +1,16 @@
 ghost use Rattle.std.specs.Prelude.{◌≡◌, ◌<◌, ◌++◌, ◌∷◌, [], ◌||◌, ◌&&◌, All, nat_lt, length, false, not, is_some, IfOk, IfSome, IfNone, None, if◌then◌else◌};
-ghost use Rattle.fw_outside.specs.Counts.{Rose, counted};
-ghost use Rattle.fw_outside.specs.DialerView.{Accepts, ComesUp, HangsUp, IfRefused, IfUp, LetsGo, Opens, Refuses, RoseIf, TurnsAway, dialer_waiting, has_broken};
+ghost use Rattle.fw_outside.specs.Counts.{Grew, Rose, counted};
+ghost use Rattle.fw_outside.specs.DialerView.{Accepts, ComesUp, HangsUp, IfRefused, IfUp, LetsGo, Opens, Refuses, RoseIf, TurnsAway, dialer_waiting, has_broken, mark_of};
 ghost use Rattle.fw_outside.specs.ToldList.{AddsOne};
 ghost use Rattle.fw_outside.specs.declared.ask.Ask.TheVariants.{Back, Door, Main, Side};
+ghost use Rattle.fw_outside.specs.declared.mark.Mark.TheVariants as marks;
 ghost use Rattle.fw_memory.specs.CallsView.{comes_at};
 ghost use Rattle.fw_memory.specs.MemDialerView.{CountsAccept, CountsAsk, CountsDoor, CountsHangUp, CountsLetGo, IsNewLink, IsNextLink, accepts, brings_up, dialer_view_of, has_ended_room, has_room, is_up, link_view_of, opens, place_of};
 ghost use Rattle.fw_memory.specs.MemSinkView.{sink_view_of};
 ghost use Rattle.fw_memory.specs.MemSourceView.{source_view_of};
 
 use crate::{Calls, MemSink, MemSource};
-use fw_outside::{Ask, Dialed, Dialer, Source};
+use fw_outside::{Ask, Dialed, Dialer, Mark, Source};
 use fw_types::{Dest, NoMemory};
 use std::alloc::Global;
 use std::collections::VecDeque;
@@ -32,6 +33,7 @@ pub struct MemDialer {
     ended: Vec<(MemSource, MemSink)>,
     ended_room: usize,
     ended_past: bool,
+    came: u64,
     refusals: u64,
     link_faults: u64,
     link_idles: u64,
@@ -58,6 +60,7 @@ impl Model for MemDialer {
       ended = d.ended.items;
       ended_room = d.ended_room;
       ended_past = d.ended_past;
+      came = d.came;
       refusals = d.refusals;
       link_faults = d.link_faults;
       link_idles = d.link_idles;
@@ -67,6 +70,18 @@ impl Model for MemDialer {
     } };
 
     ghost invariant = { λ d. (d.room ≤ vec_capacity d.asked) × (d.ended_room ≤ vec_capacity d.ended) × All IsNewLink d.links.items };
+}
+
+// As what a link of this is marked.
+fn mark_of(ask: &Ask) -> Mark
+    ensures { result ≡ mark_of ask.now }
+{
+    match ask {
+        Ask::Main(_) => Mark::Main,
+        Ask::Side(_) => Mark::Side,
+        Ask::Back { .. } => Mark::Back,
+        Ask::Door { .. } => Mark::Door,
+    }
 }
 
 // Whether the source or the sink failed.
@@ -101,6 +116,7 @@ impl MemDialer {
           ended = [];
           ended_room = length links.items;
           ended_past = false;
+          came = 0;
           refusals = 0;
           link_faults = 0;
           link_idles = 0;
@@ -123,6 +139,7 @@ impl MemDialer {
             ended,
             ended_room,
             ended_past: false,
+            came: 0,
             refusals: 0,
             link_faults: 0,
             link_idles: 0,
@@ -206,6 +223,14 @@ impl MemDialer {
         self.links.pop_front()
     }
 
+    // Counts a link that came up.
+    fn count_up(&mut self)
+        ensures grew { Grew 1 self.old.came self.new.came }
+        ensures is { self.new ≡ record self.old { came = counted self.old.came } }
+    {
+        self.came = self.came.saturating_add(1);
+    }
+
     fn refuse(&mut self)
         ensures rose { Rose self.old.refusals self.new.refusals }
         ensures is { self.new ≡ record self.old { refusals = counted self.old.refusals } }
@@ -283,17 +308,21 @@ impl MemDialer {
             (source_view_of from) (sink_view_of to) (dialer_view_of self.old) (dialer_view_of self.new)) }
         ensures refused { IfRefused result (Refuses ask (dialer_view_of self.old) (dialer_view_of self.new)) }
         ensures answer { is_up result ≡ brings_up self.old }
-        ensures next { IfUp result (λ from to. IsNextLink from to self.old self.new) }
+        ensures next { IfUp result (λ from to. IsNextLink (mark_of ask) from to self.old self.new) }
         ensures kept { IfRefused result (self.new.links ≡ self.old.links) }
         ensures once { CountsAsk ask self.old self.new }
     {
+        let mark = mark_of(&ask);
         if !self.begin(ask) {
             self.refuse();
             return Dialed::Refused;
         }
         match self.next_link() {
-            Some((mut from, to)) => {
+            Some((mut from, mut to)) => {
                 from.patience(self.waits);
+                from.mark_as(mark);
+                to.mark_as(mark);
+                self.count_up();
                 Dialed::Up(from, to)
             }
             None => {
@@ -341,7 +370,7 @@ impl Dialer for MemDialer {
         ensures refused { IfRefused result (Refuses (Main dest.now)
             (dialer_view_of self.old) (dialer_view_of self.new)) }
         ensures answer { is_up result ≡ brings_up self.old }
-        ensures next { IfUp result (λ from to. IsNextLink from to self.old self.new) }
+        ensures next { IfUp result (λ from to. IsNextLink marks.Main from to self.old self.new) }
         ensures kept { IfRefused result (self.new.links ≡ self.old.links) }
         ensures once { CountsAsk (Main dest.now) self.old self.new }
     {
@@ -354,7 +383,7 @@ impl Dialer for MemDialer {
         ensures refused { IfRefused result (Refuses (Side dest.now)
             (dialer_view_of self.old) (dialer_view_of self.new)) }
         ensures answer { is_up result ≡ brings_up self.old }
-        ensures next { IfUp result (λ from to. IsNextLink from to self.old self.new) }
+        ensures next { IfUp result (λ from to. IsNextLink marks.Side from to self.old self.new) }
         ensures kept { IfRefused result (self.new.links ≡ self.old.links) }
         ensures once { CountsAsk (Side dest.now) self.old self.new }
     {
@@ -367,7 +396,7 @@ impl Dialer for MemDialer {
         ensures refused { IfRefused result (Refuses (Back addr port)
             (dialer_view_of self.old) (dialer_view_of self.new)) }
         ensures answer { is_up result ≡ brings_up self.old }
-        ensures next { IfUp result (λ from to. IsNextLink from to self.old self.new) }
+        ensures next { IfUp result (λ from to. IsNextLink marks.Back from to self.old self.new) }
         ensures kept { IfRefused result (self.new.links ≡ self.old.links) }
         ensures once { CountsAsk (Back addr port) self.old self.new }
     {
@@ -402,7 +431,7 @@ impl Dialer for MemDialer {
             (source_view_of from) (sink_view_of to) (dialer_view_of self.old) (dialer_view_of self.new)) }
         ensures refused { IfRefused result (TurnsAway (dialer_view_of self.old) (dialer_view_of self.new)) }
         ensures answer { is_up result ≡ accepts self.old }
-        ensures next { IfUp result (λ from to. IsNextLink from to self.old self.new) }
+        ensures next { IfUp result (λ from to. IsNextLink marks.Door from to self.old self.new) }
         ensures kept { IfRefused result (self.new.links ≡ self.old.links) }
         ensures once { CountsAccept self.old self.new }
     {
@@ -411,8 +440,11 @@ impl Dialer for MemDialer {
             return Dialed::Refused;
         }
         match self.next_link() {
-            Some((mut from, to)) => {
+            Some((mut from, mut to)) => {
                 from.patience(self.waits);
+                from.mark_as(Mark::Door);
+                to.mark_as(Mark::Door);
+                self.count_up();
                 Dialed::Up(from, to)
             }
             None => {

@@ -2,11 +2,12 @@ ghost use Rattle.std.specs.Prelude.{◌≡◌, ◌+◌, ◌-◌, ◌<◌, nat_le
 ghost use Rattle.std.specs.Bool.{OnFalse};
 ghost use Rattle.fw_outside.specs.Counts.{Rose, counted};
 ghost use Rattle.fw_outside.specs.SinkView.{Gives, TellsEnd};
+ghost use Rattle.fw_outside.specs.declared.mark.Mark.TheVariants.{Own};
 ghost use Rattle.fw_memory.specs.CallsView.{comes_at};
 ghost use Rattle.fw_memory.specs.MemSinkView.{CountsCall, sink_view_of, filled, holds_all};
 
 use crate::Calls;
-use fw_outside::{Failed, Sink};
+use fw_outside::{Failed, Mark, Sink};
 use fw_types::NoMemory;
 use std::alloc::Global;
 use std::marker::Model;
@@ -21,6 +22,7 @@ pub struct MemSink {
     fails: Calls,
     calls: u64,
     faults: u64,
+    mark: Mark,
 }
 
 impl Model for MemSink {
@@ -37,6 +39,7 @@ impl Model for MemSink {
       fails = s.fails;
       calls = s.calls;
       faults = s.faults;
+      mark = s.mark;
     } };
 
     ghost invariant = { λ s. (vec_len s.given ≤ s.room) × (s.room ≤ vec_capacity s.given) };
@@ -53,6 +56,7 @@ impl MemSink {
           fails = fails;
           calls = 0;
           faults = 0;
+          mark = Own;
         }) }
     {
         let given = Vec::with_capacity(alloc, room)?;
@@ -63,6 +67,7 @@ impl MemSink {
             fails,
             calls: 0,
             faults: 0,
+            mark: Mark::Own,
         })
     }
 
@@ -71,6 +76,13 @@ impl MemSink {
         ensures { result.now ≡ self.now.given }
     {
         &self.given
+    }
+
+    // Marks it as that of a link which was asked for so.
+    pub(crate) fn mark_as(&mut self, mark: Mark)
+        ensures { self.new ≡ record self.old { mark = mark } }
+    {
+        self.mark = mark;
     }
 
     // How often it failed.

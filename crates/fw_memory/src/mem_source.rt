@@ -6,7 +6,7 @@ ghost use Rattle.fw_outside.specs.SourceView.{Broke, Idled, Takes, waiting};
 ghost use Rattle.fw_memory.specs.MemSourceView.{CountsTake, CountsNone, handed, new_mem_source, source_view_of, take_result};
 
 use crate::Calls;
-use fw_outside::{Failed, Got, Source};
+use fw_outside::{Failed, Got, Mark, Source};
 use fw_types::Octets;
 use std::marker::Model;
 
@@ -23,6 +23,7 @@ pub struct MemSource {
     idles: u64,
     waits: u32,
     waited: u32,
+    mark: Mark,
 }
 
 impl Model for MemSource {
@@ -42,6 +43,7 @@ impl Model for MemSource {
       idles = s.idles;
       waits = s.waits;
       waited = s.waited;
+      mark = s.mark;
     } };
 
     ghost invariant = { λ s. (s.at ≤ length s.bytes) × (0 < s.piece) };
@@ -65,7 +67,15 @@ impl MemSource {
             idles: 0,
             waits: 3600,
             waited: 0,
+            mark: Mark::Own,
         }
+    }
+
+    // Marks it as that of a link which was asked for so.
+    pub(crate) fn mark_as(&mut self, mark: Mark)
+        ensures { self.new ≡ record self.old { mark = mark } }
+    {
+        self.mark = mark;
     }
 
     // Whether a call failed or was idle.

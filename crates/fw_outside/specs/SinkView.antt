@@ -2,14 +2,17 @@
 use Rattle.std.specs.Prelude.{◌≡◌, ◌≢◌, ℕ, Bool, true, List, [], ◌++◌, Option, Result, Ok, Err}
 use Rattle.std.specs.Option.{option_map}
 use Rattle.fw_outside.specs.declared.failed.Failed.{Failed}
+use Rattle.fw_outside.specs.declared.mark.Mark.{Mark}
 use Rattle.fw_outside.specs.Counts.{Rose}
 use Rattle.fw_outside.specs.ToldList.{grown}
 
--- the bytes given, and whether it was said that no more come, where the sink tells; how often it failed
+-- the bytes given, and whether it was said that no more come, where the sink tells; how often it failed; and as what its link was
+-- asked for, which no call changes
 pub record SinkView : Type 0 where
   pub given : Option (List ℕ)
   pub shut : Option Bool
   pub faults : ℕ
+  pub mark : Mark
 
 -- the sink failed within these bytes: a front of them was given, and not all, unless there were none
 pub record Cut (bytes : List ℕ) (old new : SinkView) : Type 0 where

@@ -4,12 +4,14 @@ use Rattle.std.specs.Option.{option_map}
 use Rattle.fw_outside.specs.declared.source.Got.{Got}
 use Rattle.fw_outside.specs.declared.source.Got.TheVariants.{Bytes, End, Idle}
 use Rattle.fw_outside.specs.declared.failed.Failed.{Failed}
+use Rattle.fw_outside.specs.declared.mark.Mark.{Mark}
+use Rattle.fw_outside.specs.declared.mark.Mark.TheVariants.{Own}
 use Rattle.fw_outside.specs.Counts.{Grew, Rose}
 use Rattle.fw_outside.specs.ToldList.{grown, preceded, IsOver}
 
 -- the bytes taken and those left, where the source tells; how many were taken, how often it failed, and how often nothing came
--- in time, as counts of 64 bits; how many seconds it waits; and how many it waited when nothing came last, 0 where that never
--- was
+-- in time, as counts of 64 bits; how many seconds it waits; how many it waited when nothing came last, 0 where that never was;
+-- and as what its link was asked for, which no call changes
 pub record SourceView : Type 0 where
   pub taken : Option (List ℕ)
   pub left : Option (List ℕ)
@@ -18,8 +20,9 @@ pub record SourceView : Type 0 where
   pub idles : ℕ
   pub waits : ℕ
   pub waited : ℕ
+  pub mark : Mark
 
--- a new source of what is left: nothing is taken, nothing is counted, and it waits an hour
+-- a new source of what is left, of no dialer: nothing is taken, nothing is counted, and it waits an hour
 abbrev pub fresh : Option (List ℕ) → SourceView
 fresh left = record {
   taken = option_map (λ _. []) left;
@@ -29,6 +32,20 @@ fresh left = record {
   idles = 0;
   waits = 3600;
   waited = 0;
+  mark = Own;
+}
+
+-- the source of a new link, which was asked for so and waits so many seconds
+abbrev pub fresh_link : Mark → Option (List ℕ) → ℕ → SourceView
+fresh_link mark left seconds = record {
+  taken = option_map (λ _. []) left;
+  left = left;
+  amount = 0;
+  faults = 0;
+  idles = 0;
+  waits = seconds;
+  waited = 0;
+  mark = mark;
 }
 
 -- the source after `patience`

@@ -23,8 +23,8 @@ pub trait Dialer: Drop {
     /// What was asked for and which links were hung up, the counts, and how long links wait.
     ghost dialer_view: { Self → DialerView };
 
-    /// Asks for a link to this destination. One that comes up is as new, and its source waits as long as the dialer was
-    /// told. A dialer that tells what it was asked may stop telling.
+    /// Asks for a link to this destination. One that comes up is counted, as new, and marked as what it was asked for, and its
+    /// source waits as long as the dialer was told. A dialer that tells what it was asked may stop telling.
     fn dial(&mut self, dest: &Dest) -> Dialed<Self::In, Self::Out>
         ensures up { IfUp result (λ from to. ComesUp (Main dest.now)
             (Self.In.source_view from) (Self.Out.sink_view to) (dialer_view self.old) (dialer_view self.new)) }
@@ -52,7 +52,8 @@ pub trait Dialer: Drop {
             (dialer_view self.old) (dialer_view self.new)) }
         ensures refused { IfNone result (Refuses (Door None) (dialer_view self.old) (dialer_view self.new)) };
 
-    /// Waits for a data link at a door. One that comes up is as new, and what was asked stays as it is.
+    /// Waits for a data link at a door. One that comes up is counted, as new, and marked as one of a door, and what was asked
+    /// stays as it is.
     fn accept(&mut self, door: &mut Self::Door) -> Dialed<Self::DataIn, Self::DataOut>
         ensures up { IfUp result (λ from to. Accepts
             (Self.DataIn.source_view from) (Self.DataOut.sink_view to)

@@ -4,7 +4,7 @@ use crate::Failed;
 
 /// Where bytes go outside, in order.
 pub trait Sink: Drop {
-    /// The bytes given, whether the end was told, and the count of failures.
+    /// The bytes given, whether the end was told, the count of failures, and as what its link was asked for.
     ghost sink_view: { Self → SinkView };
 
     /// Gives a piece. Where it fails, a front of the piece was given, and not all of it.

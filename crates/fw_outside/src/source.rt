@@ -16,8 +16,8 @@ pub enum Got {
 
 /// Bytes that come from outside, once and in order.
 pub trait Source: Drop {
-    /// The bytes taken and left, the counts, how many were taken among them, how long it waits, and how long it waited
-    /// when nothing came last.
+    /// The bytes taken and left, the counts, how many were taken among them, how long it waits, how long it waited when
+    /// nothing came last, and as what its link was asked for.
     ghost source_view: { Self → SourceView };
 
     /// Takes the next bytes, as many as it likes and as fit. `End`, `Idle` and `Failed` take nothing.

@@ -6,8 +6,9 @@ use Rattle.fw_outside.specs.SourceView.{SourceView}
 use Rattle.fw_outside.specs.declared.source.Got.{Got}
 use Rattle.fw_outside.specs.declared.source.Got.TheVariants.{Bytes, End, Idle}
 use Rattle.fw_outside.specs.declared.failed.Failed.{Failed}
+use Rattle.fw_outside.specs.declared.mark.Mark.TheVariants.{Own}
 
--- a source that tells only counts: so many bytes were taken, so often it failed, so often nothing came in time; and how long
+-- a source of no dialer that tells only counts: so many bytes were taken, so often it failed, so often nothing came in time; and how long
 -- it waits, and waited when nothing came last
 abbrev pub untold_source : ℕ → ℕ → ℕ → ℕ → ℕ → SourceView
 untold_source amount faults idles waits waited = record {
@@ -18,11 +19,12 @@ untold_source amount faults idles waits waited = record {
   idles = idles;
   waits = waits;
   waited = waited;
+  mark = Own;
 }
 
--- a sink that tells nothing
+-- a sink of no dialer that tells nothing
 abbrev pub unseen : ℕ → SinkView
-unseen faults = record { given = None; shut = None; faults = faults }
+unseen faults = record { given = None; shut = None; faults = faults; mark = Own }
 
 -- a take hands on the next bytes of the reader, its end, or its refusal, at which it loses nothing
 abbrev pub HandsOn : Result Got Failed → List ℕ → Option (List ℕ) → Option (List ℕ) → Type 0

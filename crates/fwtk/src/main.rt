@@ -17,6 +17,7 @@ use fw_types::Octets;
 use process::{Process, SlotDisk};
 use real_links::{ClientHosts, LinkSink, MailerProgram, Programs, StandardOutput, TcpDialer};
 use std::env;
+use std::fs::File;
 use std::io::ErrorKind;
 use std::process::ExitCode;
 use std::thread::Threads;
@@ -236,8 +237,29 @@ fn serve<H: Threads + Sync>(threads: &H, rt: HostRuntime) -> Result<u8, Stop> {
     }
 }
 
+// A descriptor that can be neither read nor written.
+fn hold(rt: &HostRuntime) -> Result<File, Stop> {
+    match File::open(rt, "/") {
+        Ok(file) => Ok(file),
+        Err(_) => Err(Stop::Fault(Outcome::Failed(Device::Output))),
+    }
+}
+
+// A standard stream that is closed would lend its number to the next file that is opened, and what is printed or logged would
+// be written into a slot. So three descriptors are held first, which take the numbers of those that are closed.
+fn serve_held<H: Threads + Sync>(threads: &H, rt: HostRuntime) -> Result<u8, Stop> {
+    let first = hold(&rt)?;
+    let second = hold(&rt)?;
+    let third = hold(&rt)?;
+    let status = serve(threads, rt);
+    drop(first);
+    drop(second);
+    drop(third);
+    status
+}
+
 fn main(rt: HostRuntime) -> ExitCode {
-    match serve(&rt, rt) {
+    match serve_held(&rt, rt) {
         Ok(status) => ExitCode::from(status),
         Err(stop) => ExitCode::from(tell(&rt, &stop)),
     }

@@ -1,7 +1,7 @@
 //! A client of a server in whose history there is room for few requests, or whose port fails.
 ghost use Rattle.client_service.specs.Conn.{IsServed};
 
-use auth_machine::{Book, Policy};
+use auth_machine::{Book, OpenFault, Policy};
 use auth_port::FaultyPort;
 use bastion::{Command, Order, Outcome, conn, read_order, table_named};
 use fw_memory::{Calls, MemFiles, MemKeeper, MemSource};
@@ -38,14 +38,16 @@ fn client_of(words: &[Octets]) -> Option<(Service, Peer)> {
 }
 
 fn table_in(alloc: Global, mut source: MemSource) -> Option<Table> {
-    Table::read(alloc, &mut source).ok()
+    let table = Table::read(alloc, &mut source);
+    drop(source);
+    table.ok()
 }
 
 fn server_in(alloc: Global, words: &[Octets], files: &mut MemFiles) -> Option<(Server, Policy)> {
     let (service, peer) = client_of(words)?;
     let table = table_in(alloc, files.source(table_named(words))?)?;
-    let rules = Rules::of(alloc, &table, &service).ok()?;
     let policy = Policy::of(alloc, &table).ok()?;
+    let rules = Rules::of(alloc, &table, &service).ok()?;
     let server = Server {
         service,
         peer,
@@ -123,6 +125,32 @@ fn hold<H: Threads + Sync>(
     ended.keeper = Some(keeper);
 }
 
+// The same over a book, where it is opened.
+fn hold_book<H: Threads + Sync>(
+    rt: &H,
+    alloc: Global,
+    server: &Server,
+    book: Result<Book<MemKeeper>, (MemKeeper, OpenFault)>,
+    fails: Calls,
+    limit: u64,
+    ended: &mut Ended,
+) {
+    match book {
+        Ok(book) => hold(
+            rt,
+            alloc,
+            server,
+            FaultyPort::new(book, fails),
+            limit,
+            ended,
+        ),
+        Err(refused) => {
+            drop(refused);
+            drop(fails);
+        }
+    }
+}
+
 /// Serves the client of the command line over a history with room for so many requests, or for as many as ever fit, by a port
 /// whose link fails at these requests, or at none.
 pub(crate) fn serve_over<H: Threads + Sync>(
@@ -140,12 +168,17 @@ pub(crate) fn serve_over<H: Threads + Sync>(
         devices,
         keeper: None,
     };
-    let Some((server, policy)) = server_in(alloc, words, &mut ended.devices.place.files) else {
-        return ended;
-    };
-    if let Ok(book) = Book::open(alloc, keeper, policy, limit) {
-        let port = FaultyPort::new(book, fails.unwrap_or(Calls::none()));
-        hold(rt, alloc, &server, port, limit, &mut ended);
+    let fails = fails.unwrap_or(Calls::none());
+    match server_in(alloc, words, &mut ended.devices.place.files) {
+        Some((server, policy)) => {
+            let book = Book::open(alloc, keeper, policy, limit);
+            hold_book(rt, alloc, &server, book, fails, limit, &mut ended);
+            drop(server);
+        }
+        None => {
+            drop(keeper);
+            drop(fails);
+        }
     }
     ended
 }

@@ -54,16 +54,25 @@ pub(crate) fn answers_of(alloc: Global, letters: &[u8]) -> Result<Vec<Handed>, N
     Ok(answers)
 }
 
+fn tell_shown(alloc: Global, ended: &Ended, out: &mut Told) -> Result<(), NoMemory> {
+    tell_ended(alloc, ended, out)?;
+    tell_text(&ended.shown, out);
+    Ok(())
+}
+
 // What a run came to, and the messages that its mailer took.
 fn tell_handed_on(alloc: Global, ended: Option<Ended>, out: &mut Told) -> Result<(), NoMemory> {
     match ended {
         Some(ended) => {
-            tell_ended(alloc, &ended, out)?;
-            tell_text(&ended.shown, out);
+            let told = tell_shown(alloc, &ended, out);
+            drop(ended);
+            told
         }
-        None => add_word(out, b"too many slots"),
+        None => {
+            add_word(out, b"too many slots");
+            Ok(())
+        }
     }
-    Ok(())
 }
 
 /// `round PART SLOT CALL WORDS!TABLE!SLOTS!ANSWERS => STATUS PRINTED LOG LETTERS MESSAGES`: a run in which a part fails as in a
@@ -104,9 +113,10 @@ pub(crate) fn tell_then<H: Threads + Sync>(
     let first = Asked::of(rest);
     match run_over(threads, alloc, first, UNBROKEN, Vec::new(alloc))? {
         Some(left) => {
-            let next = round_by(words);
+            let (disks, shown) = left.into_left();
+            drop(shown);
             let none = Vec::new(alloc);
-            let ended = run_on(threads, alloc, next, UNBROKEN, left.disks, none)?;
+            let ended = run_on(threads, alloc, round_by(words), UNBROKEN, disks, none)?;
             tell_handed_on(alloc, ended, out)
         }
         None => {

@@ -201,7 +201,11 @@ fn is_right<H: Threads + Sync>(
 ) -> Result<bool, NoMemory> {
     let answers = untaken.answers(alloc)?;
     match run_over(threads, alloc, asked, UNBROKEN, answers)? {
-        Some(ended) => is_as_wanted(alloc, asked.slots, untaken, &ended),
+        Some(ended) => {
+            let right = is_as_wanted(alloc, asked.slots, untaken, &ended);
+            drop(ended);
+            right
+        }
         None => Ok(false),
     }
 }

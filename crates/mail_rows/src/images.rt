@@ -6,13 +6,14 @@ use crate::letters::{Letter, is_any, letter_at};
 use crate::running::Ended;
 use fw_memory::MemDisk;
 use fw_types::{Message, NoMemory};
-use spool_slots::{Full, Opened, ReadBack, SlotWhy, open};
+use spool_slots::{Broken, Full, Opened, ReadBack, SlotWhy, open};
 use std::alloc::Global;
 
 // The message in a slot, where it can be read.
-fn message_in(alloc: Global, full: Full<MemDisk>) -> Result<Option<Message>, NoMemory> {
-    let mut full = full;
-    match full.message(alloc) {
+fn message_in(alloc: Global, mut full: Full<MemDisk>) -> Result<Option<Message>, NoMemory> {
+    let read = full.message(alloc);
+    drop(full);
+    match read {
         Ok(message) => Ok(Some(message)),
         Err(ReadBack::DiskFault) => Ok(None),
         Err(ReadBack::NoMemory) => Err(NoMemory),
@@ -34,20 +35,43 @@ fn image_in(alloc: Global, full: Full<MemDisk>) -> Result<Image, NoMemory> {
     }
 }
 
+fn image_of(alloc: Global, opened: Opened<MemDisk>) -> Result<Image, NoMemory> {
+    match opened {
+        Opened::Free(free) => {
+            drop(free);
+            Ok(Image::Free)
+        }
+        Opened::Full(full) => image_in(alloc, full),
+        Opened::Aside(aside) => {
+            drop(aside);
+            Ok(Image::Other)
+        }
+    }
+}
+
+fn image_of_broken(broken: Broken<MemDisk>, why: SlotWhy) -> Result<Image, NoMemory> {
+    drop(broken);
+    match why {
+        SlotWhy::NoMemory => Err(NoMemory),
+        _ => Ok(Image::Other),
+    }
+}
+
 fn opened(alloc: Global, disk: MemDisk) -> Result<Image, NoMemory> {
     match open(alloc, 0, disk) {
-        Ok(Opened::Free(_)) => Ok(Image::Free),
-        Ok(Opened::Full(full)) => image_in(alloc, full),
-        Ok(Opened::Aside(_)) => Ok(Image::Other),
-        Err((_, SlotWhy::NoMemory)) => Err(NoMemory),
-        Err(_) => Ok(Image::Other),
+        Ok(opened) => image_of(alloc, opened),
+        Err((broken, why)) => image_of_broken(broken, why),
     }
 }
 
 // Whether it opens as a slot with this message.
 fn has_letter(alloc: Global, image: MemDisk, letter: &Letter) -> Result<bool, NoMemory> {
     match opened(alloc, image)? {
-        Image::Full(message) => Ok(letter.is(&message)),
+        Image::Full(message) => {
+            let same = letter.is(&message);
+            drop(message);
+            Ok(same)
+        }
         Image::Free | Image::Other => Ok(false),
     }
 }
@@ -56,7 +80,11 @@ fn has_letter(alloc: Global, image: MemDisk, letter: &Letter) -> Result<bool, No
 fn has_any(alloc: Global, image: MemDisk, letters: &[u8]) -> Result<bool, NoMemory> {
     match opened(alloc, image)? {
         Image::Free => Ok(true),
-        Image::Full(message) => Ok(is_any(letters, &message)),
+        Image::Full(message) => {
+            let any = is_any(letters, &message);
+            drop(message);
+            Ok(any)
+        }
         Image::Other => Ok(false),
     }
 }
@@ -75,14 +103,19 @@ fn was_full(word: &[u8]) -> bool {
 fn has_kept(alloc: Global, image: MemDisk, letters: &[u8], kept: Kept) -> Result<bool, NoMemory> {
     match letter_at(letters, kept.letter) {
         Some(letter) => has_letter(alloc, image, &letter),
-        None => Ok(false),
+        None => {
+            drop(image);
+            Ok(false)
+        }
     }
 }
 
 // Whether an image of another slot is as it must be.
 fn is_left(alloc: Global, image: MemDisk, word: &[u8], letters: &[u8]) -> Result<bool, NoMemory> {
     if was_full(word) {
-        return has_stayed(alloc, &image, word);
+        let stayed = has_stayed(alloc, &image, word);
+        drop(image);
+        return stayed;
     }
     has_any(alloc, image, letters)
 }
@@ -96,7 +129,10 @@ fn is_right(
     kept: Option<Kept>,
 ) -> Result<bool, NoMemory> {
     match kept {
-        Some(_) if was_full(word) => Ok(false),
+        Some(_) if was_full(word) => {
+            drop(image);
+            Ok(false)
+        }
         Some(kept) => has_kept(alloc, image, letters, kept),
         None => is_left(alloc, image, word, letters),
     }
@@ -128,6 +164,15 @@ fn are_right(
     Ok(found == all.len())
 }
 
+// The messages that the client was told to be kept, where the log has the line of each.
+fn logged_by(alloc: Global, letters: &[u8], ended: &Ended) -> Result<Option<Vec<Kept>>, NoMemory> {
+    let all = kept_of(alloc, ended.output.bytes())?;
+    if !are_logged(alloc, letters, &all, ended.logs.bytes())? {
+        return Ok(None);
+    }
+    Ok(Some(all))
+}
+
 /// Whether what a run left is as it must be, in the images that the number picks: each message that was told as kept stands in
 /// its slot, and its line in the log; a slot that had a message has its bytes; and any other one is free, or has a message of
 /// the client.
@@ -138,16 +183,11 @@ pub(crate) fn is_sound(
     ended: Ended,
     pick: u64,
 ) -> Result<bool, NoMemory> {
-    let Ended {
-        status: _,
-        output,
-        logs,
-        disks,
-        shown: _,
-    } = ended;
-    let all = kept_of(alloc, output.bytes())?;
-    if !are_logged(alloc, letters, &all, logs.bytes())? {
-        return Ok(false);
+    let all = logged_by(alloc, letters, &ended);
+    let (disks, shown) = ended.into_left();
+    drop(shown);
+    match all? {
+        Some(all) => are_right(alloc, slots, letters, &all, disks, pick),
+        None => Ok(false),
     }
-    are_right(alloc, slots, letters, &all, disks, pick)
 }

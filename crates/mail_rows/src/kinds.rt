@@ -24,16 +24,18 @@ impl Runs for Kinds {
         out: &mut Told,
     ) -> Result<(), NoMemory> {
         match kind {
-            "run" => tell_run(threads, alloc, asked, out)?,
-            "bytes" => tell_bytes(threads, alloc, asked, out)?,
-            "broken" => tell_broken(threads, alloc, asked, out)?,
-            "round" => tell_round(threads, alloc, asked, out)?,
-            "then" => tell_then(threads, alloc, asked, out)?,
-            "rounds" => tell_rounds(threads, alloc, asked, out)?,
-            "hands" => tell_hands(threads, alloc, asked, out)?,
-            "sweep" => tell_sweep(threads, alloc, asked, out)?,
-            _ => add(out, b"no such kind"),
+            "run" => tell_run(threads, alloc, asked, out),
+            "bytes" => tell_bytes(threads, alloc, asked, out),
+            "broken" => tell_broken(threads, alloc, asked, out),
+            "round" => tell_round(threads, alloc, asked, out),
+            "then" => tell_then(threads, alloc, asked, out),
+            "rounds" => tell_rounds(threads, alloc, asked, out),
+            "hands" => tell_hands(threads, alloc, asked, out),
+            "sweep" => tell_sweep(threads, alloc, asked, out),
+            _ => {
+                add(out, b"no such kind");
+                Ok(())
+            }
         }
-        Ok(())
     }
 }

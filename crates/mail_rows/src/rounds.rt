@@ -35,11 +35,21 @@ fn without(alloc: Global, mark: u8) -> Read {
     }
 }
 
+fn read_of(alloc: Global, slot: &Slot) -> Result<Read, NoMemory> {
+    match slot {
+        Slot::Free => Ok(without(alloc, b'f')),
+        Slot::Whole(message) => with(alloc, b'w', message),
+        Slot::Aside(message) => with(alloc, b'a', message),
+    }
+}
+
 fn slot_read(alloc: Global, bytes: &[u8]) -> Result<Read, NoMemory> {
     match read_slot(alloc, bytes) {
-        Ok(Slot::Free) => Ok(without(alloc, b'f')),
-        Ok(Slot::Whole(message)) => with(alloc, b'w', &message),
-        Ok(Slot::Aside(message)) => with(alloc, b'a', &message),
+        Ok(slot) => {
+            let read = read_of(alloc, &slot);
+            drop(slot);
+            read
+        }
         Err(SlotFault::Bad { at: _ }) => Ok(without(alloc, b'b')),
         Err(SlotFault::NoMemory) => Err(NoMemory),
     }
@@ -74,27 +84,33 @@ fn is_right(before: &Read, image: &Read, shown: &[u8]) -> bool {
     may_be(before.mark, image.mark) && image.message.as_slice() == before.message.as_slice()
 }
 
+// A slot as a row says it.
+fn word_read(alloc: Global, word: &[u8]) -> Result<Read, NoMemory> {
+    let bytes = slot_of(alloc, word)?;
+    slot_read(alloc, bytes.bytes())
+}
+
+// An image, which isn't needed any more then.
+fn image_read(alloc: Global, image: MemDisk) -> Result<Read, NoMemory> {
+    let read = slot_read(alloc, image.bytes());
+    drop(image);
+    read
+}
+
 fn is_image_right(
     alloc: Global,
     word: &[u8],
     image: MemDisk,
     shown: &[u8],
 ) -> Result<bool, NoMemory> {
-    let before = slot_of(alloc, word)?;
-    let before = slot_read(alloc, before.bytes())?;
-    let image = slot_read(alloc, image.bytes())?;
+    let image = image_read(alloc, image)?;
+    let before = word_read(alloc, word)?;
     Ok(is_right(&before, &image, shown))
 }
 
 // Whether the images that the number picks are.
 fn are_right(alloc: Global, slots: &[u8], ended: Ended, pick: u64) -> Result<bool, NoMemory> {
-    let Ended {
-        status: _,
-        output: _,
-        logs: _,
-        disks,
-        shown,
-    } = ended;
+    let (disks, shown) = ended.into_left();
     let mut words = slots.split(|byte| *byte == b',');
     for disk in disks {
         let word = words.next().unwrap_or(b"");

@@ -1,5 +1,5 @@
 //! A run over devices in memory.
-ghost use Rattle.std.specs.Prelude.{◌≤◌, length};
+ghost use Rattle.std.specs.Prelude.{◌≤◌, ◌<◌, length};
 
 use crate::asked::{Asked, slot_of, text_with, words_of};
 use crate::breaking::{Broken, Part};
@@ -49,12 +49,24 @@ impl Kit for Memory {
     type Disk = MemDisk;
 }
 
+// Both, where there is memory for each.
+fn both<A: Drop, B: Drop>(
+    first: Result<A, NoMemory>,
+    second: Result<B, NoMemory>,
+) -> Result<(A, B), NoMemory> {
+    Ok((first?, second?))
+}
+
+fn disk_of(alloc: Global, word: &[u8], broken: Broken, number: u64) -> Result<MemDisk, NoMemory> {
+    let (bytes, fails) = both(slot_of(alloc, word), broken.disk_calls(alloc, number))?;
+    Ok(MemDisk::new(alloc, bytes, fails))
+}
+
 fn disks_of(alloc: Global, slots: &[u8], broken: Broken) -> Result<Vec<MemDisk>, NoMemory> {
     let mut disks = Vec::new(alloc);
     let mut number = 0u64;
     for word in slots.split(|byte| *byte == b',') {
-        let fails = broken.disk_calls(alloc, number)?;
-        disks.push(MemDisk::new(alloc, slot_of(alloc, word)?, fails))?;
+        disks.push(disk_of(alloc, word, broken, number)?)?;
         number = number.saturating_add(1);
     }
     Ok(disks)
@@ -71,9 +83,17 @@ fn files_of(alloc: Global, asked: Asked, broken: Broken) -> Result<MemFiles, NoM
 
 fn input_of(alloc: Global, asked: Asked, broken: Broken) -> Result<MemSource, NoMemory> {
     let said = text_with(alloc, asked.client, b'^', b"\r\n")?;
-    let fails = broken.calls(alloc, Part::Client)?;
-    let idle = broken.calls(alloc, Part::Idle)?;
+    let (fails, idle) = both(
+        broken.calls(alloc, Part::Client),
+        broken.calls(alloc, Part::Idle),
+    )?;
     Ok(MemSource::new(said, PIECE, fails, idle))
+}
+
+// A sink with so much room, which fails where this part does.
+fn sink_of(alloc: Global, room: usize, broken: Broken, part: Part) -> Result<MemSink, NoMemory> {
+    let fails = broken.calls(alloc, part)?;
+    MemSink::new(alloc, room, fails)
 }
 
 /// What a run is given beside its disks. There are no records, and no server.
@@ -87,11 +107,16 @@ struct Devices {
 }
 
 fn devices_of(alloc: Global, asked: Asked, broken: Broken) -> Result<Devices, NoMemory> {
-    let files = files_of(alloc, asked, broken)?;
-    let input = input_of(alloc, asked, broken)?;
-    let output = MemSink::new(alloc, ROOM, broken.calls(alloc, Part::Output)?)?;
-    let logs = MemSink::new(alloc, broken.log_room(), broken.calls(alloc, Part::Log)?)?;
-    let dialer = MemDialer::new(alloc, Vec::new(alloc), Vec::new(alloc), 1, Calls::none())?;
+    let sources = both(
+        files_of(alloc, asked, broken),
+        input_of(alloc, asked, broken),
+    );
+    let sinks = both(
+        sink_of(alloc, ROOM, broken, Part::Output),
+        sink_of(alloc, broken.log_room(), broken, Part::Log),
+    );
+    let dialer = MemDialer::new(alloc, Vec::new(alloc), Vec::new(alloc), 1, Calls::none());
+    let ((files, input), ((output, logs), dialer)) = both(sources, both(sinks, dialer))?;
     Ok(Devices {
         files,
         input,
@@ -112,13 +137,42 @@ pub(crate) struct Ended {
     pub(crate) shown: Vec<u8>,
 }
 
+impl Ended {
+    /// The disks, and the messages that the mailer took.
+    pub(crate) fn into_left(self) -> (Vec<MemDisk>, Vec<u8>) {
+        let Ended {
+            status: _,
+            output,
+            logs,
+            disks,
+            shown,
+        } = self;
+        drop(output);
+        drop(logs);
+        (disks, shown)
+    }
+}
+
+// What a run with this status left in the world.
 fn ended_of(status: u8, world: World<Memory>, shown: Vec<u8>) -> Ended {
     let World {
+        files,
+        input,
         output,
         logs,
+        clock,
+        dice: _,
+        keeper,
+        dialer,
+        launcher,
         disks,
-        ..
     } = world;
+    drop(files);
+    drop(input);
+    drop(clock);
+    drop(keeper);
+    drop(dialer);
+    drop(launcher);
     Ended {
         status,
         output,
@@ -128,19 +182,18 @@ fn ended_of(status: u8, world: World<Memory>, shown: Vec<u8>) -> Ended {
     }
 }
 
-// The one call of `run`, with a mailer that gives these answers.
+// The one call of `run`: its status, and what it left in the world.
 fn run_with<H: Threads + Sync>(
     threads: &H,
     alloc: Global,
     words: &[Octets],
     devices: Devices,
     disks: Vec<MemDisk>,
-    answers: Vec<Handed>,
-) -> Result<Ended, NoMemory>
+    mailers: &mut Vec<Box<dyn Mailer>>,
+) -> (u8, World<Memory>)
     requires few { length disks.items ≤ 64 }
+    requires some { 0 < length mailers.old.items }
 {
-    let mut mailers: Vec<Box<dyn Mailer>> = Vec::new(alloc);
-    mailers.push(Box::new(alloc, MemMailer::new(alloc, answers))?)?;
     let Devices {
         files,
         input,
@@ -160,9 +213,28 @@ fn run_with<H: Threads + Sync>(
         launcher: MemLauncher::new(alloc, Vec::new(alloc), Calls::none()),
         disks,
     };
-    let status = run(threads, alloc, words, &mut mailers, &mut world);
-    let shown = shown_by(alloc, &mailers)?;
-    Ok(ended_of(status, world, shown))
+    let status = run(threads, alloc, words, mailers, &mut world);
+    (status, world)
+}
+
+// What the first mailer shows, behind a run with this status.
+fn ended_by(
+    alloc: Global,
+    status: u8,
+    world: World<Memory>,
+    mailers: &[Box<dyn Mailer>],
+) -> Result<Ended, NoMemory> {
+    let mut ended = ended_of(status, world, Vec::new(alloc));
+    match shown_by(alloc, mailers) {
+        Ok(shown) => {
+            ended.shown = shown;
+            Ok(ended)
+        }
+        Err(NoMemory) => {
+            drop(ended);
+            Err(NoMemory)
+        }
+    }
 }
 
 /// Runs what is asked for over these disks, with a mailer that gives these answers; nothing where there are too many disks.
@@ -178,8 +250,11 @@ pub(crate) fn run_on<H: Threads + Sync>(
         return Ok(None);
     }
     let words = words_of(alloc, asked.words)?;
+    let mut mailers: Vec<Box<dyn Mailer>> = Vec::new(alloc);
+    mailers.push(Box::new(alloc, MemMailer::new(alloc, answers))?)?;
     let devices = devices_of(alloc, asked, broken)?;
-    let ended = run_with(threads, alloc, &words, devices, disks, answers)?;
+    let (status, world) = run_with(threads, alloc, &words, devices, disks, &mut mailers);
+    let ended = ended_by(alloc, status, world, &mailers)?;
     Ok(Some(ended))
 }
 

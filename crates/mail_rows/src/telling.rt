@@ -28,13 +28,23 @@ pub(crate) fn tell_text(text: &[u8], out: &mut Told) {
     }
 }
 
-/// A letter for what a disk's bytes are read as: `f` free, `w` whole, `a` aside, `b` bad.
-pub(crate) fn letter_of(alloc: Global, disk: &MemDisk) -> Result<&'static [u8], NoMemory> {
+fn letter_in(slot: &Slot) -> u8 {
+    match slot {
+        Slot::Free => b'f',
+        Slot::Whole(_) => b'w',
+        Slot::Aside(_) => b'a',
+    }
+}
+
+// A letter for what a disk's bytes are read as: `f` free, `w` whole, `a` aside, `b` bad.
+fn letter_of(alloc: Global, disk: &MemDisk) -> Result<u8, NoMemory> {
     match read_slot(alloc, disk.bytes()) {
-        Ok(Slot::Free) => Ok(b"f"),
-        Ok(Slot::Whole(_)) => Ok(b"w"),
-        Ok(Slot::Aside(_)) => Ok(b"a"),
-        Err(SlotFault::Bad { .. }) => Ok(b"b"),
+        Ok(slot) => {
+            let letter = letter_in(&slot);
+            drop(slot);
+            Ok(letter)
+        }
+        Err(SlotFault::Bad { .. }) => Ok(b'b'),
         Err(SlotFault::NoMemory) => Err(NoMemory),
     }
 }
@@ -46,7 +56,7 @@ pub(crate) fn tell_ended(alloc: Global, ended: &Ended, out: &mut Told) -> Result
     tell_text(ended.logs.bytes(), out);
     add_word(out, b"");
     for disk in &ended.disks {
-        add(out, letter_of(alloc, disk)?);
+        add(out, &[letter_of(alloc, disk)?]);
     }
     Ok(())
 }
@@ -59,10 +69,16 @@ fn tell_with<H: Threads + Sync>(
     out: &mut Told,
 ) -> Result<(), NoMemory> {
     match run_over(threads, alloc, Asked::of(asked), broken, Vec::new(alloc))? {
-        Some(ended) => tell_ended(alloc, &ended, out)?,
-        None => add_word(out, b"too many slots"),
+        Some(ended) => {
+            let told = tell_ended(alloc, &ended, out);
+            drop(ended);
+            told
+        }
+        None => {
+            add_word(out, b"too many slots");
+            Ok(())
+        }
     }
-    Ok(())
 }
 
 /// `run WORDS!TABLE!SLOTS!CLIENT => STATUS TOLD LOG LETTERS`: a run, in which `^` stands for the end of a line.
@@ -75,6 +91,12 @@ pub(crate) fn tell_run<H: Threads + Sync>(
     tell_with(threads, alloc, asked, UNBROKEN, out)
 }
 
+fn add_disks(disks: &[MemDisk], out: &mut Told) {
+    for disk in disks {
+        add_hex(out, disk.bytes());
+    }
+}
+
 /// `bytes WORDS!TABLE!SLOTS!CLIENT => DIGITS DIGITS ..`: what the disks hold behind a run.
 pub(crate) fn tell_bytes<H: Threads + Sync>(
     threads: &H,
@@ -83,9 +105,8 @@ pub(crate) fn tell_bytes<H: Threads + Sync>(
     out: &mut Told,
 ) -> Result<(), NoMemory> {
     if let Some(ended) = run_over(threads, alloc, Asked::of(asked), UNBROKEN, Vec::new(alloc))? {
-        for disk in &ended.disks {
-            add_hex(out, disk.bytes());
-        }
+        add_disks(&ended.disks, out);
+        drop(ended);
     }
     Ok(())
 }

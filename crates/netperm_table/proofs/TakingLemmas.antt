@@ -69,7 +69,8 @@ is_more first now new reader n piece r came =
     let idles : now.idles ≡ first.idles = rw r.is refl in
     let waits : now.waits ≡ first.waits = rw r.is refl in
     let waited : now.waited ≡ first.waited = rw r.is refl in
-    came.is ∙ rw (taken, faults, idles, waits, waited, grown-append first.taken r.part (take n piece)) refl
+    let mark : now.mark ≡ first.mark = rw r.is refl in
+    came.is ∙ rw (taken, faults, idles, waits, waited, mark, grown-append first.taken r.part (take n piece)) refl
 
 pub grew_more : (first now new : SourceView) (reader : Progress) (n : ℕ) (piece : List ℕ) (r : ReadsOn first now reader) (came : Came n piece now new) → Grew (length (r.part ++ take n piece)) first.amount came.count
 grew_more first now new reader n piece r came =

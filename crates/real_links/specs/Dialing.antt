@@ -8,10 +8,11 @@ use Rattle.real_links.specs.Names.{can_be_looked_up, without_last_period}
 use Rattle.real_links.specs.declared.address.Address.{Address}
 
 -- a dialer that tells only counts, and how long links wait
-abbrev pub untold_dialer : ℕ → ℕ → ℕ → ℕ → ℕ → ℕ → DialerView
-untold_dialer refusals link_faults link_idles data_faults data_idles waits = record {
+abbrev pub untold_dialer : ℕ → ℕ → ℕ → ℕ → ℕ → ℕ → ℕ → DialerView
+untold_dialer came refusals link_faults link_idles data_faults data_idles waits = record {
   asked = None;
   ended = None;
+  came = came;
   refusals = refusals;
   link_faults = link_faults;
   link_idles = link_idles;

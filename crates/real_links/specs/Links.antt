@@ -8,11 +8,12 @@ use Rattle.fw_outside.specs.SourceView.{SourceView}
 use Rattle.fw_outside.specs.declared.source.Got.{Got}
 use Rattle.fw_outside.specs.declared.source.Got.TheVariants.{Bytes, End, Idle}
 use Rattle.fw_outside.specs.declared.failed.Failed.{Failed}
+use Rattle.fw_outside.specs.declared.mark.Mark.{Mark}
 
--- a source that tells only counts: so many bytes were taken, so often it failed, so often nothing came in time; and how long
--- it waits, and waited when nothing came last
-abbrev pub untold_source : ℕ → ℕ → ℕ → ℕ → ℕ → SourceView
-untold_source amount faults idles waits waited = record {
+-- a source that tells only counts: so many bytes were taken, so often it failed, so often nothing came in time; how long
+-- it waits, and waited when nothing came last; and as what its link was asked for
+abbrev pub untold_source : ℕ → ℕ → ℕ → ℕ → ℕ → Mark → SourceView
+untold_source amount faults idles waits waited mark = record {
   taken = None;
   left = None;
   amount = amount;
@@ -20,11 +21,12 @@ untold_source amount faults idles waits waited = record {
   idles = idles;
   waits = waits;
   waited = waited;
+  mark = mark;
 }
 
--- a sink that tells only its count
-abbrev pub untold_sink : ℕ → SinkView
-untold_sink faults = record { given = None; shut = None; faults = faults }
+-- a sink that tells only its count, and as what its link was asked for
+abbrev pub untold_sink : ℕ → Mark → SinkView
+untold_sink faults mark = record { given = None; shut = None; faults = faults; mark = mark }
 
 -- a take hands on the next bytes of the reader, its end, or its refusal, at which it loses nothing
 abbrev pub HandsOn : Result Got Failed → List ℕ → Option (List ℕ) → Option (List ℕ) → Type 0

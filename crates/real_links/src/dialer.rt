@@ -1,5 +1,5 @@
 ghost use Rattle.std.specs.Prelude.{◌≡◌, true, IfNone, IfSome, None, Some, if◌then◌else◌};
-ghost use Rattle.fw_outside.specs.Counts.{Rose, counted};
+ghost use Rattle.fw_outside.specs.Counts.{Grew, Rose, counted};
 ghost use Rattle.fw_outside.specs.DialerView.{Accepts, ComesUp, HangsUp, IfRefused, IfUp, LetsGo, Opens, Refuses, RoseIf, TurnsAway, dialer_waiting, has_broken};
 ghost use Rattle.fw_outside.specs.declared.ask.Ask.TheVariants.{Back, Door, Main, Side};
 ghost use Rattle.fw_types.specs.declared.host.Host.TheVariants.{Name};
@@ -13,7 +13,7 @@ use crate::door::{Opened, open_door, wait_at};
 use crate::link::{Link, link_over, open};
 use crate::names::{can_be_looked_up, without_last_period};
 use crate::{Address, ClientHosts, LinkSink, LinkSource, TcpDoor};
-use fw_outside::{Dialed, Dialer};
+use fw_outside::{Dialed, Dialer, Mark};
 use fw_types::{Dest, Host, HostName};
 use std::alloc::Global;
 use std::io::{self, ErrorKind};
@@ -34,21 +34,22 @@ fn look_up<R: Net>(net: &R, name: &[u8], port: u16) -> io::Result<HostAddrs>
 // Whether the source or the sink failed.
 fn has_broken<S>(from: &LinkSource<S>, to: &LinkSink<S>) -> bool
     ensures { result ≡ has_broken
-        (untold_source from.now.amount from.now.faults from.now.idles from.now.waits from.now.waited)
-        (untold_sink to.now.faults) }
+        (untold_source from.now.amount from.now.faults from.now.idles from.now.waits from.now.waited from.now.mark)
+        (untold_sink to.now.faults to.now.mark) }
 {
     from.faults() > 0 || to.faults() > 0
 }
 
-/// Makes links over TCP to addresses of IPv4, looks names up, and opens doors for one client. It counts the links and doors
-/// that were refused, and of the main links and of the data links that it hung up the ones that had failed and those that had
-/// been idle.
+/// Makes links over TCP to addresses of IPv4, looks names up, and opens doors for one client. It counts the links that came
+/// up, the links and doors that were refused, and of the main links and of the data links that it hung up the ones that had
+/// failed and those that had been idle.
 #[derive(Drop)]
 pub struct TcpDialer<R> {
     net: R,
     alloc: Global,
     hosts: Option<ClientHosts>,
     waits: u32,
+    came: u64,
     refusals: u64,
     link_faults: u64,
     link_idles: u64,
@@ -60,7 +61,7 @@ impl<R> TcpDialer<R> {
     /// A dialer over this net, whose doors are for this client; without one it opens none. Nothing is counted yet, and its
     /// links wait an hour. Each takes 65,536 bytes, by which it reads ahead, and is refused if there is no memory for them.
     pub fn new(net: R, alloc: Global, hosts: Option<ClientHosts>) -> TcpDialer<R>
-        ensures view { tcp_dialer_view result ≡ untold_dialer 0 0 0 0 0 3600 }
+        ensures view { tcp_dialer_view result ≡ untold_dialer 0 0 0 0 0 0 3600 }
         ensures hosts { result.hosts ≡ hosts }
     {
         TcpDialer {
@@ -68,12 +69,21 @@ impl<R> TcpDialer<R> {
             alloc,
             hosts,
             waits: 3600,
+            came: 0,
             refusals: 0,
             link_faults: 0,
             link_idles: 0,
             data_faults: 0,
             data_idles: 0,
         }
+    }
+
+    // Counts a link that came up.
+    fn count_up(&mut self)
+        ensures grew { Grew 1 self.old.came self.new.came }
+        ensures is { self.new ≡ record self.old { came = counted self.old.came } }
+    {
+        self.came = self.came.saturating_add(1);
     }
 
     fn refuse(&mut self)
@@ -235,14 +245,20 @@ where
 
     fn dial(&mut self, dest: &Dest) -> Dialed<LinkSource<R::Stream>, LinkSink<R::Stream>>
         ensures up { IfUp result (λ from to. ComesUp (Main dest.now)
-            (untold_source from.amount from.faults from.idles from.waits from.waited) (untold_sink to.faults)
+            (untold_source from.amount from.faults from.idles from.waits from.waited from.mark)
+            (untold_sink to.faults to.mark)
             (tcp_dialer_view self.old) (tcp_dialer_view self.new)) }
         ensures refused { IfRefused result (Refuses (Main dest.now) (tcp_dialer_view self.old) (tcp_dialer_view self.new)) }
         ensures leads { IfUp result (λ from to. LeadsTo dest.now from.to) }
         ensures ahead { IfUp result (λ from to. ReadsAhead from.socket) }
     {
         match self.reach(dest) {
-            Some(Link { from, to }) => Dialed::Up(from, to),
+            Some(Link { mut from, mut to }) => {
+                from.mark_as(Mark::Main);
+                to.mark_as(Mark::Main);
+                self.count_up();
+                Dialed::Up(from, to)
+            }
             None => {
                 self.refuse();
                 Dialed::Refused
@@ -252,14 +268,20 @@ where
 
     fn side(&mut self, dest: &Dest) -> Dialed<LinkSource<R::Stream>, LinkSink<R::Stream>>
         ensures up { IfUp result (λ from to. ComesUp (Side dest.now)
-            (untold_source from.amount from.faults from.idles from.waits from.waited) (untold_sink to.faults)
+            (untold_source from.amount from.faults from.idles from.waits from.waited from.mark)
+            (untold_sink to.faults to.mark)
             (tcp_dialer_view self.old) (tcp_dialer_view self.new)) }
         ensures refused { IfRefused result (Refuses (Side dest.now) (tcp_dialer_view self.old) (tcp_dialer_view self.new)) }
         ensures leads { IfUp result (λ from to. LeadsTo dest.now from.to) }
         ensures ahead { IfUp result (λ from to. ReadsAhead from.socket) }
     {
         match self.reach(dest) {
-            Some(Link { from, to }) => Dialed::Up(from, to),
+            Some(Link { mut from, mut to }) => {
+                from.mark_as(Mark::Side);
+                to.mark_as(Mark::Side);
+                self.count_up();
+                Dialed::Up(from, to)
+            }
             None => {
                 self.refuse();
                 Dialed::Refused
@@ -273,14 +295,20 @@ where
         port: u16,
     ) -> Dialed<LinkSource<R::Stream>, LinkSink<R::Stream>>
         ensures up { IfUp result (λ from to. ComesUp (Back addr port)
-            (untold_source from.amount from.faults from.idles from.waits from.waited) (untold_sink to.faults)
+            (untold_source from.amount from.faults from.idles from.waits from.waited from.mark)
+            (untold_sink to.faults to.mark)
             (tcp_dialer_view self.old) (tcp_dialer_view self.new)) }
         ensures refused { IfRefused result (Refuses (Back addr port) (tcp_dialer_view self.old) (tcp_dialer_view self.new)) }
         ensures leads { IfUp result (λ from to. from.to ≡ record { host = addr; port = port }) }
         ensures ahead { IfUp result (λ from to. ReadsAhead from.socket) }
     {
         match self.reach_back(addr, port) {
-            Some(Link { from, to }) => Dialed::Up(from, to),
+            Some(Link { mut from, mut to }) => {
+                from.mark_as(Mark::Back);
+                to.mark_as(Mark::Back);
+                self.count_up();
+                Dialed::Up(from, to)
+            }
             None => {
                 self.refuse();
                 Dialed::Refused
@@ -311,7 +339,8 @@ where
         door: &mut TcpDoor<R::Listener>,
     ) -> Dialed<LinkSource<R::Stream>, LinkSink<R::Stream>>
         ensures up { IfUp result (λ from to. Accepts
-            (untold_source from.amount from.faults from.idles from.waits from.waited) (untold_sink to.faults)
+            (untold_source from.amount from.faults from.idles from.waits from.waited from.mark)
+            (untold_sink to.faults to.mark)
             (tcp_dialer_view self.old) (tcp_dialer_view self.new)) }
         ensures refused { IfRefused result (TurnsAway (tcp_dialer_view self.old) (tcp_dialer_view self.new)) }
         ensures client { IfUp result (λ from to. from.to.host ≡ door.old.client) }
@@ -319,7 +348,12 @@ where
         ensures door { door.new ≡ door.old }
     {
         match self.reach_at(door) {
-            Some(Link { from, to }) => Dialed::Up(from, to),
+            Some(Link { mut from, mut to }) => {
+                from.mark_as(Mark::Door);
+                to.mark_as(Mark::Door);
+                self.count_up();
+                Dialed::Up(from, to)
+            }
             None => {
                 self.refuse();
                 Dialed::Refused
@@ -329,7 +363,8 @@ where
 
     fn hang_up(&mut self, from: LinkSource<R::Stream>, to: LinkSink<R::Stream>)
         ensures { HangsUp
-            (untold_source from.amount from.faults from.idles from.waits from.waited) (untold_sink to.faults)
+            (untold_source from.amount from.faults from.idles from.waits from.waited from.mark)
+            (untold_sink to.faults to.mark)
             (tcp_dialer_view self.old) (tcp_dialer_view self.new) }
     {
         self.count_fault(has_broken(&from, &to));
@@ -338,7 +373,8 @@ where
 
     fn let_go(&mut self, from: LinkSource<R::Stream>, to: LinkSink<R::Stream>)
         ensures { LetsGo
-            (untold_source from.amount from.faults from.idles from.waits from.waited) (untold_sink to.faults)
+            (untold_source from.amount from.faults from.idles from.waits from.waited from.mark)
+            (untold_sink to.faults to.mark)
             (tcp_dialer_view self.old) (tcp_dialer_view self.new) }
     {
         self.count_data_fault(has_broken(&from, &to));

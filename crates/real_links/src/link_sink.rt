@@ -1,9 +1,10 @@
 ghost use Rattle.std.specs.Prelude.{◌≡◌};
 ghost use Rattle.fw_outside.specs.Counts.{Rose, counted};
 ghost use Rattle.fw_outside.specs.SinkView.{Gives, TellsEnd};
+ghost use Rattle.fw_outside.specs.declared.mark.Mark.TheVariants.{Own};
 ghost use Rattle.real_links.specs.Links.{Writes, untold_sink};
 
-use fw_outside::{Failed, Sink};
+use fw_outside::{Failed, Mark, Sink};
 use std::io::Write;
 use std::net::{OpenStream, Shutdown};
 
@@ -18,18 +19,28 @@ pub struct LinkSink<S> {
     socket: S,
     is_hurried: bool,
     faults: u64,
+    mark: Mark,
 }
 
 impl<S> LinkSink<S> {
-    /// What goes over a socket. Nothing is counted yet.
+    /// What goes over a socket, of no dialer. Nothing is counted yet.
     pub fn new(socket: S) -> LinkSink<S>
-        ensures { result.faults ≡ 0 }
+        ensures faults { result.faults ≡ 0 }
+        ensures mark { result.mark ≡ Own }
     {
         LinkSink {
             socket,
             is_hurried: false,
             faults: 0,
+            mark: Mark::Own,
         }
+    }
+
+    /// Marks it as that of a link which was asked for so.
+    pub(crate) fn mark_as(&mut self, mark: Mark)
+        ensures { self.new ≡ record self.old { mark = mark } }
+    {
+        self.mark = mark;
     }
 
     /// How many writes failed.
@@ -41,6 +52,7 @@ impl<S> LinkSink<S> {
 
     fn fail(&mut self) -> Failed
         ensures rose { Rose self.old.faults self.new.faults }
+        ensures mark { self.new.mark ≡ self.old.mark }
         ensures is { self.new ≡ record self.old { faults = counted self.old.faults } }
     {
         self.faults = self.faults.saturating_add(1);
@@ -54,6 +66,7 @@ impl<S: OpenStream> LinkSink<S> {
     fn hurry(&mut self, is_hurried: bool)
         ensures socket { self.new.socket ≡ self.old.socket }
         ensures faults { self.new.faults ≡ self.old.faults }
+        ensures mark { self.new.mark ≡ self.old.mark }
     {
         if self.is_hurried != is_hurried {
             let _ = self.socket.set_nodelay(is_hurried);
@@ -65,6 +78,7 @@ impl<S: OpenStream> LinkSink<S> {
     fn unhurry_for(&mut self, piece: &[u8])
         ensures socket { self.new.socket ≡ self.old.socket }
         ensures faults { self.new.faults ≡ self.old.faults }
+        ensures mark { self.new.mark ≡ self.old.mark }
     {
         if piece.len() >= PIECE {
             self.hurry(false);
@@ -75,6 +89,7 @@ impl<S: OpenStream> LinkSink<S> {
     fn hurry_after(&mut self, piece: &[u8])
         ensures socket { self.new.socket ≡ self.old.socket }
         ensures faults { self.new.faults ≡ self.old.faults }
+        ensures mark { self.new.mark ≡ self.old.mark }
     {
         if piece.len() < PIECE {
             self.hurry(true);
@@ -84,7 +99,7 @@ impl<S: OpenStream> LinkSink<S> {
 
 impl<S: Write + OpenStream> LinkSink<S> {
     fn write(&mut self, piece: &[u8]) -> Result<(), Failed>
-        ensures gives { Gives result piece.now (untold_sink self.old.faults) (untold_sink self.new.faults) }
+        ensures gives { Gives result piece.now (untold_sink self.old.faults self.old.mark) (untold_sink self.new.faults self.new.mark) }
         ensures bytes { Writes result piece.now (S.contents self.old.socket) (S.contents self.new.socket) }
     {
         match self.socket.write_all(piece) {
@@ -95,10 +110,10 @@ impl<S: Write + OpenStream> LinkSink<S> {
 }
 
 impl<S: Write + OpenStream + Drop> Sink for LinkSink<S> {
-    ghost sink_view = { λ s. untold_sink s.faults };
+    ghost sink_view = { λ s. untold_sink s.faults s.mark };
 
     fn give(&mut self, piece: &[u8]) -> Result<(), Failed>
-        ensures gives { Gives result piece.now (untold_sink self.old.faults) (untold_sink self.new.faults) }
+        ensures gives { Gives result piece.now (untold_sink self.old.faults self.old.mark) (untold_sink self.new.faults self.new.mark) }
         ensures bytes { Writes result piece.now (S.contents self.old.socket) (S.contents self.new.socket) }
     {
         self.unhurry_for(piece);
@@ -108,7 +123,7 @@ impl<S: Write + OpenStream + Drop> Sink for LinkSink<S> {
     }
 
     fn end(&mut self) -> Result<(), Failed>
-        ensures ends { TellsEnd result (untold_sink self.old.faults) (untold_sink self.new.faults) }
+        ensures ends { TellsEnd result (untold_sink self.old.faults self.old.mark) (untold_sink self.new.faults self.new.mark) }
         ensures socket { self.new.socket ≡ self.old.socket }
     {
         match self.socket.shutdown(Shutdown::Write) {

@@ -3,11 +3,12 @@ ghost use Rattle.std.specs.Io.Buffered.{reader_remaining};
 ghost use Rattle.std.specs.Io.KnownBytes.{ReadConsumes};
 ghost use Rattle.fw_outside.specs.Counts.{Grew};
 ghost use Rattle.fw_outside.specs.SourceView.{Takes, waiting};
+ghost use Rattle.fw_outside.specs.declared.mark.Mark.TheVariants.{Own};
 ghost use Rattle.real_links.specs.Links.{HandsOn, untold_source};
 
 use crate::Address;
 use crate::wait::set_wait;
-use fw_outside::{Failed, Got, Source};
+use fw_outside::{Failed, Got, Mark, Source};
 use std::io::{self, BufReader, ErrorKind, Read};
 use std::net::OpenStream;
 
@@ -51,6 +52,7 @@ pub struct LinkSource<S> {
     idles: u64,
     waits: u32,
     waited: u32,
+    mark: Mark,
 }
 
 impl<S> LinkSource<S> {
@@ -63,6 +65,7 @@ impl<S> LinkSource<S> {
         ensures idles { result.idles ≡ 0 }
         ensures waits { result.waits ≡ waits }
         ensures waited { result.waited ≡ 0 }
+        ensures mark { result.mark ≡ Own }
     {
         LinkSource {
             socket,
@@ -73,7 +76,15 @@ impl<S> LinkSource<S> {
             idles: 0,
             waits,
             waited: 0,
+            mark: Mark::Own,
         }
+    }
+
+    /// Marks it as that of a link which was asked for so.
+    pub(crate) fn mark_as(&mut self, mark: Mark)
+        ensures { self.new ≡ record self.old { mark = mark } }
+    {
+        self.mark = mark;
     }
 
     /// Where the link leads.
@@ -122,13 +133,13 @@ impl<S: Read + OpenStream> LinkSource<S> {
 }
 
 impl<S: Read + OpenStream + Drop> Source for LinkSource<S> {
-    ghost source_view = { λ s. untold_source s.amount s.faults s.idles s.waits s.waited };
+    ghost source_view = { λ s. untold_source s.amount s.faults s.idles s.waits s.waited s.mark };
 
     fn take(&mut self, buf: &mut [u8]) -> Result<Got, Failed>
         requires { 0 < length buf.old }
         ensures takes { Takes result buf.new
-            (untold_source self.old.amount self.old.faults self.old.idles self.old.waits self.old.waited)
-            (untold_source self.new.amount self.new.faults self.new.idles self.new.waits self.new.waited) }
+            (untold_source self.old.amount self.old.faults self.old.idles self.old.waits self.old.waited self.old.mark)
+            (untold_source self.new.amount self.new.faults self.new.idles self.new.waits self.new.waited self.new.mark) }
         ensures bytes { HandsOn result buf.new (reader_remaining S.remaining self.old.socket)
             (reader_remaining S.remaining self.new.socket) }
         ensures to { self.new.to ≡ self.old.to }
@@ -153,8 +164,8 @@ impl<S: Read + OpenStream + Drop> Source for LinkSource<S> {
 
     /// A write to the same link waits as long, for a reader who doesn't read.
     fn patience(&mut self, seconds: u32)
-        ensures waits { untold_source self.new.amount self.new.faults self.new.idles self.new.waits self.new.waited ≡
-            waiting (untold_source self.old.amount self.old.faults self.old.idles self.old.waits self.old.waited)
+        ensures waits { untold_source self.new.amount self.new.faults self.new.idles self.new.waits self.new.waited self.new.mark ≡
+            waiting (untold_source self.old.amount self.old.faults self.old.idles self.old.waits self.old.waited self.old.mark)
             seconds }
         ensures socket { self.new.socket ≡ self.old.socket }
         ensures to { self.new.to ≡ self.old.to }

@@ -7,6 +7,7 @@ use fw_disk::Disk;
 use fw_real::{FileDisk, Place, RawFile, SlotFile};
 use lines_of_rows::{Told, add_word, cut_word, number_of};
 use std::fs::File;
+use std::mem::replace;
 
 type SlotDisk = FileDisk<SlotFile, File>;
 
@@ -65,11 +66,12 @@ struct Disks {
 
 impl Disks {
     fn set(&mut self, name: &[u8], disk: Option<SlotDisk>) {
-        match name {
-            b"a" => self.a = disk,
-            b"b" => self.b = disk,
-            _ => self.c = disk,
-        }
+        let place = match name {
+            b"a" => &mut self.a,
+            b"b" => &mut self.b,
+            _ => &mut self.c,
+        };
+        drop(replace(place, disk));
     }
 
     // The disk of a slot, whose file is made or isn't.
@@ -120,6 +122,7 @@ pub(crate) fn tell_disks(rt: HostRuntime, asked: &[u8], out: &mut Told) {
     for step in asked.split(|byte| *byte == b'|') {
         disks.step(step, out);
     }
+    drop(disks);
 }
 
 /// `halting STEP|STEP|.. => ANSWERS`: a disk over a file that does little at a time.

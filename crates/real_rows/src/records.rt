@@ -7,6 +7,7 @@ use fw_real::Records;
 use fw_types::{Name, Octets};
 use lines_of_rows::{Told, add_word, cut_word};
 use sqlite::{Connection, Error, ErrorCode};
+use std::mem::replace;
 
 fn tell_kept(answer: Result<(), KeepFault>, out: &mut Told) {
     match answer {
@@ -56,15 +57,23 @@ fn use_records(records: &mut Records, word: &[u8], rest: &[u8], out: &mut Told) 
 // Makes a database of other rows.
 fn make(rt: &HostRuntime, path: &str, text: &str) -> Result<(), Error> {
     let mut connection = Connection::open(rt, path)?;
-    connection.execute_batch(text)?;
-    connection.close()
+    match connection.execute_batch(text) {
+        Ok(()) => connection.close(),
+        Err(error) => {
+            drop(connection);
+            Err(error)
+        }
+    }
 }
 
 // Whether another has the file open.
 fn is_locked(rt: &HostRuntime, path: &str) -> bool {
     match Connection::open(rt, path) {
         Err(error) => error == Error::SqliteFailure(ErrorCode::DatabaseBusy),
-        Ok(_) => false,
+        Ok(connection) => {
+            drop(connection);
+            false
+        }
     }
 }
 
@@ -91,10 +100,11 @@ struct Keepers {
 
 impl Keepers {
     fn set(&mut self, name: &[u8], records: Option<Records>) {
-        match name {
-            b"a" => self.a = records,
-            _ => self.b = records,
-        }
+        let place = match name {
+            b"a" => &mut self.a,
+            _ => &mut self.b,
+        };
+        drop(replace(place, records));
     }
 
     fn use_keeper(&mut self, word: &[u8], name: &[u8], rest: &[u8], out: &mut Told) {
@@ -134,4 +144,5 @@ pub(crate) fn tell_records(rt: HostRuntime, asked: &[u8], out: &mut Told) {
     for step in asked.split(|byte| *byte == b'|') {
         keepers.step(step, out);
     }
+    drop(keepers);
 }

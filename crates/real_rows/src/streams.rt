@@ -126,4 +126,5 @@ pub(crate) fn tell_streams(rt: HostRuntime, asked: &[u8], out: &mut Told) {
     for step in asked.split(|byte| *byte == b'|') {
         streams.step(step, out);
     }
+    drop(streams);
 }

@@ -8,11 +8,12 @@ use std::alloc::Global;
 use std::str;
 
 /// Which calls of the devices fail.
-#[derive(Drop)]
+#[derive(Clone, Copy)]
 pub(crate) struct Fails {
     /// Of the disk of the slot with this number, those from this one on.
     pub disk: Option<(u64, u64)>,
-    pub log: Calls,
+    /// Of the log, those from this one on.
+    pub log: Option<u64>,
 }
 
 impl Fails {
@@ -20,7 +21,7 @@ impl Fails {
     pub(crate) fn none() -> Fails {
         Fails {
             disk: None,
-            log: Calls::none(),
+            log: None,
         }
     }
 
@@ -29,6 +30,14 @@ impl Fails {
         match self.disk {
             Some((number, first)) if number == slot => Calls::onward(first),
             _ => Calls::none(),
+        }
+    }
+
+    /// Those of the log.
+    pub(crate) fn of_log(&self) -> Calls {
+        match self.log {
+            Some(first) => Calls::onward(first),
+            None => Calls::none(),
         }
     }
 }
@@ -50,7 +59,7 @@ fn slot_of(alloc: Global, word: &[u8]) -> Result<Vec<u8>, NoMemory> {
 pub(crate) fn disks_of(
     alloc: Global,
     words: &[u8],
-    fails: &Fails,
+    fails: Fails,
 ) -> Result<Vec<MemDisk>, NoMemory> {
     let mut disks = Vec::new(alloc);
     let mut number = 0u64;

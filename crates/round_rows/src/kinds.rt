@@ -19,14 +19,16 @@ impl Rows for Kinds {
         out: &mut Told,
     ) -> Result<(), NoMemory> {
         match kind {
-            "round" => tell_round(alloc, asked, out)?,
-            "log" => tell_log(alloc, asked, out)?,
-            "accepted" => tell_accepted(alloc, asked, out)?,
-            "stops" => tell_stops(alloc, asked, out)?,
-            "crashes" => tell_crashes(alloc, asked, out)?,
-            "logs" => tell_logs(alloc, asked, out)?,
-            _ => add(out, b"no such kind"),
+            "round" => tell_round(alloc, asked, out),
+            "log" => tell_log(alloc, asked, out),
+            "accepted" => tell_accepted(alloc, asked, out),
+            "stops" => tell_stops(alloc, asked, out),
+            "crashes" => tell_crashes(alloc, asked, out),
+            "logs" => tell_logs(alloc, asked, out),
+            _ => {
+                add(out, b"no such kind");
+                Ok(())
+            }
         }
-        Ok(())
     }
 }

@@ -1,6 +1,4 @@
 //! A round over devices in memory.
-ghost use Rattle.std.specs.Prelude.{◌≤◌, ◌<◌, length};
-
 use crate::asked::{Fails, answers_of, disks_of};
 use fw_memory::{MemDisk, MemMailer, MemSink};
 use fw_types::{Message, NoMemory};
@@ -23,7 +21,46 @@ pub(crate) struct Played {
     pub disks: Vec<MemDisk>,
 }
 
-// Adds a message, with `^` for each CR LF and for each other LF.
+impl Played {
+    fn into_disks(self) -> Vec<MemDisk> {
+        let Played {
+            rounded: _,
+            log,
+            shown,
+            disks,
+        } = self;
+        drop(log);
+        drop(shown);
+        disks
+    }
+}
+
+// The disk of this number.
+fn disk_at(disks: Vec<MemDisk>, number: u64) -> Option<MemDisk> {
+    let mut at = 0u64;
+    for disk in disks {
+        if at == number {
+            return Some(disk);
+        }
+        drop(disk);
+        at = at.saturating_add(1);
+    }
+    None
+}
+
+// Adds a text, with `^` for each CR LF and for each other LF.
+fn add_body(out: &mut Vec<u8>, text: &[u8]) -> Result<(), NoMemory> {
+    for byte in text {
+        match byte {
+            b'\r' => (),
+            b'\n' => out.push(b'^')?,
+            other => out.push(*other)?,
+        }
+    }
+    Ok(())
+}
+
+// Adds a message.
 fn add_message(out: &mut Vec<u8>, message: &Message) -> Result<(), NoMemory> {
     out.extend_from_slice(message.from.bytes())?;
     for rcpt in message.rcpts.as_slice() {
@@ -31,13 +68,7 @@ fn add_message(out: &mut Vec<u8>, message: &Message) -> Result<(), NoMemory> {
         out.extend_from_slice(rcpt.bytes())?;
     }
     out.push(b':')?;
-    for byte in message.body.bytes() {
-        match byte {
-            b'\r' => (),
-            b'\n' => out.push(b'^')?,
-            other => out.push(*other)?,
-        }
-    }
+    add_body(out, message.body.bytes())?;
     out.push(b';')?;
     Ok(())
 }
@@ -53,26 +84,72 @@ fn shown_by(alloc: Global, mailers: &[Box<dyn Mailer>]) -> Result<Vec<u8>, NoMem
     Ok(out)
 }
 
+// The round by a mailer with these answers, and the messages that it shows then.
+fn hand_on(
+    alloc: Global,
+    rack: &mut Rack<MemDisk>,
+    answers: Vec<Handed>,
+    turns: u32,
+    log: &mut MemSink,
+) -> Result<(Rounded, Vec<u8>), NoMemory> {
+    let mut mailers: Vec<Box<dyn Mailer>> = Vec::new(alloc);
+    mailers.push(Box::new(alloc, MemMailer::new(alloc, answers))?)?;
+    let rounded = smapd_round_telling(alloc, rack, &mut mailers, turns, log);
+    let shown = shown_by(alloc, &mailers)?;
+    Ok((rounded, shown))
+}
+
+// The same, with the log.
+fn hand_on_logging(
+    alloc: Global,
+    rack: &mut Rack<MemDisk>,
+    answers: &[u8],
+    turns: u32,
+    fails: Fails,
+) -> Result<(Rounded, Vec<u8>, MemSink), NoMemory> {
+    let answers = answers_of(alloc, answers)?;
+    let mut log = MemSink::new(alloc, ROOM, fails.of_log())?;
+    match hand_on(alloc, rack, answers, turns, &mut log) {
+        Ok((rounded, shown)) => Ok((rounded, shown, log)),
+        Err(NoMemory) => {
+            drop(log);
+            Err(NoMemory)
+        }
+    }
+}
+
 // The round over a rack.
 fn serve(
     alloc: Global,
-    rack: Rack<MemDisk>,
-    answers: Vec<Handed>,
+    mut rack: Rack<MemDisk>,
+    answers: &[u8],
     turns: u32,
     fails: Fails,
 ) -> Result<Played, NoMemory> {
-    let Fails { disk: _, log } = fails;
-    let mut rack = rack;
-    let mut log = MemSink::new(alloc, ROOM, log)?;
-    let mut mailers: Vec<Box<dyn Mailer>> = Vec::new(alloc);
-    mailers.push(Box::new(alloc, MemMailer::new(alloc, answers))?)?;
-    let rounded = smapd_round_telling(alloc, &mut rack, &mut mailers, turns, &mut log);
+    let handed = hand_on_logging(alloc, &mut rack, answers, turns, fails);
+    let disks = rack.close();
+    let (rounded, shown, log) = handed?;
     Ok(Played {
         rounded,
         log,
-        shown: shown_by(alloc, &mailers)?,
-        disks: rack.close(),
+        shown,
+        disks,
     })
+}
+
+// A rack of the slots, where there aren't too many, and each of them is opened.
+fn rack_of(alloc: Global, slots: &[u8], fails: Fails) -> Result<Option<Rack<MemDisk>>, NoMemory> {
+    let disks = disks_of(alloc, slots, fails)?;
+    if disks.len() > 64 {
+        return Ok(None);
+    }
+    match Rack::open(alloc, disks) {
+        Ok(rack) => Ok(Some(rack)),
+        Err(fault) => {
+            drop(fault);
+            Ok(None)
+        }
+    }
 }
 
 /// Plays the round that is asked for, and tells what came of it; nothing where there are too many slots, or one of them isn't
@@ -80,17 +157,23 @@ fn serve(
 pub(crate) fn play(alloc: Global, asked: &[u8], fails: Fails) -> Result<Option<Played>, NoMemory> {
     let (slots, rest) = cut_word(asked);
     let (answers, turns) = cut_word(rest);
-    let disks = disks_of(alloc, slots, &fails)?;
-    if disks.len() > 64 {
-        return Ok(None);
+    let turns = number_of(turns).min(1000) as u32;
+    match rack_of(alloc, slots, fails)? {
+        Some(rack) => Ok(Some(serve(alloc, rack, answers, turns, fails)?)),
+        None => Ok(None),
     }
-    match Rack::open(alloc, disks) {
-        Ok(rack) => {
-            let answers = answers_of(alloc, answers)?;
-            let turns = number_of(turns).min(1000) as u32;
-            Ok(Some(serve(alloc, rack, answers, turns, fails)?))
-        }
-        Err(_) => Ok(None),
+}
+
+/// The disk of the slot with this number, after the round that is asked for.
+pub(crate) fn disk_after(
+    alloc: Global,
+    asked: &[u8],
+    fails: Fails,
+    slot: u64,
+) -> Result<Option<MemDisk>, NoMemory> {
+    match play(alloc, asked, fails)? {
+        Some(played) => Ok(disk_at(played.into_disks(), slot)),
+        None => Ok(None),
     }
 }
 

@@ -1,9 +1,9 @@
 //! Rounds in which a slot's disk or the log fails at one call after another.
 
 use crate::asked::Fails;
-use crate::play::{number_in_front, play};
-use crate::tellings::{add_round, letter_of};
-use fw_memory::{Calls, MemDisk};
+use crate::play::{disk_after, number_in_front, play};
+use crate::tellings::{add_played, letter_of};
+use fw_memory::MemDisk;
 use fw_types::NoMemory;
 use lines_of_rows::{Told, add, add_word};
 use std::alloc::Global;
@@ -13,7 +13,7 @@ const PICKS: u64 = 16;
 
 fn tell_run(alloc: Global, asked: &[u8], fails: Fails, out: &mut Told) -> Result<(), NoMemory> {
     match play(alloc, asked, fails)? {
-        Some(played) => add_round(alloc, &played, out)?,
+        Some(played) => add_played(alloc, played, out)?,
         None => add_word(out, b"no rack"),
     }
     add(out, b";");
@@ -24,7 +24,7 @@ fn tell_run(alloc: Global, asked: &[u8], fails: Fails, out: &mut Told) -> Result
 fn of_disk(slot: u64, first: u64) -> Fails {
     Fails {
         disk: Some((slot, first)),
-        log: Calls::none(),
+        log: None,
     }
 }
 
@@ -46,23 +46,19 @@ pub(crate) fn tell_logs(alloc: Global, asked: &[u8], out: &mut Told) -> Result<(
     for first in 0..runs.min(64) {
         let fails = Fails {
             disk: None,
-            log: Calls::onward(first),
+            log: Some(first),
         };
         tell_run(alloc, asked, fails, out)?;
     }
     Ok(())
 }
 
-// The disk of this number.
-fn disk_at(disks: Vec<MemDisk>, number: u64) -> Option<MemDisk> {
-    let mut at = 0u64;
-    for disk in disks {
-        if at == number {
-            return Some(disk);
-        }
-        at = at.saturating_add(1);
-    }
-    None
+// A letter for the image that the number picks.
+fn image_letter(alloc: Global, disk: MemDisk, pick: u64) -> Result<u8, NoMemory> {
+    let image = disk.crash(pick)?;
+    let letter = letter_of(alloc, &image);
+    drop(image);
+    letter
 }
 
 // A letter for one image that a crash may leave of the slot's disk.
@@ -74,16 +70,23 @@ fn tell_image(
     pick: u64,
     out: &mut Told,
 ) -> Result<(), NoMemory> {
-    let Some(played) = play(alloc, asked, of_disk(slot, first))? else {
-        add(out, b"-");
-        return Ok(());
+    let letter = match disk_after(alloc, asked, of_disk(slot, first), slot)? {
+        Some(disk) => image_letter(alloc, disk, pick)?,
+        None => b'-',
     };
-    match disk_at(played.disks, slot) {
-        Some(disk) => {
-            let image = disk.crash(pick)?;
-            add(out, letter_of(alloc, &image)?);
-        }
-        None => add(out, b"-"),
+    add(out, &[letter]);
+    Ok(())
+}
+
+fn tell_images(
+    alloc: Global,
+    asked: &[u8],
+    slot: u64,
+    first: u64,
+    out: &mut Told,
+) -> Result<(), NoMemory> {
+    for pick in 0..PICKS {
+        tell_image(alloc, asked, slot, first, pick, out)?;
     }
     Ok(())
 }
@@ -95,9 +98,7 @@ pub(crate) fn tell_crashes(alloc: Global, asked: &[u8], out: &mut Told) -> Resul
     let (runs, asked) = number_in_front(rest);
     for first in 0..runs.min(64) {
         add_word(out, b"");
-        for pick in 0..PICKS {
-            tell_image(alloc, asked, slot, first, pick, out)?;
-        }
+        tell_images(alloc, asked, slot, first, out)?;
     }
     Ok(())
 }

@@ -19,13 +19,23 @@ fn add_text(out: &mut Told, text: &[u8]) {
     }
 }
 
+fn letter_in(slot: &Slot) -> u8 {
+    match slot {
+        Slot::Free => b'f',
+        Slot::Whole(_) => b'w',
+        Slot::Aside(_) => b'a',
+    }
+}
+
 /// A letter for what a disk's bytes are read as: `f` free, `w` whole, `a` aside, `b` bad.
-pub(crate) fn letter_of(alloc: Global, disk: &MemDisk) -> Result<&'static [u8], NoMemory> {
+pub(crate) fn letter_of(alloc: Global, disk: &MemDisk) -> Result<u8, NoMemory> {
     match read_slot(alloc, disk.bytes()) {
-        Ok(Slot::Free) => Ok(b"f"),
-        Ok(Slot::Whole(_)) => Ok(b"w"),
-        Ok(Slot::Aside(_)) => Ok(b"a"),
-        Err(SlotFault::Bad { at: _ }) => Ok(b"b"),
+        Ok(slot) => {
+            let letter = letter_in(&slot);
+            drop(slot);
+            Ok(letter)
+        }
+        Err(SlotFault::Bad { at: _ }) => Ok(b'b'),
         Err(SlotFault::NoMemory) => Err(NoMemory),
     }
 }
@@ -64,31 +74,47 @@ fn add_trouble(trouble: Option<Trouble>, out: &mut Told) {
     }
 }
 
-/// The answer, what the slots hold, and which device failed first.
-pub(crate) fn add_round(alloc: Global, played: &Played, out: &mut Told) -> Result<(), NoMemory> {
-    add_answer(played.rounded.answer, out);
+fn add_disks(alloc: Global, disks: &[MemDisk], out: &mut Told) -> Result<(), NoMemory> {
     add_word(out, b"");
-    for disk in &played.disks {
-        add(out, letter_of(alloc, disk)?);
+    for disk in disks {
+        add(out, &[letter_of(alloc, disk)?]);
     }
+    Ok(())
+}
+
+fn add_round(alloc: Global, played: &Played, out: &mut Told) -> Result<(), NoMemory> {
+    add_answer(played.rounded.answer, out);
+    add_disks(alloc, &played.disks, out)?;
     add_trouble(played.rounded.trouble, out);
     Ok(())
+}
+
+/// The answer, what the slots hold, and which device failed first.
+pub(crate) fn add_played(alloc: Global, played: Played, out: &mut Told) -> Result<(), NoMemory> {
+    let added = add_round(alloc, &played, out);
+    drop(played);
+    added
 }
 
 /// `round SLOTS ANSWERS TURNS => ANSWER ACCEPTED REFUSED FAILED BROKEN LETTERS TROUBLE`: what is answered (`ok`, `log` or
 /// `memory`), what the slots hold then, and the device that failed first, `mailer` or `disk N`, if one did.
 pub(crate) fn tell_round(alloc: Global, asked: &[u8], out: &mut Told) -> Result<(), NoMemory> {
     match play(alloc, asked, Fails::none())? {
-        Some(played) => add_round(alloc, &played, out)?,
-        None => add(out, b"no rack"),
+        Some(played) => add_played(alloc, played, out),
+        None => {
+            add(out, b"no rack");
+            Ok(())
+        }
     }
-    Ok(())
 }
 
 /// `log SLOTS ANSWERS TURNS => TEXT`: what the log is given.
 pub(crate) fn tell_log(alloc: Global, asked: &[u8], out: &mut Told) -> Result<(), NoMemory> {
     match play(alloc, asked, Fails::none())? {
-        Some(played) => add_text(out, played.log.bytes()),
+        Some(played) => {
+            add_text(out, played.log.bytes());
+            drop(played);
+        }
         None => add(out, b"no rack"),
     }
     Ok(())
@@ -97,7 +123,10 @@ pub(crate) fn tell_log(alloc: Global, asked: &[u8], out: &mut Told) -> Result<()
 /// `accepted SLOTS ANSWERS TURNS => MESSAGES`: what the mailer accepted, each message as `FROM:RCPT:BODY;`.
 pub(crate) fn tell_accepted(alloc: Global, asked: &[u8], out: &mut Told) -> Result<(), NoMemory> {
     match play(alloc, asked, Fails::none())? {
-        Some(played) => add(out, &played.shown),
+        Some(played) => {
+            add(out, &played.shown);
+            drop(played);
+        }
         None => add(out, b"no rack"),
     }
     Ok(())

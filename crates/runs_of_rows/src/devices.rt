@@ -54,6 +54,14 @@ pub struct Devices {
     pub helpers: Helpers,
 }
 
+/// Both, where there is memory for each.
+pub(crate) fn both<A: Drop, B: Drop>(
+    first: Result<A, NoMemory>,
+    second: Result<B, NoMemory>,
+) -> Result<(A, B), NoMemory> {
+    Ok((first?, second?))
+}
+
 fn twin_of(alloc: Global, name: &Name, bytes: &Octets) -> Result<(Name, Octets), NoMemory> {
     let bytes = Octets::copy(alloc, bytes.bytes())?;
     Ok((name.twin(), bytes))
@@ -92,16 +100,17 @@ fn entries_of(alloc: Global, files: &[File]) -> Result<Vec<(Octets, Octets)>, No
 }
 
 fn files_of(plan: &Plan) -> Result<MemFiles, NoMemory> {
-    let fails = calls_of(plan, Part::Table)?;
-    let idle = calls_of(plan, Part::TableIdle)?;
     let entries = entries_of(plan.alloc, &plan.row.setting.files)?;
+    let (fails, idle) = both(calls_of(plan, Part::Table), calls_of(plan, Part::TableIdle))?;
     Ok(MemFiles::new(plan.alloc, entries, plan.piece.max(1), fails, idle))
 }
 
 fn input_of(plan: &Plan) -> Result<MemSource, NoMemory> {
-    let fails = calls_of(plan, Part::Client)?;
-    let idle = calls_of(plan, Part::ClientIdle)?;
     let said = Octets::copy(plan.alloc, &plan.row.setting.client)?;
+    let (fails, idle) = both(
+        calls_of(plan, Part::Client),
+        calls_of(plan, Part::ClientIdle),
+    )?;
     Ok(MemSource::new(said, plan.piece.max(1), fails, idle))
 }
 
@@ -117,8 +126,8 @@ fn logs_of(plan: &Plan) -> Result<MemSink, NoMemory> {
 
 /// The keeper of a row's run.
 pub(crate) fn keeper_of(plan: &Plan) -> Result<MemKeeper, NoMemory> {
-    let fails = calls_of(plan, Part::Keeper)?;
     let records = copy_of(plan.alloc, plan.records)?;
+    let fails = calls_of(plan, Part::Keeper)?;
     Ok(MemKeeper::new(plan.alloc, records, fails))
 }
 
@@ -131,8 +140,8 @@ pub(crate) fn port_of(plan: &Plan) -> Result<Option<Calls>, NoMemory> {
 }
 
 fn launcher_of(plan: &Plan) -> Result<MemLauncher, NoMemory> {
-    let fails = calls_of(plan, Part::Program)?;
     let ends = Vec::from_slice(plan.alloc, &plan.row.setting.ends)?;
+    let fails = calls_of(plan, Part::Program)?;
     Ok(MemLauncher::new(plan.alloc, ends, fails))
 }
 
@@ -180,10 +189,12 @@ fn link_of(plan: &Plan, link: &Link) -> Result<(MemSource, MemSink), NoMemory>
     ensures { IfOk result IsNewLink }
 {
     let parts = if link.is_data { DATA } else { MAIN };
-    let fails = calls_of(plan, parts.source)?;
-    let idle = calls_of(plan, parts.idle)?;
-    let refuses = calls_of(plan, parts.sink)?;
-    let said = Octets::copy(plan.alloc, &link.said)?;
+    let source = both(calls_of(plan, parts.source), calls_of(plan, parts.idle));
+    let other = both(
+        Octets::copy(plan.alloc, &link.said),
+        calls_of(plan, parts.sink),
+    );
+    let ((fails, idle), (said, refuses)) = both(source, other)?;
     let room = room_of(plan, parts.room);
     linked(plan.alloc, said, plan.piece, fails, idle, room, refuses)
 }
@@ -199,22 +210,20 @@ fn links_of(plan: &Plan) -> Result<Vec<(MemSource, MemSink)>, NoMemory>
 }
 
 fn dialer_of(plan: &Plan) -> Result<MemDialer, NoMemory> {
+    let doors = Vec::from_slice(plan.alloc, &plan.row.setting.doors)?;
     let fails = calls_of(plan, Part::Dialer)?;
     let links = links_of(plan)?;
-    let doors = Vec::from_slice(plan.alloc, &plan.row.setting.doors)?;
     MemDialer::new(plan.alloc, links, doors, MOST_ASKED, fails)
 }
 
 fn talk_of(plan: &Plan) -> Result<Talk, NoMemory> {
-    let input = input_of(plan)?;
-    let output = output_of(plan)?;
+    let (input, output) = both(input_of(plan), output_of(plan))?;
     Ok(Talk { input, output })
 }
 
 fn place_of(plan: &Plan) -> Result<Place, NoMemory> {
     let clock = clock_of(plan.alloc, &plan.row.setting.moments)?;
-    let logs = logs_of(plan)?;
-    let files = files_of(plan)?;
+    let (logs, files) = both(logs_of(plan), files_of(plan))?;
     Ok(Place {
         files,
         logs,
@@ -224,16 +233,14 @@ fn place_of(plan: &Plan) -> Result<Place, NoMemory> {
 }
 
 fn helpers_of(plan: &Plan) -> Result<Helpers, NoMemory> {
-    let launcher = launcher_of(plan)?;
-    let dialer = dialer_of(plan)?;
+    let (launcher, dialer) = both(launcher_of(plan), dialer_of(plan))?;
     Ok(Helpers { dialer, launcher })
 }
 
 /// What a row's run meets.
 pub(crate) fn devices_of(plan: &Plan) -> Result<Devices, NoMemory> {
-    let talk = talk_of(plan)?;
-    let place = place_of(plan)?;
-    let helpers = helpers_of(plan)?;
+    let others = both(place_of(plan), helpers_of(plan));
+    let (talk, (place, helpers)) = both(talk_of(plan), others)?;
     Ok(Devices {
         talk,
         place,

@@ -2,7 +2,7 @@
 
 use crate::broken::broken_differs;
 use crate::comparing::Difference;
-use crate::devices::{Records, copy_of, devices_of, keeper_of, port_of};
+use crate::devices::{Records, both, copy_of, devices_of, keeper_of, port_of};
 use crate::plan::{Plan, WHOLE};
 use crate::runner::{Ended, Runner};
 use crate::seen::table_of;
@@ -72,9 +72,8 @@ fn ended_by<H: Threads + Sync, R: Runner>(
     runner: &R,
     plan: &Plan,
 ) -> Result<Ended, NoMemory> {
-    let keeper = keeper_of(plan)?;
-    let devices = devices_of(plan)?;
-    let port = port_of(plan)?;
+    let made = both(keeper_of(plan), devices_of(plan));
+    let ((keeper, devices), port) = both(made, port_of(plan))?;
     Ok(runner.run(rt, plan.alloc, &plan.row.setting, devices, keeper, port))
 }
 
@@ -102,5 +101,7 @@ pub(crate) fn run_plan<H: Threads + Sync, R: Runner>(
     difference: &mut Difference,
 ) -> Result<(), NoMemory> {
     let mut was = ended_by(rt, runner, plan)?;
-    judge(plan, calls, &mut was, after, difference)
+    let judged = judge(plan, calls, &mut was, after, difference);
+    drop(was);
+    judged
 }

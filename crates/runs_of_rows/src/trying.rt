@@ -47,7 +47,9 @@ fn run_console<H: Threads + Sync, R: Runner>(
     let before = copy_of(alloc, records)?;
     let row = console_row(alloc, said)?;
     let plan = plan_of(alloc, &row, &before, WHOLE);
-    run_plan(rt, runner, &plan, 0, records, difference)
+    let run = run_plan(rt, runner, &plan, 0, records, difference);
+    drop(row);
+    run
 }
 
 // Runs all that is said at the console before the row, up to the first run in which something differs.

@@ -485,6 +485,7 @@ module _ {Origin : Type 0} where
     breaks = stays.port.breaks;
     strays = stays.port.strays;
     asks = stays.port.asks;
+    came = stays.server.dialer.came;
     refusals = stays.server.dialer.refusals;
     link_faults = stays.server.dialer.link_faults;
     link_idles = stays.server.dialer.link_idles;

@@ -51,6 +51,7 @@ by_both (Some bytes) first more = ap (λ (b : List ℕ). Some b) (append_assoc b
 
 -- the dialer keeps its counts and its patience
 pub record DialerKeeps (old new : DialerView) : Type 0 where
+  pub came : old.came ≤ new.came
   pub refusals : old.refusals ≤ new.refusals
   pub link_faults : old.link_faults ≤ new.link_faults
   pub link_idles : old.link_idles ≤ new.link_idles
@@ -123,10 +124,11 @@ pub both_holds : (a b c : SinkView) → SinkHolds a b → SinkHolds b c → Sink
 both_holds a b c first next = record { drops = omega (arith, first.drops, next.drops); shut = both_shut a.shut b.shut c.shut first.shut next.shut }
 
 pub same_dialer : (dialer : DialerView) → DialerKeeps dialer dialer
-same_dialer dialer = record { refusals = omega (arith); link_faults = omega (arith); link_idles = omega (arith); data_faults = omega (arith); data_idles = omega (arith); waits = refl }
+same_dialer dialer = record { came = omega (arith); refusals = omega (arith); link_faults = omega (arith); link_idles = omega (arith); data_faults = omega (arith); data_idles = omega (arith); waits = refl }
 
 pub both_dialer : (a b c : DialerView) → DialerKeeps a b → DialerKeeps b c → DialerKeeps a c
 both_dialer a b c first next = record {
+  came = omega (arith, first.came, next.came);
   refusals = omega (arith, first.refusals, next.refusals);
   link_faults = omega (arith, first.link_faults, next.link_faults);
   link_idles = omega (arith, first.link_idles, next.link_idles);

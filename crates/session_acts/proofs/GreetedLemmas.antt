@@ -142,6 +142,7 @@ module _ (fed head : List ℕ) (byte code : ℕ) (t : ToldAt fed head byte code)
       let cut = unsaid_as (t.kept ++ h.more) (greeting_said ((fed ++ byte ∷ []) ++ h.more)) client new_client same (record { front = h.front; told = h.told }) in
       record {
         text = (fed ++ byte ∷ []) ++ h.more;
+        of_text = h.of_text;
         draws = drawn_on None (fed ++ byte ∷ []) h.more old now first at outlet new r h.draws;
         front = cut.front;
         told = cut.told;
@@ -177,7 +178,7 @@ greeted_last fed head byte code heard (Err (Silent silence)) old now new first a
 greeted_last fed head byte code heard (Err Unsaid) old now new first at next outlet client sink_old sink_new h unended r read near ends gives =
     let said : greeting_said (fed ++ byte ∷ []) ≡ unless_welcome code (head_after head byte) = told_last fed head byte (length (fed ++ byte ∷ [])) code ends.lf h unended ends.whole.0 in
     let cut = unsaid_as (unless_welcome code (head_after head byte)) (greeting_said (fed ++ byte ∷ [])) (record client { outlet = sink_old }) (record client { outlet = sink_new }) (sym said) (front_of (unless_welcome code (head_after head byte)) sink_old sink_new gives client) in
-    record { text = fed ++ byte ∷ []; draws = drawn_last fed byte old now new first at next outlet r read near; front = cut.front; told = cut.told }
+    record { text = fed ++ byte ∷ []; of_text = record { front = fed; last = byte ∷ []; cut = refl; short = omega (arith); unended = unended }; draws = drawn_last fed byte old now new first at next outlet r read near; front = cut.front; told = cut.told }
 
 -- ---- the source stops
 

@@ -3,6 +3,7 @@ pub mod AheadLemmas
 pub mod AloneLemmas
 pub mod AskCountLemmas
 pub mod BrokenLemmas
+pub mod CameLemmas
 pub mod CauseLemmas
 pub mod ClientLemmas
 pub mod CourseLemmas
@@ -41,6 +42,7 @@ pub mod RelayLastLemmas
 pub mod TalkLemmas
 pub mod ToldLemmas
 pub mod StaysLemmas
+pub mod StandingLemmas
 pub mod StoredLemmas
 pub mod TurnLemmas
 pub mod UsedUpLemmas

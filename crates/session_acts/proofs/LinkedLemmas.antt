@@ -28,6 +28,8 @@ use Rattle.session_acts.specs.declared.reply_use.ReplyUse.{ReplyUse}
 use Rattle.session_acts.specs.declared.target.Target.{Target}
 use Rattle.session_acts.specs.declared.target.Target.TheVariants.{Addr, AtDoor}
 use Rattle.session_acts.specs.declared.toward.Toward.{Toward}
+use Rattle.session_acts.proofs.CameLemmas.{came_one}
+use Rattle.fw_outside.proofs.CountLemmas.{grew_by, grew_none}
 
 -- ---- lists that are told
 
@@ -218,7 +220,7 @@ served_opens_none old new h =
 
 turned_near : (target : Target) (from : SourceView) (to : SinkView) (old new : DialerView) → NearUp target from to old new → Turned (near_asked target) [] old new
 turned_near (Addr addr port) from to old new h = turned_up (Back addr port) from to old new h
-turned_near AtDoor from to old new h = subst (λ (d : DialerView). Turned [] [] old d) (sym h.is) (turned_none old)
+turned_near AtDoor from to old new h = subst (λ (d : DialerView). Turned [] [] old d) (sym h.is) (record { asked = adds_none old.asked; ended = adds_none old.ended })
 
 turned_away : (target : Target) (old new : DialerView) → NearRefused target old new → Turned (near_asked target) [] old new
 turned_away (Addr addr port) old new h = turned_refused (Back addr port) old new h
@@ -314,11 +316,12 @@ module _ {Origin : Type 0} where
         links = a.links ++ b.links;
         ended = adds_both a.links b.links old.server.dialer.ended mid.server.dialer.ended new.server.dialer.ended a.ended b.ended;
         each = omega (arith, lengths, ups, before, after);
+        came = grew_by (length first) (length more) (length (first ++ more)) old.server.dialer.came mid.server.dialer.came new.server.dialer.came ups a.came b.came;
       }
 
   pub linked_gains : Gains Origin linked LinksDialer
   linked_gains = record {
-    none = λ world. record { links = []; ended = adds_none world.server.dialer.ended; each = omega (arith) };
+    none = λ world. record { links = []; ended = adds_none world.server.dialer.ended; each = omega (arith); came = grew_none world.server.dialer.came };
     both = linked_both;
-    one = λ a outcome old new met. let served = served_one a outcome old new met in record { links = served.links; ended = served.turned.ended; each = served.each };
+    one = λ a outcome old new met. let served = served_one a outcome old new met in record { links = served.links; ended = served.turned.ended; each = served.each; came = came_one a outcome old new met };
   }

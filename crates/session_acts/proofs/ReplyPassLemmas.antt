@@ -114,6 +114,7 @@ passed_cut earlier fed first_kept kept byte old now new first at next outlet cli
     let fails = cut_front (first_kept ++ (c.more ++ byte ∷ [])) p.said (kept ++ byte ∷ []) client sink_old sink_now sink_new (split_more first_kept c.more kept p.said byte p.split) (some_more kept byte) p.is cut in
     record {
       more = c.more ++ byte ∷ [];
+      of_text = record { front = earlier ++ c.more; last = byte ∷ []; cut = sym (append_assoc earlier c.more (byte ∷ [])); short = omega (arith); unended = c.unended };
       draws = drawn_last c.more byte old now new first at next outlet c.reading read near;
       front = fails.front;
       told = fails.told;
@@ -136,6 +137,7 @@ ended_said earlier fed first_kept kept (Err Unsaid) old now new first at next ou
     let fails = cut_front (first_kept ++ c.more) p.said kept client sink_old sink_now sink_new p.split h.0 p.is h.1 in
     record {
       more = c.more;
+      of_text = record { front = earlier ++ c.more; last = []; cut = sym (append-nil (earlier ++ c.more)); short = omega (arith); unended = c.unended };
       draws = drawn_end c.more _ _ (drawn_stop stops.End c.more old now new first at next outlet c.reading read near);
       front = fails.front;
       told = fails.told;
@@ -172,7 +174,7 @@ passed_stop stops.Spent earlier fed first_kept kept result old now new first at 
 passed_by : (result : Result Replied Miss) (link new_link client new_client : Speaker) → PassesRest [] [] result link new_link client new_client → HearsBy Passed result link new_link client new_client
 passed_by (Ok is_replied) link new_link client new_client h = record { text = h.rest.more; is = h.rest.is; draws = h.rest.draws; told = h.told }
 passed_by (Err (Silent silence)) link new_link client new_client h = record { text = h.rest.more; none = h.rest.none; draws = h.rest.draws; begun = h.begun; told = h.told }
-passed_by (Err Unsaid) link new_link client new_client h = record { text = h.more; draws = h.draws; front = h.front; told = h.told }
+passed_by (Err Unsaid) link new_link client new_client h = record { text = h.more; of_text = h.of_text; draws = h.draws; front = h.front; told = h.told }
 
 -- nothing is said
 pub untold : (client : Speaker) → IsTold [] (Ok tt) client client
@@ -197,7 +199,7 @@ dropped_first earlier result link new_link client first h = dropped_by result li
 pub hears_reply : (how : ReplyUse) (heard : Result Replied Miss) (result : Result Replied Cause) (link new_link client new_client : Speaker) → result ≡ caused_by heard → HearsBy how heard link new_link client new_client → HearsReply how result link new_link client new_client
 hears_reply how (Ok is_replied) result link new_link client new_client is h = record { outcome = Ok (is_replied, h.text); is = is; of_text = h.is; draws = h.draws; told = h.told }
 hears_reply how (Err (Silent silence)) result link new_link client new_client is h = record { outcome = Err (NotHeard silence h.text h.begun); is = is; of_text = h.none; draws = h.draws; told = h.told }
-hears_reply how (Err Unsaid) result link new_link client new_client is h = record { outcome = Err (NotSaid h.text h.front); is = is; of_text = tt; draws = h.draws; told = h.told }
+hears_reply how (Err Unsaid) result link new_link client new_client is h = record { outcome = Err (NotSaid h.text h.front); is = is; of_text = h.of_text; draws = h.draws; told = h.told }
 
 -- ---- while it goes on
 

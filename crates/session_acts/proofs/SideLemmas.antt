@@ -19,15 +19,15 @@ use Rattle.session_acts.proofs.DeviceLemmas.{DialerKeeps, both_dialer, rose_if, 
 
 pub comes_keeps : (ask : Ask) (from : SourceView) (to : SinkView) (old new : DialerView) → ComesUp ask from to old new → DialerKeeps old new
 comes_keeps ask from to old new h =
-    subst (λ (d : DialerView). DialerKeeps old d) (sym h.is) (record { refusals = omega (arith); link_faults = omega (arith); link_idles = omega (arith); data_faults = omega (arith); data_idles = omega (arith); waits = refl })
+    subst (λ (d : DialerView). DialerKeeps old d) (sym h.is) (record { came = h.grew.later; refusals = omega (arith); link_faults = omega (arith); link_idles = omega (arith); data_faults = omega (arith); data_idles = omega (arith); waits = refl })
 
 pub refuses_keeps : (ask : Ask) (old new : DialerView) → Refuses ask old new → DialerKeeps old new
 refuses_keeps ask old new h =
-    subst (λ (d : DialerView). DialerKeeps old d) (sym h.is) (record { refusals = h.rose.0; link_faults = omega (arith); link_idles = omega (arith); data_faults = omega (arith); data_idles = omega (arith); waits = refl })
+    subst (λ (d : DialerView). DialerKeeps old d) (sym h.is) (record { came = omega (arith); refusals = h.rose.0; link_faults = omega (arith); link_idles = omega (arith); data_faults = omega (arith); data_idles = omega (arith); waits = refl })
 
 pub lets_keeps : (from : SourceView) (to : SinkView) (old new : DialerView) → LetsGo from to old new → DialerKeeps old new
 lets_keeps from to old new h =
-    subst (λ (d : DialerView). DialerKeeps old d) (sym h.is) (record { refusals = omega (arith); link_faults = omega (arith); link_idles = omega (arith); data_faults = rose_if _ old.data_faults h.faults h.faults_rose; data_idles = rose_if _ old.data_idles h.idles h.idles_rose; waits = refl })
+    subst (λ (d : DialerView). DialerKeeps old d) (sym h.is) (record { came = omega (arith); refusals = omega (arith); link_faults = omega (arith); link_idles = omega (arith); data_faults = rose_if _ old.data_faults h.faults h.faults_rose; data_idles = rose_if _ old.data_idles h.idles h.idles_rose; waits = refl })
 
 -- ---- data links
 
@@ -41,12 +41,13 @@ pair_keeps (Some pair) old new h = both_keep pair old new h
 
 near_keeps : (target : Target) (from : SourceView) (to : SinkView) (old new : DialerView) → NearUp target from to old new → DialerKeeps old new
 near_keeps (Addr addr port) from to old new h = comes_keeps _ from to old new h
-near_keeps AtDoor from to old new h = subst (λ (d : DialerView). DialerKeeps old d) (sym h.is) (same_dialer old)
+near_keeps AtDoor from to old new h =
+    subst (λ (d : DialerView). DialerKeeps old d) (sym h.is) (record { came = h.grew.later; refusals = omega (arith); link_faults = omega (arith); link_idles = omega (arith); data_faults = omega (arith); data_idles = omega (arith); waits = refl })
 
 far_keeps : (target : Target) (old new : DialerView) → NearRefused target old new → DialerKeeps old new
 far_keeps (Addr addr port) old new h = refuses_keeps _ old new h
 far_keeps AtDoor old new h =
-    subst (λ (d : DialerView). DialerKeeps old d) (sym h.is) (record { refusals = h.rose.0; link_faults = omega (arith); link_idles = omega (arith); data_faults = omega (arith); data_idles = omega (arith); waits = refl })
+    subst (λ (d : DialerView). DialerKeeps old d) (sym h.is) (record { came = omega (arith); refusals = h.rose.0; link_faults = omega (arith); link_idles = omega (arith); data_faults = omega (arith); data_idles = omega (arith); waits = refl })
 
 -- the dialer keeps its counts, and the main link stays
 pub record SideKeeps (old new : Server) : Type 0 where
@@ -65,7 +66,7 @@ parting_side old new h = subst (λ (s : Server). SideKeeps old s) (sym h.is) (re
 pub opens_side : (addr : List ℕ) (port : ℕ) (old new : Server) → OpensDoor addr port old new → SideKeeps old new
 opens_side addr port old new h =
     subst (λ (s : Server). SideKeeps old s) (sym h.is) (record {
-      dialer = subst (λ (d : DialerView). DialerKeeps old.dialer d) (sym h.opens.is) (record { refusals = omega (arith); link_faults = omega (arith); link_idles = omega (arith); data_faults = omega (arith); data_idles = omega (arith); waits = refl });
+      dialer = subst (λ (d : DialerView). DialerKeeps old.dialer d) (sym h.opens.is) (record { came = omega (arith); refusals = omega (arith); link_faults = omega (arith); link_idles = omega (arith); data_faults = omega (arith); data_idles = omega (arith); waits = refl });
       link = refl;
     })
 

@@ -210,7 +210,7 @@ same_server old new is = subst (λ (s : Server). ServerKeeps old s) (sym is) (re
 pub clears_keeps : (link : Option Speaker) (old new : DialerView) → Clears link old new → DialerKeeps old new
 clears_keeps None old new h = subst (λ (d : DialerView). DialerKeeps old d) (sym h) (same_dialer old)
 clears_keeps (Some link) old new h =
-    subst (λ (d : DialerView). DialerKeeps old d) (sym h.is) (record { refusals = omega (arith); link_faults = rose_if _ old.link_faults h.faults h.faults_rose; link_idles = rose_if _ old.link_idles h.idles h.idles_rose; data_faults = omega (arith); data_idles = omega (arith); waits = refl })
+    subst (λ (d : DialerView). DialerKeeps old d) (sym h.is) (record { came = omega (arith); refusals = omega (arith); link_faults = rose_if _ old.link_faults h.faults h.faults_rose; link_idles = rose_if _ old.link_idles h.idles h.idles_rose; data_faults = omega (arith); data_idles = omega (arith); waits = refl })
 
 -- a pair is let go before
 pub both_clear : (pair : Option Pair) (link : Option Speaker) (old apart new : DialerView) → LetsPairGo pair old apart → Clears link apart new → DialerKeeps old new

@@ -14,7 +14,7 @@ abbrev pub StaysShut : (relays : Bool) → Option Bool → Option Bool → Type 
 StaysShut false old new = new ≡ old
 StaysShut true old new = (new ≡ old) ⊎ (new ≡ option_map (λ _. true) old)
 
--- These counts don't fall: of failures, of waits in vain, of refusals, of strange things, of the bytes taken of the client and
+-- These counts don't fall: of failures, of waits in vain, of links that came up, of refusals, of strange things, of the bytes taken of the client and
 -- of the requests. How long the client's source and the dialer's links wait stays, as do whether the log was told the end,
 -- and whose history the port's is; and, unless there was a relay, whether the client's sink was.
 pub record KeepsAs {Origin : Type 0} (relays : Bool) (old new : Devices Origin) : Type 0 where
@@ -26,6 +26,7 @@ pub record KeepsAs {Origin : Type 0} (relays : Bool) (old new : Devices Origin) 
   pub breaks : old.port.faults ≤ new.port.faults
   pub strays : old.port.odd ≤ new.port.odd
   pub asks : old.port.asks ≤ new.port.asks
+  pub came : old.dialer.came ≤ new.dialer.came
   pub refusals : old.dialer.refusals ≤ new.dialer.refusals
   pub link_faults : old.dialer.link_faults ≤ new.dialer.link_faults
   pub link_idles : old.dialer.link_idles ≤ new.dialer.link_idles

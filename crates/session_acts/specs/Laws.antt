@@ -1,5 +1,6 @@
 -- What a list of deeds comes to at each device.
 use Rattle.std.specs.Prelude.{◌≡◌, ℕ, ◌+◌, ◌-◌, ◌^◌, ◌<◌, ◌≤◌, min, Bool, true, false, List, [], ◌∷◌, length, Option, Some, None, Result, Ok, Err}
+use Rattle.fw_outside.specs.Counts.{Grew}
 use Rattle.fw_outside.specs.DialerView.{LinkView}
 use Rattle.fw_outside.specs.ToldList.{grown}
 use Rattle.fw_outside.specs.declared.ask.Ask.TheVariants.{Back, Door, Main, Side}
@@ -162,11 +163,12 @@ pair_now (Some pair) = 2
 abbrev pub ups_now : Server → ℕ
 ups_now server = up_now server.link + pair_now server.pair
 
--- As many links came up as were hung up or are up, but for those that were up before.
+-- As many links came up as were hung up or are up, but for those that were up before; and the dialer counted these, and no other.
 pub record LinksDialer {Origin : Type 0} (ups : List Wanted) (old new : World Origin) : Type 0 where
   pub links : List LinkView
   pub ended : Adds links old.server.dialer.ended new.server.dialer.ended
   pub each : length links + ups_now new.server ≡ ups_now old.server + length ups
+  pub came : Grew (length ups) old.server.dialer.came new.server.dialer.came
 
 -- ---- what was refused
 

@@ -27,6 +27,7 @@ pub mod RelayLast
 pub mod Finishing
 pub mod Said
 pub mod Session
+pub mod Standing
 pub mod Stored
 pub mod Talk
 pub mod World

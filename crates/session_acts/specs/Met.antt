@@ -33,7 +33,7 @@ use Rattle.session_acts.specs.Depositing.{AtStoreDeposit, Draws}
 use Rattle.session_acts.specs.Forms.{ListensIn}
 use Rattle.session_acts.specs.Joining.{Copies, Joins, LetsPairGo, OpensAt, Parts}
 use Rattle.session_acts.specs.Relaying.{Flow, Through, flow_of}
-use Rattle.session_acts.specs.Replying.{IsReplied, said_of}
+use Rattle.session_acts.specs.Replying.{IsAtMostOne, IsReplied, said_of}
 use Rattle.session_acts.specs.World.{Names, Office, Server, Speaker, World, unheard}
 use Rattle.session_acts.specs.declared.cause.Cause.{Cause}
 use Rattle.session_acts.specs.declared.deposited.Deposited.{Deposited}
@@ -147,7 +147,7 @@ DrawsReply (Err (NotSaid text front)) old new = Draws None text old new
 abbrev pub IsOfText : {how : ReplyUse} → Result (Replied × List ℕ) (Unreplied how) → Type 0
 IsOfText (Ok answer) = IsReplied answer.0 answer.1
 IsOfText (Err (NotHeard silence text begun)) = IsReplied replied.Ended text
-IsOfText (Err (NotSaid text front)) = Unit {0}
+IsOfText (Err (NotSaid text front)) = IsAtMostOne text
 
 -- and the client was told what is to be said of it
 abbrev pub ClientReplies : {how : ReplyUse} → Result (Replied × List ℕ) (Unreplied how) → Speaker → Speaker → Type 0

@@ -12,7 +12,7 @@ use Rattle.ftp_lines.specs.declared.reply_step.ReplyStep.TheVariants.{Last, Line
 use Rattle.session_acts.specs.Acts.{Begun, Front, Unreplied, reply_cause, silence_cause}
 use Rattle.session_acts.specs.Depositing.{Draws}
 use Rattle.session_acts.specs.Met.{ClientReplies, DrawsAnswer, DrawsReply, IsOfText, IsTold, stop_of}
-use Rattle.session_acts.specs.Replying.{IsReplied, said_of}
+use Rattle.session_acts.specs.Replying.{IsAtMostOne, IsReplied, said_of}
 use Rattle.session_acts.specs.World.{Speaker}
 use Rattle.session_acts.specs.declared.cause.Cause.{Cause}
 use Rattle.session_acts.specs.declared.cause.Cause.TheVariants.{ClientFault, ServerFault}
@@ -78,8 +78,9 @@ pub record RestBegun (earlier kept : List ℕ) (silence : Silence) (link new_lin
   pub begun : Begun (kept ++ rest.more)
   pub told : IsTold begun.part (Ok tt) client new_client
 
-pub record RestUnsaid (kept : List ℕ) (link new_link client new_client : Speaker) : Type 0 where
+pub record RestUnsaid (earlier kept : List ℕ) (link new_link client new_client : Speaker) : Type 0 where
   pub more : List ℕ
+  pub of_text : IsAtMostOne (earlier ++ more)
   pub draws : Draws None more link new_link
   pub front : Front (kept ++ more)
   pub told : IsTold (kept ++ more) (Err front) client new_client
@@ -87,7 +88,7 @@ pub record RestUnsaid (kept : List ℕ) (link new_link client new_client : Speak
 abbrev pub PassesRest : List ℕ → List ℕ → Result Replied Miss → Speaker → Speaker → Speaker → Speaker → Type 0
 PassesRest earlier kept (Ok is_replied) link new_link client new_client = RestPassed earlier kept is_replied link new_link client new_client
 PassesRest earlier kept (Err (Silent silence)) link new_link client new_client = RestBegun earlier kept silence link new_link client new_client
-PassesRest earlier kept (Err Unsaid) link new_link client new_client = RestUnsaid kept link new_link client new_client
+PassesRest earlier kept (Err Unsaid) link new_link client new_client = RestUnsaid earlier kept link new_link client new_client
 
 -- what is left of a reply at which the source stopped: the end tells what is kept, and else it stays unsaid
 abbrev pub StopsPassing : Stop → List ℕ → Result Replied Miss → SinkView → SinkView → Type 0
@@ -114,6 +115,7 @@ pub record HeardPart (how : ReplyUse) (silence : Silence) (link new_link client 
 
 pub record HeardUnsaid (how : ReplyUse) (link new_link client new_client : Speaker) : Type 0 where
   pub text : List ℕ
+  pub of_text : IsAtMostOne text
   pub draws : Draws None text link new_link
   pub front : Front (said_of how text)
   pub told : IsTold (said_of how text) (Err front) client new_client

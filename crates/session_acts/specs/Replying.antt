@@ -1,5 +1,5 @@
 -- A server's reply: what is a whole one, and what the client is given of it.
-use Rattle.std.specs.Prelude.{◌≡◌, ℕ, ◌/◌, ◌==◌, Bool, List, [], ◌∷◌, ◌++◌, length, Option, Some, None, if◌then◌else◌}
+use Rattle.std.specs.Prelude.{◌≡◌, ℕ, ◌≤◌, ◌/◌, ◌==◌, Bool, List, [], ◌∷◌, ◌++◌, length, Option, Some, None, if◌then◌else◌}
 use Rattle.ftp_lines.specs.Reply.{ended_parts, ending_code, first_code, first_reply, unended_part, without_end}
 use Rattle.ftp_lines.specs.ReplyReaderView.{short}
 use Rattle.ftp_lines.specs.Six.{find_of}
@@ -28,6 +28,14 @@ six_told text = six_in (short (without_end (last_part (ended_parts text))))
 abbrev pub IsReplied : Replied → List ℕ → Type 0
 IsReplied (Whole code six) text = (first_reply text ≡ Some (length text, code)) × (six ≡ six_told text)
 IsReplied Ended text = first_reply text ≡ None
+
+-- a whole reply at most, or the beginning of one: none ends before the text's last byte
+pub record IsAtMostOne (text : List ℕ) : Type 0 where
+  pub front : List ℕ
+  pub last : List ℕ
+  pub cut : text ≡ front ++ last
+  pub short : length last ≤ 1
+  pub unended : first_reply front ≡ None
 
 -- ---- the greeting
 

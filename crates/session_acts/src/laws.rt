@@ -29,6 +29,7 @@ ghost use Rattle.session_acts.specs.Said.{SaysLines};
 ghost use Rattle.session_acts.specs.Serverless.{CausedAlone, KeepsServerless, TakesExactly};
 ghost use Rattle.session_acts.specs.ServersHeard.{HearsServers, heard_over};
 ghost use Rattle.session_acts.specs.Session.{Held, RelaySession, Session, SessionAs, deeds_of};
+ghost use Rattle.session_acts.specs.Standing.{AreReady, standing_of};
 ghost use Rattle.session_acts.specs.Stored.{CountsFaulted, CountsUnslotted, PutsAllBack, PutsMails, faulted, kept, unslotted};
 ghost use Rattle.session_acts.specs.Talk.{CountsAsks, Entered, ThrowsSalts, answered, asked, is_entered, is_refused_as_full, said_of, thrown};
 ghost use Rattle.session_acts.specs.World.{Devices, IsUnlinked, Speaker, World, devices_of, most_taken};
@@ -73,8 +74,9 @@ pub fn the_dialer_is_asked<Origin, P>()
         (held : Held rows first old new ending) → CallsDialer (gives called (deeds_of held)) old new }
 {}
 
-/// As many links were hung up or let go in a session as came up in it, where the dialer tells (`links`). At its end no main
-/// link is up (`none`), nor are data links, where no link was up before (`apart`).
+/// As many links were hung up or let go in a session as came up by its deeds, where the dialer tells; and the dialer counted so
+/// many come up, and none beside them, unless that count stands at its last value (`links`). At its end no main link is up
+/// (`none`), nor are data links, where no link was up before (`apart`).
 pub fn the_links_are_hung_up<Origin, P>()
     ensures links { (rows : PlaceTable (acts Origin) P) (first : Row (acts Origin) P) (old new : World Origin)
         (ending : Ending) (held : Held rows first old new ending) →
@@ -83,6 +85,13 @@ pub fn the_links_are_hung_up<Origin, P>()
         (ending : Ending) → Held rows first old new ending → new.server.link ≡ None }
     ensures apart { (rows : PlaceTable (acts Origin) P) (first : Row (acts Origin) P) (old new : World Origin)
         (ending : Ending) → Held rows first old new ending → IsUnlinked old.server → new.server.pair ≡ None }
+{}
+
+/// Data links aren't asked for exactly where they can't be: where no main link is up, by the deeds before, or none of the doors
+/// that these opened stands where one is wanted.
+pub fn data_links_are_asked_for_where_they_can_be<Origin, P>()
+    ensures { (rows : PlaceTable (acts Origin) P) (first : Row (acts Origin) P) (old new : World Origin) (ending : Ending)
+        (held : Held rows first old new ending) → AreReady (standing_of old.server) (deeds_of held) }
 {}
 
 /// A session whose rows speak with no server leaves the dialer as it was.

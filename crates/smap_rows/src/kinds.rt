@@ -20,14 +20,16 @@ impl Rows for Kinds {
         out: &mut Told,
     ) -> Result<(), NoMemory> {
         match kind {
-            "replies" => tell_replies(alloc, asked, out)?,
-            "log" => tell_log(alloc, asked, out)?,
-            "after" => tell_after(alloc, asked, out)?,
-            "bytes" => tell_bytes(alloc, asked, out)?,
-            "faults" => tell_faults(alloc, asked, out)?,
-            "stops" => tell_stops(alloc, asked, out)?,
-            _ => add(out, b"no such kind"),
+            "replies" => tell_replies(alloc, asked, out),
+            "log" => tell_log(alloc, asked, out),
+            "after" => tell_after(alloc, asked, out),
+            "bytes" => tell_bytes(alloc, asked, out),
+            "faults" => tell_faults(alloc, asked, out),
+            "stops" => tell_stops(alloc, asked, out),
+            _ => {
+                add(out, b"no such kind");
+                Ok(())
+            }
         }
-        Ok(())
     }
 }

@@ -19,13 +19,24 @@ const ROOM: usize = 4096;
 const BEFORE: u64 = 2;
 
 /// Which calls of the devices fail.
-#[derive(Drop)]
+#[derive(Clone, Copy)]
 pub(crate) struct Fails {
     /// Of the disk of the slot with this number, those behind its opening from this one on.
     pub disk: Option<(u64, u64)>,
-    pub source: Calls,
-    pub sink: Calls,
-    pub log: Calls,
+    /// Of the client's source, those from this one on.
+    pub source: Option<u64>,
+    /// Of the client's sink, those from this one on.
+    pub sink: Option<u64>,
+    /// Of the log, those from this one on.
+    pub log: Option<u64>,
+}
+
+// The calls from this one on, or none.
+fn onward(first: Option<u64>) -> Calls {
+    match first {
+        Some(first) => Calls::onward(first),
+        None => Calls::none(),
+    }
 }
 
 impl Fails {
@@ -33,9 +44,9 @@ impl Fails {
     pub(crate) fn none() -> Fails {
         Fails {
             disk: None,
-            source: Calls::none(),
-            sink: Calls::none(),
-            log: Calls::none(),
+            source: None,
+            sink: None,
+            log: None,
         }
     }
 
@@ -68,7 +79,7 @@ fn slot_of(alloc: Global, word: &[u8]) -> Result<Vec<u8>, NoMemory> {
     from_hex(alloc, str::from_utf8(digits).unwrap_or(""))
 }
 
-fn disks_of(alloc: Global, words: &[u8], fails: &Fails) -> Result<Vec<MemDisk>, NoMemory> {
+fn disks_of(alloc: Global, words: &[u8], fails: Fails) -> Result<Vec<MemDisk>, NoMemory> {
     let mut disks = Vec::new(alloc);
     let mut number = 0u64;
     for word in words.split(|byte| *byte == b',') {
@@ -111,8 +122,92 @@ fn peer() -> Peer {
     }
 }
 
+// The devices of a session but its rack.
+#[derive(Drop)]
+struct Devices {
+    from: MemSource,
+    to: MemSink,
+    log: MemSink,
+}
+
+// Both, where there is memory for each.
+fn both<A: Drop, B: Drop>(
+    first: Result<A, NoMemory>,
+    second: Result<B, NoMemory>,
+) -> Result<(A, B), NoMemory> {
+    Ok((first?, second?))
+}
+
+fn devices_of(alloc: Global, client: &[u8], fails: Fails) -> Result<Devices, NoMemory> {
+    let said = client_of(alloc, client)?;
+    let (to, log) = both(
+        MemSink::new(alloc, ROOM, onward(fails.sink)),
+        MemSink::new(alloc, ROOM, onward(fails.log)),
+    )?;
+    Ok(Devices {
+        from: MemSource::new(said, PIECE, onward(fails.source), Calls::none()),
+        to,
+        log,
+    })
+}
+
+// The one call of `smap_session`.
+fn hold(
+    alloc: Global,
+    limits: (u64, u32),
+    rack: &mut Rack<MemDisk>,
+    devices: &mut Devices,
+) -> Ending
+    requires bytes { limits.0 ≤ 67108864 }
+    requires rcpts { limits.1 ≤ 1000 }
+{
+    let (max_bytes, max_rcpts) = limits;
+    smap_session(
+        alloc,
+        &peer(),
+        max_bytes,
+        max_rcpts,
+        &mut devices.from,
+        &mut devices.to,
+        &mut devices.log,
+        rack,
+    )
+}
+
 // The session over a rack.
-fn serve(
+fn serve(alloc: Global, limits: (u64, u32), mut rack: Rack<MemDisk>, mut devices: Devices) -> Played
+    requires bytes { limits.0 ≤ 67108864 }
+    requires rcpts { limits.1 ≤ 1000 }
+{
+    let ending = hold(alloc, limits, &mut rack, &mut devices);
+    let disks = rack.close();
+    let Devices { from, to, log } = devices;
+    drop(from);
+    Played {
+        ending,
+        to,
+        log,
+        disks,
+    }
+}
+
+// A rack of the slots, where there aren't too many, and each of them is opened.
+fn rack_of(alloc: Global, slots: &[u8], fails: Fails) -> Result<Option<Rack<MemDisk>>, NoMemory> {
+    let disks = disks_of(alloc, slots, fails)?;
+    if disks.len() > 64 {
+        return Ok(None);
+    }
+    match Rack::open(alloc, disks) {
+        Ok(rack) => Ok(Some(rack)),
+        Err(fault) => {
+            drop(fault);
+            Ok(None)
+        }
+    }
+}
+
+// The session of a client that says this, over a rack.
+fn play_over(
     alloc: Global,
     limits: (u64, u32),
     client: &[u8],
@@ -122,33 +217,13 @@ fn serve(
     requires bytes { limits.0 ≤ 67108864 }
     requires rcpts { limits.1 ≤ 1000 }
 {
-    let Fails {
-        disk: _,
-        source,
-        sink,
-        log,
-    } = fails;
-    let (max_bytes, max_rcpts) = limits;
-    let mut rack = rack;
-    let mut from = MemSource::new(client_of(alloc, client)?, PIECE, source, Calls::none());
-    let mut to = MemSink::new(alloc, ROOM, sink)?;
-    let mut log = MemSink::new(alloc, ROOM, log)?;
-    let ending = smap_session(
-        alloc,
-        &peer(),
-        max_bytes,
-        max_rcpts,
-        &mut from,
-        &mut to,
-        &mut log,
-        &mut rack,
-    );
-    Ok(Played {
-        ending,
-        to,
-        log,
-        disks: rack.close(),
-    })
+    match devices_of(alloc, client, fails) {
+        Ok(devices) => Ok(serve(alloc, limits, rack, devices)),
+        Err(NoMemory) => {
+            drop(rack);
+            Err(NoMemory)
+        }
+    }
 }
 
 /// Plays the session that is asked for, and tells what came of it; nothing where there are too many slots, or one of them
@@ -157,16 +232,12 @@ pub(crate) fn play(alloc: Global, asked: &[u8], fails: Fails) -> Result<Option<P
     let (slots, rest) = cut_word(asked);
     let (bytes, rest) = cut_word(rest);
     let (rcpts, client) = cut_word(rest);
-    let disks = disks_of(alloc, slots, &fails)?;
-    if disks.len() > 64 {
-        return Ok(None);
-    }
-    match Rack::open(alloc, disks) {
-        Ok(rack) => {
+    match rack_of(alloc, slots, fails)? {
+        Some(rack) => {
             let limits = (number_up_to(bytes, 67108864), count_up_to_1000(rcpts));
-            Ok(Some(serve(alloc, limits, client, rack, fails)?))
+            Ok(Some(play_over(alloc, limits, client, rack, fails)?))
         }
-        Err(_) => Ok(None),
+        None => Ok(None),
     }
 }
 

@@ -33,9 +33,32 @@ fn tell_run(alloc: Global, played: &Played, out: &mut Told) -> Result<(), NoMemo
     add_number(out, count_kept(played.to.bytes()));
     add_number(out, count_lines(played.log.bytes()));
     for disk in &played.disks {
-        add(out, letter_of(alloc, disk)?);
+        add(out, &[letter_of(alloc, disk)?]);
     }
     Ok(())
+}
+
+// The run in which the calls of this slot's disk fail from this one on.
+fn tell_stop(
+    alloc: Global,
+    asked: &[u8],
+    slot: u64,
+    first: u64,
+    out: &mut Told,
+) -> Result<(), NoMemory> {
+    let mut fails = Fails::none();
+    fails.disk = Some((slot, first));
+    match play(alloc, asked, fails)? {
+        Some(played) => {
+            let told = tell_run(alloc, &played, out);
+            drop(played);
+            told
+        }
+        None => {
+            add_word(out, b"no rack");
+            Ok(())
+        }
+    }
 }
 
 /// `stops SLOT RUNS SLOTS BYTES RCPTS CLIENT => KEPT LINES LETTERS ..`: for each run how many messages were told kept, how many
@@ -45,12 +68,7 @@ pub(crate) fn tell_stops(alloc: Global, asked: &[u8], out: &mut Told) -> Result<
     let (slot, rest) = number_in_front(asked);
     let (runs, asked) = number_in_front(rest);
     for first in 0..runs.min(64) {
-        let mut fails = Fails::none();
-        fails.disk = Some((slot, first));
-        match play(alloc, asked, fails)? {
-            Some(played) => tell_run(alloc, &played, out)?,
-            None => add_word(out, b"no rack"),
-        }
+        tell_stop(alloc, asked, slot, first, out)?;
     }
     Ok(())
 }

@@ -1,7 +1,7 @@
 //! What is told of a session.
 
 use crate::play::{Fails, Played, number_in_front, play};
-use fw_memory::{Calls, MemDisk};
+use fw_memory::MemDisk;
 use fw_types::{Ending, NoMemory};
 use lines_of_rows::{Told, add, add_hex, add_word, cut_word, number_of};
 use slot_bytes::{Slot, SlotFault, read_slot};
@@ -33,13 +33,23 @@ fn ending_name(ending: Ending) -> &'static [u8] {
     }
 }
 
+fn letter_in(slot: &Slot) -> u8 {
+    match slot {
+        Slot::Free => b'f',
+        Slot::Whole(_) => b'w',
+        Slot::Aside(_) => b'a',
+    }
+}
+
 /// A letter for what a disk's bytes are read as: `f` free, `w` whole, `a` aside, `b` bad.
-pub(crate) fn letter_of(alloc: Global, disk: &MemDisk) -> Result<&'static [u8], NoMemory> {
+pub(crate) fn letter_of(alloc: Global, disk: &MemDisk) -> Result<u8, NoMemory> {
     match read_slot(alloc, disk.bytes()) {
-        Ok(Slot::Free) => Ok(b"f"),
-        Ok(Slot::Whole(_)) => Ok(b"w"),
-        Ok(Slot::Aside(_)) => Ok(b"a"),
-        Err(SlotFault::Bad { at: _ }) => Ok(b"b"),
+        Ok(slot) => {
+            let letter = letter_in(&slot);
+            drop(slot);
+            Ok(letter)
+        }
+        Err(SlotFault::Bad { at: _ }) => Ok(b'b'),
         Err(SlotFault::NoMemory) => Err(NoMemory),
     }
 }
@@ -47,15 +57,26 @@ pub(crate) fn letter_of(alloc: Global, disk: &MemDisk) -> Result<&'static [u8], 
 fn add_ending(alloc: Global, played: &Played, out: &mut Told) -> Result<(), NoMemory> {
     add_word(out, ending_name(played.ending));
     for disk in &played.disks {
-        add_word(out, letter_of(alloc, disk)?);
+        add_word(out, &[letter_of(alloc, disk)?]);
     }
+    Ok(())
+}
+
+// The same, and what the client is told.
+fn add_faults(alloc: Global, played: &Played, out: &mut Told) -> Result<(), NoMemory> {
+    add_ending(alloc, played, out)?;
+    add_word(out, b"");
+    add_text(out, played.to.bytes());
     Ok(())
 }
 
 /// `replies SLOTS BYTES RCPTS CLIENT => TEXT`: what the client is told.
 pub(crate) fn tell_replies(alloc: Global, asked: &[u8], out: &mut Told) -> Result<(), NoMemory> {
     match play(alloc, asked, Fails::none())? {
-        Some(played) => add_text(out, played.to.bytes()),
+        Some(played) => {
+            add_text(out, played.to.bytes());
+            drop(played);
+        }
         None => add(out, b"no rack"),
     }
     Ok(())
@@ -64,7 +85,10 @@ pub(crate) fn tell_replies(alloc: Global, asked: &[u8], out: &mut Told) -> Resul
 /// `log SLOTS BYTES RCPTS CLIENT => TEXT`: what the log is given.
 pub(crate) fn tell_log(alloc: Global, asked: &[u8], out: &mut Told) -> Result<(), NoMemory> {
     match play(alloc, asked, Fails::none())? {
-        Some(played) => add_text(out, played.log.bytes()),
+        Some(played) => {
+            add_text(out, played.log.bytes());
+            drop(played);
+        }
         None => add(out, b"no rack"),
     }
     Ok(())
@@ -73,25 +97,37 @@ pub(crate) fn tell_log(alloc: Global, asked: &[u8], out: &mut Told) -> Result<()
 /// `after SLOTS BYTES RCPTS CLIENT => ENDING LETTERS`: how the session ends, and what the slots hold then.
 pub(crate) fn tell_after(alloc: Global, asked: &[u8], out: &mut Told) -> Result<(), NoMemory> {
     match play(alloc, asked, Fails::none())? {
-        Some(played) => add_ending(alloc, &played, out)?,
-        None => add(out, b"no rack"),
+        Some(played) => {
+            let added = add_ending(alloc, &played, out);
+            drop(played);
+            added
+        }
+        None => {
+            add(out, b"no rack");
+            Ok(())
+        }
     }
-    Ok(())
+}
+
+fn add_disk_at(disks: &[MemDisk], number: u64, out: &mut Told) {
+    let mut at = 0u64;
+    for disk in disks {
+        if at == number {
+            add_hex(out, disk.bytes());
+        }
+        at = at.saturating_add(1);
+    }
 }
 
 /// `bytes SLOT SLOTS BYTES RCPTS CLIENT => DIGITS`: the bytes of the slot with this number then.
 pub(crate) fn tell_bytes(alloc: Global, asked: &[u8], out: &mut Told) -> Result<(), NoMemory> {
     let (number, asked) = number_in_front(asked);
-    let Some(played) = play(alloc, asked, Fails::none())? else {
-        add(out, b"no rack");
-        return Ok(());
-    };
-    let mut at = 0u64;
-    for disk in &played.disks {
-        if at == number {
-            add_hex(out, disk.bytes());
+    match play(alloc, asked, Fails::none())? {
+        Some(played) => {
+            add_disk_at(&played.disks, number, out);
+            drop(played);
         }
-        at = at.saturating_add(1);
+        None => add(out, b"no rack"),
     }
     Ok(())
 }
@@ -100,9 +136,9 @@ pub(crate) fn tell_bytes(alloc: Global, asked: &[u8], out: &mut Told) -> Result<
 fn fails_of(device: &[u8], first: u64) -> Fails {
     let mut fails = Fails::none();
     match device {
-        b"client" => fails.source = Calls::onward(first),
-        b"output" => fails.sink = Calls::onward(first),
-        b"log" => fails.log = Calls::onward(first),
+        b"client" => fails.source = Some(first),
+        b"output" => fails.sink = Some(first),
+        b"log" => fails.log = Some(first),
         _ => (),
     }
     fails
@@ -115,11 +151,13 @@ pub(crate) fn tell_faults(alloc: Global, asked: &[u8], out: &mut Told) -> Result
     let (first, asked) = cut_word(rest);
     match play(alloc, asked, fails_of(device, number_of(first)))? {
         Some(played) => {
-            add_ending(alloc, &played, out)?;
-            add_word(out, b"");
-            add_text(out, played.to.bytes());
+            let added = add_faults(alloc, &played, out);
+            drop(played);
+            added
         }
-        None => add(out, b"no rack"),
+        None => {
+            add(out, b"no rack");
+            Ok(())
+        }
     }
-    Ok(())
 }

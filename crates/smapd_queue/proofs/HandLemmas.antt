@@ -124,7 +124,7 @@ counted_by number word turn tally noted counted e1 e2 is count =
     ∙ ap (λ (n : ℕ). counted_in n word tally) e1 ∙ ap (λ (w : Word). counted_in turn.slot.number w tally) e2
 
 abbrev given_more : List ℕ → SinkView → SinkView
-given_more line logs = record { given = grown logs.given line; shut = logs.shut; faults = logs.faults }
+given_more line logs = record { given = grown logs.given line; shut = logs.shut; faults = logs.faults; mark = logs.mark }
 
 pub goes_so : (number : ℕ) (word : Word) (slot : FullView) (before store now : StoreView) (mailers after : List MailerView) (logs told : SinkView) (tally noted counted : Tally)
     → HasTakenFull slot before store → HandedOn word slot store now mailers after → number ≡ slot.number → told ≡ given_more (handed_line number (text_of word)) logs

@@ -9,7 +9,7 @@ use Rattle.smapd_queue.specs.Sums.{LogFails, LogGoes}
 use Rattle.smapd_queue.proofs.MailerLemmas.{grown_both, grown_nil}
 
 abbrev given_with : Option (List ℕ) → SinkView → SinkView
-given_with told sink = record { given = told; shut = sink.shut; faults = sink.faults }
+given_with told sink = record { given = told; shut = sink.shut; faults = sink.faults; mark = sink.mark }
 
 -- nothing was given
 same_given : (sink : SinkView) → sink ≡ given_with (grown sink.given []) sink

@@ -36,6 +36,23 @@ fn write(disk: &mut MemDisk, at: u64, bytes: &[u8], out: &mut Told) {
     }
 }
 
+// Writes `PLACE:DIGITS`.
+fn write_digits(
+    alloc: Global,
+    disk: &mut MemDisk,
+    text: &[u8],
+    out: &mut Told,
+) -> Result<(), NoMemory> {
+    let (at, digits) = cut(text, b':');
+    let bytes = bytes_of(alloc, digits)?;
+    write(disk, number_of(at), &bytes, out);
+    Ok(())
+}
+
+fn sync(disk: &mut MemDisk, out: &mut Told) {
+    tell_call(disk.sync(), out);
+}
+
 fn cut_at(disk: &mut MemDisk, len: u64, out: &mut Told) {
     if len <= disk.bytes().len() as u64 {
         tell_call(disk.cut(len), out);
@@ -56,34 +73,54 @@ fn read(disk: &mut MemDisk, at: u64, out: &mut Told) {
 // One step: `wPLACE:DIGITS`, `cLENGTH`, `s` for a sync, `rPLACE` for a read into four bytes of 0.
 fn step(alloc: Global, disk: &mut MemDisk, step: &[u8], out: &mut Told) -> Result<(), NoMemory> {
     match step {
-        [b'w', rest @ ..] => {
-            let (at, digits) = cut(rest, b':');
-            write(disk, number_of(at), &bytes_of(alloc, digits)?, out);
-        }
+        [b'w', rest @ ..] => return write_digits(alloc, disk, rest, out),
         [b'c', rest @ ..] => cut_at(disk, number_of(rest), out),
-        [b's'] => tell_call(disk.sync(), out),
+        [b's'] => sync(disk, out),
         [b'r', rest @ ..] => read(disk, number_of(rest), out),
         _ => add_word(out, b"no such step"),
     }
     Ok(())
 }
 
+// Does the steps, whose answers are told.
+fn do_steps(
+    alloc: Global,
+    disk: &mut MemDisk,
+    steps: &[u8],
+    out: &mut Told,
+) -> Result<(), NoMemory> {
+    for word in steps.split(|byte| *byte == b' ') {
+        step(alloc, disk, word, out)?;
+    }
+    Ok(())
+}
+
+/// The disk of `DIGITS. FAILS`.
+pub(crate) fn disk_of(alloc: Global, digits: &[u8], fails: &[u8]) -> Result<MemDisk, NoMemory> {
+    let bytes = bytes_of(alloc, cut(digits, b'.').0)?;
+    let fails = calls_of(alloc, fails)?;
+    Ok(MemDisk::new(alloc, Octets::of(bytes), fails))
+}
+
 // The disk after the steps, whose answers are told.
 fn disk_after(alloc: Global, asked: &[u8], out: &mut Told) -> Result<MemDisk, NoMemory> {
     let (digits, rest) = cut_word(asked);
     let (fails, steps) = cut_word(rest);
-    let bytes = Octets::of(bytes_of(alloc, cut(digits, b'.').0)?);
-    let mut disk = MemDisk::new(alloc, bytes, calls_of(alloc, fails)?);
-    for word in steps.split(|byte| *byte == b' ') {
-        step(alloc, &mut disk, word, out)?;
+    let mut disk = disk_of(alloc, digits, fails)?;
+    match do_steps(alloc, &mut disk, steps, out) {
+        Ok(()) => Ok(disk),
+        Err(NoMemory) => {
+            drop(disk);
+            Err(NoMemory)
+        }
     }
-    Ok(disk)
 }
 
 /// `disk DIGITS. FAILS STEP STEP ... => ANSWERS DIGITS`: the answers of the steps, and the bytes as read.
 pub(crate) fn tell_disk(alloc: Global, asked: &[u8], out: &mut Told) -> Result<(), NoMemory> {
     let disk = disk_after(alloc, asked, out)?;
     add_hex(out, disk.bytes());
+    drop(disk);
     Ok(())
 }
 
@@ -91,6 +128,8 @@ pub(crate) fn tell_disk(alloc: Global, asked: &[u8], out: &mut Told) -> Result<(
 pub(crate) fn tell_crash(alloc: Global, asked: &[u8], out: &mut Told) -> Result<(), NoMemory> {
     let (pick, rest) = cut_word(asked);
     let disk = disk_after(alloc, rest, &mut Told::new())?;
-    add_hex(out, disk.crash(number_of(pick))?.bytes());
+    let image = disk.crash(number_of(pick))?;
+    add_hex(out, image.bytes());
+    drop(image);
     Ok(())
 }

@@ -1,10 +1,10 @@
 //! What is told of slots on disks in memory.
 
-use crate::disks::{bytes_of, calls_of};
+use crate::disks::disk_of;
+use crate::slots::letter_of;
 use fw_memory::MemDisk;
-use fw_types::{NoMemory, Octets};
-use lines_of_rows::{Told, add_hex, add_number, add_word, cut, cut_word};
-use slot_bytes::{Slot, SlotFault, read_slot};
+use fw_types::NoMemory;
+use lines_of_rows::{Told, add_hex, add_number, add_word, cut_word};
 use spool_slots::format;
 use std::alloc::Global;
 
@@ -17,25 +17,19 @@ struct Counts {
     bad: u64,
 }
 
-fn count(alloc: Global, bytes: &[u8], counts: &mut Counts) -> Result<(), NoMemory> {
-    match read_slot(alloc, bytes) {
-        Ok(Slot::Free) => counts.free = counts.free.saturating_add(1),
-        Ok(Slot::Whole(_)) => counts.full = counts.full.saturating_add(1),
-        Ok(Slot::Aside(_)) => counts.aside = counts.aside.saturating_add(1),
-        Err(SlotFault::Bad { at: _ }) => counts.bad = counts.bad.saturating_add(1),
-        Err(SlotFault::NoMemory) => return Err(NoMemory),
+// Counts an image by the letter of what it is read as.
+fn count(letter: u8, counts: &mut Counts) {
+    match letter {
+        b'f' => counts.free = counts.free.saturating_add(1),
+        b'w' => counts.full = counts.full.saturating_add(1),
+        b'a' => counts.aside = counts.aside.saturating_add(1),
+        _ => counts.bad = counts.bad.saturating_add(1),
     }
-    Ok(())
-}
-
-fn disk_of(alloc: Global, asked: &[u8]) -> Result<MemDisk, NoMemory> {
-    let (digits, fails) = cut_word(asked);
-    let bytes = Octets::of(bytes_of(alloc, cut(digits, b'.').0)?);
-    Ok(MemDisk::new(alloc, bytes, calls_of(alloc, fails)?))
 }
 
 fn formatted(alloc: Global, asked: &[u8], out: &mut Told) -> Result<MemDisk, NoMemory> {
-    match format(7, disk_of(alloc, asked)?) {
+    let (digits, fails) = cut_word(asked);
+    match format(7, disk_of(alloc, digits, fails)?) {
         Ok(free) => {
             add_word(out, b"free");
             add_number(out, u64::from(free.number()));
@@ -54,7 +48,17 @@ fn formatted(alloc: Global, asked: &[u8], out: &mut Told) -> Result<MemDisk, NoM
 pub(crate) fn tell_format(alloc: Global, asked: &[u8], out: &mut Told) -> Result<(), NoMemory> {
     let disk = formatted(alloc, asked, out)?;
     add_hex(out, disk.bytes());
+    drop(disk);
     Ok(())
+}
+
+// The letter of the image that the number picks after a format.
+fn image_letter(alloc: Global, asked: &[u8], pick: u64) -> Result<u8, NoMemory> {
+    let disk = formatted(alloc, asked, &mut Told::new())?;
+    let image = disk.crash(pick)?;
+    let letter = letter_of(alloc, image.bytes());
+    drop(image);
+    letter
 }
 
 /// `format-crashes DIGITS. FAILS => FREE FULL ASIDE BAD`: how many of the images that the numbers 0 to 15 pick after it
@@ -67,8 +71,7 @@ pub(crate) fn tell_crashes(alloc: Global, asked: &[u8], out: &mut Told) -> Resul
         bad: 0,
     };
     for pick in 0..16 {
-        let disk = formatted(alloc, asked, &mut Told::new())?.crash(pick)?;
-        count(alloc, disk.bytes(), &mut counts)?;
+        count(image_letter(alloc, asked, pick)?, &mut counts);
     }
     add_number(out, counts.free);
     add_number(out, counts.full);

@@ -18,6 +18,12 @@ struct Counts {
     bad: u64,
 }
 
+impl Counts {
+    fn add_bad(&mut self) {
+        self.bad = self.bad.saturating_add(1);
+    }
+}
+
 // Whether it is the message of the rows, with this body.
 fn is_letter(message: &Message, body: &[u8]) -> bool {
     message.from.bytes() == b"a@b".as_slice()
@@ -39,22 +45,66 @@ fn count_message(message: &Message, body: &[u8], right: &mut u64, bad: &mut u64)
     }
 }
 
-fn count_full(
-    alloc: Global,
-    full: Full<MemDisk>,
+fn count_read(
+    read: Result<Message, ReadBack>,
     body: &[u8],
     counts: &mut Counts,
 ) -> Result<(), NoMemory> {
-    let mut full = full;
-    match full.message(alloc) {
-        Ok(message) => count_message(&message, body, &mut counts.full, &mut counts.bad),
-        Err(ReadBack::DiskFault) => counts.bad = counts.bad.saturating_add(1),
-        Err(ReadBack::NoMemory) => return Err(NoMemory),
+    match read {
+        Ok(message) => {
+            count_message(&message, body, &mut counts.full, &mut counts.bad);
+            drop(message);
+            Ok(())
+        }
+        Err(ReadBack::DiskFault) => {
+            counts.add_bad();
+            Ok(())
+        }
+        Err(ReadBack::NoMemory) => Err(NoMemory),
     }
-    Ok(())
+}
+
+fn count_full(
+    alloc: Global,
+    mut full: Full<MemDisk>,
+    body: &[u8],
+    counts: &mut Counts,
+) -> Result<(), NoMemory> {
+    let read = full.message(alloc);
+    drop(full);
+    count_read(read, body, counts)
+}
+
+fn count_slot(slot: &Slot, body: &[u8], counts: &mut Counts) {
+    match slot {
+        Slot::Aside(message) => {
+            count_message(message, body, &mut counts.aside, &mut counts.bad);
+        }
+        Slot::Free | Slot::Whole(_) => counts.add_bad(),
+    }
 }
 
 // A slot that was set aside has no call that reads its message, but its bytes have.
+fn count_bytes(
+    alloc: Global,
+    bytes: &[u8],
+    body: &[u8],
+    counts: &mut Counts,
+) -> Result<(), NoMemory> {
+    match read_slot(alloc, bytes) {
+        Ok(slot) => {
+            count_slot(&slot, body, counts);
+            drop(slot);
+            Ok(())
+        }
+        Err(SlotFault::Bad { at: _ }) => {
+            counts.add_bad();
+            Ok(())
+        }
+        Err(SlotFault::NoMemory) => Err(NoMemory),
+    }
+}
+
 fn count_aside(
     alloc: Global,
     aside: Aside<MemDisk>,
@@ -62,16 +112,9 @@ fn count_aside(
     counts: &mut Counts,
 ) -> Result<(), NoMemory> {
     let disk = aside.into_disk();
-    match read_slot(alloc, disk.bytes()) {
-        Ok(Slot::Aside(message)) => {
-            count_message(&message, body, &mut counts.aside, &mut counts.bad);
-        }
-        Ok(Slot::Free) => counts.bad = counts.bad.saturating_add(1),
-        Ok(Slot::Whole(_message)) => counts.bad = counts.bad.saturating_add(1),
-        Err(SlotFault::Bad { at: _ }) => counts.bad = counts.bad.saturating_add(1),
-        Err(SlotFault::NoMemory) => return Err(NoMemory),
-    }
-    Ok(())
+    let counted = count_bytes(alloc, disk.bytes(), body, counts);
+    drop(disk);
+    counted
 }
 
 fn count_broken(
@@ -79,11 +122,11 @@ fn count_broken(
     why: SlotWhy,
     counts: &mut Counts,
 ) -> Result<(), NoMemory> {
-    let _ = broken.into_disk();
+    drop(broken);
     if why == SlotWhy::NoMemory {
         return Err(NoMemory);
     }
-    counts.bad = counts.bad.saturating_add(1);
+    counts.add_bad();
     Ok(())
 }
 
@@ -95,7 +138,7 @@ fn count_opened(
 ) -> Result<(), NoMemory> {
     match opened {
         Opened::Free(free) => {
-            let _ = free.into_disk();
+            drop(free);
             counts.free = counts.free.saturating_add(1);
             Ok(())
         }
@@ -125,6 +168,50 @@ const NONE: Counts = Counts {
     bad: 0,
 };
 
+// Adds so many letters.
+fn add_letters(body: &mut Vec<u8>, len: u64) -> Result<(), NoMemory> {
+    for _ in 0..len {
+        body.push(b'x')?;
+    }
+    Ok(())
+}
+
+// A body of pieces of these lengths.
+fn body_of(alloc: Global, lengths: &[u8]) -> Result<Vec<u8>, NoMemory> {
+    let lengths = numbers_of(alloc, lengths)?;
+    let mut body = Vec::new(alloc);
+    for len in &lengths {
+        add_letters(&mut body, (*len).min(8192))?;
+    }
+    Ok(body)
+}
+
+// Counts the image that the number picks after `fill`.
+fn count_filled(
+    alloc: Global,
+    asked: &[u8],
+    pick: u64,
+    body: &[u8],
+    counts: &mut Counts,
+) -> Result<(), NoMemory> {
+    let disk = filled(alloc, asked, true, &mut Told::new())?;
+    let image = disk.crash(pick)?;
+    count(alloc, image, body, counts)
+}
+
+// Counts the image that the number picks after `set-aside` or `release`.
+fn count_marked(
+    alloc: Global,
+    kind: &str,
+    asked: &[u8],
+    pick: u64,
+    counts: &mut Counts,
+) -> Result<(), NoMemory> {
+    let disk = marked(alloc, kind, asked, &mut Told::new())?;
+    let image = disk.crash(pick)?;
+    count(alloc, image, b"abc\r\n", counts)
+}
+
 /// `fill-crashes LENGTHS FIRST => FREE FULL ASIDE BAD`: how many of the images that the numbers 0 to 15 pick after
 /// `fill` open as what; full or aside only where the message is the one that was written.
 pub(crate) fn tell_fill_crashes(
@@ -132,16 +219,10 @@ pub(crate) fn tell_fill_crashes(
     asked: &[u8],
     out: &mut Told,
 ) -> Result<(), NoMemory> {
-    let mut body = Vec::new(alloc);
-    for piece in numbers_of(alloc, cut_word(asked).0)? {
-        for _ in 0..piece.min(8192) {
-            body.push(b'x')?;
-        }
-    }
+    let body = body_of(alloc, cut_word(asked).0)?;
     let mut counts = NONE;
     for pick in 0..16 {
-        let disk = filled(alloc, asked, true, &mut Told::new())?.crash(pick)?;
-        count(alloc, disk, &body, &mut counts)?;
+        count_filled(alloc, asked, pick, &body, &mut counts)?;
     }
     tell_counts(counts, out);
     Ok(())
@@ -157,8 +238,7 @@ pub(crate) fn tell_mark_crashes(
 ) -> Result<(), NoMemory> {
     let mut counts = NONE;
     for pick in 0..16 {
-        let disk = marked(alloc, kind, asked, &mut Told::new())?.crash(pick)?;
-        count(alloc, disk, b"abc\r\n", &mut counts)?;
+        count_marked(alloc, kind, asked, pick, &mut counts)?;
     }
     tell_counts(counts, out);
     Ok(())

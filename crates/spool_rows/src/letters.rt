@@ -1,6 +1,7 @@
 //! What is told of messages in slots on disks in memory.
-ghost use Rattle.std.specs.Prelude.{◌+◌, ◌≤◌, IfOk};
+ghost use Rattle.std.specs.Prelude.{◌+◌, ◌≤◌, ◌≡◌, ◌∷◌, [], codes, IfOk};
 
+use crate::slots::recipients;
 use fw_memory::{Calls, MemDisk};
 use fw_types::{NoMemory, Octets, OctetsList};
 use lines_of_rows::{Told, add_number, add_word, cut_word, number_of, numbers_of};
@@ -95,19 +96,37 @@ fn fill(filling: Filling<MemDisk>, lengths: &[u64], keep: bool, out: &mut Told) 
 fn start_and_fill(
     alloc: Global,
     free: Free<MemDisk>,
+    rcpts: &OctetsList,
     lengths: &[u64],
     keep: bool,
     out: &mut Told,
-) -> Result<MemDisk, NoMemory> {
-    let rcpt = Octets::copy(alloc, b"c@d")?;
-    let mut rcpts = OctetsList::new(alloc);
-    match rcpts.push(rcpt) {
-        Ok(()) => match free.start(alloc, b"a@b", &rcpts) {
-            Ok(filling) => Ok(fill(filling, lengths, keep, out)),
-            Err(StartFault::NoMemory(_)) => Err(NoMemory),
-            Err(StartFault::Disk(broken)) => Ok(tell_broken(broken, out)),
-        },
-        Err(_) => Err(NoMemory),
+) -> Result<MemDisk, NoMemory>
+    requires { rcpts.now ≡ codes "c@d" ∷ [] }
+{
+    match free.start(alloc, b"a@b", rcpts) {
+        Ok(filling) => Ok(fill(filling, lengths, keep, out)),
+        Err(StartFault::NoMemory(free)) => {
+            drop(free);
+            Err(NoMemory)
+        }
+        Err(StartFault::Disk(broken)) => Ok(tell_broken(broken, out)),
+    }
+}
+
+// A message in a slot with this disk, which is formatted first.
+fn format_and_fill(
+    alloc: Global,
+    disk: MemDisk,
+    rcpts: &OctetsList,
+    lengths: &[u64],
+    keep: bool,
+    out: &mut Told,
+) -> Result<MemDisk, NoMemory>
+    requires { rcpts.now ≡ codes "c@d" ∷ [] }
+{
+    match format(7, disk) {
+        Ok(free) => start_and_fill(alloc, free, rcpts, lengths, keep, out),
+        Err(broken) => Ok(tell_broken(broken, out)),
     }
 }
 
@@ -120,22 +139,22 @@ pub(crate) fn filled(
 ) -> Result<MemDisk, NoMemory> {
     let (pieces, first) = cut_word(asked);
     let lengths = numbers_of(alloc, pieces)?;
-    let nothing = Octets::copy(alloc, b"")?;
-    match format(7, MemDisk::new(alloc, nothing, failing(first))) {
-        Ok(free) => start_and_fill(alloc, free, &lengths, keep, out),
-        Err(broken) => Ok(tell_broken(broken, out)),
-    }
+    let rcpts = recipients(alloc)?;
+    let disk = MemDisk::new(alloc, Octets::of(Vec::new(alloc)), failing(first));
+    let filled = format_and_fill(alloc, disk, &rcpts, &lengths, keep, out);
+    drop(rcpts);
+    filled
 }
 
 /// `fill LENGTHS FIRST => started added .. full 7`, or `broken` where the disk failed: a message with up to three pieces
 /// of these lengths. The disk's calls are counted from the first of `start`, and fail from the call `FIRST` on.
 pub(crate) fn tell_fill(alloc: Global, asked: &[u8], out: &mut Told) -> Result<(), NoMemory> {
-    let _ = filled(alloc, asked, true, out)?;
+    drop(filled(alloc, asked, true, out)?);
     Ok(())
 }
 
 /// `abandon LENGTHS FIRST => started added .. free 7`: the same, but the message is given up.
 pub(crate) fn tell_abandon(alloc: Global, asked: &[u8], out: &mut Told) -> Result<(), NoMemory> {
-    let _ = filled(alloc, asked, false, out)?;
+    drop(filled(alloc, asked, false, out)?);
     Ok(())
 }

@@ -3,16 +3,18 @@
 use crate::disks::bytes_of;
 use crate::letters::{failing, tell_aside, tell_broken, tell_free};
 use crate::slots::tell_message;
-use fw_memory::{Calls, MemDisk};
+use fw_memory::MemDisk;
 use fw_types::{NoMemory, Octets};
 use lines_of_rows::{Told, add_number, add_word, cut_word};
-use spool_slots::{Broken, Full, Opened, ReadBack, SlotWhy, open};
+use slot_bytes::Message;
+use spool_slots::{Aside, Broken, Full, Opened, ReadBack, SlotWhy, open};
 use std::alloc::Global;
 
 // A disk with these bytes that fails from a call on, counted behind those of `open`.
-fn disk_of(alloc: Global, digits: &[u8], fails: Calls) -> Result<MemDisk, NoMemory> {
-    let bytes = Octets::of(bytes_of(alloc, digits)?);
-    Ok(MemDisk::new(alloc, bytes, fails))
+fn disk_of(alloc: Global, asked: &[u8]) -> Result<MemDisk, NoMemory> {
+    let (digits, first) = cut_word(asked);
+    let bytes = bytes_of(alloc, digits)?;
+    Ok(MemDisk::new(alloc, Octets::of(bytes), failing(first)))
 }
 
 // Sets a full slot aside, or releases it.
@@ -29,6 +31,21 @@ fn mark_full(full: Full<MemDisk>, kind: &str, out: &mut Told) -> MemDisk {
     }
 }
 
+fn release_aside(aside: Aside<MemDisk>, out: &mut Told) -> MemDisk {
+    match aside.release() {
+        Ok(free) => tell_free(free, out),
+        Err(broken) => tell_broken(broken, out),
+    }
+}
+
+fn mark_opened(opened: Opened<MemDisk>, kind: &str, out: &mut Told) -> MemDisk {
+    match opened {
+        Opened::Full(full) => mark_full(full, kind, out),
+        Opened::Aside(aside) => release_aside(aside, out),
+        Opened::Free(free) => tell_free(free, out),
+    }
+}
+
 /// `set-aside DIGITS FIRST => aside 7`, `release DIGITS FIRST => free 7`, or `broken`: the slot is opened, and set aside
 /// or released. The disk's calls are counted behind those of `open`, and fail from the call `FIRST` on.
 pub(crate) fn marked(
@@ -37,15 +54,12 @@ pub(crate) fn marked(
     asked: &[u8],
     out: &mut Told,
 ) -> Result<MemDisk, NoMemory> {
-    let (digits, first) = cut_word(asked);
-    match open(alloc, 7, disk_of(alloc, digits, failing(first))?) {
-        Ok(Opened::Full(full)) => Ok(mark_full(full, kind, out)),
-        Ok(Opened::Aside(aside)) => match aside.release() {
-            Ok(free) => Ok(tell_free(free, out)),
-            Err(broken) => Ok(tell_broken(broken, out)),
-        },
-        Ok(Opened::Free(free)) => Ok(tell_free(free, out)),
-        Err((_, SlotWhy::NoMemory)) => Err(NoMemory),
+    match open(alloc, 7, disk_of(alloc, asked)?) {
+        Ok(opened) => Ok(mark_opened(opened, kind, out)),
+        Err((broken, SlotWhy::NoMemory)) => {
+            drop(broken);
+            Err(NoMemory)
+        }
         Err((broken, _)) => Ok(tell_broken(broken, out)),
     }
 }
@@ -56,39 +70,54 @@ pub(crate) fn tell_mark(
     asked: &[u8],
     out: &mut Told,
 ) -> Result<(), NoMemory> {
-    let _ = marked(alloc, kind, asked, out)?;
+    let disk = marked(alloc, kind, asked, out)?;
+    drop(disk);
     Ok(())
 }
 
-fn tell_full(alloc: Global, full: Full<MemDisk>, out: &mut Told) -> Result<(), NoMemory> {
-    let mut full = full;
+fn tell_read(message: Message, out: &mut Told) {
+    add_word(out, b"full");
+    tell_message(&message, out);
+    drop(message);
+}
+
+// Tells a slot whose disk failed.
+fn end_broken(broken: Broken<MemDisk>, out: &mut Told) {
+    drop(tell_broken(broken, out));
+}
+
+fn tell_full(alloc: Global, mut full: Full<MemDisk>, out: &mut Told) -> Result<(), NoMemory> {
     match full.message(alloc) {
         Ok(message) => {
-            add_word(out, b"full");
-            tell_message(&message, out);
+            drop(full);
+            tell_read(message, out);
+            Ok(())
         }
         Err(ReadBack::DiskFault) => {
-            let _ = tell_broken(full.into_broken(), out);
+            end_broken(full.into_broken(), out);
+            Ok(())
         }
-        Err(ReadBack::NoMemory) => return Err(NoMemory),
+        Err(ReadBack::NoMemory) => {
+            drop(full);
+            Err(NoMemory)
+        }
     }
-    Ok(())
 }
 
 fn tell_why(broken: Broken<MemDisk>, why: SlotWhy, out: &mut Told) -> Result<(), NoMemory> {
     match why {
         SlotWhy::BadSlot { at } => {
-            let _ = broken.into_disk();
+            drop(broken);
             add_word(out, b"bad at");
             add_number(out, at);
             Ok(())
         }
         SlotWhy::DiskFault => {
-            let _ = tell_broken(broken, out);
+            end_broken(broken, out);
             Ok(())
         }
         SlotWhy::NoMemory => {
-            let _ = broken.into_disk();
+            drop(broken);
             Err(NoMemory)
         }
     }
@@ -97,13 +126,13 @@ fn tell_why(broken: Broken<MemDisk>, why: SlotWhy, out: &mut Told) -> Result<(),
 fn tell_opened(alloc: Global, opened: Opened<MemDisk>, out: &mut Told) -> Result<(), NoMemory> {
     match opened {
         Opened::Free(free) => {
-            let _ = free.into_disk();
+            drop(free);
             add_word(out, b"free");
             Ok(())
         }
         Opened::Full(full) => tell_full(alloc, full, out),
         Opened::Aside(aside) => {
-            let _ = aside.into_disk();
+            drop(aside);
             add_word(out, b"aside");
             Ok(())
         }
@@ -113,8 +142,7 @@ fn tell_opened(alloc: Global, opened: Opened<MemDisk>, out: &mut Told) -> Result
 /// `open DIGITS FIRST => free`, `full MESSAGE`, `aside`, `bad at PLACE` or `broken`: what the bytes open as, with the
 /// message read. The disk's calls are counted behind those of `open`, which makes three where a message stands.
 pub(crate) fn tell_open(alloc: Global, asked: &[u8], out: &mut Told) -> Result<(), NoMemory> {
-    let (digits, first) = cut_word(asked);
-    match open(alloc, 7, disk_of(alloc, digits, failing(first))?) {
+    match open(alloc, 7, disk_of(alloc, asked)?) {
         Ok(opened) => tell_opened(alloc, opened, out),
         Err((broken, why)) => tell_why(broken, why, out),
     }

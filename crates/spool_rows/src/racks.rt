@@ -1,13 +1,13 @@
 //! What is told of racks of slots on disks in memory.
-ghost use Rattle.std.specs.Prelude.{◌≡◌, ◌∷◌, [], codes, false, IfOk, IfSome};
+ghost use Rattle.std.specs.Prelude.{◌≡◌, false, IfSome};
 ghost use Rattle.spool_rack.specs.Store.{MayPutBroken};
 ghost use Rattle.spool_rows.specs.Out.{IsLentFree, IsLentFull};
 
 use crate::disks::bytes_of;
+use crate::slots::{letter_of, recipients};
 use fw_memory::{Calls, MemDisk};
-use fw_types::{NoMemory, Octets, OctetsList};
+use fw_types::{NoMemory, Octets};
 use lines_of_rows::{Told, add_number, add_word, cut, cut_word, number_of};
-use slot_bytes::{Slot, SlotFault, read_slot};
 use spool_rack::{
     Broken, Filling, Free, Full, MailStore, Rack, RackFault, SlotStore, SlotWhy, StartFault,
 };
@@ -31,14 +31,18 @@ fn slot_of(alloc: Global, word: &[u8]) -> Result<Vec<u8>, NoMemory> {
     }
 }
 
+fn fails_of(first: &[u8]) -> Calls {
+    match first {
+        [] => Calls::none(),
+        _ => Calls::onward(number_of(first)),
+    }
+}
+
 // The disk of a slot, and behind `!` the first call of it that fails.
 fn disk_of(alloc: Global, word: &[u8]) -> Result<MemDisk, NoMemory> {
     let (slot, first) = cut(word, b'!');
-    let fails = match first {
-        [] => Calls::none(),
-        _ => Calls::onward(number_of(first)),
-    };
-    Ok(MemDisk::new(alloc, Octets::of(slot_of(alloc, slot)?), fails))
+    let bytes = slot_of(alloc, slot)?;
+    Ok(MemDisk::new(alloc, Octets::of(bytes), fails_of(first)))
 }
 
 fn disks_of(alloc: Global, words: &[u8]) -> Result<Vec<MemDisk>, NoMemory> {
@@ -51,20 +55,9 @@ fn disks_of(alloc: Global, words: &[u8]) -> Result<Vec<MemDisk>, NoMemory> {
     Ok(disks)
 }
 
-// A letter for what a disk's bytes are read as.
-fn letter_of(alloc: Global, disk: &MemDisk) -> Result<&'static [u8], NoMemory> {
-    match read_slot(alloc, disk.bytes()) {
-        Ok(Slot::Free) => Ok(b"f"),
-        Ok(Slot::Whole(_)) => Ok(b"w"),
-        Ok(Slot::Aside(_)) => Ok(b"a"),
-        Err(SlotFault::Bad { at: _ }) => Ok(b"b"),
-        Err(SlotFault::NoMemory) => Err(NoMemory),
-    }
-}
-
 fn tell_disks(alloc: Global, disks: &[MemDisk], out: &mut Told) -> Result<(), NoMemory> {
     for disk in disks {
-        add_word(out, letter_of(alloc, disk)?);
+        add_word(out, &[letter_of(alloc, disk.bytes())?]);
     }
     Ok(())
 }
@@ -94,18 +87,6 @@ fn finish<M: MailStore>(store: &mut M, filling: Filling<M::D>, out: &mut Told)
             store.put_full(full);
         }
         Err(broken) => put_broken(store, broken, out),
-    }
-}
-
-// The recipients: one.
-fn recipients(alloc: Global) -> Result<OctetsList, NoMemory>
-    ensures { IfOk result (λ rcpts. rcpts ≡ codes "c@d" ∷ []) }
-{
-    let mut rcpts = OctetsList::new(alloc);
-    let one = Octets::copy(alloc, b"c@d")?;
-    match rcpts.push(one) {
-        Ok(()) => Ok(rcpts),
-        Err(_) => Err(NoMemory),
     }
 }
 
@@ -226,24 +207,37 @@ fn step<M: MailStore>(
     out: &mut Told,
 ) -> Result<(), NoMemory> {
     match step {
-        b"free" | b"keep" | b"lose" => step_free(alloc, store, step, out)?,
-        _ => step_full(store, step, out),
+        b"free" | b"keep" | b"lose" => step_free(alloc, store, step, out),
+        _ => {
+            step_full(store, step, out);
+            Ok(())
+        }
+    }
+}
+
+fn do_steps(
+    alloc: Global,
+    rack: &mut MemRack,
+    steps: &[u8],
+    out: &mut Told,
+) -> Result<(), NoMemory> {
+    for word in steps.split(|byte| *byte == b' ') {
+        step(alloc, rack, word, out)?;
     }
     Ok(())
 }
 
 fn tell_steps(
     alloc: Global,
-    rack: MemRack,
+    mut rack: MemRack,
     steps: &[u8],
     out: &mut Told,
 ) -> Result<Vec<MemDisk>, NoMemory> {
-    let mut rack = rack;
-    for word in steps.split(|byte| *byte == b' ') {
-        step(alloc, &mut rack, word, out)?;
-    }
+    let done = do_steps(alloc, &mut rack, steps, out);
+    let disks = rack.close();
+    done?;
     add_word(out, b"closed");
-    Ok(rack.close())
+    Ok(disks)
 }
 
 fn tell_fault(fault: RackFault<MemDisk>, out: &mut Told) -> Result<Vec<MemDisk>, NoMemory> {

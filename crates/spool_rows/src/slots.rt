@@ -1,4 +1,5 @@
 //! What is told of slots' bytes.
+ghost use Rattle.std.specs.Prelude.{◌≡◌, ◌∷◌, [], codes, IfOk};
 
 use fw_types::{NoMemory, Octets, OctetsList};
 use lines_of_rows::{Told, add, add_hex, add_number, add_word, cut_word, from_hex, number_of};
@@ -23,24 +24,55 @@ pub(crate) fn tell_message(message: &Message, out: &mut Told) {
     add_hex(out, message.body.bytes());
 }
 
+fn tell_read(slot: &Slot, out: &mut Told) {
+    match slot {
+        Slot::Free => add(out, b"free"),
+        Slot::Whole(message) => {
+            add(out, b"full");
+            tell_message(message, out);
+        }
+        Slot::Aside(message) => {
+            add(out, b"aside");
+            tell_message(message, out);
+        }
+    }
+}
+
 fn tell_bytes(alloc: Global, bytes: &[u8], out: &mut Told) -> Result<(), NoMemory> {
     match read_slot(alloc, bytes) {
-        Ok(Slot::Free) => add(out, b"free"),
-        Ok(Slot::Whole(message)) => {
-            add(out, b"full");
-            tell_message(&message, out);
-        }
-        Ok(Slot::Aside(message)) => {
-            add(out, b"aside");
-            tell_message(&message, out);
+        Ok(slot) => {
+            tell_read(&slot, out);
+            drop(slot);
+            Ok(())
         }
         Err(SlotFault::Bad { at }) => {
             add(out, b"bad at");
             add_number(out, at as u64);
+            Ok(())
         }
-        Err(SlotFault::NoMemory) => return Err(NoMemory),
+        Err(SlotFault::NoMemory) => Err(NoMemory),
     }
-    Ok(())
+}
+
+fn letter_in(slot: &Slot) -> u8 {
+    match slot {
+        Slot::Free => b'f',
+        Slot::Whole(_) => b'w',
+        Slot::Aside(_) => b'a',
+    }
+}
+
+/// A letter for what a slot's bytes are read as: `f` free, `w` whole, `a` aside, `b` bad.
+pub(crate) fn letter_of(alloc: Global, bytes: &[u8]) -> Result<u8, NoMemory> {
+    match read_slot(alloc, bytes) {
+        Ok(slot) => {
+            let letter = letter_in(&slot);
+            drop(slot);
+            Ok(letter)
+        }
+        Err(SlotFault::Bad { at: _ }) => Ok(b'b'),
+        Err(SlotFault::NoMemory) => Err(NoMemory),
+    }
 }
 
 /// `slot DIGITS => free`, `full MESSAGE`, `aside MESSAGE` or `bad at PLACE`.
@@ -80,17 +112,25 @@ pub(crate) fn tell_base(
     tell_bytes(alloc, &bytes, out)
 }
 
-/// `head => DIGITS`: what is written of a message from `a@b` to `c@d` that is begun, from byte 1 on.
-pub(crate) fn tell_head(alloc: Global, out: &mut Told) -> Result<(), NoMemory> {
-    let rcpt = Octets::copy(alloc, b"c@d")?;
+/// The recipients: one.
+pub(crate) fn recipients(alloc: Global) -> Result<OctetsList, NoMemory>
+    ensures { IfOk result (λ rcpts. rcpts ≡ codes "c@d" ∷ []) }
+{
     let mut rcpts = OctetsList::new(alloc);
-    match rcpts.push(rcpt) {
-        Ok(()) => {
-            add_hex(out, &head_bytes(alloc, b"a@b", &rcpts)?);
-            Ok(())
-        }
+    let one = Octets::copy(alloc, b"c@d")?;
+    match rcpts.push(one) {
+        Ok(()) => Ok(rcpts),
         Err(_) => Err(NoMemory),
     }
+}
+
+/// `head => DIGITS`: what is written of a message from `a@b` to `c@d` that is begun, from byte 1 on.
+pub(crate) fn tell_head(alloc: Global, out: &mut Told) -> Result<(), NoMemory> {
+    let rcpts = recipients(alloc)?;
+    let head = head_bytes(alloc, b"a@b", &rcpts);
+    drop(rcpts);
+    add_hex(out, &head?);
+    Ok(())
 }
 
 /// `length NUMBER => DIGITS`: a body's length in eight bytes.

@@ -1,0 +1,3 @@
+pub mod AcceptorView
+pub mod Knocks
+pub mod MemAcceptorView
