@@ -9,6 +9,8 @@ use Rattle.ftp_gate.proofs.KnownLemmas.{login_known}
 use Rattle.ftp_gate.proofs.CourseLemmas.{held_once}
 use Rattle.ftp_gate.proofs.DueLemmas.{held_due}
 use Rattle.ftp_gate.proofs.EndLemmas.{held_ended, held_there}
+use Rattle.ftp_gate.proofs.ReadyLemmas.{held_joined}
+use Rattle.ftp_gate.proofs.RefusalLemmas.{held_told}
 use Rattle.ftp_gate.proofs.LawLemmas.{held_asked, held_asks, held_caused, held_cleared, held_copies, held_doors, held_gives, held_logged, held_own, held_right, held_unblocked}
 use Rattle.ftp_gate.proofs.OwnLemmas.{whole_login}
 use Rattle.ftp_gate.specs.Gate.{Gate, gate_at}
@@ -92,6 +94,7 @@ module _ (peer : Peer) (inputs : Inputs) (status : ℕ) (old new : WorldView) (a
     passed = λ is. (held_gives gate begun last at.ending at.session.held).whole (went is);
     unblocked = held_unblocked gate begun last at.ending at.session.held;
     joins = held_own gate begun last at.ending at.session.held;
+    asked_for = held_joined gate begun last at.ending at.session.held;
     denials = held_logged gate begun last at.ending at.session.held;
     requests = held_asked gate begun last at.ending at.session.held;
     logins =
@@ -116,6 +119,7 @@ module _ (peer : Peer) (inputs : Inputs) (status : ℕ) (old new : WorldView) (a
       held_unpaired (serving_rows inputs peer at.line) (serving_row inputs peer at.line) begun last at.ending at.session.held unlinked,
     );
     refusals = all_gain refused_gains deeds begun last (held_deeds at.session.held);
+    refusals_told = held_told gate begun last at.ending at.session.held;
     broken = all_gain broken_gains deeds begun last (held_deeds at.session.held);
     stops = λ cause is. stops_last cause at.session.held is;
   }

@@ -12,6 +12,7 @@ use Rattle.ftp_gate.specs.Ends.{EndsThere, HasEnd}
 use Rattle.ftp_gate.specs.Gate.{Gate, gate_at}
 use Rattle.ftp_gate.specs.Known.{known}
 use Rattle.ftp_gate.specs.Laws.{AreRight, AsksDue, AsksExactly, CopiesOwn, DenialsLogged, DialsCleared, FailuresToldOf, GivesPassage, IsDone, IsOutward, JoinsOwn, NeedsLogin, OpensOwn, PassesUnblocked}
+use Rattle.ftp_gate.specs.Refusals.{CountsTold, JoinsAsked}
 use Rattle.ftp_gate.specs.declared.place.Place.{Place}
 use Rattle.fw_types.specs.declared.ending.Ending.{Ending}
 use Rattle.fw_types.specs.declared.ending.Ending.TheVariants.{Done}
@@ -72,6 +73,8 @@ pub record IsUpheld (gate : Gate) (history : List Entry) {old new : World BookOr
   pub passed : ending ≡ Done → passage.rest ≡ []
   pub unblocked : PassesUnblocked gate (deeds_of held)
   pub joins : JoinsOwn gate (deeds_of held)
+  -- whenever they were wanted, the one to the server at least
+  pub asked_for : JoinsAsked (deeds_of held)
   pub denials : DenialsLogged gate (deeds_of held)
   pub requests : AsksDue gate (deeds_of held)
   pub logins : LoginsStand gate (deeds_of held) history
@@ -99,6 +102,8 @@ pub record IsUpheld (gate : Gate) (history : List Entry) {old new : World BookOr
   pub links : LinksDialer (gives linked (deeds_of held)) old new
   pub over : (new.server.link ≡ None) × (new.server.pair ≡ None)
   pub refusals : CountsRefusals (gives refused (deeds_of held)) old new
+  -- so for each destination that was asked for in vain, and each time that the client is told of no door or no data link
+  pub refusals_told : CountsTold (deeds_of held) old new
   pub broken : CountsBroken (gives broken_off (deeds_of held)) old new
   -- where the session stopped, at the log, say, nothing but what was owed was done after
   pub stops : (cause : Cause) → held.dialogue ≡ Err cause → StopsLast cause held

@@ -11,6 +11,8 @@ pub mod LawLemmas
 mod LoginLeaves
 mod OrderLemmas
 pub mod OwnLemmas
+pub mod ReadyLemmas
+pub mod RefusalLemmas
 mod RowLemmas
 mod ServedLeaves
 mod ServerLemmas

@@ -12,5 +12,6 @@ pub mod LogLines
 pub mod Naming
 pub mod Order
 pub mod Passage
+pub mod Refusals
 pub mod Texts
 pub mod User

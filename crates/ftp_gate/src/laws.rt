@@ -18,6 +18,7 @@ ghost use Rattle.ftp_gate.specs.Gate.{Gate};
 ghost use Rattle.ftp_gate.specs.Known.{known};
 ghost use Rattle.ftp_gate.specs.Laws.{AreRight, AsksDue, AsksExactly, CopiesOwn, DenialsLogged, DialsCleared, FailuresToldOf, GivesPassage, IsDone, IsOutward, JoinsOwn, NeedsLogin, OpensOwn, PassesUnblocked};
 ghost use Rattle.ftp_gate.specs.Naming.{names};
+ghost use Rattle.ftp_gate.specs.Refusals.{CountsTold, JoinsAsked};
 
 /// Where a destination is asked for, the command that was heard last is a USER that names it, whose verb isn't denied, and a
 /// login stands, if one is asked for before it; no link is up; the permission line's `-dest` lets the destination pass. Since
@@ -52,14 +53,17 @@ pub fn what_the_server_is_given<Origin>()
         PassesUnblocked gate (deeds_of held) }
 {}
 
-/// Data links are asked for by a transfer that was heard last and isn't blocked: one at the host of the server to which a link
-/// is up, and at the port that the server told since in a reply of 227 to PASV; and the other as it was set, which is at the
-/// client's own address, at a port from 1,024 on, or at a door (`joins`). A door is opened for a PASV that was heard last and
-/// isn't blocked, where a link is up (`doors`). Data are copied the way of a transfer that was heard last and isn't blocked,
-/// where both data links came up, and the server's last reply to it says that it transfers (`copies`).
+/// Data links are wanted by a transfer that was heard last and isn't blocked: one at the host of the server to which a link
+/// came up, and at the port that the server told since in a reply of 227 to PASV; and the other as it was set, which is at the
+/// client's own address, at a port from 1,024 on, or at a door (`joins`). They are wanted only while that link is up and, if
+/// at a door, one stands: so the one to the server, at least, is asked for (`asked`). A door is opened for a PASV that was heard
+/// last and isn't blocked, where a link came up (`doors`). Data are copied the way of a transfer that was heard last and isn't
+/// blocked, where both data links came up, and the server's last reply to it says that it transfers (`copies`).
 pub fn data_links_are_the_sessions_own<Origin>()
     ensures joins { (gate : Gate) (old new : World Origin) (ending : Ending) (held : Held (ftp_rows gate) ftp_row old new ending) →
         JoinsOwn gate (deeds_of held) }
+    ensures asked { (gate : Gate) (old new : World Origin) (ending : Ending) (held : Held (ftp_rows gate) ftp_row old new ending) →
+        JoinsAsked (deeds_of held) }
     ensures doors { (gate : Gate) (old new : World Origin) (ending : Ending) (held : Held (ftp_rows gate) ftp_row old new ending) →
         OpensOwn gate (deeds_of held) }
     ensures copies { (gate : Gate) (old new : World Origin) (ending : Ending) (held : Held (ftp_rows gate) ftp_row old new ending) →
@@ -87,11 +91,15 @@ pub fn what_is_due_is_done<Origin>()
 {}
 
 /// Where the client is told that there is no route, no door, no data link or no data port, that the server closed, or that a
-/// transfer ended early, that was so: right before, the dial, the door or the data links were refused, the server told no data
-/// port, or came to its end; or a copy wasn't done to its end, and behind it the server's replies were dropped, up to its last.
+/// transfer ended early, that was so (`causes`): right before, the dial, the door or the data links were refused, the server told
+/// no data port, or came to its end; or a copy wasn't done to its end, and behind it the server's replies were dropped, up to its
+/// last. For each destination that was asked for in vain, and each time that the client is told that there is no door or no data
+/// link, the dialer counted a refusal, unless its count stands at the last value (`told`).
 pub fn each_failure_has_its_cause<Origin>()
-    ensures { (gate : Gate) (old new : World Origin) (ending : Ending) (held : Held (ftp_rows gate) ftp_row old new ending) →
+    ensures causes { (gate : Gate) (old new : World Origin) (ending : Ending) (held : Held (ftp_rows gate) ftp_row old new ending) →
         FailuresToldOf gate (deeds_of held) }
+    ensures told { (gate : Gate) (old new : World Origin) (ending : Ending) (held : Held (ftp_rows gate) ftp_row old new ending) →
+        CountsTold (deeds_of held) old new }
 {}
 
 /// Each act is one of these, where it may come: lines are heard in one form, and what is said, asked, dialed, passed, joined and

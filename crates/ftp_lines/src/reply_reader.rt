@@ -55,7 +55,7 @@ impl ReplyReader {
         ensures reply { IsReplyStep result (first_reply (self.old.fed ++ byte ∷ [])) (length self.old.fed + 1) }
         ensures fed { self.new.fed ≡ fed_after result (self.old.fed ++ byte ∷ []) }
         ensures line { self.new.heard ≡ (if byte == 10 then short (without_end (unended_part self.old.fed)) else None) }
-        ensures open { first_reply self.new.fed ≡ None }
+        ensures unended { first_reply self.new.fed ≡ None }
     {
         if byte == b'\n' {
             return self.end_line();
@@ -69,7 +69,7 @@ impl ReplyReader {
         requires { (byte == 10) ≡ false }
         ensures fed { self.new.fed ≡ self.old.fed ++ byte ∷ [] }
         ensures line { self.new.heard ≡ None }
-        ensures open { first_reply self.new.fed ≡ None }
+        ensures unended { first_reply self.new.fed ≡ None }
     {
         self.line.go_on(byte);
         self.fed = and(mem::replace(&mut self.fed, nothing()), byte);
@@ -81,7 +81,7 @@ impl ReplyReader {
         ensures reply { IsReplyStep result (first_reply (self.old.fed ++ 10 ∷ [])) (length self.old.fed + 1) }
         ensures fed { self.new.fed ≡ fed_after result (self.old.fed ++ 10 ∷ []) }
         ensures line { self.new.heard ≡ short (without_end (unended_part self.old.fed)) }
-        ensures open { first_reply self.new.fed ≡ None }
+        ensures unended { first_reply self.new.fed ≡ None }
     {
         self.line.end();
         match closing_code(self.opening, self.line.text()) {

@@ -17,8 +17,8 @@ pub record LinkView : Type 0 where
   pub to : SinkView
 
 -- what was asked for, in order, and the links that were hung up, as they stood then, where the dialer tells; how many
--- links came up, accepted ones among them; how often a link or a door was refused; how many of the main links that were hung up had failed, and how many had been idle; how many
--- data links; how many seconds later links wait
+-- links came up, accepted ones among them; how often a link or a door was refused; how many of the main links that were
+-- hung up had failed, and how many had been idle; how many data links; how many seconds later links wait
 pub record DialerView : Type 0 where
   pub asked : Option (List Ask)
   pub ended : Option (List LinkView)

@@ -1,4 +1,4 @@
-/// As what a link was asked for. Its source and its sink tell it, so that no link passes for another.
+/// As what a link was asked for: its source and its sink tell it.
 #[derive(Clone, Copy, Debug, PartialEq, Eq)]
 pub enum Mark {
     /// It came by no dialer.

@@ -1,5 +1,9 @@
 use Rattle.ftp_gate.proofs.LawLemmas.{held_caused}
+use Rattle.ftp_gate.proofs.RefusalLemmas.{held_told}
 use Rattle.ftp_gate.proofs.laws.each_failure_has_its_cause.Goals as goal
 
-pub returns : goal.returns
-returns g c = λ gate old new ending held. held_caused gate old new ending held
+pub returns-clause-causes : goal.returns-clause-causes
+returns-clause-causes g c = λ gate old new ending held. held_caused gate old new ending held
+
+pub returns-clause-told : goal.returns-clause-told
+returns-clause-told g c = λ gate old new ending held. held_told gate old new ending held

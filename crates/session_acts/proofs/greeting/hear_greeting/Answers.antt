@@ -12,7 +12,7 @@ loop-byte-smaller g c = byte_nearer c.in-Ok.byte _ _ _ _ c.in-Ok.ensures.reads
 
 pub loop-byte-preserved : goal.loop-byte-preserved
 loop-byte-preserved g c =
-    greets_next _ _ _ _ _ c.in-Ok.byte c.feed-step.result _ _ _ _ _ _ _ _ c.loop-byte.invariant c.in-Ok.ensures.reads (sym c.last_code.ensures ∙ c.in-None.is) c.feed-step.ensures.step c.feed-step.ensures.fed c.feed-step.ensures.«open» c.keep_head.ensures.items c.keep_head.ensures.few
+    greets_next _ _ _ _ _ c.in-Ok.byte c.feed-step.result _ _ _ _ _ _ _ _ c.loop-byte.invariant c.in-Ok.ensures.reads (sym c.last_code.ensures ∙ c.in-None.is) c.feed-step.ensures.step c.feed-step.ensures.fed c.feed-step.ensures.unended c.keep_head.ensures.items c.keep_head.ensures.few
     (sym c.told_by.ensures ∙ c.in-None-told_by.is) c.pass_line.ensures
 
 pub returns-in-Some : goal.returns-in-Some

@@ -11,7 +11,7 @@ loop-byte-smaller g c = byte_nearer c.in-Ok.byte _ _ _ _ c.in-Ok.ensures.reads
 
 pub loop-byte-preserved : goal.loop-byte-preserved
 loop-byte-preserved g c =
-    coming_more _ _ _ c.in-Ok.byte c.feed-step.result _ _ _ _ _ _ c.loop-byte.invariant c.in-Ok.ensures.reads (not_last c.feed-step.result (sym c.last_code.ensures ∙ c.in-None.is)) c.feed-step.ensures.fed c.feed-step.ensures.«open»
+    coming_more _ _ _ c.in-Ok.byte c.feed-step.result _ _ _ _ _ _ c.loop-byte.invariant c.in-Ok.ensures.reads (not_last c.feed-step.result (sym c.last_code.ensures ∙ c.in-None.is)) c.feed-step.ensures.fed c.feed-step.ensures.unended
 
 pub returns-in-Some : goal.returns-in-Some
 returns-in-Some g c = λ outlet.

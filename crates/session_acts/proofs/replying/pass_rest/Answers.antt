@@ -12,7 +12,7 @@ loop-byte-smaller g c = byte_nearer c.in-Ok.byte _ _ _ _ c.in-Ok.ensures.reads
 
 pub loop-byte-preserved : goal.loop-byte-preserved
 loop-byte-preserved g c =
-    coming_next _ _ _ _ _ _ c.in-Ok.byte c.feed-step.result _ _ _ _ _ _ _ _ _ c.loop-byte.invariant c.in-Ok.ensures.reads (not_last c.feed-step.result (sym c.last_code.ensures ∙ c.in-None.is)) c.feed-step.ensures.fed c.feed-step.ensures.«open» c.in-Ok-keep.ensures.keeps c.in-Ok-keep.ensures.room
+    coming_next _ _ _ _ _ _ c.in-Ok.byte c.feed-step.result _ _ _ _ _ _ _ _ _ c.loop-byte.invariant c.in-Ok.ensures.reads (not_last c.feed-step.result (sym c.last_code.ensures ∙ c.in-None.is)) c.feed-step.ensures.fed c.feed-step.ensures.unended c.in-Ok-keep.ensures.keeps c.in-Ok-keep.ensures.room
 
 pub returns-in-Err-keep : goal.returns-in-Err-keep
 returns-in-Err-keep g c = λ outlet client.

@@ -60,8 +60,8 @@ returns-in-Some-clause-line c =
     } in
     ends_heard _ _ _ _ _ _ _ ends
 
-pub returns-in-Some-clause-open : goal.returns-in-Some-clause-open
-returns-in-Some-clause-open c = ap first_reply c.nothing.ensures ∙ first_reply-empty
+pub returns-in-Some-clause-unended : goal.returns-in-Some-clause-unended
+returns-in-Some-clause-unended c = ap first_reply c.nothing.ensures ∙ first_reply-empty
 
 pub returns-in-None-clause-step : goal.returns-in-None-clause-step
 returns-in-None-clause-step c =
@@ -100,5 +100,5 @@ returns-in-None-clause-line c =
     } in
     ends_heard _ _ _ _ _ _ _ ends
 
-pub returns-in-None-clause-open : goal.returns-in-None-clause-open
-returns-in-None-clause-open c = let stands = invariant_of-self-in-None c in stands.going_on
+pub returns-in-None-clause-unended : goal.returns-in-None-clause-unended
+returns-in-None-clause-unended c = let stands = invariant_of-self-in-None c in stands.going_on
