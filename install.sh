@@ -48,7 +48,7 @@ put 755 "$program" "$under/sbin/fwtk"
 for page in netperm-table spool; do
   put 644 "$top/docs/man/$page.5" "$under/share/man/man5/$page.5"
 done
-for page in authsrv ftp-gw fwtk netacl plug-gw smap smapd tn-gw; do
+for page in authsrv ftp-gw fwtk netacl plug-gw serve smap smapd tn-gw; do
   put 644 "$top/docs/man/$page.8" "$under/share/man/man8/$page.8"
 done
 put 644 "$crate/data/site-table" "$under/etc/netperm-table.example"

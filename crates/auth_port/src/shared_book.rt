@@ -74,7 +74,8 @@ impl<'a, H, K: Keeper> SharedBook<'a, H, K> {
     }
 
     /// The pass, and the places of the entries that this port made, in order. All that it has seen is legal, if what the pass
-    /// had seen at first was; and it was full exactly where it had seen as many entries as fit.
+    /// had seen at first was; and it was full exactly where it had seen as many entries as fit. No link to it failed, and it
+    /// answered nothing that doesn't fit.
     pub fn into_pass(self) -> (Pass<Book<K>>, Vec<u64>)
         ensures pass { result.0 ≡ pass_of self.entry }
         ensures given { IsPassOf self.entry.origin.lock result.0 }
@@ -82,6 +83,7 @@ impl<'a, H, K: Keeper> SharedBook<'a, H, K> {
         ensures places { result.1.items ≡ self.entry.mine }
         ensures legal { IsLegal self.entry.origin.lock.origin.origin self.entry.origin.first.seen → SeesLegal self.entry }
         ensures full { self.entry.full ≡ full_at self.entry.origin.lock.limit self.entry.seen }
+        ensures calm { (self.entry.faults ≡ 0) × (self.entry.odd ≡ 0) }
     {
         let SharedBook { pass, mine, .. } = self;
         (pass, mine)

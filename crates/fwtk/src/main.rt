@@ -1,4 +1,5 @@
-//! The firewall's program: makes the devices of a process and calls `bastion::run` over them.
+//! The firewall's program: makes the devices of a process and calls `bastion::run` over them, or for `serve`
+//! `bastion_ready::ready` and then `fwtk_serve::serve`.
 //!
 //! `main` has no contract of its own. It answers `--help` and `--version`.
 #![tactic(auto)]
@@ -16,13 +17,16 @@ use fw_real::{
 use fw_types::Octets;
 use process::{Process, SlotDisk};
 use real_links::{ClientHosts, LinkSink, MailerProgram, Programs, StandardOutput, TcpDialer};
+use serving::{is_server, serve_words};
 use std::env;
 use std::fs::File;
 use std::io::ErrorKind;
 use std::process::ExitCode;
+use std::sync::Wait;
 use std::thread::Threads;
 
 mod process;
+mod serving;
 
 const HELP: &[u8] = b"\
 usage: fwtk [-t FILE] netacl [-run] DAEMON ADDRESS [NAME]
@@ -31,6 +35,7 @@ usage: fwtk [-t FILE] netacl [-run] DAEMON ADDRESS [NAME]
        fwtk [-t FILE] plug-gw PORT ADDRESS [NAME]
        fwtk [-t FILE] [-r FILE] tn-gw ADDRESS [NAME]
        fwtk [-t FILE] [-r FILE] ftp-gw ADDRESS [NAME]
+       fwtk [-t FILE] [-r FILE] serve WORKERS SERVICE@PORT ..
        fwtk [-t FILE] [-s FOLDER] [-n SLOTS] smap ADDRESS [NAME]
        fwtk [-s FOLDER] [-n SLOTS] [-m PROGRAM] smapd
        fwtk [-s FOLDER] [-n SLOTS] spool-init
@@ -41,8 +46,8 @@ usage: fwtk [-t FILE] netacl [-run] DAEMON ADDRESS [NAME]
   -s FOLDER  the folder of the mail's slots, spool in the current directory by default
   -n SLOTS  how many slots there are, 1 to 64, 8 by default
   -m PROGRAM  the program that mail is handed to, /usr/lib/sendmail by default
-fwtk(8) lists the exit statuses; netacl(8), authsrv(8), plug-gw(8), tn-gw(8), ftp-gw(8), smap(8), smapd(8), netperm-table(5) and
-spool(5) have the rest.
+fwtk(8) lists the exit statuses; netacl(8), authsrv(8), plug-gw(8), tn-gw(8), ftp-gw(8), serve(8), smap(8), smapd(8),
+netperm-table(5) and spool(5) have the rest.
 ";
 
 const VERSION: &[u8] = b"fwtk 2.1\n";
@@ -216,8 +221,11 @@ where
     Ok(run(threads, rt.alloc(), words, &mut mailers, &mut world))
 }
 
-fn serve<H: Threads + Sync>(threads: &H, rt: HostRuntime) -> Result<u8, Stop> {
+fn obey<H: Threads + Wait + Sync>(threads: &H, rt: HostRuntime) -> Result<u8, Stop> {
     let words = read_words(&rt)?;
+    if is_server(&words) {
+        return Ok(serve_words(threads, rt, &words)?);
+    }
     let stdout = StandardOutput::of(rt.stdout());
     let hosts = stdout.hosts();
     let mut output = LinkSink::new(stdout);
@@ -247,11 +255,11 @@ fn hold(rt: &HostRuntime) -> Result<File, Stop> {
 
 // A standard stream that is closed would lend its number to the next file that is opened, and what is printed or logged would
 // be written into a slot. So three descriptors are held first, which take the numbers of those that are closed.
-fn serve_held<H: Threads + Sync>(threads: &H, rt: HostRuntime) -> Result<u8, Stop> {
+fn obey_held<H: Threads + Wait + Sync>(threads: &H, rt: HostRuntime) -> Result<u8, Stop> {
     let first = hold(&rt)?;
     let second = hold(&rt)?;
     let third = hold(&rt)?;
-    let status = serve(threads, rt);
+    let status = obey(threads, rt);
     drop(first);
     drop(second);
     drop(third);
@@ -259,7 +267,7 @@ fn serve_held<H: Threads + Sync>(threads: &H, rt: HostRuntime) -> Result<u8, Sto
 }
 
 fn main(rt: HostRuntime) -> ExitCode {
-    match serve_held(&rt, rt) {
+    match obey_held(&rt, rt) {
         Ok(status) => ExitCode::from(status),
         Err(stop) => ExitCode::from(tell(&rt, &stop)),
     }

@@ -1,0 +1,4 @@
+pub mod ReadyLemmas
+pub mod ServedLemmas
+pub mod SiteLemmas
+pub mod WordLemmas

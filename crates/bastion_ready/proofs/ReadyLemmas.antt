@@ -1,0 +1,264 @@
+-- From what was read to a server that is ready, or to what stopped it.
+use Rattle.std.proofs.Common.{◌≡◌, ◌∙◌, ℕ, List, [], ap, refl, sym, subst, inl, inr, ◌⊎◌, Bool, true, false}
+use Rattle.std.specs.Prelude.{Option, Some, None, Result, Ok, Err, IfSome, IsSome, is_some, not}
+use Rattle.auth_machine.specs.Book.{BookView}
+use Rattle.auth_machine.specs.History.{Origin}
+use Rattle.auth_machine.specs.Opening.{ReadsAs}
+use Rattle.auth_machine.specs.Policy.{PolicyView}
+use Rattle.auth_records.specs.Spelling.{Fields}
+use Rattle.fw_outside.specs.FilesView.{FilesView}
+use Rattle.fw_outside.specs.KeeperView.{AreLoaded, IsCalled, KeeperView, NamedBytes}
+use Rattle.gate_rules.specs.Reading.{RuleBook}
+use Rattle.gate_rules.specs.declared.service.Service.{Service}
+use Rattle.bastion.specs.Inputs.{IsAllOf, OfText, is_of_line}
+use Rattle.bastion.specs.Outcome.{CountRose, DeviceRose, fault_line_of, status_of}
+use Rattle.bastion.specs.Reading.{Finds, Unfound, is_early, ruling_in}
+use Rattle.bastion.specs.Run.{AsksTable, FilesUnread, ReadsOnly, TellsIf, Unused}
+use Rattle.bastion.specs.Serving.{book_at_first, most_entries}
+use Rattle.bastion.specs.SessionSteps.{Opened, Unopened}
+use Rattle.bastion.specs.WorldView.{SessionInputs, WorldView}
+use Rattle.bastion.specs.declared.outcome.Device.TheVariants as device
+use Rattle.bastion.specs.declared.outcome.Outcome.{Outcome}
+use Rattle.bastion.specs.declared.outcome.Outcome.TheVariants.{Usage, Unread, Failed, NoMemory, Done, Decided, Ended}
+use Rattle.bastion.specs.declared.outcome.Refusal.{Refusal}
+use Rattle.bastion.specs.declared.outcome.Refusal.TheVariants.{Record}
+use Rattle.bastion.specs.declared.outcome.Step.{Step}
+use Rattle.bastion.specs.declared.outcome.Step.TheVariants as steps
+use Rattle.bastion.specs.declared.words.Command.{Command}
+use Rattle.bastion.specs.declared.words.Command.TheVariants.{TnGw}
+use Rattle.bastion.proofs.DoesLemmas.{AskedFiles}
+use Rattle.bastion.proofs.LeftLemmas.{Later, Left, only_left, stops_left, tells_later}
+use Rattle.bastion.proofs.ReadingLemmas.{of_text}
+use Rattle.bastion.proofs.RoseLemmas.{stops_rose}
+use Rattle.bastion_ready.specs.Inputs.{HasInputs, ServerInputs, SiteRules, inputs_by, is_of_table, origin_of, site_rules_of, with_records}
+use Rattle.bastion_ready.specs.Ready.{IsReady, IsReadyFor, IsRefused, IsStatus, IsStatusFor, Lacks, RecordsUnread, Refuses, Stops, StopsFor}
+use Rattle.bastion_ready.specs.Words.{Door, ServerLine, doors_of, services_of}
+
+-- ---- the table
+
+only_files : (line : ServerLine) (old new : WorldView) → AsksTable line.table old.files new.files → AskedFiles old new → ReadsOnly line.table false old new
+only_files line old new asks h = record { files = asks; inputs = h.inputs; output = h.output; logs = h.logs }
+
+lacks_early : (line : ServerLine) (step : Step) (old new : WorldView) → is_early step ≡ true → ReadsOnly line.table false old new → Lacks line step old new
+lacks_early line steps.Print old new early is = absurd (cc)
+lacks_early line steps.Records old new early is = absurd (cc)
+lacks_early line steps.Start old new early is = inr is
+lacks_early line steps.Table old new early is = is
+lacks_early line steps.Rules old new early is = is
+lacks_early line steps.Policy old new early is = is
+lacks_early line steps.Drill old new early is = absurd (cc)
+lacks_early line steps.Slots old new early is = absurd (cc)
+lacks_early line steps.Round old new early is = absurd (cc)
+
+no_records : {A : Type 0} (refusal : Refusal) → is_of_line refusal ≡ true → is_of_table (Err refusal) ≡ false → A
+no_records refusal of_line come = absurd (cc)
+
+-- what the table says of the services of this line, or the first line that can't be read
+abbrev pub SiteFound : ServerLine → Result SiteRules Outcome → FilesView → FilesView → Type 0
+SiteFound line result old new = Finds (ruling_in (site_rules_of (services_of line.plan.posts))) line.table result old new
+
+pub found_for : (line : ServerLine) (services : List Service) (name : List ℕ) (result : Result SiteRules Outcome) (old new : FilesView) → services ≡ services_of line.plan.posts → name ≡ line.table → Finds (ruling_in (site_rules_of services)) name result old new → SiteFound line result old new
+found_for line services name result old new are is found =
+    subst (λ (n : List ℕ). Finds (ruling_in (site_rules_of (services_of line.plan.posts))) n result old new) is
+    (subst (λ (s : List Service). Finds (ruling_in (site_rules_of s)) name result old new) are found)
+
+refuses_line : (line : ServerLine) (refusal : Refusal) (world : WorldView) → is_of_line refusal ≡ true → OfText world.files.holds line.table (λ text. ruling_in (site_rules_of (services_of line.plan.posts)) text ≡ Err refusal)
+    → HasInputs line (Err refusal) world
+refuses_line line refusal world of_line said = record {
+  loaded = [];
+  of_table = of_text world.files.holds line.table (λ text h. ap (inputs_by []) h) said;
+  of_keeper = λ come. no_records refusal of_line come;
+}
+
+-- what can't be found stops the server
+pub unfound_stops : (line : ServerLine) (outcome : Outcome) (old new : WorldView) → SiteFound line (Err outcome) old.files new.files → AskedFiles old new → StopsFor line outcome old new
+unfound_stops line (Unread refusal) old new h asked = record {
+  read = refuses_line line refusal old h.of_line h.of_text;
+  only = subst (λ (b : Bool). ReadsOnly line.table (not b) old new) (sym h.of_line) (only_files line old new h.asks asked);
+}
+unfound_stops line (Failed device.Table) old new h asked = record { failed = h; output = asked.output; logs = asked.logs; inputs = asked.inputs }
+unfound_stops line (NoMemory step) old new h asked = lacks_early line step old new h.early (only_files line old new h.asks asked)
+unfound_stops line outcome old new h asked = absurd h
+
+-- ---- the book
+
+-- the keeper was called then, and nothing else happened
+calls_then : (line : ServerLine) (old mid new : WorldView) (before after : KeeperView) → AsksTable line.table old.files mid.files → AskedFiles old mid → mid.inputs.keeper ≡ Some before → IsCalled before after
+    → new ≡ record mid { inputs = record (mid.inputs) { keeper = Some after } } → ReadsOnly line.table true old new
+calls_then line old mid new before after asks asked keeper called is = record {
+  files = subst (λ (f : FilesView). AsksTable line.table old.files f) (sym (ap (λ (w : WorldView). w.files) is)) asks;
+  inputs = record {
+    before = before;
+    keeper = ap (λ (i : SessionInputs). i.keeper) (sym asked.inputs) ∙ keeper;
+    after = after;
+    called = called;
+    is = ap (λ (w : WorldView). w.inputs) is ∙ ap (λ (i : SessionInputs). record i { keeper = Some after }) asked.inputs;
+  };
+  output = ap (λ (w : WorldView). w.output) is ∙ asked.output;
+  logs = ap (λ (w : WorldView). w.logs) is ∙ asked.logs;
+}
+
+old_keeper : (old mid : WorldView) (before : KeeperView) → AskedFiles old mid → mid.inputs.keeper ≡ Some before → old.inputs.keeper ≡ Some before
+old_keeper old mid before asked keeper = ap (λ (i : SessionInputs). i.keeper) (sym asked.inputs) ∙ keeper
+
+kept_loaded : (keeper : Option KeeperView) (before : KeeperView) (loaded : NamedBytes) (after : KeeperView) → keeper ≡ Some before → AreLoaded loaded before after → IfSome keeper (IsAllOf loaded)
+kept_loaded keeper before loaded after is are = let all : IsAllOf loaded before = record { ordered = are.ordered; told = are.told } in subst (λ (k : Option KeeperView). IfSome k (IsAllOf loaded)) (sym is) all
+
+-- what the table says, and the records that the keeper has or the first that can't be read
+read_inputs : (line : ServerLine) (site : SiteRules) (records : Result (List Fields) (List ℕ × ℕ)) (before after : KeeperView) (world : WorldView) → world.inputs.keeper ≡ Some before
+    → OfText world.files.holds line.table (λ text. ruling_in (site_rules_of (services_of line.plan.posts)) text ≡ Ok site) → ReadsAs records before after → HasInputs line (with_records site records) world
+read_inputs line site records before after world keeper said read = record {
+  loaded = read.loaded;
+  of_table = of_text world.files.holds line.table (λ text h. ap (inputs_by read.loaded) h ∙ ap (with_records site) read.is) said;
+  of_keeper = λ come. kept_loaded world.inputs.keeper before read.loaded after keeper read.are;
+}
+
+module _ (line : ServerLine) (site : SiteRules) (old mid : WorldView) (found : SiteFound line (Ok site) old.files mid.files) (asked : AskedFiles old mid) where
+  pub unopened_stops : (outcome : Outcome) (new : WorldView) → Unopened outcome mid new → StopsFor line outcome old new
+  unopened_stops (Failed device.Records) new h = record {
+    files = subst (λ (f : FilesView). AsksTable line.table old.files f) (sym (ap (λ (w : WorldView). w.files) h.is)) found.asks;
+    before = h.before;
+    keeper = old_keeper old mid h.before asked h.keeper;
+    after = h.after;
+    failed = h.missed;
+    inputs = ap (λ (w : WorldView). w.inputs) h.is ∙ ap (λ (i : SessionInputs). record i { keeper = Some h.after }) asked.inputs;
+    output = ap (λ (w : WorldView). w.output) h.is ∙ asked.output;
+    logs = ap (λ (w : WorldView). w.logs) h.is ∙ asked.logs;
+  }
+  unopened_stops (Unread (Record user at)) new h = record {
+    read = read_inputs line site (Err (user, at)) h.before h.after old (old_keeper old mid h.before asked h.keeper) found.of_text h.bad;
+    only = calls_then line old mid new h.before h.after found.asks asked h.keeper h.called h.is;
+  }
+  unopened_stops (NoMemory steps.Records) new h = calls_then line old mid new h.before h.after found.asks asked h.keeper h.called h.is
+  unopened_stops outcome new h = absurd h
+
+  pub opened_ready : (doors : List Door) (rules : List (Service × RuleBook)) (book : BookView) (new : WorldView) → doors ≡ doors_of line.plan → rules ≡ site.rules → Opened site.policy book mid new → IsReadyFor line doors rules book old new
+  opened_ready doors rules book new doors_are rules_are o =
+      let inputs : ServerInputs = record { site = site; records = book.origin.records } in
+      let middle : WorldView = record mid { inputs = record (mid.inputs) { keeper = Some book.keeper } } in
+      let stands : book.origin ≡ origin_of inputs = ap (λ (p : PolicyView). record { policy = p; records = book.origin.records }) o.policy_is in
+      record {
+        doors_are = doors_are;
+        inputs = inputs;
+        read = read_inputs line site (Ok book.origin.records) o.before book.keeper old (old_keeper old mid o.before asked o.keeper) found.of_text o.records;
+        rules_are = rules_are;
+        middle = middle;
+        only = calls_then line old mid middle o.before book.keeper found.asks asked o.keeper o.called refl;
+        before = book.keeper;
+        keeper = refl;
+        at_first = o.at_first ∙ ap (λ (g : Origin). book_at_first g most_entries book.keeper) stands;
+        is = o.is;
+      }
+
+-- memory was wanting for the words, which ask for a server
+pub lacks_start : (line : Option ServerLine) (world : WorldView) → is_some line ≡ true → Stops line (NoMemory steps.Start) world world
+lacks_start None world is = absurd (cc)
+lacks_start (Some line) world is = inl refl
+
+-- ---- what is left
+
+-- a command that needs what a server does
+abbrev any_command : Command
+any_command = TnGw (record { addr = None; name = None })
+
+same_left : (old new : WorldView) → new ≡ old → Left old new
+same_left old new is = subst (λ (w : WorldView). Left old w) (sym is) (record { out = refl; input = refl; clock = refl; dialer = refl; disks = refl; output = refl; logs = refl; keeper = λ there. there; table = refl })
+
+lacks_left : (line : ServerLine) (step : Step) (old new : WorldView) → Lacks line step old new → Left old new
+lacks_left line steps.Print old new h = absurd h
+lacks_left line steps.Start old new (inl same) = same_left old new same
+lacks_left line steps.Start old new (inr only) = only_left line.table false old new only
+lacks_left line steps.Table old new h = only_left line.table false old new h
+lacks_left line steps.Rules old new h = only_left line.table false old new h
+lacks_left line steps.Policy old new h = only_left line.table false old new h
+lacks_left line steps.Drill old new h = absurd h
+lacks_left line steps.Slots old new h = absurd h
+lacks_left line steps.Round old new h = absurd h
+lacks_left line steps.Records old new h = only_left line.table true old new h
+
+stops_for_left : (line : ServerLine) (outcome : Outcome) (old new : WorldView) → StopsFor line outcome old new → Left old new
+stops_for_left line (Unread refusal) old new h = only_left line.table (not (is_of_line refusal)) old new h.only
+stops_for_left line (Failed device.Table) old new h = stops_left line.table any_command (Failed device.Table) old new h
+stops_for_left line (Failed device.Records) old new h =
+    stops_left line.table any_command (Failed device.Records) old new (record { needed = refl; files = h.files; before = h.before; keeper = h.keeper; after = h.after; failed = h.failed; inputs = h.inputs; output = h.output; logs = h.logs })
+stops_for_left line (NoMemory step) old new h = lacks_left line step old new h
+stops_for_left line outcome old new h = absurd h
+
+stopped_left : (line : Option ServerLine) (outcome : Outcome) (old new : WorldView) → Stops line outcome old new → Left old new
+stopped_left None outcome old new h = same_left old new h.is
+stopped_left (Some line) outcome old new h = stops_for_left line outcome old new h
+
+-- ---- whose count rose
+
+stops_for_rose : (line : ServerLine) (outcome : Outcome) (old new : WorldView) → StopsFor line outcome old new → CountRose outcome old new
+stops_for_rose line (Unread refusal) old new h = tt
+stops_for_rose line (Failed device.Table) old new h = stops_rose line.table any_command (Failed device.Table) old new h
+stops_for_rose line (Failed device.Records) old new h =
+    stops_rose line.table any_command (Failed device.Records) old new (record { needed = refl; files = h.files; before = h.before; keeper = h.keeper; after = h.after; failed = h.failed; inputs = h.inputs; output = h.output; logs = h.logs })
+stops_for_rose line (NoMemory step) old new h = tt
+stops_for_rose line outcome old new h = absurd h
+
+stopped_rose : (line : Option ServerLine) (outcome : Outcome) (old new : WorldView) → Stops line outcome old new → CountRose outcome old new
+stopped_rose None outcome old new h = subst (λ (o : Outcome). CountRose o old new) (sym h.usage) tt
+stopped_rose (Some line) outcome old new h = stops_for_rose line outcome old new h
+
+-- ---- the answers of `ready`
+
+pub refused_so : (line : Option ServerLine) (outcome : Outcome) (status : ℕ) (old mid new : WorldView) → Stops line outcome old mid → TellsIf (fault_line_of outcome) mid new → status ≡ status_of outcome → IsRefused line status old new
+refused_so line outcome status old mid new stops tells is = record {
+  outcome = outcome;
+  middle = mid;
+  stops = stops;
+  rose = stopped_rose line outcome old mid stops;
+  tells = tells;
+  status_is = is;
+}
+
+later_rose : (old mid new : WorldView) → Later mid new → DeviceRose device.Table old mid ⊎ DeviceRose device.Records old mid → DeviceRose device.Table old new ⊎ DeviceRose device.Records old new
+later_rose old mid new later (inl files) =
+    inl (subst (λ (f : FilesView). DeviceRose device.Table old (record mid { files = f })) (sym later.files) files)
+later_rose old mid new later (inr keeper) =
+    inr (subst (λ (i : SessionInputs). DeviceRose device.Records old (record mid { inputs = i })) (sym later.inputs) keeper)
+
+status_for : (line : ServerLine) (outcome : Outcome) (old mid new : WorldView) → StopsFor line outcome old mid → Later mid new → IsStatusFor line (status_of outcome) old new
+status_for line (Unread refusal) old mid new h later = inl (inl (refl, (refusal, h.read)))
+status_for line (Failed device.Table) old mid new h later = inl (inr (refl, later_rose old mid new later (inl (stops_for_rose line (Failed device.Table) old mid h))))
+status_for line (Failed device.Records) old mid new h later = inl (inr (refl, later_rose old mid new later (inr (stops_for_rose line (Failed device.Records) old mid h))))
+status_for line (NoMemory step) old mid new h later = inr refl
+status_for line outcome old mid new h later = absurd h
+
+status_so : (line : Option ServerLine) (outcome : Outcome) (old mid new : WorldView) → Stops line outcome old mid → Later mid new → IsStatus line (status_of outcome) old new
+status_so None outcome old mid new h later = ap status_of h.usage
+status_so (Some line) outcome old mid new h later = status_for line outcome old mid new h later
+
+pub refused_status : (line : Option ServerLine) (status : ℕ) (old new : WorldView) → IsRefused line status old new → IsStatus line status old new
+refused_status line status old new h =
+    let later = tells_later (fault_line_of h.outcome) h.middle new h.tells in
+    subst (λ (n : ℕ). IsStatus line n old new) (sym h.status_is) (status_so line h.outcome old h.middle new h.stops later)
+
+-- as many sources are out, the disks are as they were, and the keeper is there
+pub record LeftSo (old new : WorldView) : Type 0 where
+  pub out : new.files.out ≡ old.files.out
+  pub disks : new.inputs.disks ≡ old.inputs.disks
+  pub keeper : IsSome old.inputs.keeper → IsSome new.inputs.keeper
+
+pub refused_left : (line : Option ServerLine) (status : ℕ) (old new : WorldView) → IsRefused line status old new → LeftSo old new
+refused_left line status old new h =
+    let left = stopped_left line h.outcome old h.middle h.stops in
+    let later = tells_later (fault_line_of h.outcome) h.middle new h.tells in
+    record {
+      out = ap (λ (f : FilesView). f.out) later.files ∙ left.out;
+      disks = ap (λ (i : SessionInputs). i.disks) later.inputs ∙ left.disks;
+      keeper = λ there. subst (λ (i : SessionInputs). IsSome i.keeper) (sym later.inputs) (left.keeper there);
+    }
+
+ready_out : (line : Option ServerLine) (doors : List Door) (rules : List (Service × RuleBook)) (book : BookView) (old new : WorldView) → IsReady line doors rules book old new → new.files.out ≡ old.files.out
+ready_out None doors rules book old new h = absurd h
+ready_out (Some line) doors rules book old new h = ap (λ (w : WorldView). w.files.out) h.is ∙ ap (λ (f : FilesView). f.out) h.only.files.is
+
+ready_disks : (line : Option ServerLine) (doors : List Door) (rules : List (Service × RuleBook)) (book : BookView) (old new : WorldView) → IsReady line doors rules book old new → new.inputs.disks ≡ old.inputs.disks
+ready_disks None doors rules book old new h = absurd h
+ready_disks (Some line) doors rules book old new h = ap (λ (w : WorldView). w.inputs.disks) h.is ∙ ap (λ (i : SessionInputs). i.disks) h.only.inputs.is
+
+pub ready_left : (line : Option ServerLine) (doors : List Door) (rules : List (Service × RuleBook)) (book : BookView) (old new : WorldView) → IsReady line doors rules book old new → (new.files.out ≡ old.files.out) × (new.inputs.disks ≡ old.inputs.disks)
+ready_left line doors rules book old new h = (ready_out line doors rules book old new h, ready_disks line doors rules book old new h)

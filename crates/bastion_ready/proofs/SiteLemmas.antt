@@ -1,0 +1,98 @@
+-- From the rules of each service to what the table says of a server's services.
+use Rattle.std.proofs.Common.{◌≡◌, ◌∙◌, ◌≤◌, ◌-◌, ℕ, List, [], ◌∷◌, ◌++◌, ap, refl, sym, subst, Bool, true, false, length, take, drop, get_or, arith, append_assoc, append-nil}
+use Rattle.std.specs.Prelude.{All, Result, Ok, Err}
+use Rattle.std.proofs.lemmas.List.{take_rest}
+use Rattle.std.proofs.lemmas.List.Elements.{All-drop, All-push, All-take}
+use Rattle.auth_machine.specs.Policy.{PolicyView}
+use Rattle.bastion.specs.Reading.{ReadsLines}
+use Rattle.bastion.specs.declared.outcome.Outcome.{Outcome}
+use Rattle.bastion.specs.declared.outcome.Outcome.TheVariants.{Unread, NoMemory}
+use Rattle.bastion.specs.declared.outcome.Refusal.TheVariants.{Rule}
+use Rattle.bastion_ready.specs.Inputs.{AddsRules, SiteRules, both_of, ruled_by, rules_of_each}
+use Rattle.bastion_ready.specs.Words.{is_for_server}
+use Rattle.client_service.specs.PlugService.{AreRulesOf}
+use Rattle.fwtk_serve.specs.RulesFor.{MayServe}
+use Rattle.gate_rules.specs.Reading.{RuleBook, rules_of}
+use Rattle.gate_rules.specs.declared.fault.RuleFault.{RuleFault}
+use Rattle.gate_rules.specs.declared.service.Service.{Service}
+use Rattle.netperm_table.specs.declared.line.Line.{Line}
+use Rattle.gate_rules.specs.declared.service.Service.TheVariants.{Netacl, TnGw, FtpGw, PlugGw, Smap, Authsrv}
+
+abbrev pub RulesRead : Type 0
+RulesRead = Result (List (Service × RuleBook)) RuleFault
+
+-- some services with their rules, and then these
+abbrev pub onto : List (Service × RuleBook) → RulesRead → RulesRead
+onto ruled (Ok more) = Ok (ruled ++ more)
+onto ruled (Err fault) = Err fault
+
+pub onto_none : (read : RulesRead) → onto [] read ≡ read
+onto_none (Ok ruled) = refl
+onto_none (Err fault) = refl
+
+pub onto_more : (ruled : List (Service × RuleBook)) (service : Service) (rules : RuleBook) (said : Result RuleBook RuleFault) (more : RulesRead) → said ≡ Ok rules → onto ruled (ruled_by service said more) ≡ onto (ruled ++ (service, rules) ∷ []) more
+onto_more ruled service rules said (Ok more) is =
+    ap (λ (r : Result RuleBook RuleFault). onto ruled (ruled_by service r (Ok more))) is ∙ ap (λ (rs : List (Service × RuleBook)). Ok rs) (sym (append_assoc ruled ((service, rules) ∷ []) more))
+onto_more ruled service rules said (Err fault) is = ap (λ (r : Result RuleBook RuleFault). onto ruled (ruled_by service r (Err fault))) is
+
+pub onto_end : (ruled : List (Service × RuleBook)) → onto ruled (Ok []) ≡ Ok ruled
+onto_end ruled = ap (λ (rs : List (Service × RuleBook)). Ok rs) (append-nil ruled)
+
+-- what stops the reading of a service's rules stops that of all
+pub onto_stop : (ruled : List (Service × RuleBook)) (service : Service) (said : Result RuleBook RuleFault) (more whole : RulesRead) (outcome : Outcome) → onto ruled (ruled_by service said more) ≡ whole → ReadsLines said (Err outcome) → ReadsLines whole (Err outcome)
+onto_stop ruled service said more whole (Unread (Rule fault)) is stops = sym is ∙ ap (λ (r : Result RuleBook RuleFault). onto ruled (ruled_by service r more)) stops
+onto_stop ruled service said more whole (NoMemory step) is stops = stops
+onto_stop ruled service said more whole outcome is stops = absurd stops
+
+-- the rules of a service may be served, where its clients may
+pub may_serve : (service : Service) (rules : RuleBook) → is_for_server service ≡ true → AreRulesOf service rules → MayServe (service, rules)
+may_serve (Netacl label) rules may are = absurd (cc)
+may_serve TnGw rules may are = record { served = tt; mailless = refl }
+may_serve FtpGw rules may are = record { served = tt; mailless = refl }
+may_serve (PlugGw port) rules may are = record { served = are; mailless = refl }
+may_serve Smap rules may are = absurd (cc)
+may_serve Authsrv rules may are = record { served = tt; mailless = refl }
+
+-- ---- one service more
+
+-- the services are the first one and the rest
+pub next_services : (services : List Service) (service : Service) (lines : List Line) → 1 ≤ length services → service ≡ get_or services 0 service
+    → rules_of_each services lines ≡ ruled_by service (rules_of service lines) (rules_of_each (take (length services - 1) (drop 1 services)) lines)
+next_services [] service lines some is = absurd (omega (arith, some))
+next_services (first ∷ more) service lines some is =
+    rw (take_rest (first ∷ more) 1) (ap (λ (s : Service). ruled_by s (rules_of s lines) (rules_of_each more lines)) (sym is))
+
+pub first_served : (services : List Service) (service : Service) → 1 ≤ length services → service ≡ get_or services 0 service → All (λ s. is_for_server s ≡ true) services → is_for_server service ≡ true
+first_served services service some is all = ap is_for_server is ∙ all 0 service (omega (arith, some))
+
+pub rest_served : (services : List Service) → All (λ s. is_for_server s ≡ true) services → All (λ s. is_for_server s ≡ true) (take (length services - 1) (drop 1 services))
+rest_served services all = All-take (λ s. is_for_server s ≡ true) (length services - 1) (drop 1 services) (All-drop (λ s. is_for_server s ≡ true) 1 services all)
+
+pub adds_so_far : (services rest : List Service) (service : Service) (lines : List Line) (old new : List (Service × RuleBook)) → rules_of_each services lines ≡ ruled_by service (rules_of service lines) (rules_of_each rest lines) → AddsRules service lines old new
+    → onto new (rules_of_each rest lines) ≡ onto old (rules_of_each services lines)
+adds_so_far services rest service lines old new first adds =
+    ap (λ (ruled : List (Service × RuleBook)). onto ruled (rules_of_each rest lines)) adds.is ∙ sym (onto_more old service adds.rules (rules_of service lines) (rules_of_each rest lines) adds.read) ∙ sym (ap (onto old) first)
+
+pub adds_ruled : (service : Service) (lines : List Line) (old new : List (Service × RuleBook)) → is_for_server service ≡ true → AddsRules service lines old new → All MayServe old → All MayServe new
+adds_ruled service lines old new may adds all =
+    subst (All MayServe) (sym adds.is) (All-push MayServe old (service, adds.rules) all (may_serve service adds.rules may (record { lines = lines; read = adds.read })))
+
+pub stops_so : (services rest : List Service) (service : Service) (lines : List Line) (ruled : List (Service × RuleBook)) (whole : RulesRead) (outcome : Outcome) → rules_of_each services lines ≡ ruled_by service (rules_of service lines) (rules_of_each rest lines) → onto ruled (rules_of_each services lines) ≡ whole
+    → ReadsLines (rules_of service lines) (Err outcome) → ReadsLines whole (Err outcome)
+stops_so services rest service lines ruled whole outcome first is stops =
+    onto_stop ruled service (rules_of service lines) (rules_of_each rest lines) whole outcome (sym (ap (onto ruled) first) ∙ is) stops
+
+-- ---- and what the authentication server goes by
+
+pub both_read : (each : RulesRead) (said : Result PolicyView RuleFault) (rules : List (Service × RuleBook)) (policy : PolicyView) → each ≡ Ok rules → said ≡ Ok policy → both_of each said ≡ Ok (record { rules = rules; policy = policy })
+both_read each said rules policy one other = ap (λ (e : RulesRead). both_of e said) one ∙ ap (λ (p : Result PolicyView RuleFault). both_of (Ok rules) p) other
+
+pub policy_stops : (each : RulesRead) (said : Result PolicyView RuleFault) (rules : List (Service × RuleBook)) (outcome : Outcome) → each ≡ Ok rules → ReadsLines said (Err outcome) → ReadsLines (both_of each said) (Err outcome)
+policy_stops each said rules (Unread (Rule fault)) one stops = ap (λ (e : RulesRead). both_of e said) one ∙ ap (λ (p : Result PolicyView RuleFault). both_of (Ok rules) p) stops
+policy_stops each said rules (NoMemory step) one stops = stops
+policy_stops each said rules outcome one stops = absurd stops
+
+pub rules_stop : (each : RulesRead) (said : Result PolicyView RuleFault) (outcome : Outcome) → ReadsLines each (Err outcome) → ReadsLines (both_of each said) (Err outcome)
+rules_stop each said (Unread (Rule fault)) stops = ap (λ (e : RulesRead). both_of e said) stops
+rules_stop each said (NoMemory step) stops = stops
+rules_stop each said outcome stops = absurd stops

@@ -1,0 +1,35 @@
+use Rattle.bastion_ready.specs.Words.{server_of}
+use Rattle.bastion_ready.proofs.ReadyLemmas.{ready_left, refused_left, refused_so, refused_status}
+use Rattle.bastion_ready.proofs.readying.ready.Goals as goal
+
+pub returns-in-Ok : goal.returns-in-Ok
+returns-in-Ok g c =
+    let line = server_of c.args.words.now in
+    let ready = c.in-Ok.ready in
+    let left = ready_left line ready.doors.items ready.rules.items ready.book c.args.world.now c.prepare.new.world c.in-Ok.ensures.ready in
+    record {
+      ready = c.in-Ok.ensures.ready;
+      may = c.in-Ok.ensures.may;
+      refused = tt;
+      status = tt;
+      returned = left.0;
+      disks = left.1;
+      kept = tt;
+    }
+
+pub returns-in-Err : goal.returns-in-Err
+returns-in-Err g c =
+    let line = server_of c.args.words.now in
+    let old = c.args.world.now in
+    let new = c.refuse.new.world in
+    let refused = refused_so line c.in-Err.outcome c.refuse.result old c.prepare.new.world new c.in-Err.ensures.stops c.refuse.ensures.tells c.refuse.ensures.status in
+    let left = refused_left line c.refuse.result old new refused in
+    record {
+      ready = tt;
+      may = tt;
+      refused = refused;
+      status = refused_status line c.refuse.result old new refused;
+      returned = left.out;
+      disks = left.disks;
+      kept = left.keeper c.requires.keeper;
+    }

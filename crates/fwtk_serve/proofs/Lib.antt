@@ -1,0 +1,10 @@
+pub mod CrossingLemmas
+pub mod DoorLemmas
+pub mod EachLemmas
+pub mod FullLemmas
+pub mod GatheringLemmas
+pub mod PassLemmas
+pub mod ReportLemmas
+pub mod RulesLemmas
+pub mod ServingLemmas
+pub mod SessionLemmas

@@ -1,0 +1,60 @@
+//! A listener that several doors share.
+ghost use Rattle.std.specs.Prelude.{◌≡◌, IfOk};
+
+use std::io;
+use std::net::{Ipv4Addr, Shutdown, SocketAddr, SocketAddrV4, TcpListener, TcpStream};
+use std::os::fd::AsFd;
+use std::sync::atomic::{AtomicBool, Ordering};
+
+/// A listener at a port of this host, and whether it is closed. The handle is of the same socket.
+#[derive(Drop)]
+pub(crate) struct Entrance {
+    port: u16,
+    listener: TcpListener,
+    handle: TcpStream,
+    is_closed: AtomicBool,
+}
+
+// A listener at all addresses of this host. That it listens at this port is the system's word.
+fn listen(system: &HostRuntime, port: u16) -> io::Result<TcpListener> {
+    let at = SocketAddrV4::new(Ipv4Addr::UNSPECIFIED, port);
+    TcpListener::bind(system, SocketAddr::V4(at))
+}
+
+impl Entrance {
+    /// An open entrance at this port.
+    pub(crate) fn open(system: &HostRuntime, port: u16) -> io::Result<Entrance>
+        ensures { IfOk result (λ entrance. entrance.port ≡ port) }
+    {
+        let listener = listen(system, port)?;
+        let handle = TcpStream::from(listener.as_fd().try_clone_to_owned()?);
+        Ok(Entrance {
+            port,
+            listener,
+            handle,
+            is_closed: AtomicBool::new(false),
+        })
+    }
+
+    /// The port at which it listens.
+    pub(crate) fn port(&self) -> u16
+        ensures { result ≡ self.now.port }
+    {
+        self.port
+    }
+
+    /// Closes it. Whoever waits at it waits no longer, and who comes later is refused by the system.
+    pub(crate) fn close(&self) {
+        self.is_closed.store(true, Ordering::SeqCst);
+        let _ = self.handle.shutdown(Shutdown::Both);
+    }
+
+    pub(crate) fn is_closed(&self) -> bool {
+        self.is_closed.load(Ordering::SeqCst)
+    }
+
+    /// Waits for the next who comes.
+    pub(crate) fn accept(&self) -> io::Result<(TcpStream, SocketAddr)> {
+        self.listener.accept()
+    }
+}

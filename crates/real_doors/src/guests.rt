@@ -1,0 +1,106 @@
+//! Clients with the devices of their sessions.
+ghost use Rattle.std.specs.Prelude.{◌≡◌, IfSome, Some};
+ghost use Rattle.acceptors.specs.AcceptorView.{HasSessions};
+ghost use Rattle.real_doors.specs.Guests.{Greets, visit_of};
+ghost use Rattle.real_doors.specs.HostNames.{name_in};
+
+use crate::HostNames;
+use acceptors::Caller;
+use fw_real::{Reading, Salts, StandardInput, SystemClock, Writing};
+use fw_types::Peer;
+use gate_rules::Service;
+use real_links::{LinkSink, StandardOutput, TcpDialer};
+use std::io::{self, Stderr};
+use std::net::{SocketAddr, TcpStream};
+use std::time::Duration;
+
+/// A client over TCP. Its socket is read and written as one that inetd hands over.
+pub type TcpCaller = Caller<
+    Reading<StandardInput>,
+    LinkSink<StandardOutput>,
+    Writing<Stderr>,
+    TcpDialer<HostRuntime>,
+    SystemClock<HostRuntime>,
+    Salts,
+>;
+
+// How many seconds a client's socket waits at first.
+const PATIENCE: u64 = 3600;
+
+/// A client's socket, and the client's address.
+#[derive(Drop)]
+pub(crate) struct Arrival {
+    pub(crate) socket: TcpStream,
+    pub(crate) host: [u8; 4],
+}
+
+/// Who came, if it is from an address of IPv4. That the address is the client's is the system's word.
+pub(crate) fn arrived(socket: TcpStream, from: SocketAddr) -> Option<Arrival> {
+    match from {
+        SocketAddr::V4(at) => Some(Arrival {
+            socket,
+            host: at.ip().octets(),
+        }),
+        SocketAddr::V6(_) => None,
+    }
+}
+
+// The client at this address, with its name where that is known.
+fn peer(names: &HostNames, host: [u8; 4]) -> Peer
+    ensures { result ≡ record { addr = Some host; name = name_in host names.now } }
+{
+    Peer {
+        addr: Some(host),
+        name: names.name_of(host),
+    }
+}
+
+// The two ends of a client's socket, each with a handle of its own. A read and a write wait an hour at most.
+fn ends(socket: TcpStream) -> io::Result<(StandardInput, StandardOutput)> {
+    let patience = Some(Duration::from_secs(PATIENCE));
+    socket.set_read_timeout(patience)?;
+    socket.set_write_timeout(patience)?;
+    let other = socket.try_clone()?;
+    Ok((StandardInput::Socket(socket), StandardOutput::Socket(other)))
+}
+
+// The service, unless it is the access wrapper.
+fn with_sessions(service: &Service) -> Option<Service>
+    ensures sessions { IfSome result HasSessions }
+    ensures same { IfSome result (λ found. found ≡ service.now) }
+{
+    match service {
+        Service::Netacl(_) => None,
+        Service::TnGw => Some(Service::TnGw),
+        Service::FtpGw => Some(Service::FtpGw),
+        Service::PlugGw(port) => Some(Service::PlugGw(*port)),
+        Service::Smap => Some(Service::Smap),
+        Service::Authsrv => Some(Service::Authsrv),
+    }
+}
+
+/// The client who came, with new devices; or nothing where the system refuses one, or the service has no sessions.
+pub(crate) fn caller(
+    rt: HostRuntime,
+    service: &Service,
+    names: &HostNames,
+    arrival: Arrival,
+) -> Option<TcpCaller>
+    ensures { IfSome result (λ caller. Greets service.now names.now (visit_of caller)) }
+{
+    let Arrival { socket, host } = arrival;
+    let service = with_sessions(service)?;
+    let dice = Salts::new(&rt).ok()?;
+    let (from, to) = ends(socket).ok()?;
+    let hosts = to.hosts();
+    Some(Caller {
+        service,
+        peer: peer(names, host),
+        from: Reading::new(from),
+        to: LinkSink::new(to),
+        logs: Writing::new(rt.stderr()),
+        dialer: TcpDialer::new(rt, rt.alloc(), hosts),
+        clock: SystemClock::new(rt),
+        dice,
+    })
+}

@@ -1,0 +1,107 @@
+//! The scenes.
+ghost use Rattle.std.specs.Prelude.{All};
+ghost use Rattle.fwtk_serve.specs.RulesFor.{MayServe};
+
+use crate::door::{Door, new_door};
+use crate::parts::{ATTACK, BOTH_GREETED, ONE_WORD, Part};
+use crate::records::{book, rules};
+use crate::telling::{tell_report, tell_told};
+use acceptors::Acceptor;
+use fw_memory::MemKeeper;
+use fw_outside::Dialer;
+use fw_types::NoMemory;
+use fwtk_serve::{Report, serve};
+use gate_rules::{Rules, Service};
+use lines_of_rows::{Told, add_word};
+use std::alloc::Global;
+use std::sync::Wait;
+use std::sync::atomic::AtomicU64;
+use std::thread::Threads;
+
+type Answer<A> = Result<Report<MemKeeper, A>, NoMemory>;
+
+fn serve_by<H, A>(rt: &H, alloc: Global, rules: &[(Service, Rules)], doors: Vec<A>) -> Answer<A>
+where
+    H: Threads + Wait + Sync,
+    A: Acceptor + Send,
+    A::Logs: Send,
+    A::Dial: Send,
+    A::Tick: Send,
+    A::Rand: Send,
+    <A::Dial as Dialer>::Door: Send,
+    requires { All MayServe rules.now }
+{
+    let Some(book) = book(alloc) else {
+        return Err(NoMemory);
+    };
+    serve(rt, alloc, rules, book, doors)
+}
+
+fn without_rules<'a, H: Threads + Wait + Sync>(
+    rt: &'a H,
+    alloc: Global,
+    told: &'a AtomicU64,
+) -> Answer<Door<'a, H>> {
+    let one = new_door(rt, alloc, told, true, &[], &[]);
+    let doors = Vec::from_array(alloc, [one])?;
+    serve_by(rt, alloc, &[], doors)
+}
+
+// A door for each of the parts.
+fn doors_of<'a, H: Threads + Wait + Sync>(
+    rt: &'a H,
+    alloc: Global,
+    told: &'a AtomicU64,
+    parts: &[Part],
+) -> Result<Vec<Door<'a, H>>, NoMemory> {
+    let mut doors = Vec::new(alloc);
+    for part in parts {
+        doors.push(new_door(rt, alloc, told, false, part.script, part.marks))?;
+    }
+    Ok(doors)
+}
+
+fn side_by_side<'a, H: Threads + Wait + Sync>(
+    rt: &'a H,
+    alloc: Global,
+    told: &'a AtomicU64,
+    parts: &[Part],
+) -> Answer<Door<'a, H>> {
+    let Some(ruled) = rules(alloc) else {
+        return Err(NoMemory);
+    };
+    let doors = doors_of(rt, alloc, told, parts)?;
+    serve_by(rt, alloc, &[ruled], doors)
+}
+
+/// One door, a client of `tn-gw`, and no rules.
+pub(crate) fn tell_without_rules<H: Threads + Wait + Sync>(rt: &H, alloc: Global, out: &mut Told) {
+    let told = AtomicU64::new(0);
+    match without_rules(rt, alloc, &told) {
+        Ok(report) => tell_report(out, &report),
+        Err(NoMemory) => add_word(out, b"no memory"),
+    }
+}
+
+fn tell_parts<H: Threads + Wait + Sync>(rt: &H, alloc: Global, parts: &[Part], out: &mut Told) {
+    let told = AtomicU64::new(0);
+    match side_by_side(rt, alloc, &told, parts) {
+        Ok(report) => tell_told(out, &report),
+        Err(NoMemory) => add_word(out, b"no memory"),
+    }
+}
+
+/// Two doors, with a client each who goes once both were greeted.
+pub(crate) fn tell_side_by_side<H: Threads + Wait + Sync>(rt: &H, alloc: Global, out: &mut Told) {
+    tell_parts(rt, alloc, &BOTH_GREETED, out);
+}
+
+/// Nine doors, with a user and those who attack him.
+pub(crate) fn tell_attack<H: Threads + Wait + Sync>(rt: &H, alloc: Global, out: &mut Told) {
+    tell_parts(rt, alloc, &ATTACK, out);
+}
+
+/// Eight doors, with a client each who says the one password that is left.
+pub(crate) fn tell_one_word<H: Threads + Wait + Sync>(rt: &H, alloc: Global, out: &mut Told) {
+    tell_parts(rt, alloc, &ONE_WORD, out);
+}
