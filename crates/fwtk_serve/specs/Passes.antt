@@ -1,5 +1,5 @@
 -- The passes of all workers, which are met in the end.
-use Rattle.std.specs.Prelude.{◌≡◌, ℕ, ◌-◌, List, [], ◌∷◌, ◌++◌, map}
+use Rattle.std.specs.Prelude.{◌≡◌, ℕ, ◌+◌, ◌-◌, ◌^◌, List, [], ◌∷◌, ◌++◌, map}
 use Rattle.std.specs.List.{AllByRecursion}
 use Rattle.std.specs.List.Sorted.{IsStrictlyIncreasing}
 use Rattle.auth_events.specs.declared.entry.Entry.{Entry}
@@ -18,6 +18,15 @@ Pass = Known Entry BookOrigin
 abbrev pub IsApart : Pass → Type 0
 IsApart pass = NoneTwice (pass.mine ++ pass.met)
 
+-- what the first pass of a lock knows: all entries that are there; it has all parts
+abbrev pub first_of : Lock BookOrigin → List Entry → Pass
+first_of lock seen = knowing lock (2 ^ 64) seen [] []
+
+-- the parts of all these passes
+abbrev pub parts_of : List Pass → ℕ
+parts_of [] = 0
+parts_of (pass ∷ passes) = pass.parts + parts_of passes
+
 -- the places of all these passes
 abbrev pub held_by : List Pass → List ℕ
 held_by [] = []
@@ -33,7 +42,7 @@ pub record MetAll (lock : Lock BookOrigin) (others : List Pass) (old new : Pass)
   pub seen : List Entry
   pub begins : IsPrefix old.seen seen
   pub met : AllByRecursion (IsMet seen) others
-  pub is : new ≡ knowing lock seen old.mine (old.met ++ held_by others)
+  pub is : new ≡ knowing lock (old.parts + parts_of others) seen old.mine (old.met ++ held_by others)
   pub apart : IsApart new
 
 -- ---- passes of a book and of a pool
@@ -43,10 +52,10 @@ pub record AreOf (lock : Lock BookOrigin) (pool : PoolView) (both : Both) : Type
   pub book : IsPassOf lock both.book
   pub mail : pools.IsPassOf pool both.mail
 
--- the two after so many were split off
-abbrev pub less : ℕ → Both → Both
-less n both = record {
-  book = both.book;
+-- the two after so many were split off, each with one part
+abbrev pub less : Lock BookOrigin → ℕ → Both → Both
+less lock n both = record {
+  book = knowing lock (both.book.parts - n) both.book.seen both.book.mine both.book.met;
   mail = record both.mail { handed = record both.mail.handed { parts = both.mail.handed.parts - n } };
 }
 

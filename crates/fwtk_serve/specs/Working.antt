@@ -11,7 +11,7 @@ use Rattle.gate_rules.specs.declared.service.Service.{Service}
 use Rattle.spool_pool.specs.Known.{PassView, bare}
 use Rattle.spool_rack.specs.Store.{Queues}
 use Rattle.turn_lock.specs.Known.{Known, Lock, knowing}
-use Rattle.turn_lock.specs.Places.{NoneTwice}
+use Rattle.turn_lock.specs.Places.{AreWithin, Fill, NoneTwice}
 use Rattle.fwtk_serve.specs.Sessions.{Both, ServedView, Sitting, WereServed, places_of}
 use mathlib.Core.List.{IsPrefix}
 
@@ -44,11 +44,12 @@ pub record Worked (rules : List (Service × RuleBook)) (lock : Lock BookOrigin) 
 
 -- ---- all doors
 
--- what a worker's pass of the book knows before its first session: all entries that were there when the server began
+-- what a worker's pass of the book knows before its first session: all entries that were there when the server began; it has one
+-- part of the lock
 abbrev pub split_off : Lock BookOrigin → List Entry → Known Entry BookOrigin
-split_off lock seen = knowing lock seen [] []
+split_off lock seen = knowing lock 1 seen [] []
 
--- and so its two passes; that of the pool has one part, and has put nothing
+-- and so its two passes; that of the pool has one part, too, and has put nothing
 abbrev pub at_first : Lock BookOrigin → List Entry → List (List ℕ) → Queues → Both
 at_first lock seen home began = record { book = split_off lock seen; mail = bare home 1 began }
 
@@ -79,9 +80,10 @@ abbrev pub short_count : List DoorView → ℕ
 short_count doors = min (count_by (λ door. door.short) doors) (2 ^ 32 - 1)
 
 -- What a server did over a book that had these entries before, in order of the doors: what became of each, and the sessions of
--- each. All were of one book: what each saw is a front of the one history, and no place stands twice among those of all
--- sessions. All were of one pool: what was put into it are the slots that the sessions put full, in their order, and no other;
--- and each message for which no slot was free was counted, and each at which a disk failed, as far as the counts go.
+-- each. All were of one book: what each saw is a front of the one history, no place stands twice among those of all sessions, and
+-- these are places of entries that came to those before, and of each of them. So no entry came that is not of one session. All were
+-- of one pool: what was put into it are the slots that the sessions put full, in their order, and no other; and each message for
+-- which no slot was free was counted, and each at which a disk failed, as far as the counts go.
 pub record ServedAll (rules : List (Service × RuleBook)) (before history : List Entry) (limit : ℕ) (origin : BookOrigin) (olds doors : List AcceptorView) (sessions : List (List ServedView)) (short : ℕ) (mail : PassView) : Type 0 where
   pub home : List ℕ
   pub pool : List (List ℕ)
@@ -90,9 +92,11 @@ pub record ServedAll (rules : List (Service × RuleBook)) (before history : List
   pub doors_are : map (λ new. new.door) news ≡ doors
   pub sessions_are : map reported news ≡ sessions
   pub short_is : short ≡ short_count news
-  pub served : ServedDoors rules (record { home = home; limit = limit; origin = origin })
-      (at_first (record { home = home; limit = limit; origin = origin }) before pool began) history olds news
+  pub served : ServedDoors rules (record { home = home; begun = length before; limit = limit; origin = origin })
+      (at_first (record { home = home; begun = length before; limit = limit; origin = origin }) before pool began) history olds news
   pub apart : NoneTwice (places_of (all_sittings news))
+  pub within : AreWithin (length before) (length history) (places_of (all_sittings news))
+  pub whole : Fill (length before) (length history) (places_of (all_sittings news))
   pub put : mail.handed.put ≡ flat_map (λ sitting. sitting.mailed.put) (all_sittings news)
   pub no_free : min (sum_by (λ sitting. sitting.mailed.unslotted) (all_sittings news)) (2 ^ 64 - 1) ≤ mail.no_free
   pub broken : min (sum_by (λ sitting. sitting.mailed.faulted) (all_sittings news)) (2 ^ 64 - 1) ≤ mail.broken

@@ -5,11 +5,11 @@ ghost use Rattle.auth_machine.specs.History.{CountsUnkept, HasRecords, IsLegal};
 ghost use Rattle.auth_machine.specs.Port.{book_origin};
 ghost use Rattle.fwtk_serve.specs.Clerks.{HandsToEnd, clerk_with, no_sums};
 ghost use Rattle.fwtk_serve.specs.Meeting.{HaveWorked, IsReady};
-ghost use Rattle.fwtk_serve.specs.Passes.{AreOf};
+ghost use Rattle.fwtk_serve.specs.Passes.{AreOf, first_of};
 ghost use Rattle.fwtk_serve.specs.Rounds.{HandsOnAll, Settles, turns_for};
 ghost use Rattle.fwtk_serve.specs.RulesFor.{MayServe, no_rules};
 ghost use Rattle.fwtk_serve.specs.Stepping.{worker_with};
-ghost use Rattle.fwtk_serve.specs.Working.{ServedAll, split_off};
+ghost use Rattle.fwtk_serve.specs.Working.{ServedAll};
 ghost use Rattle.spool_pool.specs.Known.{bare, store_of};
 ghost use mathlib.Core.List.{IsPrefix};
 
@@ -160,7 +160,9 @@ where
     requires none { none.now ≡ no_rules }
     requires may { All MayServe rules.now }
     requires passes { AreOf turns pool passes }
-    requires first { passes.book ≡ split_off turns passes.book.seen }
+    requires first { passes.book ≡ first_of turns passes.book.seen }
+    requires begun { turns.begun ≡ length passes.book.seen }
+    requires few { length doors.items < 2 ^ 64 }
     requires mail { passes.mail ≡ bare passes.mail.handed.home (2 ^ 64) passes.mail.handed.began }
     requires workers { (room.items ≡ []) × (length doors.items ≤ vec_capacity room) }
     requires gathers { (gathered.doors.items ≡ []) × (gathered.sessions.items ≡ []) × (gathered.short ≡ 0) }

@@ -1,5 +1,5 @@
 //! Workers that haven't begun yet.
-ghost use Rattle.std.specs.Prelude.{◌≡◌, ◌+◌, ◌<◌, ◌≤◌, [], ◌∷◌, ◌++◌, length, map, vec_len};
+ghost use Rattle.std.specs.Prelude.{◌≡◌, ◌+◌, ◌-◌, ◌<◌, ◌≤◌, [], ◌∷◌, ◌++◌, length, map, vec_len};
 ghost use Rattle.std.specs.Vec.{vec_capacity};
 ghost use Rattle.fwtk_serve.specs.Meeting.{starting};
 ghost use Rattle.fwtk_serve.specs.Passes.{AreOf, less};
@@ -7,7 +7,7 @@ ghost use Rattle.fwtk_serve.specs.Stepping.{worker_with};
 ghost use Rattle.fwtk_serve.specs.Working.{at_first, split_off};
 ghost use Rattle.spool_pool.specs.Known.{less_one};
 ghost use Rattle.spool_pool.specs.Known as pools;
-ghost use Rattle.turn_lock.specs.Known.{IsPassOf};
+ghost use Rattle.turn_lock.specs.Known.{IsPassOf, knowing};
 
 use crate::worker::{Passes, PassesOf, Worker, WorkerOf};
 use acceptors::Acceptor;
@@ -19,10 +19,11 @@ use spool_pool::{Pool, PoolPass};
 use std::alloc::Global;
 use std::collections::VecDeque;
 
-/// A pass of the book that is split off. It takes no memory.
-pub(crate) fn another<K: Keeper>(turns: &Turns<Book<K>>, pass: &mut Pass<Book<K>>) -> Pass<Book<K>>
-    requires { IsPassOf turns.now pass.old }
-    ensures same { pass.new ≡ pass.old }
+// A pass of the book that is split off, with one part of those of the pass, which has more. It takes no memory.
+fn another<K: Keeper>(turns: &Turns<Book<K>>, pass: &mut Pass<Book<K>>) -> Pass<Book<K>>
+    requires pass { IsPassOf turns.now pass.old }
+    requires more { 1 < pass.old.parts }
+    ensures left { pass.new ≡ knowing turns.now (pass.old.parts - 1) pass.old.seen pass.old.mine pass.old.met }
     ensures is { result ≡ split_off turns.now pass.old.seen }
     ensures own { IsPassOf turns.now pass.new }
     ensures given { IsPassOf turns.now result }
@@ -33,7 +34,7 @@ pub(crate) fn another<K: Keeper>(turns: &Turns<Book<K>>, pass: &mut Pass<Book<K>
     }
 }
 
-// A pass of the pool that is split off, with one of the parts. It takes no memory.
+// A pass of the pool that is split off, so, too.
 fn another_part<D: Disk>(pool: &Pool<D>, pass: &mut PoolPass<D>) -> PoolPass<D>
     requires pass { pools.IsPassOf pool.now pass.old }
     requires parts { 1 < pass.old.handed.parts }
@@ -53,8 +54,9 @@ fn others<K: Keeper, D: Disk>(
     passes: &mut PassesOf<K, D>,
 ) -> PassesOf<K, D>
     requires passes { AreOf turns.now pool.now passes.old }
+    requires turns { 1 < passes.old.book.parts }
     requires parts { 1 < passes.old.mail.handed.parts }
-    ensures less { passes.new ≡ less 1 passes.old }
+    ensures less { passes.new ≡ less turns.now 1 passes.old }
     ensures is { result ≡ at_first turns.now passes.old.book.seen passes.old.mail.handed.home passes.old.mail.handed.began }
     ensures own { AreOf turns.now pool.now passes.new }
     ensures given { AreOf turns.now pool.now result }
@@ -75,9 +77,10 @@ fn begin_one<K: Keeper, A: Acceptor, D: Disk>(
     workers: &mut Vec<WorkerOf<A, K, D>>,
 )
     requires passes { AreOf turns.now pool.now passes.old }
+    requires turns { 1 < passes.old.book.parts }
     requires parts { 1 < passes.old.mail.handed.parts }
     requires room { vec_len workers.old < vec_capacity workers.old }
-    ensures less { passes.new ≡ less 1 passes.old }
+    ensures less { passes.new ≡ less turns.now 1 passes.old }
     ensures own { AreOf turns.now pool.now passes.new }
     ensures begun { map (λ w. worker_with (A.acceptor_view w.door) w.sessions.items w.short w.passes) workers.new.items
         ≡ map (λ w. worker_with (A.acceptor_view w.door) w.sessions.items w.short w.passes) workers.old.items
@@ -95,7 +98,8 @@ fn begin_one<K: Keeper, A: Acceptor, D: Disk>(
     workers.push_reserved(worker);
 }
 
-/// A worker for each door, with passes that are split off. There is room for them.
+/// A worker for each door, with passes that are split off, and have one part each. There is room for them, and the passes have a part
+/// more.
 pub(crate) fn workers_of<K: Keeper, A: Acceptor, D: Disk>(
     alloc: Global,
     turns: &Turns<Book<K>>,
@@ -105,10 +109,11 @@ pub(crate) fn workers_of<K: Keeper, A: Acceptor, D: Disk>(
     room: Vec<WorkerOf<A, K, D>>,
 ) -> Vec<WorkerOf<A, K, D>>
     requires passes { AreOf turns.now pool.now passes.old }
+    requires turns { length doors.items < passes.old.book.parts }
     requires parts { length doors.items < passes.old.mail.handed.parts }
     requires none { room.items ≡ [] }
     requires room { length doors.items ≤ vec_capacity room }
-    ensures less { passes.new ≡ less (length doors.items) passes.old }
+    ensures less { passes.new ≡ less turns.now (length doors.items) passes.old }
     ensures own { AreOf turns.now pool.now passes.new }
     ensures are { map (λ w. worker_with (A.acceptor_view w.door) w.sessions.items w.short w.passes) result.items
         ≡ map (λ door. starting (A.acceptor_view door)
