@@ -212,26 +212,35 @@ each_all most (r ∷ rs) old new were =
 broke_by : (turns : List Turn) (slot : FullView) (fate : Fate) → Contains turns (record { slot = slot; fate = fate }) → ((message : Message) → accepted_by fate ≡ message ∷ [] → Contains (accepted_of turns) message)
     → IsTurn (record { slot = slot; fate = fate }) → AllByRecursion (BrokeSafely turns) (broken_by fate)
 broke_by turns slot (Freed message free) has told h = tt
-broke_by turns slot (NotFreed message broken) has told h = (record {
-  turn = record { slot = slot; fate = NotFreed message broken };
-  among = has;
-  is = refl;
-  so = inl (record { message = message; among = told message refl; its = h.fate.0 });
-}, tt)
+broke_by turns slot (NotFreed message broken) has told h = (
+  record {
+    turn = record { slot = slot; fate = NotFreed message broken };
+    among = has;
+    is = refl;
+    so = inl (record { message = message; among = told message refl; its = h.fate.0 });
+  },
+  tt,
+)
 broke_by turns slot (PutAside message aside) has told h = tt
-broke_by turns slot (NotAside message broken) has told h = (record {
-  turn = record { slot = slot; fate = NotAside message broken };
-  among = has;
-  is = refl;
-  so = inr (λ m keeps. through_now (EachImage (IsWholeOrAside m)) slot.disk broken.disk (h.kept refl m keeps));
-}, tt)
+broke_by turns slot (NotAside message broken) has told h = (
+  record {
+    turn = record { slot = slot; fate = NotAside message broken };
+    among = has;
+    is = refl;
+    so = inr (λ m keeps. through_now (EachImage (IsWholeOrAside m)) slot.disk broken.disk (h.kept refl m keeps));
+  },
+  tt,
+)
 broke_by turns slot (PutBack message) has told h = tt
-broke_by turns slot (Unread broken) has told h = (record {
-  turn = record { slot = slot; fate = Unread broken };
-  among = has;
-  is = refl;
-  so = inr (λ m keeps. through_now (EachImage (IsWholeOrAside m)) slot.disk broken.disk (h.kept refl m keeps));
-}, tt)
+broke_by turns slot (Unread broken) has told h = (
+  record {
+    turn = record { slot = slot; fate = Unread broken };
+    among = has;
+    is = refl;
+    so = inr (λ m keeps. through_now (EachImage (IsWholeOrAside m)) slot.disk broken.disk (h.kept refl m keeps));
+  },
+  tt,
+)
 
 broken_all : {P : BrokenView → Type 0} (xs ys : List BrokenView) → AllByRecursion P xs → AllByRecursion P ys → AllByRecursion P (xs ++ ys)
 broken_all [] ys x y = y

@@ -46,17 +46,16 @@ impl<'a, 'm, 'g, H: Wait, D: Disk, G: Sink> Clerk<'a, 'm, 'g, H, D, G> {
 
 /// A clerk who hands on the mail until he is told that all have ended, with a rest after each round.
 #[derive(Drop)]
-pub(crate) struct Meanwhile<'a, 'm, 'g, 'p, H, D: Disk, G, P> {
+pub(crate) struct Meanwhile<'a, 'e, 'm, 'g, 'p, H, D: Disk, G, P> {
     pub(crate) rt: &'a H,
     pub(crate) alloc: Global,
-    pub(crate) ended: &'a AtomicU64,
+    pub(crate) ended: &'e AtomicU64,
     pub(crate) clerk: Clerk<'a, 'm, 'g, H, D, G>,
     pub(crate) pacer: &'p mut P,
 }
 
-impl<'a, 'm, 'g, 'p, H: Wait, D: Disk, G: Sink, P: Pacer> Task
-    for Meanwhile<'a, 'm, 'g, 'p, H, D, G, P>
-{
+impl<'a, 'e, 'm, 'g, 'p, H: Wait, D: Disk, G: Sink, P: Pacer> Task
+    for Meanwhile<'a, 'e, 'm, 'g, 'p, H, D, G, P> {
     type Output = Clerk<'a, 'm, 'g, H, D, G>;
 
     ghost can_run = { λ task. 0 < length task.clerk.mailers.now.items };

@@ -73,10 +73,6 @@ pub(crate) struct Crew<'a, H, R, N, T, P, W> {
     pub(crate) workers: Vec<W>,
 }
 
-/// A crew over a book of this keeper, and a pool of these disks.
-pub(crate) type CrewOf<'a, H, K, A, D> =
-    Crew<'a, H, (Service, Rules), Rules, Turns<Book<K>>, Pool<D>, WorkerOf<A, K, D>>;
-
 impl<'a, H, K, A, D> Task
     for Crew<'a, H, (Service, Rules), Rules, Turns<Book<K>>, Pool<D>, WorkerOf<A, K, D>>
 where

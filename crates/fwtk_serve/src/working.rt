@@ -57,8 +57,9 @@ where
         unreachable!();
     };
     let chosen = rules_for(rules, none, &caller.service);
-    let (caller, passes, served) =
-        hold::<H, K, A, D>(rt, alloc, chosen, turns, pool, passes, caller);
+    let (caller, passes, served) = hold::<H, K, A, D>(
+        rt, alloc, chosen, turns, pool, passes, caller,
+    );
     worker.passes = Some(passes);
     worker.sessions.push_reserved(served);
     worker.door.back(caller);

@@ -11,9 +11,7 @@ mod spool;
 mod telling;
 
 use lines_of_rows::{Told, add, add_word};
-use scenes::{
-    tell_attack, tell_one_word, tell_side_by_side, tell_two_letters, tell_without_rules,
-};
+use scenes::{tell_attack, tell_one_word, tell_side_by_side, tell_two_letters, tell_without_rules};
 use std::alloc::Global;
 use std::sync::Wait;
 use std::thread::Threads;

@@ -64,14 +64,17 @@ const SPENDER: Part = Part {
     marks: &[READY],
 };
 
-/// Each of two hands in one message, once both were greeted.
+/// Each of two hands in one message, once both were greeted. Four marks are told.
 pub(crate) const TWO_LETTERS: [Part; 2] = [SENDER; 2];
 
 const SENDER: Part = Part {
     asked: Asked::Mail,
     script: &[
-        (2, b"HELO relay.tis.com\r\nMAIL FROM:<mjr@tis.com>\r\nRCPT TO:<avolio@example.org>\r\n"),
+        (
+            2,
+            b"HELO relay.tis.com\r\nMAIL FROM:<mjr@tis.com>\r\nRCPT TO:<avolio@example.org>\r\n",
+        ),
         (0, b"DATA\r\nSubject: x\r\n\r\nHello.\r\n.\r\nQUIT\r\n"),
     ],
-    marks: &[b"220 "],
+    marks: &[b"220 ", b"221 "],
 };

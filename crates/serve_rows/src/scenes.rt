@@ -25,13 +25,15 @@ type Answer<A> = Result<(Report<MemKeeper, A, MemDisk>, u64), NoMemory>;
 // The server's own log has room for so many bytes.
 const LOG_ROOM: usize = 1000;
 
-// Serves over so many slots.
+// Serves over so many slots, with a rest between rounds until so many marks were told.
 fn serve_by<H, A>(
     rt: &H,
     alloc: Global,
+    told: &AtomicU64,
     rules: &[(Service, Rules)],
     doors: Vec<A>,
     slots: u32,
+    marks: u64,
 ) -> Answer<A>
 where
     H: Threads + Wait + Sync,
@@ -52,9 +54,19 @@ where
     let mut pacer = Resting {
         rt,
         parker: Parker::new(),
+        told,
+        marks,
     };
     let report = serve(
-        rt, alloc, rules, book, doors, rack, &mut mailers, &mut logs, &mut pacer,
+        rt,
+        alloc,
+        rules,
+        book,
+        doors,
+        rack,
+        &mut mailers,
+        &mut logs,
+        &mut pacer,
     )?;
     let taken = took(&mailers);
     Ok((report, taken))
@@ -67,7 +79,7 @@ fn without_rules<'a, H: Threads + Wait + Sync>(
 ) -> Answer<Door<'a, H>> {
     let one = new_door(rt, alloc, told, Asked::Telnet, &[], &[]);
     let doors = Vec::from_array(alloc, [one])?;
-    serve_by(rt, alloc, &[], doors, 0)
+    serve_by(rt, alloc, told, &[], doors, 0, 0)
 }
 
 // A door for each of the parts.
@@ -79,9 +91,7 @@ fn doors_of<'a, H: Threads + Wait + Sync>(
 ) -> Result<Vec<Door<'a, H>>, NoMemory> {
     let mut doors = Vec::new(alloc);
     for part in parts {
-        doors.push(new_door(
-            rt, alloc, told, part.asked, part.script, part.marks,
-        ))?;
+        doors.push(new_door(rt, alloc, told, part.asked, part.script, part.marks))?;
     }
     Ok(doors)
 }
@@ -96,7 +106,7 @@ fn side_by_side<'a, H: Threads + Wait + Sync>(
         return Err(NoMemory);
     };
     let doors = doors_of(rt, alloc, told, parts)?;
-    serve_by(rt, alloc, &[ruled], doors, 0)
+    serve_by(rt, alloc, told, &[ruled], doors, 0, 0)
 }
 
 /// One door, a client of `tn-gw`, and no rules.
@@ -141,10 +151,11 @@ fn hand_in<'a, H: Threads + Wait + Sync>(
         return Err(NoMemory);
     };
     let doors = doors_of(rt, alloc, told, parts)?;
-    serve_by(rt, alloc, &[ruled], doors, 2)
+    serve_by(rt, alloc, told, &[ruled], doors, 2, 4)
 }
 
-/// Two doors, with a client each who hands in one message, two slots, and a mailer that accepts.
+/// Two doors, with a client each who hands in one message, two slots, and a mailer that accepts. The rounds rest until both clients
+/// have gone, so the last one hands the messages on.
 pub(crate) fn tell_two_letters<H: Threads + Wait + Sync>(rt: &H, alloc: Global, out: &mut Told) {
     let told = AtomicU64::new(0);
     match hand_in(rt, alloc, &told, &TWO_LETTERS) {

@@ -8,19 +8,32 @@ use fw_types::{NoMemory, Octets};
 use spool_rack::Rack;
 use std::alloc::Global;
 use std::sync::Wait;
+use std::sync::atomic::{AtomicU64, Ordering};
 use std::thread::Parker;
 use std::time::Duration;
 
-/// Rests for a millisecond.
+// How often it is looked whether enough was told, with a rest between.
+const LOOKS: u64 = 20_000;
+
+/// Rests until so many marks were told, and then as long as workers may need to end.
 #[derive(Drop)]
 pub(crate) struct Resting<'a, H> {
     pub(crate) rt: &'a H,
     pub(crate) parker: Parker,
+    pub(crate) told: &'a AtomicU64,
+    pub(crate) marks: u64,
 }
 
 impl<H: Wait> Pacer for Resting<'_, H> {
     fn rest(&mut self) {
-        self.parker.park_timeout(self.rt, Duration::from_millis(1));
+        for _look in 0..LOOKS {
+            if self.told.load(Ordering::SeqCst) >= self.marks {
+                break;
+            }
+            self.parker.park_timeout(self.rt, Duration::from_millis(1));
+        }
+        self.parker
+            .park_timeout(self.rt, Duration::from_millis(100));
     }
 }
 

@@ -95,7 +95,10 @@ fn tell_lines<H>(out: &mut Told, doors: &[Door<'_, H>], front: &[u8]) {
 }
 
 /// Also how many lines of a kind all clients were told.
-pub(crate) fn tell_told<H: Wait + Sync>(out: &mut Told, report: &Report<MemKeeper, Door<'_, H>, MemDisk>) {
+pub(crate) fn tell_told<H: Wait + Sync>(
+    out: &mut Told,
+    report: &Report<MemKeeper, Door<'_, H>, MemDisk>,
+) {
     tell_report(out, report);
     add_word(out, b"| told");
     tell_lines(out, &report.doors, b"ok");

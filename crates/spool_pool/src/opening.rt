@@ -140,6 +140,7 @@ impl<D: Disk> Pool<D> {
         rack: Rack<D>,
     ) -> Result<(Pool<D>, PoolPass<D>), (Rack<D>, NoMemory)>
         ensures pass { IfOk result (λ made. IfSome rack.queues (λ q. made.1 ≡ bare made.0.home (2 ^ 64) q)) }
+        ensures whole { IfOk result (λ made. made.1 ≡ bare made.0.home (2 ^ 64) made.1.handed.began) }
         ensures back { IfErr result (λ fault. fault.0 ≡ rack) }
     {
         let room = rack.count().max(1);
