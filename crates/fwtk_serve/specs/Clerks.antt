@@ -1,4 +1,4 @@
--- Who hands on the mail, and what the rounds came to so far.
+-- What rounds of handing on mail came to so far.
 -- No public clause cites these: they say what private functions do.
 use Rattle.std.specs.Prelude.{◌≡◌, ℕ, ◌+◌, ◌-◌, ◌^◌, min, if◌then◌else◌, List, [], ◌∷◌, Result}
 use Rattle.smapd_queue.specs.Meeting.{Meeting, meeting_with}
@@ -41,7 +41,7 @@ abbrev pub with_rounds : List RoundView → Sums → Sums
 with_rounds [] sums = sums
 with_rounds (round ∷ more) sums = with_rounds more (with_answer round.answer sums)
 
--- ---- a clerk
+-- ---- whoever hands on mail
 
 -- the store, the mailers and the log, and what the rounds came to
 pub record ClerkView : Type 0 where

@@ -8,8 +8,8 @@
 
 mod beside;
 mod choosing;
-mod clerk;
 mod crew;
+mod handing_on;
 mod holding;
 pub mod laws;
 mod meeting;

@@ -3,7 +3,7 @@ ghost use Rattle.std.specs.Prelude.{◌≡◌, ◌-◌, ◌^◌, ◌<◌, ◌≤
 ghost use Rattle.std.specs.Vec.{vec_capacity};
 ghost use Rattle.auth_machine.specs.History.{CountsUnkept, HasRecords, IsLegal};
 ghost use Rattle.auth_machine.specs.Port.{book_origin};
-ghost use Rattle.fwtk_serve.specs.Clerks.{HandsToEnd, clerk_with, no_sums};
+ghost use Rattle.fwtk_serve.specs.Clerks.{HandsMore, HandsToEnd, clerk_with};
 ghost use Rattle.fwtk_serve.specs.Meeting.{HaveWorked, IsReady};
 ghost use Rattle.fwtk_serve.specs.Passes.{AreOf, first_of};
 ghost use Rattle.fwtk_serve.specs.Rounds.{HandsOnAll, Settles, turns_for};
@@ -15,8 +15,8 @@ ghost use mathlib.Core.List.{IsPrefix};
 
 use crate::beside::run_beside;
 use crate::choosing::no_rules;
-use crate::clerk::{Clerk, Meanwhile};
 use crate::crew::Crew;
+use crate::handing_on::{hand_on, hand_on_meanwhile};
 use crate::meeting::{Gathered, meet_all};
 use crate::report::Report;
 use crate::starting::workers_of;
@@ -59,12 +59,13 @@ fn serve_all<'a, H, K, A, D, G, P>(
     turns: &Turns<Book<K>>,
     pool: &'a Pool<D>,
     workers: Vec<WorkerOf<A, K, D>>,
-    seat: PoolSeat<'a, H, D>,
+    seat: &mut PoolSeat<'a, H, D>,
     mailers: &mut Vec<Box<dyn Mailer>>,
     each: u32,
     logs: &mut G,
     pacer: &mut P,
-) -> (Vec<WorkerOf<A, K, D>>, PoolSeat<'a, H, D>, Sums)
+    sums: &mut Sums,
+) -> Vec<WorkerOf<A, K, D>>
 where
     H: Threads + Wait + Sync,
     K: Keeper + Send,
@@ -84,12 +85,13 @@ where
     requires some { 0 < length mailers.old.items }
     ensures workers { HaveWorked rules.now turns.now pool.now
         (map (λ w. worker_with (A.acceptor_view w.door) w.sessions.items w.short w.passes) workers.items)
-        (map (λ w. worker_with (A.acceptor_view w.door) w.sessions.items w.short w.passes) result.0.items) }
+        (map (λ w. worker_with (A.acceptor_view w.door) w.sessions.items w.short w.passes) result.items) }
     ensures hands { HandsToEnd each
-        (clerk_with (store_of seat) (map (λ m. mailer_view m) mailers.old.items) (G.sink_view logs.old) no_sums)
-        (clerk_with (store_of result.1) (map (λ m. mailer_view m) mailers.new.items) (G.sink_view logs.new) result.2) }
+        (clerk_with (store_of seat.old) (map (λ m. mailer_view m) mailers.old.items) (G.sink_view logs.old) sums.old)
+        (clerk_with (store_of seat.new) (map (λ m. mailer_view m) mailers.new.items) (G.sink_view logs.new) sums.new) }
 {
     let ended = AtomicU64::new(0);
+    let told = &ended;
     let crew = Crew {
         rt,
         alloc,
@@ -97,34 +99,19 @@ where
         none,
         turns,
         pool,
-        ended: &ended,
+        ended: told,
         workers,
     };
-    let clerk = Clerk {
-        seat,
-        mailers,
-        logs,
-        turns: each,
-        sums: Sums::none(),
-    };
-    let meanwhile = Meanwhile {
-        rt,
-        alloc,
-        ended: &ended,
-        clerk,
-        pacer,
-    };
-    let (workers, clerk) = run_beside(rt, crew, meanwhile);
-    let mut clerk = clerk;
-    clerk.hand_on(alloc);
-    let Clerk {
-        seat,
-        mailers: _,
-        logs: _,
-        turns: _,
-        sums,
-    } = clerk;
-    (workers, seat, sums)
+    let mut meanwhile = ||
+        requires { 0 < length mailers.now.items }
+        ensures { HandsMore each
+            (clerk_with (store_of seat.entry.now) (map (λ m. mailer_view m) mailers.entry.now.items) (G.sink_view logs.entry.now) sums.entry.now)
+            (clerk_with (store_of seat.exit.now) (map (λ m. mailer_view m) mailers.exit.now.items) (G.sink_view logs.exit.now) sums.exit.now)
+            × (length mailers.exit.now.items ≡ length mailers.entry.now.items) }
+    { hand_on_meanwhile(rt, alloc, told, pacer, seat, mailers, each, logs, sums) };
+    let (workers, ()) = run_beside(rt, crew, &mut meanwhile);
+    hand_on(alloc, seat, mailers, each, logs, sums);
+    workers
 }
 
 // The workers begin, work, and meet, while mail is handed on; and book and pool are closed. There is room for the workers, and for
@@ -185,9 +172,11 @@ where
     let mut passes = passes;
     let workers = workers_of(alloc, &turns, &pool, &mut passes, doors, room);
     let Passes { book, mail } = passes;
-    let seat = PoolSeat::new(rt, &pool, mail);
-    let (workers, seat, sums) = serve_all(
-        rt, alloc, rules, none, &turns, &pool, workers, seat, mailers, each, logs, pacer,
+    let mut seat = PoolSeat::new(rt, &pool, mail);
+    let mut sums = Sums::none();
+    let workers = serve_all(
+        rt, alloc, rules, none, &turns, &pool, workers, &mut seat, mailers, each, logs, pacer,
+        &mut sums,
     );
     let mut passes = Passes {
         book,
