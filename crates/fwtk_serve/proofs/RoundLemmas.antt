@@ -330,6 +330,33 @@ with_last : (rounds : List RoundView) (round : RoundView) (sums : Sums) → with
 with_last [] round sums = refl
 with_last (r ∷ rs) round sums = with_last rs round (with_answer r.answer sums)
 
+-- ---- who hands on mail
+
+-- no round yet
+pub hands_none : (most : ℕ) (old : ClerkView) → HandsMore most old old
+hands_none most old = record { rounds = []; went = refl; sums = refl }
+
+-- one more
+pub hands_then : (most : ℕ) (old mid new : ClerkView) → HandsMore most old mid → HandsOnce most mid new → HandsMore most old new
+hands_then most old mid new h one = record {
+  rounds = h.rounds ++ one.round ∷ [];
+  went = rounds_more most h.rounds (one.round ∷ []) old.met mid.met new.met h.went one.went;
+  sums = one.sums ∙ ap (with_answer one.round.answer) h.sums ∙ with_last h.rounds one.round old.sums;
+}
+
+-- a round as `smapd_round` says
+pub hands_one : (most : ℕ) (answer : Result Round RoundFault) (old new : ClerkView) → HandsOn most answer old.met new.met → new.sums ≡ with_answer answer old.sums → HandsOnce most old new
+hands_one most answer old new h sums = record {
+  round = record { answer = answer; turns = h.turns; ending = h.ending };
+  went = record { middle = new.met; first = record { hands = h; turns_are = refl; ending_is = refl }; more = refl };
+  sums = sums;
+}
+
+-- mailers with a first one
+pub has_first : (mailers : List MailerView) → 0 < length mailers → HasFirst mailers
+has_first (first ∷ others) some = record { first = first; others = others; is = refl }
+has_first [] some = absurd (omega (arith, some))
+
 -- ---- the log
 
 logs_hold : (turns : List Turn) (ending : End) (old new : SinkView) → LogGoes turns ending old new → old.faults ≤ new.faults
