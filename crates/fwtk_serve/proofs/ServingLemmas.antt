@@ -1,23 +1,26 @@
 -- From the first passes to the report.
-use Rattle.std.proofs.Common.{arith, ◌≡◌, refl, sym, ap, ap₂, subst, ◌∙◌, ℕ, ◌+◌, ◌-◌, ◌^◌, ◌<◌, ◌≤◌, min, List, [], ◌∷◌, ◌++◌, length, Option, Some, append-nil}
+use Rattle.std.proofs.Common.{arith, ◌≡◌, refl, sym, ap, ap₂, subst, ◌∙◌, ℕ, ◌+◌, ◌-◌, ◌^◌, ◌<◌, ◌≤◌, min, List, [], ◌∷◌, ◌++◌, length, Option, Some, None, IfSome, append-nil}
 use Rattle.std.proofs.lemmas.List.{length-map}
 use Rattle.std.specs.Prelude.{map, slice_index_or}
 use Rattle.std.specs.List.Sorted.{IsPermutation}
 use Rattle.acceptors.specs.AcceptorView.{AcceptorView}
 use Rattle.auth_events.specs.declared.entry.Entry.{Entry}
 use Rattle.auth_machine.specs.Port.{BookOrigin}
+use Rattle.fw_mail.specs.MailerView.{MailerView}
+use Rattle.fw_outside.specs.SinkView.{SinkView}
 use Rattle.gate_rules.specs.Reading.{RuleBook}
 use Rattle.gate_rules.specs.declared.service.Service.{Service}
 use Rattle.spool_pool.specs.Ends.{Became, IsSettled, from_full}
 use Rattle.spool_pool.specs.Known.{PassView, PoolView, bare, closed}
-use Rattle.spool_rack.specs.Stock.{rack_of}
+use Rattle.smapd_queue.specs.declared.round.Round.{Round}
+use Rattle.spool_rack.specs.Stock.{count_of, rack_of}
 use Rattle.spool_rack.specs.Store.{Handed, Queues, StoreView}
 use Rattle.turn_lock.specs.Known.{IsPassOf, Lock, knowing}
 use Rattle.turn_lock.specs.Places.{AreWithin, Fill, NoneTwice}
 use Rattle.fwtk_serve.specs.Clerks.{ClerkView, HandsToEnd}
 use Rattle.fwtk_serve.specs.Meeting.{HavePasses, HaveWorked, IsReady, WorkerView, passes_of, starting}
 use Rattle.fwtk_serve.specs.Passes.{AreOf, IsApart, MeetAll, Pass, first_of, less, met_each}
-use Rattle.fwtk_serve.specs.Rounds.{Settles, all_turns, of_rack}
+use Rattle.fwtk_serve.specs.Rounds.{HandsOnAll, Settles, all_turns, of_rack, turns_for}
 use Rattle.fwtk_serve.specs.Sessions.{Both, ServedView, store_at}
 use Rattle.fwtk_serve.specs.Stepping.{workers_short}
 use Rattle.fwtk_serve.specs.Working.{ServedAll, at_first, split_off}
@@ -111,6 +114,20 @@ settles_all before pass mail rack left began parts is rack_is settled = record {
   settled = settled_by pass.handed (of_rack before mail.handed) left began
       (sym (ap (λ (p : PassView). p.handed.put) is)) (sym (ap (λ (p : PassView). p.handed.released) is)) (sym (ap (λ (p : PassView). p.handed.aside) is)) (sym (ap (λ (p : PassView). p.handed.broken) is)) (settled parts);
 }
+
+-- ---- by the slots of the rack
+
+-- as many turns as there are slots
+pub hands_for : (queues : Option Queues) (slots each : ℕ) (round : Round) (starved : ℕ) (mail : PassView) (mailers after : List MailerView) (logs log_after : SinkView) → IfSome queues (λ q. slots ≡ count_of q) → each ≡ min slots (2 ^ 32 - 1)
+    → HandsOnAll each round starved mail mailers after logs log_after → IfSome queues (λ q. HandsOnAll (turns_for q) round starved mail mailers after logs log_after)
+hands_for None slots each round starved mail mailers after logs log_after count is h = tt
+hands_for (Some q) slots each round starved mail mailers after logs log_after count is h =
+    subst (λ (n : ℕ). HandsOnAll n round starved mail mailers after logs log_after) (is ∙ ap (λ (n : ℕ). min n (2 ^ 32 - 1)) count) h
+
+-- the pool began with them
+pub settles_for : (queues : Option Queues) (home : List (List ℕ)) (first mail : PassView) (rack : StoreView) → IfSome queues (λ q. first ≡ bare home (2 ^ 64) q) → Settles first.handed.began mail rack → IfSome queues (λ q. Settles q mail rack)
+settles_for None home first mail rack is h = tt
+settles_for (Some q) home first mail rack is h = subst (λ (b : Queues). Settles b mail rack) (ap (λ (p : PassView). p.handed.began) is) h
 
 -- ---- the workers
 
