@@ -26,7 +26,7 @@ use Rattle.spool_rack.specs.Store.{StoreView, with_put}
 use Rattle.turn_lock.specs.Known.{Known, Lock}
 use Rattle.fwtk_serve.specs.Mailed.{Mailed, mailed_by}
 use Rattle.fwtk_serve.specs.RulesFor.{rules_for}
-use Rattle.fwtk_serve.specs.declared.worker.Passes.{Passes}
+use Rattle.fwtk_serve.specs.declared.passes.Passes.{Passes}
 use mathlib.Core.List.{IsPrefix}
 
 -- what is reported of a session: whose it was, how it ended, and the places of the entries that it made in the history

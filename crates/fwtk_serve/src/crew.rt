@@ -5,7 +5,8 @@ ghost use Rattle.fwtk_serve.specs.RulesFor.{MayServe, no_rules};
 ghost use Rattle.fwtk_serve.specs.Stepping.{worker_with};
 
 use crate::beside::Task;
-use crate::worker::{PassesOf, Worker, WorkerOf};
+use crate::passes::PassesOf;
+use crate::worker::{Worker, WorkerOf};
 use crate::working::work;
 use acceptors::Acceptor;
 use auth_port::{Book, Turns};

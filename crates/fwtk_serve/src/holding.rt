@@ -4,8 +4,8 @@ ghost use Rattle.fwtk_serve.specs.Passes.{AreOf};
 ghost use Rattle.fwtk_serve.specs.Sessions.{visit_with};
 ghost use Rattle.fwtk_serve.specs.Stepping.{Holds};
 
+use crate::passes::{Passes, PassesOf};
 use crate::report::Served;
-use crate::worker::{Passes, PassesOf};
 use acceptors::{Acceptor, CallerOf};
 use auth_port::{Book, SharedBook, Turns};
 use client_service::conn;

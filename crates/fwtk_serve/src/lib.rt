@@ -13,6 +13,7 @@ mod handing_on;
 mod holding;
 pub mod laws;
 mod meeting;
+mod passes;
 mod report;
 mod serving;
 mod starting;

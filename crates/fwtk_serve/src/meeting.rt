@@ -6,8 +6,9 @@ ghost use Rattle.fwtk_serve.specs.Passes.{AreOf, IsApart, MeetAll, MetAll};
 ghost use Rattle.fwtk_serve.specs.Stepping.{gathered_with, with_worker, worker_with, workers_short};
 ghost use Rattle.turn_lock.specs.Known.{IsPassOf};
 
+use crate::passes::{Passes, PassesOf};
 use crate::report::Served;
-use crate::worker::{Passes, PassesOf, Worker, WorkerOf};
+use crate::worker::{Worker, WorkerOf};
 use acceptors::Acceptor;
 use auth_port::{Book, Pass, Turns};
 use fw_disk::Disk;

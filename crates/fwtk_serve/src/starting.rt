@@ -9,7 +9,8 @@ ghost use Rattle.spool_pool.specs.Known.{less_one};
 ghost use Rattle.spool_pool.specs.Known as pools;
 ghost use Rattle.turn_lock.specs.Known.{IsPassOf, knowing};
 
-use crate::worker::{Passes, PassesOf, Worker, WorkerOf};
+use crate::passes::{Passes, PassesOf};
+use crate::worker::{Worker, WorkerOf};
 use acceptors::Acceptor;
 use auth_port::{Book, Pass, Turns};
 use fw_disk::Disk;

@@ -9,7 +9,7 @@ use Rattle.turn_lock.proofs.pass.Pass.TheSendSync as Pass
 use Rattle.turn_lock.proofs.turns.Turns.TheSendSync as Turns
 use Rattle.fwtk_serve.proofs.CrossingLemmas.{book_send, six_sync}
 use Rattle.fwtk_serve.proofs.EachLemmas.{all_worked}
-use Rattle.fwtk_serve.proofs.worker.Passes.TheSendSync as Passes
+use Rattle.fwtk_serve.proofs.passes.Passes.TheSendSync as Passes
 use Rattle.fwtk_serve.proofs.worker.Worker.TheSendSync as Worker
 use Rattle.fwtk_serve.proofs.crew.all_work.Goals as goal
 
