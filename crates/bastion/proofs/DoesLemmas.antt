@@ -38,7 +38,7 @@ use Rattle.bastion.specs.declared.words.Caller.{Caller}
 use Rattle.bastion.specs.declared.words.Command.{Command}
 use Rattle.bastion.specs.declared.words.Command.TheVariants as commands
 use Rattle.bastion.specs.declared.words.Query.{Query}
-use Rattle.bastion.proofs.InputLemmas.{NeedsRules, inputs_rules, inputs_server, needs_them, refuses_record, refuses_rules, refuses_server}
+use Rattle.bastion.proofs.InputLemmas.{NeedsRules, has_lines, inputs_rules, inputs_server, needs_them, refuses_record, refuses_rules, refuses_server}
 
 -- only the files were asked
 pub record AskedFiles (old new : WorldView) : Type 0 where
@@ -198,6 +198,7 @@ module _ (name : List ℕ) (service : Service) (server_rules : ServerRules) (old
   pub unopened_stops : (outcome : Outcome) (new : WorldView) → Unopened outcome mid new → StopsEach name service outcome old new
   unopened_stops (Failed device.Records) new h = λ command needed. record {
     needed = needs_them command service needed;
+    lines = has_lines command service needed name server_rules old found.of_text;
     files = subst (λ (f : FilesView). AsksTable name old.files f) (sym (ap (λ (w : WorldView). w.files) h.is)) found.asks;
     before = h.before;
     keeper = old_keeper old mid h.before asked h.keeper;

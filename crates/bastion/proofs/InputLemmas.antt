@@ -12,7 +12,7 @@ use Rattle.gate_rules.specs.declared.service.Service.{Service}
 use Rattle.netperm_table.specs.Table.{table_of}
 use Rattle.netperm_table.specs.declared.line.Line.{Line}
 use Rattle.netperm_table.specs.declared.table_fault.TableFault.{TableFault}
-use Rattle.bastion.specs.Inputs.{HasInputs, Inputs, IsAllOf, Need, OfText, book_needs, inputs_by, inputs_of, is_of_line, is_of_records, is_of_table, need_then, needs, needs_records, needs_then, no_inputs, with_policy, with_records, with_rules}
+use Rattle.bastion.specs.Inputs.{HasInputs, HasLines, Inputs, IsAllOf, Need, OfText, book_needs, inputs_by, inputs_of, is_of_line, is_of_records, is_of_table, need_then, needs, needs_records, needs_then, no_inputs, with_policy, with_records, with_rules}
 use Rattle.bastion.specs.Inputs.Need.{RulesOf, ThePolicy, TheRecords}
 use Rattle.bastion.specs.Reading.{both_of, or_rule_fault, ruling_by, ruling_in, server_rules_of}
 use Rattle.bastion.specs.WorldView.{WorldView}
@@ -148,6 +148,14 @@ inputs_server command service needed name server_rules records before after worl
 pub refuses_record : (command : Command) (service : Service) → needs command ≡ book_needs service → (name : List ℕ) (server_rules : ServerRules) (user : List ℕ) (at : ℕ) (before after : KeeperView) (world : WorldView) → world.inputs.keeper ≡ Some before
     → OfText world.files.holds name (λ text. ruling_in (server_rules_of service) text ≡ Ok server_rules) → ReadsAs (Err (user, at)) before after → HasInputs name command (Err (Record user at)) world
 refuses_record command service needed name server_rules user at before after world keeper said read = read_server command service needed name server_rules (Err (user, at)) before after world keeper said read
+
+no_line : (inputs : Inputs) (records : Result (List Fields) (List ℕ × ℕ)) → is_of_table (with_records inputs records) ≡ false
+no_line inputs (Ok records) = refl
+no_line inputs (Err bad) = refl
+
+-- where the rules and the policy can be read, no line of the table refuses
+pub has_lines : (command : Command) (service : Service) → needs command ≡ book_needs service → (name : List ℕ) (server_rules : ServerRules) (world : WorldView) → OfText world.files.holds name (λ text. ruling_in (server_rules_of service) text ≡ Ok server_rules) → HasLines name command world
+has_lines command service needed name server_rules world said = λ loaded. of_text world.files.holds name (λ text h. ap (λ (some : List Need). is_of_table (inputs_of some text loaded)) needed ∙ ap is_of_table (text_server_ok service loaded text server_rules h) ∙ no_line (server_inputs server_rules []) (records_in loaded)) said
 
 of_no_records : {A : Type 0} (refusal : Refusal) → is_of_line refusal ≡ true → is_of_table (Err refusal) ≡ false → A
 of_no_records refusal line record_ = absurd (cc)

@@ -138,3 +138,7 @@ pub record HasInputs (name : List ℕ) (command : Command) (read : Result Inputs
   pub loaded : NamedBytes
   pub of_table : OfText world.files.holds name (λ text. inputs_of (needs command) text loaded ≡ read)
   pub of_keeper : needs_records command ≡ true → is_of_table read ≡ false → IfSome world.inputs.keeper (IsAllOf loaded)
+
+-- no line of the table refuses a command, whatever the records are: of the text under the table's name, where the files tell
+abbrev pub HasLines : List ℕ → Command → WorldView → Type 0
+HasLines name command world = (loaded : NamedBytes) → OfText world.files.holds name (λ text. is_of_table (inputs_of (needs command) text loaded) ≡ false)

@@ -9,7 +9,7 @@ use Rattle.fw_outside.specs.declared.failed.Failed as sink
 use Rattle.fw_types.specs.declared.peer.Peer.{Peer}
 use Rattle.gate_rules.specs.Verdict.{verdict_of}
 use Rattle.gate_rules.specs.declared.verdict.Verdict.{Verdict}
-use Rattle.bastion.specs.Inputs.{HasInputs, Inputs, is_of_line, needs_records}
+use Rattle.bastion.specs.Inputs.{HasInputs, HasLines, Inputs, is_of_line, needs_records}
 use Rattle.bastion.specs.Jobs.{DoesJob}
 use Rattle.bastion.specs.Outcome.{RoseIn, fault_line_of, status_of, verdict_status}
 use Rattle.bastion.specs.Words.{LineView}
@@ -78,9 +78,11 @@ pub record FilesUnread (name : List ℕ) (old new : WorldView) : Type 0 where
   pub logs : new.logs ≡ old.logs
   pub inputs : new.inputs ≡ old.inputs
 
--- the table was read, and the keeper failed, of a command that needs the records; nothing else happened
+-- the table was read, and no line of it refuses; then the keeper failed, of a command that needs the records, and nothing else
+-- happened
 pub record RecordsUnread (name : List ℕ) (command : Command) (old new : WorldView) : Type 0 where
   pub needed : needs_records command ≡ true
+  pub lines : HasLines name command old
   pub files : AsksTable name old.files new.files
   pub before : KeeperView
   pub keeper : old.inputs.keeper ≡ Some before
