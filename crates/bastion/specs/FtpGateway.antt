@@ -82,7 +82,7 @@ pub record IsUpheld (gate : Gate) (history : List Entry) {old new : World BookOr
   pub known_by : LoginsTold gate
   pub doors : OpensOwn gate (deeds_of held)
   pub copies : CopiesOwn gate (deeds_of held)
-  -- both data links are up at each copy, so that it carries something
+  -- at each copy both data links are still up
   pub carries : CopiesCarry (deeds_of held)
   -- and each goes between the link that was asked for as a data link to a server and the one that was asked for as the client's
   pub between : CopiesMarked (deeds_of held) old new

@@ -1,4 +1,4 @@
--- Each transfer of which the client is told that it ended early broke off, unless all that may be taken was, and so was counted.
+-- Each transfer of which the client is told that it ended early broke off, and so was counted, unless all that may be taken was.
 use Rattle.std.proofs.Common.{arith, ◌≡◌, refl, sym, ap, subst, ◌∙◌, ℕ, ◌+◌, ◌≤◌, Bool, true, false, not, ◌&&◌, nat_lt, List, [], ◌∷◌, ◌++◌, codes, length, Option, Some, None, Result, Ok, Err, append_assoc, if◌then◌else◌}
 use Rattle.std.proofs.lemmas.List.{length-append}
 use Rattle.std.specs.List.{AllByRecursion}

@@ -1,4 +1,4 @@
--- What broke off of a session: data are copied only while data links are up, and each transfer that broke off and of which the client is told is counted.
+-- What broke off of a session: data are copied only while data links are up, and each transfer of which the client is told that it ended early is counted.
 use Rattle.std.specs.Prelude.{◌≡◌, ℕ, ◌+◌, ◌-◌, ◌^◌, ◌<◌, ◌≤◌, ◌&&◌, nat_lt, is_some, Bool, true, false, List, [], ◌∷◌, ◌++◌, codes, length, Option, Some, None, Result, Ok, Err, if◌then◌else◌}
 use Rattle.relay_ways.specs.Carried.{Way}
 use Rattle.session_acts.specs.Acts.{Act, Outcome}
@@ -8,7 +8,7 @@ use Rattle.session_acts.specs.World.{World, most_taken}
 use Rattle.session_acts.specs.declared.toward.Toward.{Toward}
 use Rattle.ftp_gate.specs.Known.{begins}
 
--- whenever data were copied, data links were up, so that there is what was carried
+-- whenever data were copied, both data links were up, so that the answer has what was carried
 abbrev pub CopiesCarry : List Deed → Type 0
 CopiesCarry deeds =
     (before after : List Deed) (toward : Toward) (carried : Option Way) → deeds ≡ before ++ record { act = Copy toward; outcome = Ok carried } ∷ after → is_some carried ≡ true
@@ -30,8 +30,8 @@ abbrev pub tells_break : Act → Bool
 tells_break (Say text) = begins text (codes "426")
 tells_break act = false
 
--- How often it is told so of a transfer that took fewer bytes than could be taken, where by the copy before these deeds so many
--- were.
+-- How often it is told so in answer to a transfer that took fewer than 2^40 bytes. So many were taken by the last copy before these
+-- deeds.
 abbrev pub breaks_from : ℕ → List Deed → ℕ
 breaks_from taken [] = 0
 breaks_from taken (deed ∷ deeds) =
@@ -44,4 +44,4 @@ breaks_told deeds = breaks_from 0 deeds
 abbrev pub CountsBreaks : {Origin : Type 0} → List Deed → World Origin → World Origin → Type 0
 CountsBreaks deeds old new =
     (new.server.dialer.data_faults < 2 ^ 64 - 1) → (new.server.dialer.data_idles < 2 ^ 64 - 1)
-        → old.server.dialer.data_faults + old.server.dialer.data_idles + breaks_told deeds ≤ new.server.dialer.data_faults + new.server.dialer.data_idles
+    → old.server.dialer.data_faults + old.server.dialer.data_idles + breaks_told deeds ≤ new.server.dialer.data_faults + new.server.dialer.data_idles

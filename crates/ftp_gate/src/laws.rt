@@ -59,8 +59,8 @@ pub fn what_the_server_is_given<Origin>()
 /// client's own address, at a port from 1,024 on, or at a door (`joins`). They are wanted only while that link is up and, if
 /// at a door, one stands: so the one to the server, at least, is asked for (`asked`). A door is opened for a PASV that was heard
 /// last and isn't blocked, where a link came up (`doors`). Data are copied the way of a transfer that was heard last and isn't
-/// blocked, where both data links came up, and the server's last reply to it says that it transfers (`copies`); and both are
-/// still up then, so that each copy carries something, if it be nothing but the end (`carries`).
+/// blocked, where both data links came up, and the server's last reply to it says that it transfers (`copies`). At each
+/// copy both are still up (`carries`).
 pub fn data_links_are_the_sessions_own<Origin>()
     ensures joins { (gate : Gate) (old new : World Origin) (ending : Ending) (held : Held (ftp_rows gate) ftp_row old new ending) →
         JoinsOwn gate (deeds_of held) }
