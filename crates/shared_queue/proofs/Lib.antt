@@ -1,0 +1,4 @@
+mod Sums
+mod Orders
+mod Keeps
+mod Passes

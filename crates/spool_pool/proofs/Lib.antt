@@ -1,0 +1,10 @@
+pub mod Counts
+mod Perms
+mod Fates
+mod Tallies
+mod Accounts
+mod Begins
+mod Passes
+mod Seats
+mod Settles
+mod Drains
