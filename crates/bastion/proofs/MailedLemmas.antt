@@ -32,7 +32,7 @@ use Rattle.session_acts.specs.Session.{deeds_of}
 use Rattle.session_acts.specs.Stored.{AreKept, KeptMail, kept}
 use Rattle.session_acts.specs.World.{Devices, World, at_first, most_taken}
 use Rattle.spool_rack.specs.Opening.{AreInOrder, AreSlotsOf, CameBack, IsRackFault, IsRackOf, IsSlotOf, queues_of, store_of}
-use Rattle.spool_rack.specs.Store.{Handed, PutGrew, Queues, StoreView}
+use Rattle.spool_rack.specs.Store.{Handed, PutGrew, Queues, StoreView, with_put}
 use Rattle.spool_slots.specs.Opened.{disk_of}
 use Rattle.spool_slots.specs.States.{FullView}
 use Rattle.spool_slots.specs.declared.opening.Opened.{Opened}
@@ -246,9 +246,9 @@ full_none : (q : Option Queues) → option_map (λ (a : Queues). a.full) q ≡ o
 full_none None = refl
 full_none (Some q) = ap (λ (l : List FullView). Some l) (sym (append-nil q.full))
 
-put_none : (handed : Option Handed) → option_map (λ (lists : Handed). lists.put) handed ≡ option_map (λ (put : List FullView). put ++ []) (option_map (λ (lists : Handed). lists.put) handed)
+put_none : (handed : Option Handed) → handed ≡ option_map (with_put []) handed
 put_none None = refl
-put_none (Some lists) = ap (λ (l : List FullView). Some l) (sym (append-nil lists.put))
+put_none (Some lists) = ap (λ (put : List FullView). Some (record lists { put = put })) (sym (append-nil lists.put))
 
 pub session_leaves : (line : List ℕ) (peer : Peer) (rules : RuleBook) (ending : Ending) (old new : Devices (Unit {0})) (h : MailsBehind line (mail_gate_of rules peer) ending old new) → LeavesStore (gives kept (deeds_of h.session.held)) old.store new.store
 session_leaves line peer rules ending old new h =
@@ -265,7 +265,7 @@ store_here : (old new : StoreView) → new ≡ old → LeavesStore [] old new
 store_here old new is = subst (λ (s : StoreView). LeavesStore [] old s) (sym is) (record {
   stays = same_stays old old refl;
   more = [];
-  grew = record { queued = full_none old.queues; listed = put_none old.handed };
+  grew = record { queued = full_none old.queues; listed = put_none old.handed; no_full = refl };
   are = tt;
 })
 

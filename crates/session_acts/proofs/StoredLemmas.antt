@@ -13,7 +13,7 @@ use Rattle.session_acts.specs.World.{World}
 use Rattle.session_acts.specs.declared.deposited.Deposited.{Deposited}
 use Rattle.session_acts.specs.declared.deposited.Deposited.TheVariants.{NoSlot, NotBegun, Kept, TooLarge, Faulted, Ended}
 use Rattle.smap_lines.specs.Body.{Body}
-use Rattle.spool_rack.specs.Store.{HasNoFree, HasTakenFree, Handed, Loan, PutGrew, PutsBroken, Queues, StoreView, WasTaken, OfLoan, given_broken, given_free, loan_of, put_free, put_full, struck, with_broken, with_free, without_free}
+use Rattle.spool_rack.specs.Store.{HasNoFree, HasTakenFree, Handed, Loan, PutGrew, PutsBroken, Queues, StoreView, WasTaken, OfLoan, given_broken, given_free, loan_of, put_free, put_full, struck, with_broken, with_free, with_put, without_free}
 use Rattle.spool_rack.proofs.StoreLemmas.{put_grew}
 use Rattle.spool_slots.specs.States.{BrokenView, FullView, Keeps, SlotView}
 
@@ -56,12 +56,15 @@ full_here : (queues : Option Queues) → option_map (λ (q : Queues). q.full) qu
 full_here None = refl
 full_here (Some q) = ap (λ (full : List FullView). Some full) (sym (append-nil q.full))
 
-put_here : (handed : Option Handed) → option_map (λ (lists : Handed). lists.put) handed ≡ option_map (λ (put : List FullView). put ++ []) (option_map (λ (lists : Handed). lists.put) handed)
+lists_here : (lists : Handed) → lists ≡ with_put [] lists
+lists_here lists = ap (λ (put : List FullView). record lists { put = put }) (sym (append-nil lists.put))
+
+put_here : (handed : Option Handed) → handed ≡ option_map (with_put []) handed
 put_here None = refl
-put_here (Some lists) = ap (λ (put : List FullView). Some put) (sym (append-nil lists.put))
+put_here (Some lists) = ap (λ (l : Handed). Some l) (lists_here lists)
 
 grows_here : (old : StoreView) → Grows [] [] [] old old
-grows_here old = record { slots = []; grew = record { queued = full_here old.queues; listed = put_here old.handed }; are = tt; out = refl; no_free = omega arith; broken = omega arith }
+grows_here old = record { slots = []; grew = record { queued = full_here old.queues; listed = put_here old.handed; no_full = refl }; are = tt; out = refl; no_free = omega arith; broken = omega arith }
 
 grows_same : (old new : StoreView) → new ≡ old → Grows [] [] [] old new
 grows_same old new is = subst (λ (s : StoreView). Grows [] [] [] old s) (sym is) (grows_here old)
@@ -72,7 +75,7 @@ grows_none sender old new h =
     let rose = h.rose.1 in
     subst (λ (s : StoreView). Grows [] (sender ∷ []) [] old s) (sym h.is) (record {
       slots = [];
-      grew = record { queued = full_here old.queues; listed = put_here old.handed };
+      grew = record { queued = full_here old.queues; listed = put_here old.handed; no_full = refl };
       are = tt;
       out = refl;
       no_free = omega (arith, rose);
@@ -84,16 +87,17 @@ free_queues : (slot : SlotView) (queues : Option Queues) → option_map (λ (q :
 free_queues slot None = refl
 free_queues slot (Some q) = ap (λ (full : List FullView). Some full) (sym (append-nil q.full))
 
-free_handed : (loan : Loan) (handed : Option Handed) → loan.was_full ≡ false → option_map (λ (lists : Handed). lists.put) (option_map (given_free (Some loan)) handed) ≡ option_map (λ (put : List FullView). put ++ []) (option_map (λ (lists : Handed). lists.put) handed)
+free_handed : (loan : Loan) (handed : Option Handed) → loan.was_full ≡ false → option_map (given_free (Some loan)) handed ≡ option_map (with_put []) handed
 free_handed loan None is = refl
-free_handed loan (Some lists) is = rw is (ap (λ (put : List FullView). Some put) (sym (append-nil lists.put)))
+free_handed loan (Some lists) is = rw is (ap (λ (l : Handed). Some l) (lists_here lists))
 
 free_back : (slot put : SlotView) (old : StoreView) → put.number ≡ slot.number → Grows [] [] [] old (put_free put (lent_of slot old))
 free_back slot put old is = record {
   slots = [];
   grew = record {
     queued = free_queues put old.queues;
-    listed = subst (λ (o : Option Loan). option_map (λ (lists : Handed). lists.put) (option_map (given_free o) old.handed) ≡ option_map (λ (p : List FullView). p ++ []) (option_map (λ (lists : Handed). lists.put) old.handed)) (sym (loan_here put.number slot.number old.out is)) (free_handed (lent_free slot.number) old.handed refl);
+    listed = subst (λ (o : Option Loan). option_map (given_free o) old.handed ≡ option_map (with_put []) old.handed) (sym (loan_here put.number slot.number old.out is)) (free_handed (lent_free slot.number) old.handed refl);
+    no_full = refl;
   };
   are = tt;
   out = struck_here put.number slot.number old.out is;
@@ -110,9 +114,9 @@ broken_queues : (slot : BrokenView) (queues : Option Queues) → option_map (λ 
 broken_queues slot None = refl
 broken_queues slot (Some q) = ap (λ (full : List FullView). Some full) (sym (append-nil q.full))
 
-broken_handed : (slot : BrokenView) (handed : Option Handed) → slot.from_full ≡ false → option_map (λ (lists : Handed). lists.put) (option_map (given_broken slot) handed) ≡ option_map (λ (put : List FullView). put ++ []) (option_map (λ (lists : Handed). lists.put) handed)
+broken_handed : (slot : BrokenView) (handed : Option Handed) → slot.from_full ≡ false → option_map (given_broken slot) handed ≡ option_map (with_put []) handed
 broken_handed slot None is = refl
-broken_handed slot (Some lists) is = rw is (ap (λ (put : List FullView). Some put) (sym (append-nil lists.put)))
+broken_handed slot (Some lists) is = rw is (ap (λ (l : Handed). Some l) (lists_here lists))
 
 broken_back : (senders : List (List ℕ)) (slot : SlotView) (put : BrokenView) (old new : StoreView) → length senders ≤ 1 → put.number ≡ slot.number → put.from_full ≡ false → PutsBroken put (lent_of slot old) new → Grows [] [] senders old new
 broken_back senders slot put old new few number empty puts =
@@ -120,7 +124,7 @@ broken_back senders slot put old new few number empty puts =
     let more = rose.1 in
     subst (λ (s : StoreView). Grows [] [] senders old s) (sym puts.is) (record {
       slots = [];
-      grew = record { queued = broken_queues put old.queues; listed = broken_handed put old.handed empty };
+      grew = record { queued = broken_queues put old.queues; listed = broken_handed put old.handed empty; no_full = refl };
       are = tt;
       out = struck_here put.number slot.number old.out number;
       no_free = omega arith;
@@ -141,7 +145,7 @@ full_back slot one put old number named long keeps =
     let grew = put_grew put (lent_of slot old) (was_free put.number slot.number old.out number) in
     record {
       slots = put ∷ [];
-      grew = record { queued = grew.queued ∙ ap (option_map (λ (full : List FullView). full ++ put ∷ [])) (full_lent old.queues); listed = grew.listed };
+      grew = record { queued = grew.queued ∙ ap (option_map (λ (full : List FullView). full ++ put ∷ [])) (full_lent old.queues); listed = grew.listed; no_full = grew.no_full };
       are = (named, keeps, tt, long);
       out = struck_here put.number slot.number old.out number;
       no_free = omega arith;
@@ -223,6 +227,10 @@ option_twice : (o p q : Option (List FullView)) (a b : List FullView) → p ≡ 
 option_twice None p q a b first then_so = then_so ∙ ap (option_map (λ (l : List FullView). l ++ b)) first
 option_twice (Some l) p q a b first then_so = then_so ∙ ap (option_map (λ (x : List FullView). x ++ b)) first ∙ ap (λ (x : List FullView). Some x) (append_assoc l a b)
 
+lists_twice : (o p q : Option Handed) (a b : List FullView) → p ≡ option_map (with_put a) o → q ≡ option_map (with_put b) p → q ≡ option_map (with_put (a ++ b)) o
+lists_twice None p q a b first then_so = then_so ∙ ap (option_map (with_put b)) first
+lists_twice (Some l) p q a b first then_so = then_so ∙ ap (option_map (with_put b)) first ∙ ap (λ (put : List FullView). Some (record l { put = put })) (append_assoc l.put a b)
+
 kept_both : (first more : List KeptMail) (a b : List FullView) → AreKept first a → AreKept more b → AreKept (first ++ more) (a ++ b)
 kept_both [] more [] b x y = y
 kept_both [] more (slot ∷ a) b x y = absurd x
@@ -240,7 +248,8 @@ module _ {Origin : Type 0} where
       slots = a.slots ++ b.slots;
       grew = record {
         queued = option_twice (option_map (λ (q : Queues). q.full) old.store.queues) (option_map (λ (q : Queues). q.full) mid.store.queues) (option_map (λ (q : Queues). q.full) new.store.queues) a.slots b.slots a.grew.queued b.grew.queued;
-        listed = option_twice (option_map (λ (l : Handed). l.put) old.store.handed) (option_map (λ (l : Handed). l.put) mid.store.handed) (option_map (λ (l : Handed). l.put) new.store.handed) a.slots b.slots a.grew.listed b.grew.listed;
+        listed = lists_twice old.store.handed mid.store.handed new.store.handed a.slots b.slots a.grew.listed b.grew.listed;
+        no_full = b.grew.no_full ∙ a.grew.no_full;
       };
       are = kept_both first more a.slots b.slots a.are b.are;
     };

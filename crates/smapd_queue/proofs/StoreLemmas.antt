@@ -46,15 +46,15 @@ mapped f g h same (Some q) = ap (λ (x : Queues). Some x) (same q)
 
 -- ---- the lists
 
-abbrev lists_with : List FullView → List Loan → List SlotView → List BrokenView → Handed
-lists_with put released aside broken = record { put = put; released = released; aside = aside; broken = broken }
+abbrev lists_with : Handed → List Loan → List SlotView → List BrokenView → Handed
+lists_with lists released aside broken = record lists { released = released; aside = aside; broken = broken }
 
 abbrev listed : FullView → Fate → Handed → Handed
-listed slot fate lists = lists_with lists.put (lists.released ++ released_by slot fate) (lists.aside ++ put_aside_by fate) (lists.broken ++ broken_by fate)
+listed slot fate lists = lists_with lists (lists.released ++ released_by slot fate) (lists.aside ++ put_aside_by fate) (lists.broken ++ broken_by fate)
 
-same_lists : (put : List FullView) (c d : List Loan) (e f : List SlotView) (g h : List BrokenView) → c ≡ d → e ≡ f → g ≡ h → lists_with put c e g ≡ lists_with put d f h
-same_lists put c d e f g h e2 e3 e4 =
-    ap (λ (x : List Loan). lists_with put x e g) e2 ∙ ap (λ (x : List SlotView). lists_with put d x g) e3 ∙ ap (λ (x : List BrokenView). lists_with put d f x) e4
+same_lists : (lists : Handed) (c d : List Loan) (e f : List SlotView) (g h : List BrokenView) → c ≡ d → e ≡ f → g ≡ h → lists_with lists c e g ≡ lists_with lists d f h
+same_lists lists c d e f g h e2 e3 e4 =
+    ap (λ (x : List Loan). lists_with lists x e g) e2 ∙ ap (λ (x : List SlotView). lists_with lists d x g) e3 ∙ ap (λ (x : List BrokenView). lists_with lists d f x) e4
 
 abbrev lent_in : FullView → Option Handed → Loan
 lent_in slot handed = lent_full slot.number (option_map (λ lists. slot) handed)
@@ -63,23 +63,23 @@ freed_lists : (slot : FullView) (message : Message) (free : SlotView) (loan : Op
     → option_map (given_free loan) handed ≡ option_map (listed slot (Freed message free)) handed
 freed_lists slot message free loan None is = refl
 freed_lists slot message free loan (Some lists) is =
-    ap (λ (l : Option Loan). Some (given_free l lists)) is ∙ ap (λ (x : Handed). Some x) (same_lists lists.put _ _ _ _ _ _ refl (nil lists.aside) (nil lists.broken))
+    ap (λ (l : Option Loan). Some (given_free l lists)) is ∙ ap (λ (x : Handed). Some x) (same_lists lists _ _ _ _ _ _ refl (nil lists.aside) (nil lists.broken))
 
 back_lists : (slot : FullView) (message : Message) (loan : Option Loan) (handed : Option Handed) → loan ≡ Some (lent_in slot handed)
     → option_map (given_full slot loan) handed ≡ option_map (listed slot (PutBack message)) handed
 back_lists slot message loan None is = refl
 back_lists slot message loan (Some lists) is =
-    ap (λ (l : Option Loan). Some (given_full slot l lists)) is ∙ ap (λ (x : Handed). Some x) (same_lists lists.put _ _ _ _ _ _ (nil lists.released) (nil lists.aside) (nil lists.broken))
+    ap (λ (l : Option Loan). Some (given_full slot l lists)) is ∙ ap (λ (x : Handed). Some x) (same_lists lists _ _ _ _ _ _ (nil lists.released) (nil lists.aside) (nil lists.broken))
 
 aside_lists : (slot : FullView) (message : Message) (aside : SlotView) (handed : Option Handed) → option_map (given_aside aside) handed ≡ option_map (listed slot (PutAside message aside)) handed
 aside_lists slot message aside None = refl
-aside_lists slot message aside (Some lists) = ap (λ (x : Handed). Some x) (same_lists lists.put _ _ _ _ _ _ (nil lists.released) refl (nil lists.broken))
+aside_lists slot message aside (Some lists) = ap (λ (x : Handed). Some x) (same_lists lists _ _ _ _ _ _ (nil lists.released) refl (nil lists.broken))
 
-broken_list : (broken : BrokenView) (lists : Handed) → broken.from_full ≡ true → given_broken broken lists ≡ lists_with lists.put (lists.released ++ []) (lists.aside ++ []) (lists.broken ++ broken ∷ [])
-broken_list broken lists full = rw full (same_lists lists.put _ _ _ _ _ _ (nil lists.released) (nil lists.aside) refl)
+broken_list : (broken : BrokenView) (lists : Handed) → broken.from_full ≡ true → given_broken broken lists ≡ lists_with lists (lists.released ++ []) (lists.aside ++ []) (lists.broken ++ broken ∷ [])
+broken_list broken lists full = rw full (same_lists lists _ _ _ _ _ _ (nil lists.released) (nil lists.aside) refl)
 
 broken_lists : (broken : BrokenView) (handed : Option Handed) → broken.from_full ≡ true
-    → option_map (given_broken broken) handed ≡ option_map (λ (lists : Handed). lists_with lists.put (lists.released ++ []) (lists.aside ++ []) (lists.broken ++ broken ∷ [])) handed
+    → option_map (given_broken broken) handed ≡ option_map (λ (lists : Handed). lists_with lists (lists.released ++ []) (lists.aside ++ []) (lists.broken ++ broken ∷ [])) handed
 broken_lists broken None full = refl
 broken_lists broken (Some lists) full = ap (λ (x : Handed). Some x) (broken_list broken lists full)
 
@@ -137,7 +137,7 @@ back_store slot message old = record {
 -- a slot that is broken by its disk
 record PutsBrokenFull (broken : BrokenView) (old new : StoreView) : Type 0 where
   queues : new.queues ≡ option_map (λ (q : Queues). queues_with (q.free ++ []) (drop 1 q.full ++ []) (q.aside ++ []) (q.broken ++ broken ∷ [])) old.queues
-  handed : new.handed ≡ option_map (λ (lists : Handed). lists_with lists.put (lists.released ++ []) (lists.aside ++ []) (lists.broken ++ broken ∷ [])) old.handed
+  handed : new.handed ≡ option_map (λ (lists : Handed). lists_with lists (lists.released ++ []) (lists.aside ++ []) (lists.broken ++ broken ∷ [])) old.handed
   out : new.out ≡ old.out
   no_free : new.no_free ≡ old.no_free
   no_full : new.no_full ≡ old.no_full
@@ -191,6 +191,9 @@ told_queues_first turn turns lacked (Some q) (Some new) front g = queues_first t
 
 lists_first : (turn : Turn) (turns : List Turn) (lists new : Handed) → ListsGo turns (listed turn.slot turn.fate lists) new → ListsGo (turn ∷ turns) lists new
 lists_first turn turns lists new g = record {
+  home = g.home;
+  parts = g.parts;
+  began = g.began;
   put = g.put;
   released = g.released ∙ append_assoc lists.released (released_by turn.slot turn.fate) (released_of turns);
   aside = g.aside ∙ append_assoc lists.aside (put_aside_by turn.fate) (put_aside_of turns);
@@ -224,7 +227,7 @@ queues_here (Some q) = record { free = nil q.free; full = append-nil q.full; asi
 
 lists_here : (handed : Option Handed) → ToldListsGo [] handed handed
 lists_here None = tt
-lists_here (Some lists) = record { put = refl; released = nil lists.released; aside = nil lists.aside; broken = nil lists.broken }
+lists_here (Some lists) = record { home = refl; parts = refl; began = refl; put = refl; released = nil lists.released; aside = nil lists.aside; broken = nil lists.broken }
 
 pub store_here : (old : StoreView) → StoreGoes [] [] old old
 store_here old = record { queues = queues_here old.queues; lists = lists_here old.handed; out = refl; no_free = refl; broken = omega arith }
@@ -244,7 +247,7 @@ lacked_queues slot (Some q) front = record {
 
 lacked_lists : (slot : FullView) (loan : Option Loan) (handed : Option Handed) → loan ≡ Some (lent_in slot handed) → ToldListsGo [] handed (option_map (given_full slot loan) handed)
 lacked_lists slot loan None is = tt
-lacked_lists slot loan (Some lists) is = subst (λ (l : Option Loan). ListsGo [] lists (given_full slot l lists)) (sym is) (record { put = refl; released = nil lists.released; aside = nil lists.aside; broken = nil lists.broken })
+lacked_lists slot loan (Some lists) is = subst (λ (l : Option Loan). ListsGo [] lists (given_full slot l lists)) (sym is) (record { home = refl; parts = refl; began = refl; put = refl; released = nil lists.released; aside = nil lists.aside; broken = nil lists.broken })
 
 pub store_lacked : (slot : FullView) (old lent new : StoreView) → HasTakenFull slot old lent → new ≡ put_full slot lent → StoreGoes [] (slot ∷ []) old new
 store_lacked slot old lent new t is =

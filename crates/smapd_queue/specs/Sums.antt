@@ -40,8 +40,11 @@ abbrev pub released_of : List Turn → List Loan
 released_of [] = []
 released_of (turn ∷ turns) = released_by turn.slot turn.fate ++ released_of turns
 
--- none is put full that wasn't taken full; the others are listed in order
+-- it is of the same pool, with as many parts; none is put full that wasn't taken full; the others are listed in order
 pub record ListsGo (turns : List Turn) (old new : Handed) : Type 0 where
+  pub home : new.home ≡ old.home
+  pub parts : new.parts ≡ old.parts
+  pub began : new.began ≡ old.began
   pub put : new.put ≡ old.put
   pub released : new.released ≡ old.released ++ released_of turns
   pub aside : new.aside ≡ old.aside ++ put_aside_of turns

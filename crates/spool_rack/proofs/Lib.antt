@@ -5,3 +5,4 @@ mod ShelfLemmas
 mod ClosingLemmas
 pub mod StoreLemmas
 pub mod SeenLemmas
+mod StockLemmas

@@ -22,9 +22,14 @@ pub record Loan : Type 0 where
   pub was_full : Bool
   pub taken : Option FullView
 
--- what was put: the slots that it was first given full; those that it took full and was given free; those that were
--- set aside; and those that broke and came from a `Full`
+-- Of a store whose queues are shared: which pool it is of, how many of the pool's 2^64 parts it has, and the slots that
+-- the pool was made of, none of which any call on slots changes; and what was put: the slots that it was first given
+-- full; those that it took full and was given free; those that were set aside; and those that broke and came from a
+-- `Full`.
 pub record Handed : Type 0 where
+  pub home : List (List ℕ)
+  pub parts : ℕ
+  pub began : Queues
   pub put : List FullView
   pub released : List Loan
   pub aside : List SlotView
@@ -222,11 +227,14 @@ pub record MayPutBroken (slot : BrokenView) (out : List Loan) : Type 0 where
 abbrev pub full_of : StoreView → Option (List FullView)
 full_of s = option_map (λ q. q.full) s.queues
 
-abbrev pub put_of : StoreView → Option (List FullView)
-put_of s = option_map (λ lists. lists.put) s.handed
+-- these were put, too
+abbrev pub with_put : List FullView → Handed → Handed
+with_put slots lists = record lists { put = lists.put ++ slots }
 
--- In a call that takes nothing full these were put full, in this order: they stand at the back of the full queue, where
--- it is told, and at the end of the list of those put, where it is kept.
+-- In a call that takes nothing full, and doesn't try to, these were put full, in this order: they stand at the back of
+-- the full queue, where it is told, and at the end of the list of those put, where lists are kept, of which nothing else
+-- changed.
 pub record PutGrew (slots : List FullView) (old new : StoreView) : Type 0 where
   pub queued : full_of new ≡ option_map (λ full. full ++ slots) (full_of old)
-  pub listed : put_of new ≡ option_map (λ put. put ++ slots) (put_of old)
+  pub listed : new.handed ≡ option_map (with_put slots) old.handed
+  pub no_full : new.no_full ≡ old.no_full

@@ -13,10 +13,14 @@ mod opening;
 mod queue;
 mod rack;
 mod shelving;
+mod slots;
+mod stock;
 
 pub use mail_store::{MailStore, SlotStore};
 pub use opening::RackFault;
 pub use rack::Rack;
+pub use slots::RackSlots;
 pub use spool_slots::{
     Aside, Broken, Filling, Free, Full, Opened, ReadBack, SlotWhy, StartFault, format, open,
 };
+pub use stock::Stock;

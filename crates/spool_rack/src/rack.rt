@@ -22,17 +22,17 @@ use std::marker::Model;
 /// The slots of one spool, for one thread.
 #[derive(Drop)]
 pub struct Rack<D: Disk> {
-    free: Queue<Free<D>>,
-    full: Queue<Full<D>>,
-    aside: Queue<Aside<D>>,
-    broken: Queue<Broken<D>>,
-    out: Loans,
-    held: Queue<Held<D>>,
-    home: Queue<D>,
-    no_free: u64,
-    no_full: u64,
-    breaks: u64,
-    room: usize,
+    pub(crate) free: Queue<Free<D>>,
+    pub(crate) full: Queue<Full<D>>,
+    pub(crate) aside: Queue<Aside<D>>,
+    pub(crate) broken: Queue<Broken<D>>,
+    pub(crate) out: Loans,
+    pub(crate) held: Queue<Held<D>>,
+    pub(crate) home: Queue<D>,
+    pub(crate) no_free: u64,
+    pub(crate) no_full: u64,
+    pub(crate) breaks: u64,
+    pub(crate) room: usize,
 }
 
 impl<D: Disk> Model for Rack<D> {
