@@ -1,5 +1,5 @@
 //! The slots of a rack, one by one.
-ghost use Rattle.std.specs.Prelude.{◌≡◌, ◌+◌, ◌∷◌, [], false, Some, IfSome, MatchOption};
+ghost use Rattle.std.specs.Prelude.{◌≡◌, ◌≤◌, ◌∷◌, [], false, Some, IfSome, MatchOption};
 ghost use Rattle.spool_rack.specs.Stock.{count_of};
 
 use crate::queue::Queue;
@@ -35,12 +35,12 @@ impl<D: Disk> Model for RackSlots<D> {
 }
 
 impl<D: Disk> Rack<D> {
-    /// How many slots stand in it.
-    pub fn count(&self) -> usize
-        ensures { IfSome self.now.queues (λ q. result ≡ count_of q) }
+    /// For how many slots it has room, those that are out among them.
+    #[tactic(auto, using(crate::proofs::StockLemmas::count_within))]
+    pub fn room(&self) -> usize
+        ensures { IfSome self.now.queues (λ q. count_of q ≤ result) }
     {
-        let _ = &self.room;
-        self.free.len() + self.full.len() + self.aside.len() + self.broken.len()
+        self.room
     }
 
     /// The slots that stand in it.

@@ -77,14 +77,6 @@ impl<D: Disk> Stock<D> {
         self.room
     }
 
-    /// How many slots there are.
-    pub fn count(&self) -> usize
-        ensures { result ≡ count_of self.now.queues }
-    {
-        let _ = &self.room;
-        self.free.len() + self.full.len() + self.aside.len() + self.broken.len()
-    }
-
     /// A free slot more, at the back.
     pub fn add_free(&mut self, slot: Free<D>)
         requires { count_of self.old.queues < self.old.room }
