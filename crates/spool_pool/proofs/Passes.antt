@@ -1,6 +1,6 @@
 -- Passes and seats: which pool they are of, and what they know after a call.
 use Rattle.std.proofs.Common.{◌≡◌, ℕ, zero, suc, ◌+◌, ◌-◌, ◌<◌, Bool, true, false, List, [], ◌∷◌, ◌++◌, map, refl, ap, sym, subst, ◌∙◌, arith}
-use mathlib.Core.List.Basic.{cons≢nil, head-eq_of_cons-eq, tail-eq_of_cons-eq}
+use mathlib.Core.List.{cons≢nil, head-eq_of_cons-eq, tail-eq_of_cons-eq}
 use Rattle.std.specs.List.{flat_map}
 use Rattle.std.proofs.lemmas.List.{append-nil}
 use Rattle.std.proofs.lemmas.Grind.{flat_map-append}
@@ -8,11 +8,9 @@ use Rattle.spool_slots.specs.States.{SlotView, BrokenView}
 use Rattle.spool_rack.specs.Store.{Handed, Queues}
 use Rattle.spool_pool.specs.declared.lanes.Lanes.{Lanes}
 use Rattle.spool_pool.specs.Shelf.{is_aside, is_broken, aside_of, broken_of}
-use Rattle.spool_pool.specs.Events.{Event, TallyView}
+use Rattle.spool_pool.specs.Events.{Event, TallyView, joined}
 use Rattle.spool_pool.specs.Account.{Account, AreEven, IsSound, IsSoundUnless, all_met, handed_by, handed_in, homes_of, one_less, one_off, pass_of}
-use Rattle.spool_pool.specs.Known.{PassView, both_counted, less_one, met, split_off}
-use Rattle.spool_pool.specs.Known as known
-use Rattle.spool_pool.specs.Events.{joined}
+use Rattle.spool_pool.specs.Known.{IsPassOf, PassView, PoolView, both_counted, closed, less_one, met, split_off}
 use Rattle.spool_pool.proofs.Accounts.{meets, none_yet}
 use Rattle.spool_pool.proofs.Tallies.{met_lists}
 
@@ -98,3 +96,60 @@ view_met l k t u a b c a' b' c' = λ i. record {
   no_full = both_counted b b';
   broken = both_counted c c';
 }
+
+-- ---- passes that are handed in
+
+-- a pass of a pool, with no slot out
+pub record Open {D : Type 0} (c : Bool) (l : Lanes D) (t : TallyView) (home : List (List ℕ)) : Type 0 where
+  pub is_so : c ≡ false
+  pub homes : homes_of l ≡ home
+  pub sound_so : IsSound l t
+  pub none : t.out ≡ []
+
+module _ {D : Type 0} (c : Bool) (l : Lanes D) (t : TallyView) (a b n : ℕ) (p : PassView) (v : pass_of c l t a b n ≡ p) where
+  pub opened : (x y z : List ℕ) (pool : PoolView) → record { home = x ∷ y ∷ z ∷ [] } ≡ pool → IsPassOf pool p → IsSoundUnless c l t × (t.out ≡ []) → Open c l t pool.home
+  opened x y z pool w of inv =
+      let home : (x ∷ y ∷ z ∷ []) ≡ pool.home = ap (λ (q : PoolView). q.home) w in
+      let e : (handed_by c l t.events).home ≡ x ∷ y ∷ z ∷ [] = ap (λ (q : PassView). q.handed.home) v ∙ of ∙ sym home in
+      let o = is_open c l t.events x (y ∷ z ∷ []) e in
+      record { is_so = o; homes = homes_are c l t.events x (y ∷ z ∷ []) e ∙ home; sound_so = sound c l t o inv.0; none = inv.1 }
+
+  -- a seat and its pass know the same
+  pub same_pass : c ≡ false → pass_of false l t a b n ≡ p
+  same_pass o = ap (λ k. pass_of k l t a b n) (sym o) ∙ v
+
+  pub parts_are : c ≡ false → l.full.parts ≡ p.handed.parts
+  parts_are o = ap (λ (q : PassView). q.handed.parts) (same_pass o)
+
+  pub less_pass : (new : Lanes D) → c ≡ false → new ≡ one_less l → pass_of c new t a b n ≡ less_one p
+  less_pass new o e = ap (λ k. pass_of c k t a b n) e ∙ ap (λ k. pass_of k (one_less l) t a b n) o ∙ ap less_one (same_pass o)
+
+  pub off_pass : (new : Lanes D) (u : TallyView) → c ≡ false → new ≡ one_off l → u ≡ record { events = []; out = []; steps = 0 } → pass_of false new u 0 0 0 ≡ split_off p
+  off_pass new u o e f = ap (λ k. pass_of false k u 0 0 0) e ∙ ap (λ k. pass_of false (one_off l) k 0 0 0) f ∙ ap split_off (same_pass o)
+
+  pub closed_pass : (new : Lanes D) → pass_of true new t a b n ≡ closed p
+  closed_pass new = lists c ∙ ap closed v
+    where
+      lists : (k : Bool) → pass_of true new t a b n ≡ closed (pass_of k l t a b n)
+      lists true = refl
+      lists false = refl
+
+  pub met_pass : (k new : Lanes D) (u m : TallyView) (a' b' n' : ℕ) (q : PassView) → c ≡ false → pass_of false k u a' b' n' ≡ q → new ≡ all_met l k → m ≡ joined t u
+      → pass_of c new m (both_counted a a') (both_counted b b') (both_counted n n') ≡ met p q
+  met_pass k new u m a' b' n' q o w e f =
+      ap (λ h. pass_of h new m (both_counted a a') (both_counted b b') (both_counted n n')) o
+      ∙ ap (λ h. pass_of false h m (both_counted a a') (both_counted b b') (both_counted n n')) e
+      ∙ ap (λ h. pass_of false (all_met l k) h (both_counted a a') (both_counted b b') (both_counted n n')) f
+      ∙ view_met l k t u a b n a' b' n'
+      ∙ (λ i. met (same_pass o i) (w i))
+
+-- what is kept where a pass changes
+pub kept_less : {D : Type 0} (c : Bool) (l new : Lanes D) (t : TallyView) (home : List (List ℕ)) → Open c l t home → 1 < l.full.parts → new ≡ one_less l → IsSoundUnless c new t × (t.out ≡ [])
+kept_less c l new t home o many e = (subst (λ k. IsSoundUnless k new t) (sym o.is_so) (subst (λ k. IsSound k t) (sym e) (sound_less l t many o.sound_so)), o.none)
+
+pub kept_off : {D : Type 0} (l new : Lanes D) (u : TallyView) → new ≡ one_off l → u ≡ record { events = []; out = []; steps = 0 } → IsSoundUnless false new u × (u.out ≡ [])
+kept_off l new u e f = (subst (λ k. IsSound k u) (sym e) (subst (IsSound (one_off l)) (sym f) (sound_off l)), ap (λ (k : TallyView). k.out) f)
+
+pub kept_met : {D : Type 0} (c : Bool) (l k new : Lanes D) (t u m : TallyView) (home : List (List ℕ)) (c' : Bool) → Open c l t home → Open c' k u home → new ≡ all_met l k → m ≡ joined t u → IsSoundUnless c new m × (m.out ≡ [])
+kept_met c l k new t u m home c' o r e f =
+    (subst (λ h. IsSoundUnless h new m) (sym o.is_so) (subst (λ h. IsSound h m) (sym e) (subst (IsSound (all_met l k)) (sym f) (sound_met l k t u o.none r.none o.sound_so r.sound_so))), ap (λ (h : TallyView). h.out) f ∙ o.none)

@@ -1,8 +1,8 @@
 -- Lists up to order: what is taken from both, and what is made of each member.
 use Rattle.std.proofs.Common.{◌≡◌, ℕ, zero, suc, ◌<◌, ◌⊎◌, inl, inr, List, [], ◌∷◌, ◌++◌, map, length, get_or, set, refl, ap, sym, subst, ◌∙◌, arith}
-use mathlib.Core.List.Defs.PermD.{Permᴰ}
-use mathlib.Core.List.Defs.PermD as Permᴰ
-use mathlib.Core.List.Basic.{cons≢nil, head-eq_of_cons-eq, tail-eq_of_cons-eq}
+use mathlib.Core.List.{Permᴰ}
+use mathlib.Core.List.Permᴰ
+use mathlib.Core.List.{cons≢nil, head-eq_of_cons-eq, tail-eq_of_cons-eq}
 use Rattle.std.specs.List.{flat_map}
 use Rattle.std.specs.List.Sorted.{IsPermutation, apply_swaps, SwapsInRange}
 use Rattle.std_alloc.proofs.Permutation.{which}

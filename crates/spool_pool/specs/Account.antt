@@ -115,4 +115,5 @@ seat_of l t no_free no_full broken = record {
   pass = pass_of false l t no_free no_full broken;
   out = t.out;
   free = l.free;
+  full = l.full;
 }

@@ -1,6 +1,6 @@
 -- What a pass of a pool knows, and what the calls of a pool do to that.
 use Rattle.std.specs.Prelude.{◌≡◌, ℕ, ◌+◌, ◌-◌, ◌^◌, min, List, [], ◌++◌, None, Some}
-use Rattle.spool_slots.specs.States.{SlotView}
+use Rattle.spool_slots.specs.States.{SlotView, FullView}
 use Rattle.spool_rack.specs.Store.{Handed, Loan, Queues, StoreView}
 use Rattle.shared_queue.specs.Moves.{Moves}
 
@@ -16,11 +16,12 @@ pub record PassView : Type 0 where
   pub no_full : ℕ
   pub broken : ℕ
 
--- a seat: its pass, the slots that are out, and what its pass put into the queue of free slots and took from it
+-- a seat: its pass, the slots that are out, and what its pass put into the queues of free and of full slots and took from them
 pub record SeatView : Type 0 where
   pub pass : PassView
   pub out : List Loan
   pub free : Moves SlotView
+  pub full : Moves FullView
 
 abbrev pub IsPassOf : PoolView → PassView → Type 0
 IsPassOf pool pass = pass.handed.home ≡ pool.home

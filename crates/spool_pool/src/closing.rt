@@ -9,21 +9,20 @@ use crate::draining::drain;
 use crate::lanes::Lanes;
 use crate::pass::PoolPass;
 use crate::pool::Pool;
+use crate::spare::Spare;
 use fw_disk::Disk;
 use spool_rack::{Rack, Stock};
 use std::sync::Wait;
 use std::thread;
 
-// The stock, which is empty and has room for three queues. That it is so is looked up, since a lock shows nothing of what
-// it holds; were it not so, this would wait.
-fn bring<D: Disk, R: Wait>(rt: &R, stock: Stock<D>, room: usize) -> Stock<D>
+// A stock with room for three queues of so many. That it is the room of these queues is looked up, since a lock shows
+// nothing of what it holds; were it another's, this would wait.
+fn bring<D: Disk, R: Wait>(rt: &R, spare: Spare<D>, room: usize) -> Stock<D>
     ensures none { result.queues ≡ no_slots }
     ensures room { room * 3 ≤ result.room }
 {
-    if stock.count() == 0 {
-        if room <= stock.room() / 3 {
-            return stock;
-        }
+    if spare.room() == room {
+        return spare.into_stock();
     }
     for _ in rt.forever() {
         thread::yield_now();
@@ -43,7 +42,7 @@ impl<D: Disk> Pool<D> {
             free,
             full,
             shelf,
-            stock,
+            spare,
             room,
         } = self;
         let PoolPass {
@@ -59,7 +58,7 @@ impl<D: Disk> Pool<D> {
             full: mut full_pass,
             shelf: mut shelf_pass,
         } = lanes;
-        let mut stock = bring(rt, stock.into_inner(), room);
+        let mut stock = bring(rt, spare.into_inner(), room);
         drain(rt, &free, &mut free_pass, room, &mut stock);
         drain(rt, &full, &mut full_pass, room, &mut stock);
         drain(rt, &shelf, &mut shelf_pass, room, &mut stock);

@@ -15,6 +15,7 @@ mod pass;
 mod pool;
 mod seat;
 mod shelved;
+mod spare;
 mod tally;
 
 pub use pass::PoolPass;

@@ -10,23 +10,21 @@ use crate::letter::Letter;
 use crate::pass::PoolPass;
 use crate::pool::Pool;
 use crate::shelved::Shelved;
+use crate::spare::Spare;
 use crate::tally::Tally;
 use fw_disk::Disk;
 use fw_types::NoMemory;
 use shared_queue::{QueuePass, SharedQueue};
-use spool_rack::{Free, Rack, RackSlots, Stock};
+use spool_rack::{Free, Rack, RackSlots};
 use std::alloc::Global;
 use std::sync::{Mutex, Wait};
 
 // The queues, empty and with room for so many, and the room for a rack of all that they can hold.
 fn make_room<D: Disk>(alloc: Global, room: usize) -> Result<(Pool<D>, Lanes<D>), NoMemory>
     requires { 0 < room }
-    ensures { IfOk result (λ made. IsFresh made.0.free.home made.0.full.home made.0.shelf.home made.1) }
+    ensures { IfOk result (λ made. IsFresh made.0.home made.1) }
 {
-    let Some(most) = room.checked_mul(3) else {
-        return Err(NoMemory);
-    };
-    let stock = Mutex::new(Stock::with_room(alloc, most)?);
+    let spare = Mutex::new(Spare::with_room(alloc, room)?);
     let (free, free_pass) = SharedQueue::new(alloc, room)?;
     let (full, full_pass) = SharedQueue::new(alloc, room)?;
     let (shelf, shelf_pass) = SharedQueue::new(alloc, room)?;
@@ -35,7 +33,7 @@ fn make_room<D: Disk>(alloc: Global, room: usize) -> Result<(Pool<D>, Lanes<D>),
             free,
             full,
             shelf,
-            stock,
+            spare,
             room,
         },
         Lanes {
@@ -116,8 +114,8 @@ fn begin_broken<D: Disk, R: Wait>(
 
 // Puts the slots of a rack into the queues, each in its order.
 fn begin<D: Disk, R: Wait>(rt: &R, pool: &Pool<D>, lanes: Lanes<D>, slots: RackSlots<D>) -> Lanes<D>
-    requires { IsFresh pool.now.free.home pool.now.full.home pool.now.shelf.home lanes }
-    ensures { IsBegun pool.now.free.home pool.now.full.home pool.now.shelf.home slots result }
+    requires { IsFresh pool.now.home lanes }
+    ensures { IsBegun pool.now.home slots result }
 {
     let mut slots = slots;
     let Lanes {
@@ -142,7 +140,7 @@ impl<D: Disk> Pool<D> {
         ensures pass { IfOk result (λ made. IfSome rack.queues (λ q. made.1 ≡ bare made.0.home (2 ^ 64) q)) }
         ensures back { IfErr result (λ fault. fault.0 ≡ rack) }
     {
-        let room = rack.count().max(1);
+        let room = rack.room().max(1);
         match make_room(alloc, room) {
             Ok((pool, lanes)) => {
                 let lanes = begin(rt, &pool, lanes, rack.into_slots());

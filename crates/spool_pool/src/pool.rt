@@ -6,11 +6,12 @@ use crate::lanes::Lanes;
 use crate::letter::Letter;
 use crate::pass::PoolPass;
 use crate::shelved::Shelved;
+use crate::spare::Spare;
 use crate::tally::Tally;
 use fw_disk::Disk;
 use fw_types::NoMemory;
 use shared_queue::SharedQueue;
-use spool_rack::{Free, Stock};
+use spool_rack::Free;
 use std::marker::Model;
 use std::sync::Mutex;
 
@@ -21,7 +22,7 @@ pub struct Pool<D: Disk> {
     pub(crate) full: SharedQueue<Letter<D>>,
     pub(crate) shelf: SharedQueue<Shelved<D>>,
     // Where the slots go when the pool is closed.
-    pub(crate) stock: Mutex<Stock<D>>,
+    pub(crate) spare: Mutex<Spare<D>>,
     pub(crate) room: usize,
 }
 

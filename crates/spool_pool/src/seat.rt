@@ -128,8 +128,10 @@ impl<'a, H: Wait, D: Disk> SlotStore for PoolSeat<'a, H, D> {
         }
     }
 
+    /// None only if the queue of full slots was empty at one moment of the call.
     fn take_full(&mut self) -> Option<Full<D>>
-        ensures { TakesFull result (store_of self.old) (store_of self.new) }
+        ensures takes { TakesFull result (store_of self.old) (store_of self.new) }
+        ensures none { IfNone result (HasAll self.old.full → StandIn self.old.full []) }
     {
         match self.pool.full.take(self.rt, &mut self.lanes.full) {
             Some(letter) => {
