@@ -36,16 +36,25 @@ module _ {T : Type 0} (homed : T → Queues → Queues) where
       append-nil' [] = refl
       append-nil' (x ∷ l) = ap (λ k. x ∷ k) (append-nil' l)
 
-  pub drain_next : (one_more : (slot : T) (q : Queues) → count_of (homed slot q) ≡ count_of q + 1) (room left : ℕ) (first m new : Moves T) (old stock more : StockView) (slot : T) → 0 < left → Draining room left first m old stock → new ≡ taken_out slot m
-      → more ≡ record { queues = homed slot stock.queues; room = stock.room } → (less : ℕ) → less + 1 ≡ left → Draining room less first new old more
-  drain_next one_more room left first m new old stock more slot some_left d takes puts less e = record {
+  pub drain_next : (room left : ℕ) (first m new : Moves T) (old stock more : StockView) (slot : T) → 0 < left → Draining room left first m old stock → new ≡ taken_out slot m
+      → more ≡ record { queues = homed slot stock.queues; room = stock.room } → count_of more.queues ≡ count_of stock.queues + 1 → (less : ℕ) → less + 1 ≡ left → Draining room less first new old more
+  drain_next room left first m new old stock more slot some_left d takes puts one less e = record {
     slots = d.slots ++ slot ∷ [];
     rest = omega (arith, d.rest, e, length-append d.slots (slot ∷ []));
     moves = takes ∙ ap (taken_out slot) d.moves ∙ (λ i. record { home = first.home; parts = first.parts; began = first.began; put = first.put; taken = append_assoc first.taken d.slots (slot ∷ []) i });
     is = puts ∙ ap (λ (s : StockView). let r : StockView = record { queues = homed slot s.queues; room = s.room } in r) d.is ∙ (λ i. record { queues = sym (snoc d.slots slot old.queues) i; room = old.room });
-    counted = subst (λ (s : StockView). count_of s.queues ≡ count_of old.queues + length (d.slots ++ slot ∷ [])) (sym puts) (omega (arith, one_more slot stock.queues, d.counted, length-append d.slots (slot ∷ [])));
-    space = subst (λ (s : StockView). count_of s.queues + less ≤ s.room) (sym puts) (omega (arith, one_more slot stock.queues, d.space, e));
+    counted = omega (arith, one, d.counted, length-append d.slots (slot ∷ []));
+    space = omega (arith, one, d.space, e, ap (λ (s : StockView). s.room) puts);
   }
+
+  pub drain_space : (room left : ℕ) (first m : Moves T) (old stock : StockView) → Draining room left first m old stock → 0 < left → count_of stock.queues < stock.room
+  drain_space room left first m old stock d some_left = omega (arith, d.space, some_left)
+
+  pub drain_home : (room left : ℕ) (first m : Moves T) (old stock : StockView) → Draining room left first m old stock → m.home ≡ first.home
+  drain_home room left first m old stock d = ap (λ (k : Moves T). k.home) d.moves
+
+  pub drain_part : (room left : ℕ) (first m : Moves T) (old stock : StockView) → Draining room left first m old stock → 0 < first.parts → 0 < m.parts
+  drain_part room left first m old stock d some_part = subst (λ n. 0 < n) (sym (ap (λ (k : Moves T). k.parts) d.moves)) some_part
 
   -- nothing stands in the queue any more
   pub drain_none : (room left : ℕ) (first m : Moves T) (old stock : StockView) → Draining room left first m old stock → (HasAll m → StandIn m []) → Drains homed room first old stock

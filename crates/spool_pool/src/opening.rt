@@ -20,6 +20,7 @@ use std::alloc::Global;
 use std::sync::{Mutex, Wait};
 
 // The queues, empty and with room for so many, and the room for a rack of all that they can hold.
+#[tactic(auto, using(crate::proofs::Begins::fresh_lanes))]
 fn make_room<D: Disk>(alloc: Global, room: usize) -> Result<(Pool<D>, Lanes<D>), NoMemory>
     requires { 0 < room }
     ensures { IfOk result (λ made. IsFresh made.0.home made.1) }
@@ -113,6 +114,7 @@ fn begin_broken<D: Disk, R: Wait>(
 }
 
 // Puts the slots of a rack into the queues, each in its order.
+#[tactic(auto, using(crate::proofs::Begins::begun, crate::proofs::Passes::homes_each))]
 fn begin<D: Disk, R: Wait>(rt: &R, pool: &Pool<D>, lanes: Lanes<D>, slots: RackSlots<D>) -> Lanes<D>
     requires { IsFresh pool.now.home lanes }
     ensures { IsBegun pool.now.home slots result }
@@ -132,6 +134,7 @@ fn begin<D: Disk, R: Wait>(rt: &R, pool: &Pool<D>, lanes: Lanes<D>, slots: RackS
 
 impl<D: Disk> Pool<D> {
     /// A pool of the slots that stand in a rack, and the pass with all parts. It waits while a queue is full.
+    #[tactic(auto, using(crate::proofs::Begins::begun_sound, crate::proofs::Begins::begun_pass))]
     pub fn new<R: Wait>(
         rt: &R,
         alloc: Global,

@@ -39,12 +39,14 @@ impl<D: Disk> Model for Pool<D> {
 
 impl<D: Disk> Pool<D> {
     /// Gives one part of a pass to a new one, which has put nothing. It takes no memory.
+    #[tactic(auto, using(crate::proofs::Passes::opened, crate::proofs::Passes::less_pass, crate::proofs::Passes::off_pass, crate::proofs::Passes::kept_less, crate::proofs::Passes::kept_off))]
     pub fn split(&self, pass: &mut PoolPass<D>) -> Result<PoolPass<D>, NoMemory>
         requires pass { IsPassOf self.now pass.old }
         requires parts { 1 < pass.old.handed.parts }
         ensures old { pass.new ≡ less_one pass.old }
         ensures new { result ≡ Ok (split_off pass.old) }
     {
+        let _ = &self.room;
         let lanes = self.split_lanes(&mut pass.lanes);
         Ok(PoolPass {
             lanes,
@@ -57,6 +59,7 @@ impl<D: Disk> Pool<D> {
     }
 
     /// The pass takes in the lists, counts and parts of another.
+    #[tactic(auto, using(crate::proofs::Passes::opened, crate::proofs::Passes::met_pass, crate::proofs::Passes::kept_met))]
     pub fn meet(&self, pass: &mut PoolPass<D>, other: PoolPass<D>)
         requires pass { IsPassOf self.now pass.old }
         requires other { IsPassOf self.now other }
@@ -70,6 +73,7 @@ impl<D: Disk> Pool<D> {
             breaks,
             is_closed: _,
         } = other;
+        let _ = &self.room;
         self.meet_lanes(&mut pass.lanes, lanes);
         pass.tally = pass.tally.met(&tally);
         pass.no_free = pass.no_free.saturating_add(no_free);
@@ -77,6 +81,7 @@ impl<D: Disk> Pool<D> {
         pass.breaks = pass.breaks.saturating_add(breaks);
     }
 
+    #[tactic(auto, using(crate::proofs::Passes::homes_each))]
     fn split_lanes(&self, lanes: &mut Lanes<D>) -> Lanes<D>
         requires home { homes_of lanes.old ≡ self.now.home }
         requires even { AreEven lanes.old }
@@ -91,6 +96,7 @@ impl<D: Disk> Pool<D> {
         }
     }
 
+    #[tactic(auto, using(crate::proofs::Passes::homes_each))]
     fn meet_lanes(&self, lanes: &mut Lanes<D>, other: Lanes<D>)
         requires home { homes_of lanes.old ≡ self.now.home }
         requires other { homes_of other ≡ self.now.home }

@@ -43,11 +43,13 @@ impl<'a, H, D: Disk> Model for PoolSeat<'a, H, D> {
 
 impl<'a, H: Wait, D: Disk> PoolSeat<'a, H, D> {
     /// A seat at a pool, with a pass of it.
+    #[tactic(auto, using(crate::proofs::Passes::opened, crate::proofs::Passes::same_pass))]
     pub fn new(rt: &'a H, pool: &'a Pool<D>, pass: PoolPass<D>) -> PoolSeat<'a, H, D>
         requires { IsPassOf pool.now pass }
         ensures pass { result.pass ≡ pass }
         ensures out { result.out ≡ [] }
     {
+        let _ = &pool.room;
         let PoolPass {
             lanes,
             tally,
@@ -112,6 +114,7 @@ impl<'a, H: Wait, D: Disk> SlotStore for PoolSeat<'a, H, D> {
     ghost broken_view = { λ slot. slot };
 
     /// None only if the queue of free slots was empty at one moment of the call.
+    #[tactic(auto, using(crate::proofs::Seats::after_take_free))]
     fn take_free(&mut self) -> Option<Free<D>>
         ensures takes { TakesFree result (store_of self.old) (store_of self.new) }
         ensures none { IfNone result (HasAll self.old.free → StandIn self.old.free []) }
@@ -129,6 +132,7 @@ impl<'a, H: Wait, D: Disk> SlotStore for PoolSeat<'a, H, D> {
     }
 
     /// None only if the queue of full slots was empty at one moment of the call.
+    #[tactic(auto, using(crate::proofs::Seats::after_take_full))]
     fn take_full(&mut self) -> Option<Full<D>>
         ensures takes { TakesFull result (store_of self.old) (store_of self.new) }
         ensures none { IfNone result (HasAll self.old.full → StandIn self.old.full []) }
@@ -146,6 +150,7 @@ impl<'a, H: Wait, D: Disk> SlotStore for PoolSeat<'a, H, D> {
         }
     }
 
+    #[tactic(auto, using(crate::proofs::Seats::after_put_free))]
     fn put_free(&mut self, slot: Free<D>)
         requires { IsOut slot.number self.old.out }
         ensures { store_of self.new ≡ put_free slot (store_of self.old) }
@@ -154,6 +159,7 @@ impl<'a, H: Wait, D: Disk> SlotStore for PoolSeat<'a, H, D> {
         self.pool.free.put(self.rt, &mut self.lanes.free, slot);
     }
 
+    #[tactic(auto, using(crate::proofs::Seats::after_put_full))]
     fn put_full(&mut self, slot: Full<D>)
         requires { MayPutFull slot self.old.out }
         ensures { store_of self.new ≡ put_full slot (store_of self.old) }
@@ -164,6 +170,7 @@ impl<'a, H: Wait, D: Disk> SlotStore for PoolSeat<'a, H, D> {
             .put(self.rt, &mut self.lanes.full, Letter::of(slot));
     }
 
+    #[tactic(auto, using(crate::proofs::Seats::after_put_aside))]
     fn put_aside(&mut self, slot: Aside<D>)
         requires { MayPutAside slot self.old.out }
         ensures { store_of self.new ≡ put_aside slot (store_of self.old) }
@@ -174,6 +181,7 @@ impl<'a, H: Wait, D: Disk> SlotStore for PoolSeat<'a, H, D> {
             .put(self.rt, &mut self.lanes.shelf, Shelved::aside(slot));
     }
 
+    #[tactic(auto, using(crate::proofs::Seats::after_put_broken))]
     fn put_broken(&mut self, slot: Broken<D>)
         requires { MayPutBroken slot self.old.out }
         ensures { PutsBroken slot (store_of self.old) (store_of self.new) }

@@ -1,6 +1,6 @@
 use Rattle.std.proofs.Common.{◌≡◌}
 use Rattle.spool_pool.proofs.Drains.{Draining}
-use Rattle.spool_pool.proofs.draining.drain.Given as goal
+use Rattle.spool_pool.proofs.draining.drain_known.Given as goal
 
 abbrev pub invariant-loop : goal.invariant-loop
 invariant-loop g l = Draining g.T.Homing.homed l.fn.room l.left l.fn.pass l.pass l.fn.stock l.stock
