@@ -11,6 +11,7 @@ use Rattle.spool_pool.specs.Account.{IsSound, pass_of}
 use Rattle.spool_pool.specs.Known.{bare}
 use Rattle.spool_pool.specs.Opening.{IsBegun, IsFresh, begun_all, fresh}
 use Rattle.spool_pool.proofs.Accounts.{none_yet}
+use Rattle.spool_pool.proofs.Numbers.{kept_none}
 use Rattle.spool_pool.proofs.Passes.{asides_back, brokens_back}
 
 module _ {T : Type 0} where
@@ -73,6 +74,7 @@ begun_sound home s l b =
     let shelf_all : l.shelf.parts ≡ 2 ^ 64 = ap (λ (m : Moves ShelvedView). m.parts) b.shelf_is in record {
       even = record { free = free_all ∙ sym full_all; shelf = shelf_all ∙ sym full_all; some_part = subst (λ n. 0 < n) (sym full_all) (omega arith) };
       account = none_yet l.full l.shelf 0 (ap (λ (m : Moves FullView). m.put) b.full_is) (ap (λ (m : Moves FullView). m.taken) b.full_is) (ap (λ (m : Moves ShelvedView). m.put) b.shelf_is) (ap (λ (m : Moves ShelvedView). m.taken) b.shelf_is);
+      kept = kept_none l.free l.full l.shelf (ap (λ (m : Moves SlotView). m.put) b.free_is) (ap (λ (m : Moves SlotView). m.taken) b.free_is) (ap (λ (m : Moves FullView). m.put) b.full_is) (ap (λ (m : Moves FullView). m.taken) b.full_is) (ap (λ (m : Moves ShelvedView). m.put) b.shelf_is);
     }
 
 pub begun_pass : {D : Type 0} (home : List (List ℕ)) (s : Queues) (l : Lanes D) → IsBegun home s l → pass_of false l (record { events = []; out = []; steps = 0 }) 0 0 0 ≡ bare home (2 ^ 64) s

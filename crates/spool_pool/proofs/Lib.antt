@@ -2,6 +2,7 @@ pub mod Counts
 mod Perms
 mod Fates
 mod Tallies
+mod Numbers
 mod Accounts
 mod Begins
 mod Passes

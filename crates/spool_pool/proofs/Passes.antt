@@ -10,8 +10,10 @@ use Rattle.spool_pool.specs.declared.lanes.Lanes.{Lanes}
 use Rattle.spool_pool.specs.Shelf.{is_aside, is_broken, aside_of, broken_of}
 use Rattle.spool_pool.specs.Events.{Event, TallyView, joined}
 use Rattle.spool_pool.specs.Account.{Account, AreEven, IsSound, IsSoundUnless, all_met, handed_by, handed_in, homes_of, one_less, one_off, pass_of}
+use Rattle.spool_pool.specs.Numbers.{AreKept}
 use Rattle.spool_pool.specs.Known.{IsPassOf, PassView, PoolView, both_counted, closed, less_one, met, split_off}
 use Rattle.spool_pool.proofs.Accounts.{meets, none_yet}
+use Rattle.spool_pool.proofs.Numbers.{kept_meet, kept_none}
 use Rattle.spool_pool.proofs.Tallies.{met_lists}
 
 -- a pass of a pool isn't closed
@@ -68,6 +70,7 @@ sound_less l t many s = record {
     events_true = s.account.events_true;
     out_told = s.account.out_told;
   };
+  kept = record { each = s.kept.each };
 }
 
 -- a part that was split off
@@ -75,6 +78,7 @@ pub sound_off : {D : Type 0} (l : Lanes D) → IsSound (one_off l) (record { eve
 sound_off l = record {
   even = record { free = refl; shelf = refl; some_part = omega arith };
   account = none_yet (one_off l).full (one_off l).shelf 0 refl refl refl refl;
+  kept = kept_none (one_off l).free (one_off l).full (one_off l).shelf refl refl refl refl refl;
 }
 
 -- two passes have met
@@ -86,6 +90,7 @@ sound_met l k t u none none' s r = record {
     some_part = omega (arith, s.even.some_part);
   };
   account = meets l.full k.full l.shelf k.shelf t u none none' s.account r.account;
+  kept = kept_meet l.free k.free l.full k.full l.shelf k.shelf t.out s.kept (subst (AreKept k.free k.full k.shelf) none' r.kept);
 }
 
 pub view_met : {D : Type 0} (l k : Lanes D) (t u : TallyView) (a b c a' b' c' : ℕ)

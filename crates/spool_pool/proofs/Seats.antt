@@ -10,6 +10,7 @@ use Rattle.spool_pool.specs.Events.{TallyView, broken_by, filled_by, freed_by, g
 use Rattle.spool_pool.specs.Account.{Account, AreEven, IsSound, began_of, handed_of, homes_of, seat_of}
 use Rattle.spool_pool.specs.Known.{store_of}
 use Rattle.spool_pool.proofs.Accounts.{lends_free, lends_full, puts_aside, puts_broken, puts_free, puts_full}
+use Rattle.spool_pool.proofs.Numbers.{is_out, kept_put_free, kept_put_full, kept_put_shelved, kept_take_free, kept_take_full}
 use Rattle.spool_pool.proofs.Tallies.{broken_lists, filled_lists, freed_lists, loan_here, shelved_lists}
 
 module _ {D : Type 0} where
@@ -25,7 +26,7 @@ module _ {D : Type 0} where
     after_take_free slot new u e f =
         subst (λ (k : Moves SlotView × TallyView). Sits (lanes k.0 full shelf) k.1 home × HasTakenFree slot (store_of (seat_of (lanes free full shelf) t a b c)) (store_of (seat_of (lanes k.0 full shelf) k.1 a b c)))
         (λ i. (sym e i, sym f i)) (
-          (record { even = record { free = s.0.even.free; shelf = s.0.even.shelf; some_part = s.0.even.some_part }; account = lends_free full shelf t slot.number s.0.account }, s.1),
+          (record { even = record { free = s.0.even.free; shelf = s.0.even.shelf; some_part = s.0.even.some_part }; account = lends_free full shelf t slot.number s.0.account; kept = kept_take_free free full shelf t.out s.0.kept slot (record { number = slot.number; was_full = false; taken = None }) refl }, s.1),
           record { front = tt; is = refl },
         )
 
@@ -34,7 +35,7 @@ module _ {D : Type 0} where
     after_take_full slot new u read e f =
         subst (λ (k : Moves FullView × TallyView). Sits (lanes free k.0 shelf) k.1 home × HasTakenFull slot (store_of (seat_of (lanes free full shelf) t a b c)) (store_of (seat_of (lanes free k.0 shelf) k.1 a b c)))
         (λ i. (sym e i, sym f i)) (
-          (record { even = record { free = s.0.even.free; shelf = s.0.even.shelf; some_part = s.0.even.some_part }; account = lends_full full shelf t slot s.0.account }, s.1),
+          (record { even = record { free = s.0.even.free; shelf = s.0.even.shelf; some_part = s.0.even.some_part }; account = lends_full full shelf t slot s.0.account; kept = kept_take_full free full shelf t.out s.0.kept slot (record { number = slot.number; was_full = true; taken = Some slot }) refl }, s.1),
           record { front = tt; unread = read; is = refl },
         )
 
@@ -43,7 +44,7 @@ module _ {D : Type 0} where
     after_put_free slot new u out e f =
         subst (λ (k : Moves SlotView × TallyView). Sits (lanes k.0 full shelf) k.1 home × (store_of (seat_of (lanes k.0 full shelf) k.1 a b c) ≡ put_free slot (store_of (seat_of (lanes free full shelf) t a b c))))
         (λ i. (sym e i, sym f i)) (
-          (record { even = record { free = s.0.even.free; shelf = s.0.even.shelf; some_part = s.0.even.some_part }; account = puts_free full shelf t s.0.account slot.number out }, s.1),
+          (record { even = record { free = s.0.even.free; shelf = s.0.even.shelf; some_part = s.0.even.some_part }; account = puts_free full shelf t s.0.account slot.number out; kept = kept_put_free free full shelf t.out s.0.kept slot out }, s.1),
           ap (λ h. let r : StoreView = record { queues = None; handed = Some h; out = (given slot.number [] t).out; no_free = a; no_full = b; broken = c } in r)
               (freed_lists (homes_of (lanes free full shelf)) full.parts (began_of (lanes free full shelf)) t.events (loan_of slot.number t.out)),
         )
@@ -53,7 +54,7 @@ module _ {D : Type 0} where
     after_put_full slot new u may e f =
         subst (λ (k : Moves FullView × TallyView). Sits (lanes free k.0 shelf) k.1 home × (store_of (seat_of (lanes free k.0 shelf) k.1 a b c) ≡ put_full slot (store_of (seat_of (lanes free full shelf) t a b c))))
         (λ i. (sym e i, sym f i)) (
-          (record { even = record { free = s.0.even.free; shelf = s.0.even.shelf; some_part = s.0.even.some_part }; account = puts_full full shelf t s.0.account slot may }, s.1),
+          (record { even = record { free = s.0.even.free; shelf = s.0.even.shelf; some_part = s.0.even.some_part }; account = puts_full full shelf t s.0.account slot may; kept = kept_put_full free full shelf t.out s.0.kept slot may.is_out }, s.1),
           ap (λ h. let r : StoreView = record { queues = None; handed = Some h; out = (given slot.number [] t).out; no_free = a; no_full = b; broken = c } in r)
               (filled_lists (homes_of (lanes free full shelf)) full.parts (began_of (lanes free full shelf)) t.events slot (loan_of slot.number t.out)),
         )
@@ -64,7 +65,7 @@ module _ {D : Type 0} where
         let h = loan_here (λ loan. loan.was_full ≡ true) slot.number t.out may.was_full in
         subst (λ (k : Moves ShelvedView × TallyView). Sits (lanes free full k.0) k.1 home × (store_of (seat_of (lanes free full k.0) k.1 a b c) ≡ put_aside slot (store_of (seat_of (lanes free full shelf) t a b c))))
         (λ i. (sym e i, sym f i)) (
-          (record { even = record { free = s.0.even.free; shelf = s.0.even.shelf; some_part = s.0.even.some_part }; account = puts_aside full shelf t s.0.account slot may }, s.1),
+          (record { even = record { free = s.0.even.free; shelf = s.0.even.shelf; some_part = s.0.even.some_part }; account = puts_aside full shelf t s.0.account slot may; kept = kept_put_shelved free full shelf t.out s.0.kept (is_aside slot) (is_out (λ loan. loan.was_full ≡ true) slot.number t.out may.was_full) }, s.1),
           ap (λ h. let r : StoreView = record { queues = None; handed = Some h; out = (given slot.number [] t).out; no_free = a; no_full = b; broken = c } in r)
               (ap (λ o. handed_of (homes_of (lanes free full shelf)) full.parts (began_of (lanes free full shelf)) (t.events ++ shelved_by slot o)) h.is
               ∙ shelved_lists (homes_of (lanes free full shelf)) full.parts (began_of (lanes free full shelf)) t.events slot h.loan),
@@ -76,7 +77,7 @@ module _ {D : Type 0} where
         let h = loan_here (λ loan. loan.was_full ≡ slot.from_full) slot.number t.out may.was_full in
         subst (λ (k : Moves ShelvedView × TallyView). Sits (lanes free full k.0) k.1 home × PutsBroken slot (store_of (seat_of (lanes free full shelf) t a b c)) (store_of (seat_of (lanes free full k.0) k.1 a b count)))
         (λ i. (sym e i, sym f i)) (
-          (record { even = record { free = s.0.even.free; shelf = s.0.even.shelf; some_part = s.0.even.some_part }; account = puts_broken full shelf t s.0.account slot may }, s.1),
+          (record { even = record { free = s.0.even.free; shelf = s.0.even.shelf; some_part = s.0.even.some_part }; account = puts_broken full shelf t s.0.account slot may; kept = kept_put_shelved free full shelf t.out s.0.kept (is_broken slot) (is_out (λ loan. loan.was_full ≡ slot.from_full) slot.number t.out may.was_full) }, s.1),
           record {
             count = count;
             rose = rose;

@@ -16,6 +16,8 @@ use Rattle.spool_pool.specs.Ends.{Became, IsSettled, from_full, stands}
 use Rattle.spool_pool.specs.Events.{Event, TallyView, kept, spoilt, back, freed, shelved, broke, first_of, set_aside_of, broke_of, full_of, shelf_of, taken_of, told_of}
 use Rattle.spool_pool.specs.Account.{Account, IsSound, IsTrue, handed_in}
 use Rattle.spool_pool.specs.Closing.{Drains, with_all, with_shelved}
+use Rattle.spool_pool.specs.Numbers.{AreKept}
+use Rattle.spool_pool.proofs.Numbers.{numbers_left}
 use Rattle.spool_pool.proofs.Perms.{same, flat_map_permuted}
 use Rattle.spool_pool.proofs.Fates.{all_turned, both, cancel_all, ends_of, over, permuted, stand}
 
@@ -115,15 +117,16 @@ shelf_stands f shelf items none p =
     let all = IsPermutation-trans _ _ _ p (same (items ++ shelf.taken) items (ap (λ l. items ++ l) none ∙ append-nil items)) in
     subst (λ l. IsPermutation l (flat_map f items)) (flat_map-append f shelf.began shelf.put) (flat_map_permuted f _ _ all)
 
-pub settles : {D : Type 0} (l : Lanes D) (t : TallyView) (frees : List SlotView) (fulls : List FullView) (items : List ShelvedView) → Account l.full l.shelf t → t.out ≡ []
-    → IsPermutation (l.full.began ++ l.full.put) (fulls ++ l.full.taken) → IsPermutation (l.shelf.began ++ l.shelf.put) (items ++ l.shelf.taken)
+pub settles : {D : Type 0} (l : Lanes D) (t : TallyView) (frees : List SlotView) (fulls : List FullView) (items : List ShelvedView) → Account l.full l.shelf t → AreKept l.free l.full l.shelf t.out → t.out ≡ []
+    → IsPermutation (l.free.began ++ l.free.put) (frees ++ l.free.taken) → IsPermutation (l.full.began ++ l.full.put) (fulls ++ l.full.taken) → IsPermutation (l.shelf.began ++ l.shelf.put) (items ++ l.shelf.taken)
     → IsSettled (handed_in l t.events) (record { free = frees; full = fulls; aside = flat_map aside_of items; broken = flat_map broken_of items })
-settles l t frees fulls items a none p q =
+settles l t frees fulls items a kept none o p q =
     let asides = shelf_stands aside_of l.shelf items a.shelf_taken q in
     let brokens = from_full_permuted _ _ (shelf_stands broken_of l.shelf items a.shelf_taken q) in
     let put_aside = ap (flat_map aside_of) a.shelf_put ∙ asides_put t.events in
     let put_broken = ap (λ l. from_full (flat_map broken_of l)) a.shelf_put ∙ broken_put t.events a.events_true in record {
       full = full_settled l.full.began fulls l.full l.shelf t a none p;
+      slots = numbers_left l.free l.full l.shelf frees fulls items (subst (AreKept l.free l.full l.shelf) none kept) a.shelf_taken o p q;
       aside = subst (λ k. IsPermutation (flat_map aside_of l.shelf.began ++ k) (flat_map aside_of items)) put_aside asides;
       broken = subst (λ k. IsPermutation k (from_full (flat_map broken_of items)))
           (from_full_both (flat_map broken_of l.shelf.began) (flat_map broken_of l.shelf.put) ∙ ap (λ k. from_full (flat_map broken_of l.shelf.began) ++ k) put_broken) brokens;
@@ -139,4 +142,4 @@ emptied l t room first second third last s none bare a b c all =
     let one = ap (λ (k : Queues). let r : Queues = record { free = k.free ++ a.slots; full = k.full; aside = k.aside; broken = k.broken } in r) bare in
     let two = ap (λ (k : Queues). let r : Queues = record { free = k.free; full = k.full ++ b.slots; aside = k.aside; broken = k.broken } in r) (o ∙ one) in
     let three = ap (λ (k : Queues). let r : Queues = record { free = k.free; full = k.full; aside = k.aside ++ flat_map aside_of c.slots; broken = k.broken ++ flat_map broken_of c.slots } in r) (p ∙ two) in
-    subst (IsSettled (handed_in l t.events)) (sym (q ∙ three)) (settles l t a.slots b.slots c.slots s.account none (b.all all) (c.all (s.even.shelf ∙ all)))
+    subst (IsSettled (handed_in l t.events)) (sym (q ∙ three)) (settles l t a.slots b.slots c.slots s.account s.kept none (a.all (s.even.free ∙ all)) (b.all all) (c.all (s.even.shelf ∙ all)))

@@ -12,6 +12,7 @@ use Rattle.spool_pool.specs.declared.lanes.Lanes.{Lanes}
 use Rattle.spool_pool.specs.Shelf.{ShelvedView, aside_of, broken_of}
 use Rattle.spool_pool.specs.Events.{Event, kept, spoilt, back, freed, shelved, broke, TallyView, first_of, released_of, set_aside_of, broke_of, full_of, shelf_of, told_of, taken_of}
 use Rattle.spool_pool.specs.Known.{PassView, SeatView}
+use Rattle.spool_pool.specs.Numbers.{AreKept}
 
 -- ---- lists
 
@@ -89,6 +90,7 @@ pub record AreEven {D : Type 0} (l : Lanes D) : Type 0 where
 pub record IsSound {D : Type 0} (l : Lanes D) (t : TallyView) : Type 0 where
   pub even : AreEven l
   pub account : Account l.full l.shelf t
+  pub kept : AreKept l.free l.full l.shelf t.out
 
 -- ---- cutting and joining
 

@@ -6,6 +6,7 @@ use Rattle.slot_bytes.specs.Layout.{Mail}
 use Rattle.spool_slots.specs.Images.{HasMessageBehind}
 use Rattle.spool_slots.specs.States.{SlotView, FullView, BrokenView, Keeps, KeepsAside}
 use Rattle.spool_rack.specs.Store.{Handed, Loan, Queues}
+use Rattle.spool_pool.specs.Numbers.{all_at}
 
 -- a slot with a message still stands full; it was taken and given free; it was set aside; or it broke
 pub data End : Type 0 where
@@ -38,9 +39,10 @@ abbrev pub from_full : List BrokenView → List BrokenView
 from_full slots = filter (λ slot. slot.from_full) slots
 
 -- The whole account of a pool, between the slots that it was made of, what was handed to it, and those that it is closed
--- with: no message is lost and none stands twice.
+-- with: no message is lost and none stands twice; and of each number as many slots are there as were.
 pub record IsSettled (handed : Handed) (left : Queues) : Type 0 where
   pub full : Became (handed.began.full ++ handed.put)
       (map stands left.full ++ (map released handed.released ++ (map put_aside handed.aside ++ map broke handed.broken)))
+  pub slots : (k : ℕ) → all_at k left ≡ all_at k handed.began
   pub aside : IsPermutation (handed.began.aside ++ handed.aside) left.aside
   pub broken : IsPermutation (from_full handed.began.broken ++ handed.broken) (from_full left.broken)

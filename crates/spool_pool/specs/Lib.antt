@@ -1,6 +1,7 @@
 pub mod Ends
 pub mod Events
 pub mod Shelf
+pub mod Numbers
 pub mod Tally
 pub mod Known
 pub mod Account
