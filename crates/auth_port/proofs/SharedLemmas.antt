@@ -54,8 +54,8 @@ made_none limit found seen before mine is (inl same) = same.1
 made_none limit found seen before mine is (inr more) = absurd (omega (arith, sym (ap length is) ∙ ap length more.0.is, length_push found more.0.entry))
 
 -- what a pass knows, by what it has seen and its places
-knows_so : (o : SharedOrigin) (seen : List Entry) (places more : List ℕ) (now : Known Entry BookOrigin) → now ≡ knowing o.lock seen places o.first.met → places ≡ o.first.mine ++ more → now ≡ knows o now.seen more
-knows_so o seen places more now is m = is ∙ ap₂ (λ (h : List Entry) (p : List ℕ). knowing o.lock h p o.first.met) (sym (ap (λ (k : Known Entry BookOrigin). k.seen) is)) m
+knows_so : (o : SharedOrigin) (seen : List Entry) (places more : List ℕ) (now : Known Entry BookOrigin) → now ≡ knowing o.lock o.first.parts seen places o.first.met → places ≡ o.first.mine ++ more → now ≡ knows o now.seen more
+knows_so o seen places more now is m = is ∙ ap₂ (λ (h : List Entry) (p : List ℕ). knowing o.lock o.first.parts h p o.first.met) (sym (ap (λ (k : Known Entry BookOrigin). k.seen) is)) m
 
 -- ---- an entry was made
 
@@ -217,7 +217,7 @@ pub at_first : (lock : Lock BookOrigin) (pass : Known Entry BookOrigin) → IsPa
 at_first lock pass of =
     let none : pass.mine ++ [] ≡ pass.mine = search rules in
     record {
-      is = λ i. record { seen = pass.seen; mine = sym none i; met = pass.met; home = of.home i; limit = of.limit i; origin = of.origin i };
+      is = λ i. record { seen = pass.seen; mine = sym none i; met = pass.met; parts = pass.parts; home = of.home i; limit = of.limit i; origin = of.origin i };
       begins = front_self pass.seen;
       legal = λ legal. legal;
     }

@@ -31,9 +31,10 @@ shared_port origin seen mine refused asks = record {
   home = origin.lock.home;
 }
 
--- what a pass knows that has seen this much and made the entries at these places, besides those that it had made at first
+-- what a pass knows that has seen this much and made the entries at these places, besides those that it had made at first; it
+-- has the parts that it had
 abbrev pub knows : SharedOrigin → List Entry → List ℕ → Known Entry BookOrigin
-knows origin seen mine = knowing origin.lock seen (origin.first.mine ++ mine) origin.first.met
+knows origin seen mine = knowing origin.lock origin.first.parts seen (origin.first.mine ++ mine) origin.first.met
 
 -- a pass goes on from what it knew at first: it has seen all that it had seen then, and has those places and these; and what it
 -- has seen is legal, if what it had seen then was

@@ -7,11 +7,13 @@ use std::marker::Model;
 /// it is made.
 pub struct SharedOrigin {
     home: LinkedList<u64>,
+    begun: u64,
     limit: u64,
     origin: BookOrigin,
     seen: LinkedList<Entry>,
     mine: LinkedList<u64>,
     met: LinkedList<u64>,
+    parts: u64,
 }
 
 impl Model for SharedOrigin {
@@ -23,9 +25,11 @@ impl Model for SharedOrigin {
     ghost view = { λ s. record {
       lock = record {
         home = s.home;
+        begun = s.begun;
         limit = s.limit;
         origin = s.origin;
       };
-      first = knowing (record { home = s.home; limit = s.limit; origin = s.origin }) s.seen s.mine s.met;
+      first = knowing (record { home = s.home; begun = s.begun; limit = s.limit; origin = s.origin })
+          s.parts s.seen s.mine s.met;
     } };
 }

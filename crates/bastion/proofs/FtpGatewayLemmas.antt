@@ -4,6 +4,7 @@ use Rattle.std.specs.Prelude.{Result}
 use Rattle.auth_events.specs.Port.{Port, places}
 use Rattle.auth_machine.specs.Port.{BookOrigin, book_port}
 use Rattle.client_service.specs.Endings.{refusal_reply}
+use Rattle.ftp_gate.proofs.BreakLemmas.{held_breaks, held_carries}
 use Rattle.ftp_gate.proofs.CopiedLemmas.{held_marked}
 use Rattle.ftp_gate.proofs.KnownLemmas.{login_known}
 use Rattle.ftp_gate.proofs.CourseLemmas.{held_once}
@@ -103,6 +104,7 @@ module _ (peer : Peer) (inputs : Inputs) (status : ℕ) (old new : WorldView) (a
     known_by = λ some. login_known gate some;
     doors = held_doors gate begun last at.ending at.session.held;
     copies = held_copies gate begun last at.ending at.session.held;
+    carries = held_carries gate begun last at.ending at.session.held;
     between = held_marked gate begun last at.ending at.session.held unlinked;
     due = held_due gate begun last at.ending at.session.held;
     causes = held_caused gate begun last at.ending at.session.held;
@@ -121,6 +123,7 @@ module _ (peer : Peer) (inputs : Inputs) (status : ℕ) (old new : WorldView) (a
     refusals = all_gain refused_gains deeds begun last (held_deeds at.session.held);
     refusals_told = held_told gate begun last at.ending at.session.held;
     broken = all_gain broken_gains deeds begun last (held_deeds at.session.held);
+    breaks_told = held_breaks gate begun last at.ending at.session.held;
     stops = λ cause is. stops_last cause at.session.held is;
   }
 

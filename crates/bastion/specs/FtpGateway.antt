@@ -5,6 +5,7 @@ use Rattle.auth_events.specs.declared.entry.Entry.{Entry}
 use Rattle.auth_machine.specs.Port.{BookOrigin}
 use Rattle.client_service.specs.Endings.{refusal_reply}
 use Rattle.fw_acts.specs.Acts.{Row, PlaceTable}
+use Rattle.ftp_gate.specs.Breaks.{CopiesCarry, CountsBreaks}
 use Rattle.ftp_gate.specs.Copied.{CopiesMarked}
 use Rattle.ftp_gate.specs.Dialogue.{ftp_row, ftp_rows}
 use Rattle.ftp_gate.specs.Due.{DoesWhatIsDue}
@@ -81,6 +82,8 @@ pub record IsUpheld (gate : Gate) (history : List Entry) {old new : World BookOr
   pub known_by : LoginsTold gate
   pub doors : OpensOwn gate (deeds_of held)
   pub copies : CopiesOwn gate (deeds_of held)
+  -- at each copy both data links are still up
+  pub carries : CopiesCarry (deeds_of held)
   -- and each goes between the link that was asked for as a data link to a server and the one that was asked for as the client's
   pub between : CopiesMarked (deeds_of held) old new
   pub due : DoesWhatIsDue gate (deeds_of held)
@@ -105,6 +108,8 @@ pub record IsUpheld (gate : Gate) (history : List Entry) {old new : World BookOr
   -- so for each destination that was asked for in vain, and each time that the client is told of no door or no data link
   pub refusals_told : CountsTold (deeds_of held) old new
   pub broken : CountsBroken (gives broken_off (deeds_of held)) old new
+  -- so for each time that the client is told that a transfer ended early which took fewer bytes than may be taken
+  pub breaks_told : CountsBreaks (deeds_of held) old new
   -- where the session stopped, at the log, say, nothing but what was owed was done after
   pub stops : (cause : Cause) → held.dialogue ≡ Err cause → StopsLast cause held
 

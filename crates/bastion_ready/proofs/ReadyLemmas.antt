@@ -6,12 +6,13 @@ use Rattle.auth_machine.specs.History.{Origin}
 use Rattle.auth_machine.specs.Opening.{ReadsAs}
 use Rattle.auth_machine.specs.Policy.{PolicyView}
 use Rattle.auth_records.specs.Spelling.{Fields}
+use Rattle.fw_outside.specs.Counts.{Rose}
 use Rattle.fw_outside.specs.FilesView.{FilesView}
-use Rattle.fw_outside.specs.KeeperView.{AreLoaded, IsCalled, KeeperView, NamedBytes}
+use Rattle.fw_outside.specs.KeeperView.{AreLoaded, IsCalled, KeeperFailed, KeeperView, NamedBytes}
 use Rattle.gate_rules.specs.Reading.{RuleBook}
 use Rattle.gate_rules.specs.declared.service.Service.{Service}
 use Rattle.bastion.specs.Inputs.{IsAllOf, OfText, is_of_line}
-use Rattle.bastion.specs.Outcome.{CountRose, DeviceRose, fault_line_of, status_of}
+use Rattle.bastion.specs.Outcome.{CountRose, DeviceRose, KeeperRose, fault_line_of, status_of}
 use Rattle.bastion.specs.Reading.{Finds, Unfound, is_early, ruling_in}
 use Rattle.bastion.specs.Run.{AsksTable, FilesUnread, ReadsOnly, TellsIf, Unused}
 use Rattle.bastion.specs.Serving.{book_at_first, most_entries}
@@ -27,12 +28,13 @@ use Rattle.bastion.specs.declared.outcome.Step.TheVariants as steps
 use Rattle.bastion.specs.declared.words.Command.{Command}
 use Rattle.bastion.specs.declared.words.Command.TheVariants.{TnGw}
 use Rattle.bastion.proofs.DoesLemmas.{AskedFiles}
-use Rattle.bastion.proofs.LeftLemmas.{Later, Left, only_left, stops_left, tells_later}
+use Rattle.bastion.proofs.LeftLemmas.{Later, Left, only_left, some_there, stops_left, tells_later}
 use Rattle.bastion.proofs.ReadingLemmas.{of_text}
 use Rattle.bastion.proofs.RoseLemmas.{stops_rose}
-use Rattle.bastion_ready.specs.Inputs.{HasInputs, ServerInputs, SiteRules, inputs_by, is_of_table, origin_of, site_rules_of, with_records}
-use Rattle.bastion_ready.specs.Ready.{IsReady, IsReadyFor, IsRefused, IsStatus, IsStatusFor, Lacks, RecordsUnread, Refuses, Stops, StopsFor}
+use Rattle.bastion_ready.specs.Inputs.{HasInputs, HasSite, IsSaidOf, ServerInputs, SiteRules, inputs_by, is_of_table, origin_of, site_rules_of, whose, with_records}
+use Rattle.bastion_ready.specs.Ready.{IsCounted, IsReady, IsReadyFor, IsRefused, IsStatus, IsStatusFor, Lacks, RecordsUnread, Refuses, Stops, StopsFor}
 use Rattle.bastion_ready.specs.Words.{Door, ServerLine, doors_of, services_of}
+use Rattle.bastion_ready.proofs.SiteLemmas.{whose_said}
 
 -- ---- the table
 
@@ -61,6 +63,9 @@ pub found_for : (line : ServerLine) (services : List Service) (name : List ℕ) 
 found_for line services name result old new are is found =
     subst (λ (n : List ℕ). Finds (ruling_in (site_rules_of (services_of line.plan.posts))) n result old new) is
     (subst (λ (s : List Service). Finds (ruling_in (site_rules_of s)) name result old new) are found)
+
+pub said_for : (line : ServerLine) (services : List Service) (site : SiteRules) → services ≡ services_of line.plan.posts → IsSaidOf services site → IsSaidOf (services_of line.plan.posts) site
+said_for line services site are said = subst (λ (s : List Service). IsSaidOf s site) are said
 
 refuses_line : (line : ServerLine) (refusal : Refusal) (world : WorldView) → is_of_line refusal ≡ true → OfText world.files.holds line.table (λ text. ruling_in (site_rules_of (services_of line.plan.posts)) text ≡ Err refusal)
     → HasInputs line (Err refusal) world
@@ -114,8 +119,12 @@ read_inputs line site records before after world keeper said read = record {
 }
 
 module _ (line : ServerLine) (site : SiteRules) (old mid : WorldView) (found : SiteFound line (Ok site) old.files mid.files) (asked : AskedFiles old mid) where
+  site_old : HasSite line old
+  site_old = record { site = site; of_table = found.of_text }
+
   pub unopened_stops : (outcome : Outcome) (new : WorldView) → Unopened outcome mid new → StopsFor line outcome old new
   unopened_stops (Failed device.Records) new h = record {
+    site = site_old;
     files = subst (λ (f : FilesView). AsksTable line.table old.files f) (sym (ap (λ (w : WorldView). w.files) h.is)) found.asks;
     before = h.before;
     keeper = old_keeper old mid h.before asked h.keeper;
@@ -129,11 +138,11 @@ module _ (line : ServerLine) (site : SiteRules) (old mid : WorldView) (found : S
     read = read_inputs line site (Err (user, at)) h.before h.after old (old_keeper old mid h.before asked h.keeper) found.of_text h.bad;
     only = calls_then line old mid new h.before h.after found.asks asked h.keeper h.called h.is;
   }
-  unopened_stops (NoMemory steps.Records) new h = calls_then line old mid new h.before h.after found.asks asked h.keeper h.called h.is
+  unopened_stops (NoMemory steps.Records) new h = record { site = site_old; only = calls_then line old mid new h.before h.after found.asks asked h.keeper h.called h.is }
   unopened_stops outcome new h = absurd h
 
-  pub opened_ready : (doors : List Door) (rules : List (Service × RuleBook)) (book : BookView) (new : WorldView) → doors ≡ doors_of line.plan → rules ≡ site.rules → Opened site.policy book mid new → IsReadyFor line doors rules book old new
-  opened_ready doors rules book new doors_are rules_are o =
+  pub opened_ready : IsSaidOf (services_of line.plan.posts) site → (doors : List Door) (rules : List (Service × RuleBook)) (book : BookView) (new : WorldView) → doors ≡ doors_of line.plan → rules ≡ site.rules → Opened site.policy book mid new → IsReadyFor line doors rules book old new
+  opened_ready said doors rules book new doors_are rules_are o =
       let inputs : ServerInputs = record { site = site; records = book.origin.records } in
       let middle : WorldView = record mid { inputs = record (mid.inputs) { keeper = Some book.keeper } } in
       let stands : book.origin ≡ origin_of inputs = ap (λ (p : PolicyView). record { policy = p; records = book.origin.records }) o.policy_is in
@@ -141,7 +150,9 @@ module _ (line : ServerLine) (site : SiteRules) (old mid : WorldView) (found : S
         doors_are = doors_are;
         inputs = inputs;
         read = read_inputs line site (Ok book.origin.records) o.before book.keeper old (old_keeper old mid o.before asked o.keeper) found.of_text o.records;
+        said = said;
         rules_are = rules_are;
+        whose_are = ap whose rules_are ∙ whose_said (services_of line.plan.posts) site said;
         middle = middle;
         only = calls_then line old mid middle o.before book.keeper found.asks asked o.keeper o.called refl;
         before = book.keeper;
@@ -174,27 +185,44 @@ lacks_left line steps.Policy old new h = only_left line.table false old new h
 lacks_left line steps.Drill old new h = absurd h
 lacks_left line steps.Slots old new h = absurd h
 lacks_left line steps.Round old new h = absurd h
-lacks_left line steps.Records old new h = only_left line.table true old new h
+lacks_left line steps.Records old new h = only_left line.table true old new h.only
 
-stops_for_left : (line : ServerLine) (outcome : Outcome) (old new : WorldView) → StopsFor line outcome old new → Left old new
-stops_for_left line (Unread refusal) old new h = only_left line.table (not (is_of_line refusal)) old new h.only
-stops_for_left line (Failed device.Table) old new h = stops_left line.table any_command (Failed device.Table) old new h
-stops_for_left line (Failed device.Records) old new h =
-    stops_left line.table any_command (Failed device.Records) old new (record { needed = refl; files = h.files; before = h.before; keeper = h.keeper; after = h.after; failed = h.failed; inputs = h.inputs; output = h.output; logs = h.logs })
-stops_for_left line (NoMemory step) old new h = lacks_left line step old new h
+-- as many sources are out, the disks are as they were, and the keeper is there
+pub record LeftSo (old new : WorldView) : Type 0 where
+  pub out : new.files.out ≡ old.files.out
+  pub disks : new.inputs.disks ≡ old.inputs.disks
+  pub keeper : IsSome old.inputs.keeper → IsSome new.inputs.keeper
+
+left_so : (old new : WorldView) → Left old new → LeftSo old new
+left_so old new h = record { out = h.out; disks = h.disks; keeper = h.keeper }
+
+stops_for_left : (line : ServerLine) (outcome : Outcome) (old new : WorldView) → StopsFor line outcome old new → LeftSo old new
+stops_for_left line (Unread refusal) old new h = left_so old new (only_left line.table (not (is_of_line refusal)) old new h.only)
+stops_for_left line (Failed device.Table) old new h = left_so old new (stops_left line.table any_command (Failed device.Table) old new h)
+stops_for_left line (Failed device.Records) old new h = record {
+  out = ap (λ (f : FilesView). f.out) h.files.is;
+  disks = ap (λ (i : SessionInputs). i.disks) h.inputs;
+  keeper = λ there. some_there new.inputs.keeper h.after (ap (λ (i : SessionInputs). i.keeper) h.inputs);
+}
+stops_for_left line (NoMemory step) old new h = left_so old new (lacks_left line step old new h)
 stops_for_left line outcome old new h = absurd h
 
-stopped_left : (line : Option ServerLine) (outcome : Outcome) (old new : WorldView) → Stops line outcome old new → Left old new
-stopped_left None outcome old new h = same_left old new h.is
+stopped_left : (line : Option ServerLine) (outcome : Outcome) (old new : WorldView) → Stops line outcome old new → LeftSo old new
+stopped_left None outcome old new h = left_so old new (same_left old new h.is)
 stopped_left (Some line) outcome old new h = stops_for_left line outcome old new h
 
 -- ---- whose count rose
+
+keepers_rose : (old new : Option KeeperView) (before after : KeeperView) → old ≡ Some before → new ≡ Some after → KeeperFailed before after → KeeperRose old new
+keepers_rose old new before after was is failed =
+    let rose : Rose before.faults after.faults = subst (λ (k : KeeperView). Rose before.faults k.faults) (sym failed.is) failed.rose in
+    subst (λ (k : Option KeeperView). KeeperRose k new) (sym was) (subst (λ (k : Option KeeperView). KeeperRose (Some before) k) (sym is) rose)
 
 stops_for_rose : (line : ServerLine) (outcome : Outcome) (old new : WorldView) → StopsFor line outcome old new → CountRose outcome old new
 stops_for_rose line (Unread refusal) old new h = tt
 stops_for_rose line (Failed device.Table) old new h = stops_rose line.table any_command (Failed device.Table) old new h
 stops_for_rose line (Failed device.Records) old new h =
-    stops_rose line.table any_command (Failed device.Records) old new (record { needed = refl; files = h.files; before = h.before; keeper = h.keeper; after = h.after; failed = h.failed; inputs = h.inputs; output = h.output; logs = h.logs })
+    keepers_rose old.inputs.keeper new.inputs.keeper h.before h.after h.keeper (ap (λ (i : SessionInputs). i.keeper) h.inputs) h.failed
 stops_for_rose line (NoMemory step) old new h = tt
 stops_for_rose line outcome old new h = absurd h
 
@@ -214,16 +242,16 @@ refused_so line outcome status old mid new stops tells is = record {
   status_is = is;
 }
 
-later_rose : (old mid new : WorldView) → Later mid new → DeviceRose device.Table old mid ⊎ DeviceRose device.Records old mid → DeviceRose device.Table old new ⊎ DeviceRose device.Records old new
-later_rose old mid new later (inl files) =
+later_counted : (line : ServerLine) (old mid new : WorldView) → Later mid new → IsCounted line old mid → IsCounted line old new
+later_counted line old mid new later (inl files) =
     inl (subst (λ (f : FilesView). DeviceRose device.Table old (record mid { files = f })) (sym later.files) files)
-later_rose old mid new later (inr keeper) =
-    inr (subst (λ (i : SessionInputs). DeviceRose device.Records old (record mid { inputs = i })) (sym later.inputs) keeper)
+later_counted line old mid new later (inr keeper) =
+    inr (keeper.0, subst (λ (i : SessionInputs). DeviceRose device.Records old (record mid { inputs = i })) (sym later.inputs) keeper.1)
 
 status_for : (line : ServerLine) (outcome : Outcome) (old mid new : WorldView) → StopsFor line outcome old mid → Later mid new → IsStatusFor line (status_of outcome) old new
 status_for line (Unread refusal) old mid new h later = inl (inl (refl, (refusal, h.read)))
-status_for line (Failed device.Table) old mid new h later = inl (inr (refl, later_rose old mid new later (inl (stops_for_rose line (Failed device.Table) old mid h))))
-status_for line (Failed device.Records) old mid new h later = inl (inr (refl, later_rose old mid new later (inr (stops_for_rose line (Failed device.Records) old mid h))))
+status_for line (Failed device.Table) old mid new h later = inl (inr (refl, later_counted line old mid new later (inl (stops_for_rose line (Failed device.Table) old mid h))))
+status_for line (Failed device.Records) old mid new h later = inl (inr (refl, later_counted line old mid new later (inr (h.site, stops_for_rose line (Failed device.Records) old mid h))))
 status_for line (NoMemory step) old mid new h later = inr refl
 status_for line outcome old mid new h later = absurd h
 
@@ -235,12 +263,6 @@ pub refused_status : (line : Option ServerLine) (status : ℕ) (old new : WorldV
 refused_status line status old new h =
     let later = tells_later (fault_line_of h.outcome) h.middle new h.tells in
     subst (λ (n : ℕ). IsStatus line n old new) (sym h.status_is) (status_so line h.outcome old h.middle new h.stops later)
-
--- as many sources are out, the disks are as they were, and the keeper is there
-pub record LeftSo (old new : WorldView) : Type 0 where
-  pub out : new.files.out ≡ old.files.out
-  pub disks : new.inputs.disks ≡ old.inputs.disks
-  pub keeper : IsSome old.inputs.keeper → IsSome new.inputs.keeper
 
 pub refused_left : (line : Option ServerLine) (status : ℕ) (old new : WorldView) → IsRefused line status old new → LeftSo old new
 refused_left line status old new h =

@@ -1,14 +1,14 @@
 -- From the rules of each service to what the table says of a server's services.
 use Rattle.std.proofs.Common.{◌≡◌, ◌∙◌, ◌≤◌, ◌-◌, ℕ, List, [], ◌∷◌, ◌++◌, ap, refl, sym, subst, Bool, true, false, length, take, drop, get_or, arith, append_assoc, append-nil}
-use Rattle.std.specs.Prelude.{All, Result, Ok, Err}
+use Rattle.std.specs.Prelude.{All, IfOk, Result, Ok, Err}
 use Rattle.std.proofs.lemmas.List.{take_rest}
-use Rattle.std.proofs.lemmas.List.Elements.{All-drop, All-push, All-take}
-use Rattle.auth_machine.specs.Policy.{PolicyView}
+use Rattle.std.proofs.lemmas.List.Elements.{All-cons, All-head, All-nil, All-tail}
+use Rattle.auth_machine.specs.Policy.{PolicyView, policy_of}
 use Rattle.bastion.specs.Reading.{ReadsLines}
 use Rattle.bastion.specs.declared.outcome.Outcome.{Outcome}
 use Rattle.bastion.specs.declared.outcome.Outcome.TheVariants.{Unread, NoMemory}
 use Rattle.bastion.specs.declared.outcome.Refusal.TheVariants.{Rule}
-use Rattle.bastion_ready.specs.Inputs.{AddsRules, SiteRules, both_of, ruled_by, rules_of_each}
+use Rattle.bastion_ready.specs.Inputs.{AddsRules, IsSaidOf, SiteRules, both_of, ruled_by, rules_of_each, site_rules_of, whose}
 use Rattle.bastion_ready.specs.Words.{is_for_server}
 use Rattle.client_service.specs.PlugService.{AreRulesOf}
 use Rattle.fwtk_serve.specs.RulesFor.{MayServe}
@@ -44,15 +44,6 @@ onto_stop ruled service said more whole (Unread (Rule fault)) is stops = sym is 
 onto_stop ruled service said more whole (NoMemory step) is stops = stops
 onto_stop ruled service said more whole outcome is stops = absurd stops
 
--- the rules of a service may be served, where its clients may
-pub may_serve : (service : Service) (rules : RuleBook) → is_for_server service ≡ true → AreRulesOf service rules → MayServe (service, rules)
-may_serve (Netacl label) rules may are = absurd (cc)
-may_serve TnGw rules may are = record { served = tt; mailless = refl }
-may_serve FtpGw rules may are = record { served = tt; mailless = refl }
-may_serve (PlugGw port) rules may are = record { served = are; mailless = refl }
-may_serve Smap rules may are = absurd (cc)
-may_serve Authsrv rules may are = record { served = tt; mailless = refl }
-
 -- ---- one service more
 
 -- the services are the first one and the rest
@@ -62,20 +53,10 @@ next_services [] service lines some is = absurd (omega (arith, some))
 next_services (first ∷ more) service lines some is =
     rw (take_rest (first ∷ more) 1) (ap (λ (s : Service). ruled_by s (rules_of s lines) (rules_of_each more lines)) (sym is))
 
-pub first_served : (services : List Service) (service : Service) → 1 ≤ length services → service ≡ get_or services 0 service → All (λ s. is_for_server s ≡ true) services → is_for_server service ≡ true
-first_served services service some is all = ap is_for_server is ∙ all 0 service (omega (arith, some))
-
-pub rest_served : (services : List Service) → All (λ s. is_for_server s ≡ true) services → All (λ s. is_for_server s ≡ true) (take (length services - 1) (drop 1 services))
-rest_served services all = All-take (λ s. is_for_server s ≡ true) (length services - 1) (drop 1 services) (All-drop (λ s. is_for_server s ≡ true) 1 services all)
-
 pub adds_so_far : (services rest : List Service) (service : Service) (lines : List Line) (old new : List (Service × RuleBook)) → rules_of_each services lines ≡ ruled_by service (rules_of service lines) (rules_of_each rest lines) → AddsRules service lines old new
     → onto new (rules_of_each rest lines) ≡ onto old (rules_of_each services lines)
 adds_so_far services rest service lines old new first adds =
     ap (λ (ruled : List (Service × RuleBook)). onto ruled (rules_of_each rest lines)) adds.is ∙ sym (onto_more old service adds.rules (rules_of service lines) (rules_of_each rest lines) adds.read) ∙ sym (ap (onto old) first)
-
-pub adds_ruled : (service : Service) (lines : List Line) (old new : List (Service × RuleBook)) → is_for_server service ≡ true → AddsRules service lines old new → All MayServe old → All MayServe new
-adds_ruled service lines old new may adds all =
-    subst (All MayServe) (sym adds.is) (All-push MayServe old (service, adds.rules) all (may_serve service adds.rules may (record { lines = lines; read = adds.read })))
 
 pub stops_so : (services rest : List Service) (service : Service) (lines : List Line) (ruled : List (Service × RuleBook)) (whole : RulesRead) (outcome : Outcome) → rules_of_each services lines ≡ ruled_by service (rules_of service lines) (rules_of_each rest lines) → onto ruled (rules_of_each services lines) ≡ whole
     → ReadsLines (rules_of service lines) (Err outcome) → ReadsLines whole (Err outcome)
@@ -96,3 +77,55 @@ pub rules_stop : (each : RulesRead) (said : Result PolicyView RuleFault) (outcom
 rules_stop each said (Unread (Rule fault)) stops = ap (λ (e : RulesRead). both_of e said) stops
 rules_stop each said (NoMemory step) stops = stops
 rules_stop each said outcome stops = absurd stops
+
+-- ---- whose the rules are, and that they may be served
+
+front_whose : (service : Service) (more : List Service) (said : Result RuleBook RuleFault) (others : RulesRead) → IfOk others (λ ruled. whose ruled ≡ more) → IfOk (ruled_by service said others) (λ ruled. whose ruled ≡ service ∷ more)
+front_whose service more (Ok rules) (Ok ruled) is = ap (λ (names : List Service). service ∷ names) is
+front_whose service more (Ok rules) (Err fault) is = tt
+front_whose service more (Err fault) others is = tt
+
+each_whose : (services : List Service) (lines : List Line) → IfOk (rules_of_each services lines) (λ ruled. whose ruled ≡ services)
+each_whose [] lines = refl
+each_whose (service ∷ more) lines = front_whose service more (rules_of service lines) (rules_of_each more lines) (each_whose more lines)
+
+-- the rules of a service may be served, where its clients may
+may_serve : (service : Service) (rules : RuleBook) → is_for_server service ≡ true → AreRulesOf service rules → MayServe (service, rules)
+may_serve (Netacl label) rules may are = absurd (cc)
+may_serve TnGw rules may are = record { served = tt; mailless = refl }
+may_serve FtpGw rules may are = record { served = tt; mailless = refl }
+may_serve (PlugGw port) rules may are = record { served = are; mailless = refl }
+may_serve Smap rules may are = absurd (cc)
+may_serve Authsrv rules may are = record { served = tt; mailless = refl }
+
+front_may : (service : Service) (lines : List Line) (said : Result RuleBook RuleFault) (others : RulesRead) → rules_of service lines ≡ said → is_for_server service ≡ true → IfOk others (All MayServe) → IfOk (ruled_by service said others) (All MayServe)
+front_may service lines (Ok rules) (Ok ruled) is may all =
+    All-cons MayServe (service, rules) ruled (may_serve service rules may (record { lines = lines; read = is })) all
+front_may service lines (Ok rules) (Err fault) is may all = tt
+front_may service lines (Err fault) others is may all = tt
+
+each_may : (services : List Service) (lines : List Line) → All (λ s. is_for_server s ≡ true) services → IfOk (rules_of_each services lines) (All MayServe)
+each_may [] lines all = All-nil MayServe
+each_may (service ∷ more) lines all =
+    front_may service lines (rules_of service lines) (rules_of_each more lines) refl (All-head (λ s. is_for_server s ≡ true) service more all) (each_may more lines (All-tail (λ s. is_for_server s ≡ true) service more all))
+
+of_both : (P : List (Service × RuleBook) → Type 0) (each : RulesRead) (said : Result PolicyView RuleFault) → IfOk each P → IfOk (both_of each said) (λ site. P site.rules)
+of_both P (Ok ruled) (Ok policy) h = h
+of_both P (Ok ruled) (Err fault) h = tt
+of_both P (Err fault) said h = tt
+
+-- what holds of the rules of each service, whatever the lines, holds of those that are said
+of_said : (P : List (Service × RuleBook) → Type 0) (services : List Service) (site : SiteRules) → ((lines : List Line) → IfOk (rules_of_each services lines) P) → IsSaidOf services site → P site.rules
+of_said P services site each said =
+    subst (λ (read : Result SiteRules RuleFault). IfOk read (λ s. P s.rules)) said.read (of_both P (rules_of_each services said.lines) (policy_of said.lines) (each said.lines))
+
+pub whose_said : (services : List Service) (site : SiteRules) → IsSaidOf services site → whose site.rules ≡ services
+whose_said services site said = of_said (λ ruled. whose ruled ≡ services) services site (each_whose services) said
+
+pub may_said : (services : List Service) (site : SiteRules) → All (λ s. is_for_server s ≡ true) services → IsSaidOf services site → All MayServe site.rules
+may_said services site all said = of_said (All MayServe) services site (λ lines. each_may services lines all) said
+
+-- what was read of the lines of a table is said by them
+pub said_by : (services : List Service) (lines : List Line) (result : Result SiteRules Outcome) → ReadsLines (site_rules_of services lines) result → IfOk result (IsSaidOf services)
+said_by services lines (Ok site) is = record { lines = lines; read = is }
+said_by services lines (Err outcome) is = tt

@@ -1,5 +1,5 @@
 -- What a server needs, and what that is read as.
-use Rattle.std.specs.Prelude.{◌≡◌, ℕ, Bool, true, false, List, [], ◌∷◌, ◌++◌, Result, Ok, Err, IfSome}
+use Rattle.std.specs.Prelude.{◌≡◌, ℕ, Bool, true, false, List, [], ◌∷◌, ◌++◌, map, Result, Ok, Err, IfSome}
 use Rattle.auth_machine.specs.History.{Origin}
 use Rattle.auth_machine.specs.Opening.{records_in}
 use Rattle.auth_machine.specs.Policy.{PolicyView, policy_of}
@@ -28,6 +28,10 @@ abbrev pub rules_of_each : List Service → List Line → Result (List (Service 
 rules_of_each [] lines = Ok []
 rules_of_each (service ∷ more) lines = ruled_by service (rules_of service lines) (rules_of_each more lines)
 
+-- the services whose rules these are
+abbrev pub whose : List (Service × RuleBook) → List Service
+whose rules = map (λ ruled. ruled.0) rules
+
 -- the rules of one more service were read; a private function says so
 pub record AddsRules (service : Service) (lines : List Line) (old new : List (Service × RuleBook)) : Type 0 where
   pub rules : RuleBook
@@ -47,6 +51,11 @@ both_of (Err fault) policy = Err fault
 -- both, or the first line that can't be read: of the services in order, and then of the authentication server
 abbrev pub site_rules_of : List Service → List Line → Result SiteRules RuleFault
 site_rules_of services lines = both_of (rules_of_each services lines) (policy_of lines)
+
+-- these are what some one table says of the services and of the authentication server
+pub record IsSaidOf (services : List Service) (site : SiteRules) : Type 0 where
+  pub lines : List Line
+  pub read : site_rules_of services lines ≡ Ok site
 
 -- ---- and what the keeper has
 
@@ -81,3 +90,8 @@ pub record HasInputs (line : ServerLine) (read : Result ServerInputs Refusal) (w
   pub loaded : NamedBytes
   pub of_table : OfText world.files.holds line.table (λ text. inputs_of (services_of line.plan.posts) text loaded ≡ read)
   pub of_keeper : is_of_table read ≡ false → IfSome world.inputs.keeper (IsAllOf loaded)
+
+-- what the table says of a server's services can be read: by the text under the table's name, where the files tell
+pub record HasSite (line : ServerLine) (world : WorldView) : Type 0 where
+  pub site : SiteRules
+  pub of_table : OfText world.files.holds line.table (λ text. ruling_in (site_rules_of (services_of line.plan.posts)) text ≡ Ok site)

@@ -12,8 +12,8 @@ use Rattle.bastion.specs.declared.outcome.Outcome.TheVariants.{Unread, Failed, N
 use Rattle.bastion.specs.declared.outcome.Refusal.{Refusal}
 use Rattle.bastion.specs.declared.outcome.Step.{Step}
 use Rattle.bastion.specs.declared.outcome.Step.TheVariants as steps
-use Rattle.bastion_ready.specs.Inputs.{HasInputs, ServerInputs, origin_of}
-use Rattle.bastion_ready.specs.Words.{Door, ServerLine, doors_of}
+use Rattle.bastion_ready.specs.Inputs.{HasInputs, HasSite, IsSaidOf, ServerInputs, origin_of, whose}
+use Rattle.bastion_ready.specs.Words.{Door, ServerLine, doors_of, services_of}
 use Rattle.fw_outside.specs.KeeperView.{KeeperFailed, KeeperView}
 use Rattle.gate_rules.specs.Reading.{RuleBook}
 use Rattle.gate_rules.specs.declared.service.Service.{Service}
@@ -21,12 +21,15 @@ use Rattle.gate_rules.specs.declared.service.Service.{Service}
 -- ---- it is ready
 
 -- What the server needs was read, and nothing else happened. It has a door for each worker and the rules of each service, and
--- the book is of the records that the keeper had, by what the table says. The keeper is in it.
+-- the book is of the records that the keeper had, by what the table says. The keeper is in it. Whatever the files tell, the
+-- rules are those of the services of the doors, each once, and one table says all of them and the policy.
 pub record IsReadyFor (line : ServerLine) (doors : List Door) (rules : List (Service × RuleBook)) (book : BookView) (old new : WorldView) : Type 0 where
   pub doors_are : doors ≡ doors_of line.plan
   pub inputs : ServerInputs
   pub read : HasInputs line (Ok inputs) old
+  pub said : IsSaidOf (services_of line.plan.posts) inputs.site
   pub rules_are : rules ≡ inputs.site.rules
+  pub whose_are : whose rules ≡ services_of line.plan.posts
   pub middle : WorldView
   pub only : ReadsOnly line.table true old middle
   pub before : KeeperView
@@ -46,8 +49,9 @@ pub record Refuses (line : ServerLine) (refusal : Refusal) (old new : WorldView)
   pub read : HasInputs line (Err refusal) old
   pub only : ReadsOnly line.table (not (is_of_line refusal)) old new
 
--- the table was read, and the keeper failed; nothing else happened
+-- what the table says was read; then the keeper failed, and nothing else happened
 pub record RecordsUnread (line : ServerLine) (old new : WorldView) : Type 0 where
+  pub site : HasSite line old
   pub files : AsksTable line.table old.files new.files
   pub before : KeeperView
   pub keeper : old.inputs.keeper ≡ Some before
@@ -57,13 +61,18 @@ pub record RecordsUnread (line : ServerLine) (old new : WorldView) : Type 0 wher
   pub output : new.output ≡ old.output
   pub logs : new.logs ≡ old.logs
 
+-- what the table says was read; then memory was wanting for the records
+pub record RecordsLack (line : ServerLine) (old new : WorldView) : Type 0 where
+  pub site : HasSite line old
+  pub only : ReadsOnly line.table true old new
+
 -- memory was wanting: for the words or what the table says, or for the records, behind it
 abbrev pub Lacks : ServerLine → Step → WorldView → WorldView → Type 0
 Lacks line steps.Start old new = (new ≡ old) ⊎ ReadsOnly line.table false old new
 Lacks line steps.Table old new = ReadsOnly line.table false old new
 Lacks line steps.Rules old new = ReadsOnly line.table false old new
 Lacks line steps.Policy old new = ReadsOnly line.table false old new
-Lacks line steps.Records old new = ReadsOnly line.table true old new
+Lacks line steps.Records old new = RecordsLack line old new
 Lacks line step old new = ⊥
 
 -- why a server isn't ready, and that nothing else was done
@@ -91,12 +100,16 @@ pub record IsRefused (line : Option ServerLine) (status : ℕ) (old new : WorldV
 
 -- ---- the status
 
+-- the files' count rose; or, where what the table says can be read, the keeper's
+abbrev pub IsCounted : ServerLine → WorldView → WorldView → Type 0
+IsCounted line old new = DeviceRose device.Table old new ⊎ (HasSite line old × DeviceRose device.Records old new)
+
 -- 3 is where something that the server needs can't be read, 4 where a count of the files or the keeper rose, and 5 is want of
 -- memory
 abbrev pub IsStatusFor : ServerLine → ℕ → WorldView → WorldView → Type 0
 IsStatusFor line status old new =
     (((status ≡ 3) × ((refusal : Refusal) × HasInputs line (Err refusal) old))
-    ⊎ ((status ≡ 4) × (DeviceRose device.Table old new ⊎ DeviceRose device.Records old new)))
+    ⊎ ((status ≡ 4) × IsCounted line old new))
     ⊎ (status ≡ 5)
 
 -- 2 is for words that ask for no server, and for no others

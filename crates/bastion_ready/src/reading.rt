@@ -1,12 +1,10 @@
 //! From the files to what the table says of a server's services.
-ghost use Rattle.std.specs.Prelude.{◌≡◌, ◌++◌, ◌∷◌, [], true, All, IfErr, IfOk, OnOk, Ok, Err};
+ghost use Rattle.std.specs.Prelude.{◌≡◌, ◌++◌, ◌∷◌, [], IfErr, IfOk, OnOk, Ok, Err};
 ghost use Rattle.bastion.specs.Reading.{Finds, ReadsLines, ruling_in};
-ghost use Rattle.bastion_ready.specs.Inputs.{AddsRules, rules_of_each, site_rules_of};
+ghost use Rattle.bastion_ready.specs.Inputs.{AddsRules, IsSaidOf, rules_of_each, site_rules_of};
 ghost use Rattle.bastion.specs.declared.outcome.Outcome.TheVariants.{NoMemory};
 ghost use Rattle.bastion.specs.declared.outcome.Step.TheVariants as steps;
-ghost use Rattle.bastion_ready.specs.Words.{is_for_server};
 ghost use Rattle.gate_rules.specs.Reading.{rules_of};
-ghost use Rattle.fwtk_serve.specs.RulesFor.{MayServe};
 
 use auth_machine::Policy;
 use bastion::{Kit, Outcome, Step, World, read_policy, read_rules, read_table};
@@ -80,9 +78,7 @@ fn add_rules(
 
 // The rules of each service, in order.
 fn read_each(alloc: Global, table: &Table, mut services: &[Service]) -> Result<Ruled, Outcome>
-    requires { All (λ s. is_for_server s ≡ true) services.now }
-    ensures lines { ReadsLines (rules_of_each services.now table.now) result }
-    ensures ruled { IfOk result (λ ruled. All MayServe ruled) }
+    ensures { ReadsLines (rules_of_each services.now table.now) result }
 {
     let mut rules = Vec::new(alloc);
     while let [service, more @ ..] = services {
@@ -101,10 +97,8 @@ fn with_policy(
     services: &[Service],
     ruled: Ruled,
 ) -> Result<SiteRules, Outcome>
-    requires lines { rules_of_each services.now table.now ≡ Ok ruled }
-    requires may { All MayServe ruled }
-    ensures lines { ReadsLines (site_rules_of services.now table.now) result }
-    ensures ruled { IfOk result (λ site. All MayServe site.rules) }
+    requires { rules_of_each services.now table.now ≡ Ok ruled }
+    ensures { ReadsLines (site_rules_of services.now table.now) result }
 {
     match read_policy(alloc, table) {
         Ok(policy) => Ok(SiteRules { ruled, policy }),
@@ -113,9 +107,7 @@ fn with_policy(
 }
 
 fn read_both(alloc: Global, table: &Table, services: &[Service]) -> Result<SiteRules, Outcome>
-    requires { All (λ s. is_for_server s ≡ true) services.now }
-    ensures lines { ReadsLines (site_rules_of services.now table.now) result }
-    ensures ruled { IfOk result (λ site. All MayServe site.rules) }
+    ensures { ReadsLines (site_rules_of services.now table.now) result }
 {
     match read_each(alloc, table, services) {
         Ok(ruled) => with_policy(alloc, table, services, ruled),
@@ -130,10 +122,9 @@ fn find_site<F: Files>(
     name: &[u8],
     services: &[Service],
 ) -> Result<SiteRules, Outcome>
-    requires { All (λ s. is_for_server s ≡ true) services.now }
     ensures found { Finds (ruling_in (site_rules_of services.now)) name.now result (F.files_view files.old)
         (F.files_view files.new) }
-    ensures ruled { IfOk result (λ site. All MayServe site.rules) }
+    ensures said { IfOk result (IsSaidOf services.now) }
 {
     match read_table(alloc, files, name) {
         Ok(table) => read_both(alloc, &table, services),
@@ -148,9 +139,8 @@ pub(crate) fn site_for<T: Kit>(
     services: &[Service],
     world: &mut World<T>,
 ) -> Result<SiteRules, Outcome>
-    requires { All (λ s. is_for_server s ≡ true) services.now }
     ensures found { Finds (ruling_in (site_rules_of services.now)) name.now result world.old.files world.new.files }
-    ensures ruled { IfOk result (λ site. All MayServe site.rules) }
+    ensures said { IfOk result (IsSaidOf services.now) }
     ensures output { world.new.output ≡ world.old.output }
     ensures logs { world.new.logs ≡ world.old.logs }
     ensures inputs { world.new.inputs ≡ world.old.inputs }

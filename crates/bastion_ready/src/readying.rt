@@ -175,8 +175,8 @@ pub fn ready<T: Kit>(
     world: &mut World<T>,
 ) -> Result<Ready<T::Keeper>, u8>
     requires keeper { IsSome world.old.inputs.keeper }
-    // A door for each worker and the rules of each service, in the order of the words; and the book is of all the records
-    // that the keeper had, and goes by what the table says.
+    // A door for each worker and the rules of each service, each once, in the order of the words; and the book is of all the
+    // records that the keeper had, and goes by what the table says.
     ensures ready { IfOk result (λ ready. IsReady (server_of words.now) ready.doors.items ready.rules.items ready.book
         world.old world.new) }
     // The rules may be served.

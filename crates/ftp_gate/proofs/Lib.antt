@@ -1,5 +1,6 @@
 mod AccountLemmas
 mod BaseLemmas
+pub mod BreakLemmas
 pub mod CopiedLemmas
 pub mod CourseLemmas
 pub mod DueLemmas
@@ -11,6 +12,7 @@ pub mod LawLemmas
 mod LoginLeaves
 mod OrderLemmas
 pub mod OwnLemmas
+mod PairedLemmas
 pub mod ReadyLemmas
 pub mod RefusalLemmas
 mod RowLemmas

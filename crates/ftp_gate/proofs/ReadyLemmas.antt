@@ -1,4 +1,4 @@
--- Data links are joined only while a link is up, and at a door only while one stands.
+-- Data links are joined only while a link is up, and at a door only while one stands; and data are copied only while data links are up.
 use Rattle.std.proofs.Common.{◌≡◌, refl, sym, ap, subst, ◌∙◌, ℕ, Bool, true, false, not, ◌&&◌, ◌||◌, nat_le, List, [], ◌∷◌, ◌++◌, codes, map, Option, Some, None, Result, Ok, Err, if◌then◌else◌}
 use mathlib.Core.Bool.{true≢false}
 use Rattle.std.specs.Option.{option_map}
@@ -42,13 +42,13 @@ use Rattle.ftp_gate.specs.declared.place.Place.{Place}
 use Rattle.ftp_gate.specs.declared.place.Place.TheVariants.{Listening, Answering, Dropping}
 use Rattle.ftp_gate.specs.declared.place.State.{State}
 use Rattle.fw_acts.specs.Histories.{AllMay, Keeps, Leaves, Watch, history}
-use Rattle.session_acts.specs.Acts.{Act}
-use Rattle.session_acts.specs.Acts.Act.{HangUp, Join, OpenDoor, Pass, TakeReply}
+use Rattle.session_acts.specs.Acts.{Act, Outcome}
+use Rattle.session_acts.specs.Acts.Act.{Copy, HangUp, Join, OpenDoor, Pass, TakeReply}
 use Rattle.session_acts.specs.Deeds.{Deed, deed_last, deeds_ran, done}
 use Rattle.session_acts.specs.Joining.{no_door}
 use Rattle.session_acts.specs.Session.{Held, closing, deeds_of, freeing, owed}
 use Rattle.session_acts.specs.Standing.{AreReady, Standing, is_lacking, is_unasked, standing_of, standing_then}
-use Rattle.session_acts.specs.World.{Speaker, World}
+use Rattle.session_acts.specs.World.{Server, Speaker, World}
 use Rattle.session_acts.specs.declared.replied.Replied.{Replied}
 use Rattle.session_acts.specs.declared.replied.Replied.TheVariants.{Whole, Ended}
 use Rattle.session_acts.specs.declared.reply_use.ReplyUse.TheVariants.{Passed}
@@ -56,6 +56,24 @@ use Rattle.session_acts.proofs.DeedLemmas.{held_deeds}
 use Rattle.session_acts.proofs.StandingLemmas.{all_ready}
 use Rattle.ftp_gate.specs.Dialogue.{data_port, ftp_row, ftp_rows, goes_on, is_done, is_in, is_peers, is_up, is_well, own_target, reason_of, refusing_line}
 use Rattle.ftp_gate.specs.Refusals.{JoinsAsked}
+use Rattle.ftp_gate.proofs.PairedLemmas.{pair_up, paired_then}
+
+-- ---- what stands behind a deed
+
+-- what stands for data links to be asked for, and whether a pair of them is up
+pub record Kept : Type 0 where
+  pub standing : Standing
+  pub paired : Bool
+
+abbrev pub kept_then : (act : Act) → Outcome act → Kept → Kept
+kept_then act outcome s = record { standing = standing_then act outcome s.standing; paired = paired_then act outcome s.paired }
+
+abbrev pub kept_of : Server → Kept
+kept_of server = record { standing = standing_of server; paired = pair_up server }
+
+-- behind a dial, by whether that came up
+abbrev only_link : Bool → Kept
+only_link up = record { standing = record { linked = up; door = false }; paired = false }
 
 -- ---- what stands where a command is waited for
 
@@ -68,21 +86,22 @@ Fits (Some dest) (Some target) s = is_lacking target s ≡ false
 abbrev Stands : State → Standing → Type 0
 Stands state s = Fits state.dest state.setting s
 
-abbrev StandsAt : Standing → Place → Type 0
-StandsAt s (Listening state) = Stands state s
-StandsAt s (Answering state quits) = Stands state s
-StandsAt s (Dropping state) = Stands state s
+abbrev StandsAt : Kept → Place → Type 0
+StandsAt s (Listening state) = Stands state s.standing
+StandsAt s (Answering state quits) = Stands state s.standing
+StandsAt s (Dropping state) = Stands state s.standing
 
--- data links can be asked for where they are wanted
-abbrev CanJoin : Standing → Act → Type 0
-CanJoin s (Join dest target) = is_lacking target s ≡ false
-CanJoin s act = Unit {0}
+-- data links can be asked for where they are wanted, and are up where data are copied
+abbrev pub CanCome : Kept → Act → Type 0
+CanCome s (Join dest target) = is_lacking target s.standing ≡ false
+CanCome s (Copy toward) = s.paired ≡ true
+CanCome s act = Unit {0}
 
 abbrev ready_watch : (Origin : Type 0) → Watch (acts Origin) Place
 ready_watch Origin = record {
-  Noted = Standing;
-  note = λ s act answer. standing_then act (Ok answer) s;
-  may = λ s act. CanJoin s act;
+  Noted = Kept;
+  note = λ s act answer. kept_then act (Ok answer) s;
+  may = λ s act. CanCome s act;
   holds = λ s place. StandsAt s place;
   over = λ s. Unit {0};
 }
@@ -119,21 +138,25 @@ module _ (state : State) (dest : Dest) (is : state.dest ≡ Some dest) where
 -- ---- the rows
 
 module _ (Origin : Type 0) (gate : Gate) where
-  abbrev Leads : Row (acts Origin) Place → Standing → Type 0
+  abbrev Leads : Row (acts Origin) Place → Kept → Type 0
   Leads row s = Leaves (ready_watch Origin) row s
 
-  closed : (s : Standing) → Leads rows.closed_row s
+  closed : (s : Kept) → Leads rows.closed_row s
   closed s = (tt, λ done. tt)
 
+  copied : (s : Kept) (state : State) (done : Bool) → Stands state s.standing → Leads (rows.copied_row state done) s
+  copied s state true fits = fits
+  copied s state false fits = fits
+
   -- where nothing comes or goes
-  module _ (s : Standing) where
-    tell : (words : List ℕ) (state : State) → Stands state s → Leads (rows.tell_row words state) s
+  module _ (s : Kept) where
+    tell : (words : List ℕ) (state : State) → Stands state s.standing → Leads (rows.tell_row words state) s
     tell words state fits = (tt, λ done. fits)
 
-    failed : (name : List ℕ) (denial : Denial) (state : State) → Stands state s → Leads (rows.failed_row gate name denial state) s
+    failed : (name : List ℕ) (denial : Denial) (state : State) → Stands state s.standing → Leads (rows.failed_row gate name denial state) s
     failed name denial state fits = (tt, λ logged. tell texts.login_denied state fits)
 
-    named : (state : State) (name : List ℕ) (stands : Bool) (reply : Reply) → Stands state s → Leads (rows.named_row gate state name stands reply) s
+    named : (state : State) (name : List ℕ) (stands : Bool) (reply : Reply) → Stands state s.standing → Leads (rows.named_row gate state name stands reply) s
     named state name stands replies.Password fits = tell texts.password_asked (rows.with_account (Opened name stands) state) fits
     named state name stands (replies.Challenge number word_seed) fits = tell (texts.challenge_asked number word_seed) (rows.with_account (Opened name stands) state) fits
     named state name stands (replies.Opened sid) fits = failed name (reason_of (replies.Opened sid)) (rows.with_account (Opened name stands) state) fits
@@ -141,10 +164,10 @@ module _ (Origin : Type 0) (gate : Gate) where
     named state name stands (replies.Shown summary) fits = failed name (reason_of (replies.Shown summary)) (rows.with_account (Opened name stands) state) fits
     named state name stands (replies.Denied denial) fits = failed name denial (rows.with_account (Opened name stands) state) fits
 
-    authenticate : (state : State) (name : List ℕ) (stood : Bool) → Stands state s → Leads (rows.authenticate_row gate state name stood) s
+    authenticate : (state : State) (name : List ℕ) (stood : Bool) → Stands state s.standing → Leads (rows.authenticate_row gate state name stood) s
     authenticate state name stood fits = (tt, λ reply. named state name (stood && is_full reply) reply fits)
 
-    opened : (state : State) (name : List ℕ) (reply : Reply) → Stands state s → Leads (rows.opened_row gate state name reply) s
+    opened : (state : State) (name : List ℕ) (reply : Reply) → Stands state s.standing → Leads (rows.opened_row gate state name reply) s
     opened state name (replies.Opened sid) fits = authenticate state name false fits
     opened state name replies.Password fits = failed name (reason_of replies.Password) state fits
     opened state name (replies.Challenge number word_seed) fits = failed name (reason_of (replies.Challenge number word_seed)) state fits
@@ -152,15 +175,15 @@ module _ (Origin : Type 0) (gate : Gate) where
     opened state name (replies.Shown summary) fits = failed name (reason_of (replies.Shown summary)) state fits
     opened state name (replies.Denied denial) fits = failed name denial state fits
 
-    name_leads : (state : State) (account : Account) (name : List ℕ) → Stands state s → Leads (rows.name_row gate state account name) s
+    name_leads : (state : State) (account : Account) (name : List ℕ) → Stands state s.standing → Leads (rows.name_row gate state account name) s
     name_leads state Unopened name fits = (tt, λ reply. opened state name reply fits)
     name_leads state (Opened other stood) name fits = authenticate state name stood fits
 
-    authorize : (state : State) (name : Option (List ℕ)) → Stands state s → Leads (rows.authorize_row gate state name) s
+    authorize : (state : State) (name : Option (List ℕ)) → Stands state s.standing → Leads (rows.authorize_row gate state name) s
     authorize state None fits = tell texts.login_denied state fits
     authorize state (Some name) fits = name_leads state state.account name fits
 
-    answered : (state : State) (name : List ℕ) (reply : Reply) → Stands state s → Leads (rows.answered_row gate state name reply) s
+    answered : (state : State) (name : List ℕ) (reply : Reply) → Stands state s.standing → Leads (rows.answered_row gate state name reply) s
     answered state name replies.Ok fits = (tt, λ logged. tell texts.login_ok (rows.with_account (Opened name true) state) fits)
     answered state name replies.Password fits = failed name (reason_of replies.Password) state fits
     answered state name (replies.Challenge number word_seed) fits = failed name (reason_of (replies.Challenge number word_seed)) state fits
@@ -168,70 +191,66 @@ module _ (Origin : Type 0) (gate : Gate) where
     answered state name (replies.Shown summary) fits = failed name (reason_of (replies.Shown summary)) state fits
     answered state name (replies.Denied denial) fits = failed name denial state fits
 
-    response : (state : State) (account : Account) (text : List ℕ) → Stands state s → Leads (rows.response_row gate state account text) s
+    response : (state : State) (account : Account) (text : List ℕ) → Stands state s.standing → Leads (rows.response_row gate state account text) s
     response state Unopened text fits = tell texts.authorize_first state fits
     response state (Opened name stood) text fits = (tt, λ reply. answered state name reply fits)
 
     -- what is passed
-    pass : (state : State) (verb text : List ℕ) (quits logs : Bool) → Stands state s → Leads (rows.logged_row gate verb logs (Do (Pass text) (λ done. At (Answering state quits)))) s
+    pass : (state : State) (verb text : List ℕ) (quits logs : Bool) → Stands state s.standing → Leads (rows.logged_row gate verb logs (Do (Pass text) (λ done. At (Answering state quits)))) s
     pass state verb text quits true fits = (tt, λ logged. (tt, λ done. fits))
     pass state verb text quits false fits = (tt, λ done. fits)
 
-    pass_user : (state : State) (name : List ℕ) → Stands state s → Leads (rows.pass_user_row gate state name) s
+    pass_user : (state : State) (name : List ℕ) → Stands state s.standing → Leads (rows.pass_user_row gate state name) s
     pass_user state name fits = pass state (codes "USER") (texts.user_text name) false (has_verb gate.options.log (codes "USER")) fits
 
-    blocked : (state : State) (verb words : List ℕ) → Stands state s → Leads (rows.blocked_row gate state verb words) s
+    blocked : (state : State) (verb words : List ℕ) → Stands state s.standing → Leads (rows.blocked_row gate state verb words) s
     blocked state verb words fits = (tt, λ logged. tell words state fits)
 
-    refuse : (state : State) (dest : Dest) (line : ℕ) → Stands state s → Leads (rows.refuse_row gate state dest line) s
+    refuse : (state : State) (dest : Dest) (line : ℕ) → Stands state s.standing → Leads (rows.refuse_row gate state dest line) s
     refuse state dest line fits = (tt, λ logged. tell (texts.dest_denied line) state fits)
 
     -- data that are copied, or let go
-    copied : (state : State) (done : Bool) → Stands state s → Leads (rows.copied_row state done) s
-    copied state true fits = fits
-    copied state false fits = fits
+    started : (state : State) (toward : Toward) (starts : Bool) → s.paired ≡ true → Stands state s.standing → Leads (rows.started_row state toward starts) s
+    started state toward true paired fits = (paired, λ carried. copied (kept_then (Copy toward) (Ok carried) s) state (is_done (option_map (λ way. way.end) carried)) fits)
+    started state toward false paired fits = (tt, λ done. fits)
 
-    started : (state : State) (toward : Toward) (starts : Bool) → Stands state s → Leads (rows.started_row state toward starts) s
-    started state toward true fits = (tt, λ carried. copied state (is_done (option_map (λ way. way.end) carried)) fits)
-    started state toward false fits = (tt, λ done. fits)
+    commanded : (state : State) (toward : Toward) (heard : Replied) → s.paired ≡ true → Stands state s.standing → Leads (rows.commanded_row state toward heard) s
+    commanded state toward (Whole code six) paired fits = started state toward (goes_on code) paired fits
+    commanded state toward Ended paired fits = closed s
 
-    commanded : (state : State) (toward : Toward) (heard : Replied) → Stands state s → Leads (rows.commanded_row state toward heard) s
-    commanded state toward (Whole code six) fits = started state toward (goes_on code) fits
-    commanded state toward Ended fits = closed s
-
-    joined_logged : (state : State) (toward : Toward) (verb text : List ℕ) (logs : Bool) → Stands state s
+    joined_logged : (state : State) (toward : Toward) (verb text : List ℕ) (logs : Bool) → s.paired ≡ true → Stands state s.standing
         → Leads (rows.logged_row gate verb logs (Do (Pass text) (λ done. Do (TakeReply Passed) (λ heard. rows.commanded_row state toward heard.0)))) s
-    joined_logged state toward verb text true fits = (tt, λ logged. (tt, λ done. (tt, λ heard. commanded state toward heard.0 fits)))
-    joined_logged state toward verb text false fits = (tt, λ done. (tt, λ heard. commanded state toward heard.0 fits))
+    joined_logged state toward verb text true paired fits = (tt, λ logged. (tt, λ done. (tt, λ heard. commanded state toward heard.0 paired fits)))
+    joined_logged state toward verb text false paired fits = (tt, λ done. (tt, λ heard. commanded state toward heard.0 paired fits))
 
-    joined : (state : State) (toward : Toward) (o : Order) (up : Bool) → Stands state s → Leads (rows.joined_row gate state toward o up) s
-    joined state toward o true fits = joined_logged state toward o.verb (texts.passed_line o.line) (has_verb gate.options.log o.verb) fits
-    joined state toward o false fits = tell texts.no_data_link state fits
+    joined : (state : State) (toward : Toward) (o : Order) (up : Bool) → (up ≡ true → s.paired ≡ true) → Stands state s.standing → Leads (rows.joined_row gate state toward o up) s
+    joined state toward o true paired fits = joined_logged state toward o.verb (texts.passed_line o.line) (has_verb gate.options.log o.verb) (paired refl) fits
+    joined state toward o false paired fits = tell texts.no_data_link state fits
 
   -- ---- destinations, where no link is known
   module _ (state : State) (none : state.dest ≡ None) (unset : state.setting ≡ None) where
-    still : (s : Standing) → Stands state s
-    still s = unlinked_fits state s none unset
+    still : (s : Kept) → Stands state s.standing
+    still s = unlinked_fits state s.standing none unset
 
     dest_fits : (dest : Dest) (s : Standing) → s.linked ≡ true → Stands (rows.with_dest dest state) s
     dest_fits dest s up = subst (λ (t : Option Target). Fits (Some dest) t s) (sym unset) up
 
-    welcomed : (s : Standing) (name : List ℕ) (dest : Dest) (well : Bool) → s.linked ≡ true → Leads (rows.welcomed_row gate state name dest well) s
-    welcomed s name dest true up = pass_user s (rows.with_dest dest state) name (dest_fits dest s up)
-    welcomed s name dest false up = (tt, λ done. still (standing_then HangUp (Ok done) s))
+    welcomed : (s : Kept) (name : List ℕ) (dest : Dest) (well : Bool) → s.standing.linked ≡ true → Leads (rows.welcomed_row gate state name dest well) s
+    welcomed s name dest true up = pass_user s (rows.with_dest dest state) name (dest_fits dest s.standing up)
+    welcomed s name dest false up = (tt, λ done. still (kept_then HangUp (Ok done) s))
 
-    greeted : (s : Standing) (name : List ℕ) (dest : Dest) (heard : Replied) → s.linked ≡ true → Leads (rows.greeted_row gate state name dest heard) s
+    greeted : (s : Kept) (name : List ℕ) (dest : Dest) (heard : Replied) → s.standing.linked ≡ true → Leads (rows.greeted_row gate state name dest heard) s
     greeted s name dest (Whole code six) up = welcomed s name dest (is_well code) up
     greeted s name dest Ended up = closed s
 
-    dialed : (name : List ℕ) (dest : Dest) (up : Bool) → Leads (rows.dialed_row gate state name dest up) (record { linked = up; door = false })
-    dialed name dest true = (tt, λ heard. greeted (record { linked = true; door = false }) name dest heard.0 refl)
-    dialed name dest false = tell (record { linked = false; door = false }) texts.no_route state (still (record { linked = false; door = false }))
+    dialed : (name : List ℕ) (dest : Dest) (up : Bool) → Leads (rows.dialed_row gate state name dest up) (only_link up)
+    dialed name dest true = (tt, λ heard. greeted (only_link true) name dest heard.0 refl)
+    dialed name dest false = tell (only_link false) texts.no_route state (still (only_link false))
 
-    connect : (s : Standing) (name : List ℕ) (dest : Dest) → Leads (rows.connect_row gate state name dest) s
+    connect : (s : Kept) (name : List ℕ) (dest : Dest) → Leads (rows.connect_row gate state name dest) s
     connect s name dest = (tt, λ logged. (tt, λ up. dialed name dest up))
 
-    operated : (s : Standing) (name : List ℕ) (dest : Dest) (reply : Reply) → Leads (rows.operated_row gate state name dest reply) s
+    operated : (s : Kept) (name : List ℕ) (dest : Dest) (reply : Reply) → Leads (rows.operated_row gate state name dest reply) s
     operated s name dest replies.Ok = connect s name dest
     operated s name dest replies.Password = refuse s state dest (refusing_line gate.line replies.Password) (still s)
     operated s name dest (replies.Challenge number word_seed) = refuse s state dest (refusing_line gate.line (replies.Challenge number word_seed)) (still s)
@@ -239,57 +258,57 @@ module _ (Origin : Type 0) (gate : Gate) where
     operated s name dest (replies.Shown summary) = refuse s state dest (refusing_line gate.line (replies.Shown summary)) (still s)
     operated s name dest (replies.Denied denial) = refuse s state dest (refusing_line gate.line (replies.Denied denial)) (still s)
 
-    permitted : (s : Standing) (extnd : Bool) (name : List ℕ) (dest : Dest) → Leads (rows.permitted_row extnd gate state name dest) s
+    permitted : (s : Kept) (extnd : Bool) (name : List ℕ) (dest : Dest) → Leads (rows.permitted_row extnd gate state name dest) s
     permitted s true name dest = (tt, λ reply. operated s name dest reply)
     permitted s false name dest = connect s name dest
 
-    dest_leads : (s : Standing) (allowed : Bool) (name : List ℕ) (dest : Dest) → Leads (rows.dest_row allowed gate state name dest) s
+    dest_leads : (s : Kept) (allowed : Bool) (name : List ℕ) (dest : Dest) → Leads (rows.dest_row allowed gate state name dest) s
     dest_leads s true name dest = permitted s gate.options.extnd name dest
     dest_leads s false name dest = refuse s state dest gate.line (still s)
 
-    wanted : (s : Standing) (user : Option (List ℕ × Dest)) → Leads (rows.wanted_row gate state user) s
+    wanted : (s : Kept) (user : Option (List ℕ × Dest)) → Leads (rows.wanted_row gate state user) s
     wanted s None = tell s texts.no_destination state (still s)
     wanted s (Some user) = dest_leads s (allows gate.options user.1) user.0 user.1
 
-  again : (s : Standing) (state : State) (name : Option (List ℕ)) → Stands state s → Leads (rows.again_row gate state name) s
+  again : (s : Kept) (state : State) (name : Option (List ℕ)) → Stands state s.standing → Leads (rows.again_row gate state name) s
   again s state None fits = tell s texts.already_connected state fits
   again s state (Some name) fits = pass_user s state name fits
 
-  user : (s : Standing) (state : State) (dest : Option Dest) (arg : List ℕ) → state.dest ≡ dest → Stands state s → Leads (rows.user_row gate state dest arg) s
-  user s state None arg is fits = wanted state is (unset_there state s is fits) s (user_of arg)
+  user : (s : Kept) (state : State) (dest : Option Dest) (arg : List ℕ) → state.dest ≡ dest → Stands state s.standing → Leads (rows.user_row gate state dest arg) s
+  user s state None arg is fits = wanted state is (unset_there state s.standing is fits) s (user_of arg)
   user s state (Some dest) arg is fits = again s state (name_there dest arg) fits
 
   -- ---- data links, where a link is known
-  module _ (state : State) (dest : Dest) (is : state.dest ≡ Some dest) (s : Standing) (fits : Stands state s) where
-    up : s.linked ≡ true
-    up = up_there dest state.setting s (fits_there state dest is s fits)
+  module _ (state : State) (dest : Dest) (is : state.dest ≡ Some dest) (s : Kept) (fits : Stands state s.standing) where
+    up : s.standing.linked ≡ true
+    up = up_there dest state.setting s.standing (fits_there state dest is s.standing fits)
 
     port_if : (own : Bool) (addr : List ℕ) (port : ℕ) → Leads (rows.port_row state (if own then Some (Addr addr port) else None)) s
-    port_if true addr port = tell s texts.port_ok (rows.with_setting (Some (Addr addr port)) state) (set_fits state dest is (Addr addr port) s up refl)
+    port_if true addr port = tell s texts.port_ok (rows.with_setting (Some (Addr addr port)) state) (set_fits state dest is (Addr addr port) s.standing up refl)
     port_if false addr port = tell s texts.foreign_address state fits
 
     port_leads : (own : Option (List ℕ)) (six : Option (List ℕ × ℕ)) → Leads (rows.port_row state (own_target own six)) s
     port_leads own None = tell s texts.foreign_address state fits
     port_leads own (Some six) = port_if (is_peers own six.0 && nat_le 1024 six.1) six.0 six.1
 
-    door : (place : Option (List ℕ × ℕ)) → Leads (rows.door_row state place) (standing_then OpenDoor (Ok place) s)
+    door : (place : Option (List ℕ × ℕ)) → Leads (rows.door_row state place) (kept_then OpenDoor (Ok place) s)
     door None = tell s texts.no_door state fits
     door (Some place) =
-        let open_door : Standing = record { linked = s.linked; door = true } in
-        tell open_door (texts.passive_mode place.0 place.1) (rows.with_setting (Some AtDoor) state) (set_fits state dest is AtDoor open_door up refl)
+        let open_door : Kept = record { standing = record { linked = s.standing.linked; door = true }; paired = s.paired } in
+        tell open_door (texts.passive_mode place.0 place.1) (rows.with_setting (Some AtDoor) state) (set_fits state dest is AtDoor open_door.standing up refl)
 
-    module _ (target : Target) (ready : is_lacking target s ≡ false) where
+    module _ (target : Target) (ready : is_lacking target s.standing ≡ false) where
       used : (t : Standing) → t.linked ≡ true → Stands (rows.with_setting None state) t
       used t up = free_fits state dest is t up
 
       joined_then : (side : Dest) (toward : Toward) (o : Order) (joined_so : Joined)
-          → Leads (rows.joined_row gate (rows.with_setting None state) toward o (is_up joined_so)) (standing_then (Join side target) (Ok joined_so) s)
+          → Leads (rows.joined_row gate (rows.with_setting None state) toward o (is_up joined_so)) (kept_then (Join side target) (Ok joined_so) s)
       joined_then side toward o joined_so =
-          let t = standing_then (Join side target) (Ok joined_so) s in
-          joined t (rows.with_setting None state) toward o (is_up joined_so) (used t up)
+          let t = kept_then (Join side target) (Ok joined_so) s in
+          joined t (rows.with_setting None state) toward o (is_up joined_so) (λ both. both) (used t.standing up)
 
       ported : (toward : Toward) (o : Order) (port : Option ℕ) → Leads (rows.ported_row gate (rows.with_setting None state) dest target toward o port) s
-      ported toward o None = tell s texts.no_data_port (rows.with_setting None state) (used s up)
+      ported toward o None = tell s texts.no_data_port (rows.with_setting None state) (used s.standing up)
       ported toward o (Some port) = (ready, λ joined_so. joined_then (record { host = dest.host; port = port }) toward o joined_so)
 
       passive : (toward : Toward) (o : Order) (heard : Replied) → Leads (rows.passive_row gate (rows.with_setting None state) dest target toward o heard) s
@@ -299,7 +318,7 @@ module _ (Origin : Type 0) (gate : Gate) where
     transfer : (toward : Toward) (o : Order) (setting : Option Target) → state.setting ≡ setting → Leads (rows.transfer_row gate state dest toward o setting) s
     transfer toward o None set = tell s texts.port_first state fits
     transfer toward o (Some target) set =
-        let ready : is_lacking target s ≡ false = subst (λ (t : Option Target). Fits (Some dest) t s) set (fits_there state dest is s fits) in
+        let ready : is_lacking target s.standing ≡ false = subst (λ (t : Option Target). Fits (Some dest) t s.standing) set (fits_there state dest is s.standing fits) in
         (tt, λ done. (tt, λ heard. passive target ready toward o heard.0))
 
     linked : (order : Order) (asked : served.Served) → Leads (rows.linked_row gate state dest order asked) s
@@ -311,7 +330,7 @@ module _ (Origin : Type 0) (gate : Gate) where
     linked order Other = pass s state order.verb (texts.passed_line order.line) false (has_verb gate.options.log order.verb) fits
 
   -- ---- a command
-  module _ (s : Standing) (state : State) (fits : Stands state s) where
+  module _ (s : Kept) (state : State) (fits : Stands state s.standing) where
     unlinked : (quits : Bool) → Leads (rows.unlinked_row state quits) s
     unlinked true = (tt, λ done. tt)
     unlinked false = tell s texts.user_first state fits
@@ -370,36 +389,36 @@ module _ (Origin : Type 0) (gate : Gate) where
   keeps (Answering state quits) s fits = (tt, λ heard. answer s state fits quits heard.0)
   keeps (Dropping state) s fits = (tt, λ heard. drops s state fits heard.0)
 
-  begins_so : (s : Standing) → Leads ftp_row s
+  begins_so : (s : Kept) → Leads ftp_row s
   begins_so s = (tt, λ done. refl)
 
 -- ---- deeds
 
-abbrev stood : Standing → List Deed → Standing
+abbrev stood : Kept → List Deed → Kept
 stood s [] = s
-stood s (deed ∷ deeds) = stood (standing_then deed.act deed.outcome s) deeds
+stood s (deed ∷ deeds) = stood (kept_then deed.act deed.outcome s) deeds
 
-abbrev AllJoin : Standing → List Deed → Type 0
-AllJoin s [] = Unit {0}
-AllJoin s (deed ∷ deeds) = CanJoin s deed.act × AllJoin (standing_then deed.act deed.outcome s) deeds
+abbrev pub AllCome : Kept → List Deed → Type 0
+AllCome s [] = Unit {0}
+AllCome s (deed ∷ deeds) = CanCome s deed.act × AllCome (kept_then deed.act deed.outcome s) deeds
 
-join_both : (s : Standing) (first more : List Deed) → AllJoin s first → AllJoin (stood s first) more → AllJoin s (first ++ more)
-join_both s [] more a b = b
-join_both s (deed ∷ first) more a b = (a.0, join_both (standing_then deed.act deed.outcome s) first more a.1 b)
+come_both : (s : Kept) (first more : List Deed) → AllCome s first → AllCome (stood s first) more → AllCome s (first ++ more)
+come_both s [] more a b = b
+come_both s (deed ∷ first) more a b = (a.0, come_both (kept_then deed.act deed.outcome s) first more a.1 b)
 
-close_joins : (s : Standing) (opened : Option ℕ) (answer : Result Reply PortFault) → AllJoin s (closing opened answer)
-close_joins s None answer = tt
-close_joins s (Some sid) answer = (tt, tt)
+close_comes : (s : Kept) (opened : Option ℕ) (answer : Result Reply PortFault) → AllCome s (closing opened answer)
+close_comes s None answer = tt
+close_comes s (Some sid) answer = (tt, tt)
 
-owed_joins : (s : Standing) (link : Option Speaker) (opened : Option ℕ) (answer : Result Reply PortFault) → AllJoin s (freeing link ++ closing opened answer)
-owed_joins s None opened answer = close_joins s opened answer
-owed_joins s (Some speaker) opened answer = (tt, close_joins (standing_then HangUp (Ok tt) s) opened answer)
+owed_come : (s : Kept) (link : Option Speaker) (opened : Option ℕ) (answer : Result Reply PortFault) → AllCome s (freeing link ++ closing opened answer)
+owed_come s None opened answer = close_comes s opened answer
+owed_come s (Some speaker) opened answer = (tt, close_comes (kept_then HangUp (Ok tt) s) opened answer)
 
 -- what is asked for exactly where it can be, and is wanted only there, is asked for
-asked_at : (s : Standing) (before after : List Deed) (dest : Dest) (target : Target) (joined : Joined)
-    → AreReady s (before ++ record { act = Join dest target; outcome = Ok joined } ∷ after) → AllJoin s (before ++ record { act = Join dest target; outcome = Ok joined } ∷ after) → is_unasked joined ≡ false
+asked_at : (s : Kept) (before after : List Deed) (dest : Dest) (target : Target) (joined : Joined)
+    → AreReady s.standing (before ++ record { act = Join dest target; outcome = Ok joined } ∷ after) → AllCome s (before ++ record { act = Join dest target; outcome = Ok joined } ∷ after) → is_unasked joined ≡ false
 asked_at s [] after dest target joined ready can = ready.0 ∙ can.0
-asked_at s (deed ∷ before) after dest target joined ready can = asked_at (standing_then deed.act deed.outcome s) before after dest target joined ready.1 can.1
+asked_at s (deed ∷ before) after dest target joined ready can = asked_at (kept_then deed.act deed.outcome s) before after dest target joined ready.1 can.1
 
 -- ---- a dialogue
 
@@ -410,41 +429,41 @@ module _ {Origin : Type 0} (gate : Gate) where
   abbrev over : Unit {0} → Row (acts Origin) Place
   over done = Over
 
-  steps_join : (s : Standing) (steps : List (Step (acts Origin))) → AllMay (ready_watch Origin) s steps → AllJoin s (map done steps)
-  steps_join s [] all = tt
-  steps_join s (step ∷ steps) all = (all.0, steps_join (standing_then step.act (Ok step.answer) s) steps all.1)
+  steps_come : (s : Kept) (steps : List (Step (acts Origin))) → AllMay (ready_watch Origin) s steps → AllCome s (map done steps)
+  steps_come s [] all = tt
+  steps_come s (step ∷ steps) all = (all.0, steps_come (kept_then step.act (Ok step.answer) s) steps all.1)
 
-  steps_stood : (s : Standing) (steps : List (Step (acts Origin))) → history (ready_watch Origin) s steps ≡ stood s (map done steps)
+  steps_stood : (s : Kept) (steps : List (Step (acts Origin))) → history (ready_watch Origin) s steps ≡ stood s (map done steps)
   steps_stood s [] = refl
-  steps_stood s (step ∷ steps) = steps_stood (standing_then step.act (Ok step.answer) s) steps
+  steps_stood s (step ∷ steps) = steps_stood (kept_then step.act (Ok step.answer) s) steps
 
-  last_joins : (dialogue : Result (Unit {0}) Cause) (new : World Origin) (left : Row (acts Origin) Place) (mid : World Origin) (comes : Comes own over dialogue new left mid) (s : Standing) → Leaves (ready_watch Origin) left s
-      → AllJoin s (deed_last own over dialogue new left mid comes)
-  last_joins (Ok end) new left mid comes s leaves = tt
-  last_joins (Err cause) new (Do act go) mid comes s leaves = (leaves.0, tt)
-  last_joins (Err cause) new (At place) mid comes s leaves = ((keeps Origin gate place s leaves).0, tt)
-  last_joins (Err cause) new Over mid comes s leaves = absurd comes
+  last_comes : (dialogue : Result (Unit {0}) Cause) (new : World Origin) (left : Row (acts Origin) Place) (mid : World Origin) (comes : Comes own over dialogue new left mid) (s : Kept) → Leaves (ready_watch Origin) left s
+      → AllCome s (deed_last own over dialogue new left mid comes)
+  last_comes (Ok end) new left mid comes s leaves = tt
+  last_comes (Err cause) new (Do act go) mid comes s leaves = (leaves.0, tt)
+  last_comes (Err cause) new (At place) mid comes s leaves = ((keeps Origin gate place s leaves).0, tt)
+  last_comes (Err cause) new Over mid comes s leaves = absurd comes
 
-  ran_joins : (s : Standing) (old new : World Origin) (dialogue : Result (Unit {0}) Cause) (ran : Ran own ftp_row over old new dialogue) → AllJoin s (deeds_ran ran)
-  ran_joins s old new dialogue ran =
+  ran_come : (s : Kept) (old new : World Origin) (dialogue : Result (Unit {0}) Cause) (ran : Ran own ftp_row over old new dialogue) → AllCome s (deeds_ran ran)
+  ran_come s old new dialogue ran =
       let steps = ran.steps in
       let first = map done steps in
       let leaves = run_leaves own (ready_watch Origin) (keeps Origin gate) ftp_row ran.left s steps (begins_so Origin gate s) ran.run in
       let all = run_may own (ready_watch Origin) (keeps Origin gate) ftp_row ran.left s steps (begins_so Origin gate s) ran.run in
-      let here : Leaves (ready_watch Origin) ran.left (stood s first) = subst (λ (m : Standing). Leaves (ready_watch Origin) ran.left m) (steps_stood s steps) leaves in
-      join_both s first (deed_last own over dialogue new ran.left ran.mid ran.comes) (steps_join s steps all) (last_joins dialogue new ran.left ran.mid ran.comes (stood s first) here)
+      let here : Leaves (ready_watch Origin) ran.left (stood s first) = subst (λ (m : Kept). Leaves (ready_watch Origin) ran.left m) (steps_stood s steps) leaves in
+      come_both s first (deed_last own over dialogue new ran.left ran.mid ran.comes) (steps_come s steps all) (last_comes dialogue new ran.left ran.mid ran.comes (stood s first) here)
 
 -- ---- a session
 
 module _ {Origin : Type 0} (gate : Gate) (old new : World Origin) (ending : Ending) (held : Held (ftp_rows gate) ftp_row old new ending) where
-  all_join : AllJoin (standing_of old.server) (deeds_of held)
-  all_join =
-      let s = standing_of old.server in
-      join_both s (deeds_ran held.ran) (owed held.mid held.answer) (ran_joins gate s old held.mid held.dialogue held.ran)
-      (owed_joins (stood s (deeds_ran held.ran)) held.mid.server.link held.mid.office.opened held.answer)
+  pub all_come : AllCome (kept_of old.server) (deeds_of held)
+  all_come =
+      let s = kept_of old.server in
+      come_both s (deeds_ran held.ran) (owed held.mid held.answer) (ran_come gate s old held.mid held.dialogue held.ran)
+      (owed_come (stood s (deeds_ran held.ran)) held.mid.server.link held.mid.office.opened held.answer)
 
   pub held_joined : JoinsAsked (deeds_of held)
   held_joined before after dest target joined is =
-      let s = standing_of old.server in
-      let ready : AreReady s (deeds_of held) = all_ready (deeds_of held) old new (held_deeds held) in
-      asked_at s before after dest target joined (subst (λ (d : List Deed). AreReady s d) is ready) (subst (λ (d : List Deed). AllJoin s d) is all_join)
+      let s = kept_of old.server in
+      let ready : AreReady s.standing (deeds_of held) = all_ready (deeds_of held) old new (held_deeds held) in
+      asked_at s before after dest target joined (subst (λ (d : List Deed). AreReady s.standing d) is ready) (subst (λ (d : List Deed). AllCome s d) is all_come)

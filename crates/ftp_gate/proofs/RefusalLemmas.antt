@@ -129,9 +129,9 @@ few before (deed ∷ deeds) all =
 
 -- ---- what was done since a command is done last
 
-record Tail (deeds since : List Deed) : Type 0 where
-  front : List Deed
-  is : deeds ≡ front ++ since
+pub record Tail (deeds since : List Deed) : Type 0 where
+  pub front : List Deed
+  pub is : deeds ≡ front ++ since
 
 tail_more : (deed : Deed) (deeds since : List Deed) → Tail deeds since → Tail (deeds ++ deed ∷ []) (since ++ deed ∷ [])
 tail_more deed deeds since t = record { front = t.front; is = ap (λ (d : List Deed). d ++ deed ∷ []) t.is ∙ append_assoc t.front since (deed ∷ []) }
@@ -164,7 +164,7 @@ tail_from gate k deeds (deed ∷ more) t =
     let k' = known_after gate k deed.act deed.outcome in
     subst (λ (d : List Deed). Tail d (known_from gate k' more).since) (append_assoc deeds (deed ∷ []) more) (tail_from gate k' (deeds ++ deed ∷ []) more (tail_one gate k deeds deed.act deed.outcome t))
 
-tail_of : (gate : Gate) (deeds : List Deed) → Tail deeds (known gate deeds).since
+pub tail_of : (gate : Gate) (deeds : List Deed) → Tail deeds (known gate deeds).since
 tail_of gate deeds = tail_from gate at_start [] deeds (record { front = []; is = refl })
 
 -- ---- a session

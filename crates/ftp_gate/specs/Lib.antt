@@ -1,3 +1,4 @@
+pub mod Breaks
 pub mod Copied
 pub mod Dialogue
 pub mod Distance

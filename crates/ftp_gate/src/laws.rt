@@ -10,6 +10,7 @@ ghost use Rattle.session_acts.specs.OwnLogin.{LoginStandsIn, number_opened};
 ghost use Rattle.session_acts.specs.Session.{Held, deeds_of};
 ghost use Rattle.session_acts.specs.Talk.{Entered, answered, asked};
 ghost use Rattle.session_acts.specs.World.{IsUnlinked, World};
+ghost use Rattle.ftp_gate.specs.Breaks.{CopiesCarry, CountsBreaks};
 ghost use Rattle.ftp_gate.specs.Copied.{CopiesMarked};
 ghost use Rattle.ftp_gate.specs.Dialogue.{ftp_row, ftp_rows};
 ghost use Rattle.ftp_gate.specs.Due.{DoesWhatIsDue};
@@ -58,7 +59,8 @@ pub fn what_the_server_is_given<Origin>()
 /// client's own address, at a port from 1,024 on, or at a door (`joins`). They are wanted only while that link is up and, if
 /// at a door, one stands: so the one to the server, at least, is asked for (`asked`). A door is opened for a PASV that was heard
 /// last and isn't blocked, where a link came up (`doors`). Data are copied the way of a transfer that was heard last and isn't
-/// blocked, where both data links came up, and the server's last reply to it says that it transfers (`copies`).
+/// blocked, where both data links came up, and the server's last reply to it says that it transfers (`copies`). At each
+/// copy both are still up (`carries`).
 pub fn data_links_are_the_sessions_own<Origin>()
     ensures joins { (gate : Gate) (old new : World Origin) (ending : Ending) (held : Held (ftp_rows gate) ftp_row old new ending) →
         JoinsOwn gate (deeds_of held) }
@@ -68,6 +70,8 @@ pub fn data_links_are_the_sessions_own<Origin>()
         OpensOwn gate (deeds_of held) }
     ensures copies { (gate : Gate) (old new : World Origin) (ending : Ending) (held : Held (ftp_rows gate) ftp_row old new ending) →
         CopiesOwn gate (deeds_of held) }
+    ensures carries { (gate : Gate) (old new : World Origin) (ending : Ending) (held : Held (ftp_rows gate) ftp_row old new ending) →
+        CopiesCarry (deeds_of held) }
 {}
 
 /// At each copy two links were let go, where the dialer tells, and no link was up before the session. By their marks one was asked
@@ -94,12 +98,16 @@ pub fn what_is_due_is_done<Origin>()
 /// transfer ended early, that was so (`causes`): right before, the dial, the door or the data links were refused, the server told
 /// no data port, or came to its end; or a copy wasn't done to its end, and behind it the server's replies were dropped, up to its
 /// last. For each destination that was asked for in vain, and each time that the client is told that there is no door or no data
-/// link, the dialer counted a refusal, unless its count stands at the last value (`told`).
+/// link, the dialer counted a refusal, unless its count stands at the last value (`told`). For each time that the client is told
+/// that a transfer ended early which took fewer than 2^40 bytes, the dialer counted a failure or an idleness of a data link, unless
+/// one of these counts stands at its last value (`broken`).
 pub fn each_failure_has_its_cause<Origin>()
     ensures causes { (gate : Gate) (old new : World Origin) (ending : Ending) (held : Held (ftp_rows gate) ftp_row old new ending) →
         FailuresToldOf gate (deeds_of held) }
     ensures told { (gate : Gate) (old new : World Origin) (ending : Ending) (held : Held (ftp_rows gate) ftp_row old new ending) →
         CountsTold (deeds_of held) old new }
+    ensures broken { (gate : Gate) (old new : World Origin) (ending : Ending) (held : Held (ftp_rows gate) ftp_row old new ending) →
+        CountsBreaks (deeds_of held) old new }
 {}
 
 /// Each act is one of these, where it may come: lines are heard in one form, and what is said, asked, dialed, passed, joined and

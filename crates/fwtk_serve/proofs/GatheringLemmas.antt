@@ -1,5 +1,5 @@
 -- Workers that begin at their doors, and workers whose passes are met, one after the other.
-use Rattle.std.proofs.Common.{arith, ◌≡◌, refl, sym, ap, subst, ◌∙◌, ℕ, ◌+◌, ◌-◌, ◌^◌, ◌≤◌, min, cond, List, [], ◌∷◌, ◌++◌, length, map, Option, Some, None, append_assoc, append-nil}
+use Rattle.std.proofs.Common.{arith, ◌≡◌, refl, sym, ap, subst, ◌∙◌, ℕ, ◌+◌, ◌-◌, ◌^◌, ◌<◌, ◌≤◌, min, cond, List, [], ◌∷◌, ◌++◌, length, map, Option, Some, None, append_assoc, append-nil}
 use Rattle.std.proofs.lemmas.List.{length-map, map-append}
 use Rattle.std.proofs.lemmas.List.Sums.{sum_by_push}
 use Rattle.acceptors.specs.AcceptorView.{AcceptorView}
@@ -14,36 +14,54 @@ use Rattle.fwtk_serve.proofs.PassLemmas.{met_more, met_none}
 
 -- ---- workers that begin
 
--- at each door but those that are left there is a worker; there is room for the others, and the pass is as it was
-pub record IsBeginning {A W : Type 0} (view : W → WorkerView) (begun : A → WorkerView) (all left : List A) (workers : List W) (first pass : Pass) (count left_count room : ℕ) : Type 0 where
+-- at each door but those that are left there is a worker; there is room for the others, and the pass is as it was, but that it has
+-- a part less for each worker, and one for each that is left and more
+pub record IsBeginning {A W : Type 0} (lock : Lock BookOrigin) (view : W → WorkerView) (begun : A → WorkerView) (all left : List A) (workers : List W) (first pass : Pass) (count left_count room : ℕ) : Type 0 where
   pub are : map view workers ++ map begun left ≡ map begun all
-  pub same : pass ≡ first
+  pub same : pass ≡ knowing lock pass.parts first.seen first.mine first.met
+  pub parts : pass.parts + count ≡ first.parts
+  pub more : left_count < pass.parts
   pub fits : count + left_count ≤ room
   pub sized : left_count ≡ length left
 
-module _ {A W : Type 0} (view : W → WorkerView) (begun : A → WorkerView) (all : List A) (first : Pass) where
-  pub begin_none : (left : List A) (workers : List W) (count left_count room : ℕ) → left ≡ all → workers ≡ [] → count ≡ 0 → left_count ≡ length left → left_count ≤ room
-      → IsBeginning view begun all left workers first first count left_count room
-  begin_none left workers count left_count room same none zero sized fits = record {
+-- a pass of a lock is what it knows
+known_is : (lock : Lock BookOrigin) (pass : Pass) → IsPassOf lock pass → pass ≡ knowing lock pass.parts pass.seen pass.mine pass.met
+known_is lock pass own = λ i. record { seen = pass.seen; mine = pass.mine; met = pass.met; parts = pass.parts; home = own.home i; limit = own.limit i; origin = own.origin i }
+
+module _ {A W : Type 0} (lock : Lock BookOrigin) (view : W → WorkerView) (begun : A → WorkerView) (all : List A) (first : Pass) where
+  pub begin_none : (left : List A) (workers : List W) (count left_count room : ℕ) → IsPassOf lock first → left ≡ all → workers ≡ [] → count ≡ 0 → left_count ≡ length left → left_count ≤ room → left_count < first.parts
+      → IsBeginning lock view begun all left workers first first count left_count room
+  begin_none left workers count left_count room own same none empty sized fits more = record {
     are = ap (λ (ws : List W). map view ws ++ map begun left) none ∙ ap (λ (ds : List A). map begun ds) same;
-    same = refl;
-    fits = omega (arith, zero, fits);
+    same = known_is lock first own;
+    parts = omega (arith, empty);
+    more = more;
+    fits = omega (arith, empty, fits);
     sized = sized;
   }
 
-  pub begin_more : (left rest : List A) (workers more : List W) (mid pass : Pass) (count left_count room count_more rest_count room_then : ℕ) (door : A) → IsBeginning view begun all left workers first mid count left_count room
-      → left ≡ door ∷ rest → map view more ≡ map view workers ++ begun door ∷ [] → pass ≡ mid → count_more ≡ count + 1 → rest_count + 1 ≡ left_count → room_then ≡ room
-      → IsBeginning view begun all rest more first pass count_more rest_count room_then
-  begin_more left rest workers more mid pass count left_count room count_more rest_count room_then door h is grew same longer shorter roomy =
+  -- there is a part for the next worker, and one more
+  pub begin_next : (left rest : List A) (workers : List W) (pass : Pass) (count left_count room rest_count : ℕ) → IsBeginning lock view begun all left workers first pass count left_count room → rest_count + 1 ≡ left_count → 1 < pass.parts
+  begin_next left rest workers pass count left_count room rest_count h shorter = let more = h.more in omega (arith, more, shorter)
+
+  pub begin_more : (left rest : List A) (workers more : List W) (mid pass : Pass) (count left_count room count_more rest_count room_then : ℕ) (door : A) → IsBeginning lock view begun all left workers first mid count left_count room
+      → left ≡ door ∷ rest → map view more ≡ map view workers ++ begun door ∷ [] → pass ≡ knowing lock (mid.parts - 1) mid.seen mid.mine mid.met → count_more ≡ count + 1 → rest_count + 1 ≡ left_count → room_then ≡ room
+      → IsBeginning lock view begun all rest more first pass count_more rest_count room_then
+  begin_more left rest workers more mid pass count left_count room count_more rest_count room_then door h is grew kept longer shorter roomy =
       let long : length left ≡ length (door ∷ rest) = ap (λ (l : List A). length l) is in
       let fits = h.fits in
       let sized = h.sized in
+      let enough = h.more in
+      let sum = h.parts in
+      let less : pass.parts ≡ mid.parts - 1 = ap (λ (p : Pass). p.parts) kept in
       record {
         are = ap (λ (l : List WorkerView). l ++ map begun rest) grew
             ∙ append_assoc (map view workers) (begun door ∷ []) (map begun rest)
             ∙ ap (λ (l : List A). map view workers ++ map begun l) (sym is)
             ∙ h.are;
-        same = same ∙ h.same;
+        same = kept ∙ (λ i. knowing lock (sym less i) (ap (λ (p : Pass). p.seen) h.same i) (ap (λ (p : Pass). p.mine) h.same i) (ap (λ (p : Pass). p.met) h.same i));
+        parts = omega (arith, sum, less, longer, enough);
+        more = omega (arith, enough, less, shorter);
         fits = omega (arith, fits, longer, shorter, roomy);
         sized = omega (arith, sized, long, shorter);
       }
@@ -52,7 +70,7 @@ module _ {A W : Type 0} (view : W → WorkerView) (begun : A → WorkerView) (al
   no_more [] is = refl
   no_more (d ∷ ds) is = absurd (omega (arith, is))
 
-  pub begin_all : (left : List A) (workers : List W) (pass : Pass) (count left_count room : ℕ) → IsBeginning view begun all left workers first pass count left_count room → left_count ≡ 0
+  pub begin_all : (left : List A) (workers : List W) (pass : Pass) (count left_count room : ℕ) → IsBeginning lock view begun all left workers first pass count left_count room → left_count ≡ 0
       → map view workers ≡ map begun all
   begin_all left workers pass count left_count room h over =
       let none : left ≡ [] = no_more left (sym h.sized ∙ over) in
@@ -61,11 +79,16 @@ module _ {A W : Type 0} (view : W → WorkerView) (begun : A → WorkerView) (al
   pub as_many : (workers : List W) → map view workers ≡ map begun all → length workers ≡ length all
   as_many workers are = sym (length-map workers view) ∙ ap (λ (l : List WorkerView). length l) are ∙ length-map all begun
 
--- ---- workers whose passes are met
+  -- the pass has a part less for each
+  pub left_all : (left : List A) (workers : List W) (pass : Pass) (count left_count room : ℕ) → IsBeginning lock view begun all left workers first pass count left_count room → left_count ≡ 0 → count ≡ length workers
+      → pass ≡ knowing lock (first.parts - length all) first.seen first.mine first.met
+  left_all left workers pass count left_count room h over counted =
+      let sum = h.parts in
+      let many = as_many workers (begin_all left workers pass count left_count room h over) in
+      let parts : pass.parts ≡ first.parts - length all = omega (arith, sum, many, counted) in
+      h.same ∙ ap (λ (n : ℕ). knowing lock n first.seen first.mine first.met) parts
 
--- a pass of a lock is what it knows
-known_is : (lock : Lock BookOrigin) (pass : Pass) → IsPassOf lock pass → pass ≡ knowing lock pass.seen pass.mine pass.met
-known_is lock pass own = λ i. record { seen = pass.seen; mine = pass.mine; met = pass.met; home = own.home i; limit = own.limit i; origin = own.origin i }
+-- ---- workers whose passes are met
 
 with_more : (pass : Option Pass) (xs ys : List Pass) → with_pass pass (xs ++ ys) ≡ with_pass pass xs ++ ys
 with_more None xs ys = refl

@@ -48,6 +48,9 @@ module _ (rules : RuleBook) (lock : Lock BookOrigin) (first last : Pass) (fresh 
   pub met_held : Held rules lock first last fresh taken served → last.met ≡ first.met
   met_held h = ap (λ (p : Pass). p.met) h.pass ∙ ap (λ (o : SharedOrigin). o.first.met) h.origin
 
+  pub parts_held : Held rules lock first last fresh taken served → last.parts ≡ first.parts
+  parts_held h = ap (λ (p : Pass). p.parts) h.pass ∙ ap (λ (o : SharedOrigin). o.first.parts) h.origin
+
 -- ---- one after the other
 
 module _ (rules : List (Service × RuleBook)) (lock : Lock BookOrigin) where
@@ -86,6 +89,16 @@ module _ (rules : List (Service × RuleBook)) (lock : Lock BookOrigin) where
   met_served first last [] (b ∷ bs) ss were = absurd were
   met_served first last (f ∷ fs) [] ss were = absurd were
   met_served first last (f ∷ fs) (b ∷ bs) [] were = absurd were
+
+  -- it has its parts
+  pub parts_served : (first last : Pass) (came taken : List Visit) (sessions : List ServedView) → WereServed rules lock first last came taken sessions → last.parts ≡ first.parts
+  parts_served first last [] [] [] were = ap (λ (p : Pass). p.parts) were
+  parts_served first last (f ∷ fs) (b ∷ bs) (s ∷ ss) were =
+      parts_served were.middle last fs bs ss were.more ∙ parts_held _ lock first were.middle f b s were.first.held
+  parts_served first last [] [] (s ∷ ss) were = absurd were
+  parts_served first last [] (b ∷ bs) ss were = absurd were
+  parts_served first last (f ∷ fs) [] ss were = absurd were
+  parts_served first last (f ∷ fs) (b ∷ bs) [] were = absurd were
 
   -- what it had seen at first is a front of what it has seen
   pub seen_served : (first last : Pass) (came taken : List Visit) (sessions : List ServedView) → WereServed rules lock first last came taken sessions → IsPrefix first.seen last.seen

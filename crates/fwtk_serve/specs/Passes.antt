@@ -1,5 +1,5 @@
 -- The passes of all workers, which are met in the end.
-use Rattle.std.specs.Prelude.{◌≡◌, ℕ, List, [], ◌∷◌, ◌++◌}
+use Rattle.std.specs.Prelude.{◌≡◌, ℕ, ◌+◌, ◌^◌, List, [], ◌∷◌, ◌++◌}
 use Rattle.std.specs.List.{AllByRecursion}
 use Rattle.std.specs.List.Sorted.{IsStrictlyIncreasing}
 use Rattle.auth_events.specs.declared.entry.Entry.{Entry}
@@ -14,6 +14,15 @@ Pass = Known Entry BookOrigin
 -- no place stands twice among a pass's own and those of the passes that it met
 abbrev pub IsApart : Pass → Type 0
 IsApart pass = NoneTwice (pass.mine ++ pass.met)
+
+-- what the first pass of a lock knows: all entries that are there; it has all parts
+abbrev pub first_of : Lock BookOrigin → List Entry → Pass
+first_of lock seen = knowing lock (2 ^ 64) seen [] []
+
+-- the parts of all these passes
+abbrev pub parts_of : List Pass → ℕ
+parts_of [] = 0
+parts_of (pass ∷ passes) = pass.parts + parts_of passes
 
 -- the places of all these passes
 abbrev pub held_by : List Pass → List ℕ
@@ -30,5 +39,5 @@ pub record MetAll (lock : Lock BookOrigin) (others : List Pass) (old new : Pass)
   pub seen : List Entry
   pub begins : IsPrefix old.seen seen
   pub met : AllByRecursion (IsMet seen) others
-  pub is : new ≡ knowing lock seen old.mine (old.met ++ held_by others)
+  pub is : new ≡ knowing lock (old.parts + parts_of others) seen old.mine (old.met ++ held_by others)
   pub apart : IsApart new

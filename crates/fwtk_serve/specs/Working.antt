@@ -9,7 +9,7 @@ use Rattle.fw_outside.specs.ToldList.{grown}
 use Rattle.gate_rules.specs.Reading.{RuleBook}
 use Rattle.gate_rules.specs.declared.service.Service.{Service}
 use Rattle.turn_lock.specs.Known.{Known, Lock, knowing}
-use Rattle.turn_lock.specs.Places.{NoneTwice}
+use Rattle.turn_lock.specs.Places.{AreWithin, Fill, NoneTwice}
 use Rattle.fwtk_serve.specs.Sessions.{ServedView, WereServed, places_of}
 use mathlib.Core.List.{IsPrefix}
 
@@ -44,9 +44,10 @@ pub record Worked (rules : List (Service × RuleBook)) (lock : Lock BookOrigin) 
 
 -- ---- all doors
 
--- what a worker's pass knows before its first session: all entries that were there when the server began
+-- what a worker's pass knows before its first session: all entries that were there when the server began; it has one part of
+-- the lock
 abbrev pub split_off : Lock BookOrigin → List Entry → Known Entry BookOrigin
-split_off lock seen = knowing lock seen [] []
+split_off lock seen = knowing lock 1 seen [] []
 
 -- one door of a server whose history is this in the end: all that its sessions saw is a front of it, and the places of their
 -- entries rise, from session to session
@@ -72,13 +73,15 @@ abbrev pub short_count : List DoorView → ℕ
 short_count doors = min (count_by (λ door. door.short) doors) (2 ^ 32 - 1)
 
 -- What a server did over a book that had these entries before, in order of the doors: what became of each, and the sessions of
--- each. All were of one book: what each saw is a front of the one history, and no place stands twice among those of all
--- sessions.
+-- each. All were of one book: what each saw is a front of the one history, no place stands twice among those of all sessions, and
+-- these are places of entries that came to those before, and of each of them. So no entry came that is not of one session.
 pub record ServedAll (rules : List (Service × RuleBook)) (before history : List Entry) (limit : ℕ) (origin : BookOrigin) (olds doors : List AcceptorView) (sessions : List (List ServedView)) (short : ℕ) : Type 0 where
   pub home : List ℕ
   pub news : List DoorView
   pub doors_are : map (λ new. new.door) news ≡ doors
   pub sessions_are : map (λ new. new.sessions) news ≡ sessions
   pub short_is : short ≡ short_count news
-  pub served : ServedDoors rules (record { home = home; limit = limit; origin = origin }) before history olds news
+  pub served : ServedDoors rules (record { home = home; begun = length before; limit = limit; origin = origin }) before history olds news
   pub apart : NoneTwice (all_places news)
+  pub within : AreWithin (length before) (length history) (all_places news)
+  pub whole : Fill (length before) (length history) (all_places news)

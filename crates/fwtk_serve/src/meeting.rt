@@ -8,7 +8,6 @@ ghost use Rattle.fwtk_serve.specs.Working.{short_count};
 ghost use Rattle.turn_lock.specs.Known.{IsPassOf};
 
 use crate::report::Served;
-use crate::starting::another;
 use crate::worker::{Worker, WorkerOf};
 use acceptors::Acceptor;
 use auth_port::{Book, Pass, Turns};
@@ -23,16 +22,13 @@ pub(crate) struct Gathered<A> {
     pub(crate) short: u32,
 }
 
-// The pass meets another. That one meets a pass of no places first, which shows that its own rise.
+// The pass meets another.
 fn meet_one<K: Keeper>(turns: &Turns<Book<K>>, pass: &mut Pass<Book<K>>, other: Pass<Book<K>>)
     requires pass { IsPassOf turns.now pass.old }
     requires other { IsPassOf turns.now other }
     ensures met { MetAll turns.now (other ∷ []) pass.old pass.new }
     ensures own { IsPassOf turns.now pass.new }
 {
-    let mut other = other;
-    let spare = another(turns, &mut other);
-    turns.meet(&mut other, spare);
     turns.meet(pass, other);
 }
 

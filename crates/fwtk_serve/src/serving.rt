@@ -1,12 +1,13 @@
 //! A server.
-ghost use Rattle.std.specs.Prelude.{◌≡◌, ◌≤◌, [], All, IfOk, length, map};
+ghost use Rattle.std.specs.Prelude.{◌≡◌, ◌^◌, ◌<◌, ◌≤◌, [], All, IfOk, length, map};
 ghost use Rattle.std.specs.Vec.{vec_capacity};
 ghost use Rattle.auth_machine.specs.History.{CountsUnkept, HasRecords, IsLegal};
 ghost use Rattle.auth_machine.specs.Port.{book_origin};
 ghost use Rattle.fwtk_serve.specs.Meeting.{HasWorked, HaveWorked, IsReady};
+ghost use Rattle.fwtk_serve.specs.Passes.{first_of};
 ghost use Rattle.fwtk_serve.specs.RulesFor.{MayServe, no_rules};
 ghost use Rattle.fwtk_serve.specs.Stepping.{worker_with};
-ghost use Rattle.fwtk_serve.specs.Working.{ServedAll, split_off};
+ghost use Rattle.fwtk_serve.specs.Working.{ServedAll};
 ghost use Rattle.turn_lock.specs.Known.{IsPassOf};
 ghost use mathlib.Core.List.{IsPrefix};
 
@@ -78,7 +79,8 @@ fn close<K: Keeper>(book: Book<K>) -> (K, Vec<Entry>)
     book.close()
 }
 
-// The workers begin, work, and meet; and the book is closed. There is room for them, and for what is gathered of them.
+// The workers begin, work, and meet; and the book is closed. There is room for them, and for what is gathered of them, and there
+// are fewer than the parts of the lock.
 fn serve_over<H, K, A>(
     rt: &H,
     alloc: Global,
@@ -102,7 +104,9 @@ where
     requires none { none.now ≡ no_rules }
     requires may { All MayServe rules.now }
     requires pass { IsPassOf turns pass }
-    requires first { pass ≡ split_off turns pass.seen }
+    requires first { pass ≡ first_of turns pass.seen }
+    requires begun { turns.begun ≡ length pass.seen }
+    requires few { length doors.items < 2 ^ 64 }
     requires workers { (room.items ≡ []) × (length doors.items ≤ vec_capacity room) }
     requires gathers { (gathered.doors.items ≡ []) × (gathered.sessions.items ≡ []) × (gathered.short ≡ 0) }
     requires doors { length doors.items ≤ vec_capacity gathered.doors }
@@ -168,7 +172,7 @@ where
     ensures unkept { IfOk result (λ report. CountsUnkept book.failed_before report.history.items
         (K.keeper_view report.keeper)) }
     // Of each door, in order: the clients that it handed out and took back, where it tells them, with the session of each over
-    // its devices, and the door's end. No entry is of two sessions.
+    // its devices, and the door's end. Each entry that came to what the book had is of exactly one session.
     ensures doors { IfOk result (λ report. ServedAll rules.now book.history report.history.items book.limit (book_origin book)
         (map A.acceptor_view doors.items) (map A.acceptor_view report.doors.items)
         (map (λ s. s.items) report.sessions.items) report.short) }

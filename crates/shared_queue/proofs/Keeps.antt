@@ -1,28 +1,21 @@
 -- Each step keeps the rule of the queue.
-use Rattle.std.proofs.Common.{◌≡◌, ◌≢◌, ℕ, zero, suc, ◌+◌, ◌-◌, ◌<◌, ◌^◌, List, [], ◌∷◌, ◌++◌, set, refl, ap, sym, subst, ◌∙◌, arith}
-use mathlib.Core.Option.{some, some-injective, some-ne-none}
+use Rattle.std.proofs.Common.{◌≡◌, ◌≢◌, ℕ, ◌<◌, ◌^◌, List, [], ◌∷◌, ◌++◌, set, refl, ap, sym, subst, ◌∙◌, arith}
+use mathlib.Core.Option.{some}
 use lib.ListN.{get_elem?}
-use Rattle.std.specs.List.{flat_map, sum_by}
+use Rattle.std.specs.List.{sum_by}
 use Rattle.std.specs.List.Sorted.{IsPermutation}
 use Rattle.std.proofs.lemmas.List.{append_assoc}
-use Rattle.std.proofs.lemmas.List.Sums.{sum_by-cons, sum_by_push}
-use Rattle.std.proofs.lemmas.List.Sorted.{IsPermutation-refl, IsPermutation-sym, IsPermutation-trans, IsPermutation-append_left, IsPermutation-append_right, IsPermutation-to_front}
+use Rattle.std.proofs.lemmas.List.Sums.{sum_by_push}
+use Rattle.std.proofs.lemmas.List.Sorted.{IsPermutation-sym, IsPermutation-trans, IsPermutation-append_left, IsPermutation-append_right, IsPermutation-to_front}
 use Rattle.crossbeam_queue.specs.Fifo.{Pushes, Pops, Forks, Merges, Learns}
 use Rattle.atomic_table.proofs.Lists.{set_else}
 use Rattle.shared_queue.specs.declared.log.Log.{Log}
-use Rattle.shared_queue.specs.Steps.{begun, both, first, left, log, putting, right, spent, taking, Settled}
+use Rattle.shared_queue.specs.Steps.{begun, both, left, putting, right, spent, taking, Settled}
 use Rattle.shared_queue.specs.Balance.{Balanced, Knows, puts, takes}
 use Rattle.shared_queue.proofs.Sums.{sum_changed, sum_has, each_changed, each_more}
 use Rattle.shared_queue.proofs.Orders.{same, shift, unshift, with_more, with_same, with_moved, with_new, alone}
 
 module _ {T : Type 0} where
-  only_first : (id : ℕ) (v : Log T) → get_elem? (first ∷ []) id ≡ some v → Knows [] v
-  only_first zero v at = subst (Knows []) (some-injective first v at) record { began_is = λ _. refl; no_put = λ _. refl; no_taken = λ _. refl }
-  only_first (suc id) v at = absurd (some-ne-none v (sym at))
-
-  pub begins : Balanced [] (first {T = T} ∷ [])
-  begins = record { began = []; parts = refl; each = only_first; order = IsPermutation-refl [] }
-
   -- the parts stay where one view keeps its own
   same_parts : (items : List T) (views : List (Log T)) (id : ℕ) (v w : Log T) → Balanced items views → get_elem? views id ≡ some v → w.parts ≡ v.parts
       → sum_by (λ v. v.parts) (set views id w) ≡ 2 ^ 64

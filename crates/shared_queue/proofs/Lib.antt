@@ -1,4 +1,3 @@
 mod Sums
 mod Orders
 mod Keeps
-mod Passes

@@ -1,9 +1,9 @@
--- Sums over the views of all seats, and facts of each.
-use Rattle.std.proofs.Common.{◌≡◌, ◌≢◌, ℕ, zero, suc, ◌+◌, ◌≤◌, ◌⊎◌, inl, inr, ⊎_elim, List, [], ◌∷◌, ◌++◌, set, refl, ap, sym, subst, ◌∙◌, arith}
+-- Sums over the views of all passes, and facts of each.
+use Rattle.std.proofs.Common.{◌≡◌, ◌≢◌, ℕ, zero, suc, ◌+◌, ◌≤◌, ⊎_elim, List, [], ◌∷◌, ◌++◌, set, ap, sym, subst, arith}
 use mathlib.Core.Option.{some, some-injective, some-ne-none}
 use lib.ListN.{get_elem?}
 use Rattle.std.specs.List.{sum_by}
-use Rattle.std.proofs.lemmas.List.Sums.{sum_by-cons, sum_by_push}
+use Rattle.std.proofs.lemmas.List.Sums.{sum_by-cons}
 use Rattle.atomic_table.proofs.Lists.{at_set, at_snoc}
 
 module _ {W : Type 0} where
@@ -19,11 +19,7 @@ module _ {W : Type 0} where
   sum_has f (x ∷ xs) zero v at = omega (arith, sum_by-cons f x xs, ap f (some-injective x v at))
   sum_has f (x ∷ xs) (suc i) v at = omega (arith, sum_by-cons f x xs, sum_has f xs i v at)
 
-  pub sum_none : (f : W → ℕ) (views : List W) → ((id : ℕ) (v : W) → get_elem? views id ≡ some v → f v ≡ 0) → sum_by f views ≡ 0
-  sum_none f [] each = refl
-  sum_none f (x ∷ xs) each = omega (arith, sum_by-cons f x xs, each 0 x refl, sum_none f xs (λ id v at. each (suc id) v at))
-
-  -- what holds of each seat holds of each still, once it holds of the one that is changed
+  -- what holds of each holds of each still, once it holds of the one that is changed
   pub each_changed : (P : ℕ → W → Type 0) (views : List W) (id : ℕ) (w : W) → P id w → ((j : ℕ) (v : W) → j ≢ id → get_elem? views j ≡ some v → P j v)
       → (j : ℕ) (v : W) → get_elem? (set views id w) j ≡ some v → P j v
   each_changed P views id w here others j v at = ⊎_elim (λ t. subst (λ (k : ℕ). P k v) (sym t.0) (subst (P id) t.1 here)) (λ t. others j v t.0 t.1) (at_set views id j w v at)

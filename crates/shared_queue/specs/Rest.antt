@@ -1,5 +1,5 @@
 -- A pass between two calls.
-use Rattle.std.specs.Prelude.{ℕ, List, ◌∷◌, Option}
+use Rattle.std.specs.Prelude.{ℕ, List, ◌∷◌}
 use Rattle.atomic_table.specs.Seated.{TableId}
 use Rattle.crossbeam_queue.specs.Passes.{Pass, view}
 use Rattle.shared_queue.specs.declared.log.Log.{Log}

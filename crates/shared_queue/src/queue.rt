@@ -77,6 +77,7 @@ impl<T: Drop> SharedQueue<T> {
     }
 
     /// Gives one part away, to a new pass.
+    #[tactic(auto, using(crate::proofs::Keeps::splits))]
     pub fn split(&self, pass: &mut QueuePass<T>) -> QueuePass<T>
         requires home { pass.old.home ≡ self.now.home }
         requires parts { 1 < pass.old.parts }
@@ -88,6 +89,7 @@ impl<T: Drop> SharedQueue<T> {
     }
 
     /// The pass takes in what another knows.
+    #[tactic(auto, using(crate::proofs::Keeps::meets))]
     pub fn meet(&self, pass: &mut QueuePass<T>, other: QueuePass<T>)
         requires home { pass.old.home ≡ self.now.home }
         requires other { other.home ≡ self.now.home }

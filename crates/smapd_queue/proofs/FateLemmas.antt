@@ -19,7 +19,7 @@ use Rattle.spool_slots.specs.Images.{IsFreeImage, IsWholeImage, IsWholeOrAside}
 use Rattle.spool_slots.specs.States.{BrokenView, FullView, IsBrokenFull, IsOnward, Keeps, SlotView}
 use Rattle.smapd_queue.specs.Turns.{Fate, Turn}
 use Rattle.smapd_queue.specs.Turns.Fate.{Freed, NotFreed, PutAside, NotAside, PutBack, Unread}
-use Rattle.smapd_queue.specs.Slots.{IsFateOf, IsFreed, IsNotFreed, RunsAccepted, RunsBy, StaysFreeOrWhole, StaysWholeOrAside, accepted_in, disk_by, is_accepted}
+use Rattle.smapd_queue.specs.Slots.{IsFateOf, IsFreed, IsNotFreed, RunsAccepted, RunsBy, StandsBehind, StaysFreeOrWhole, StaysWholeOrAside, accepted_in, disk_by, is_accepted}
 use Rattle.smapd_queue.specs.Round.{IsTurn}
 
 -- ---- a message is accepted
@@ -96,6 +96,6 @@ pub freed_so : (slot : FullView) (free : SlotView) → IsOnward slot.number slot
     → ((k : Known) → OfLetter (Contains k.accepted) k.use_of → Runs k slot.disk k free.disk) → IsFreed slot free
 freed_so slot free onward now images events = record { onward = onward; images_now = now; images = images; events = runs_accepted slot free.disk events }
 
-pub not_freed_so : (slot : FullView) (broken : BrokenView) → IsBrokenFull slot.number slot.disk broken → StaysFreeOrWhole slot broken.disk
+pub not_freed_so : (slot : FullView) (broken : BrokenView) → IsBrokenFull slot.number slot.disk broken → StaysFreeOrWhole slot broken.disk → StandsBehind slot broken.disk
     → ((k : Known) → OfLetter (Contains k.accepted) k.use_of → Runs k slot.disk k broken.disk) → IsNotFreed slot broken
-not_freed_so slot broken broke images events = record { broke = broke; images = images; events = runs_accepted slot broken.disk events }
+not_freed_so slot broken broke images message events = record { broke = broke; images = images; message = message; events = runs_accepted slot broken.disk events }

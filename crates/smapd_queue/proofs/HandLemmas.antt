@@ -21,7 +21,7 @@ use Rattle.smapd_queue.specs.Slots.{IsItsMessage}
 use Rattle.smapd_queue.specs.Meeting.{TakesTurn, meeting_with}
 use Rattle.smapd_queue.specs.Steps.{Accepts, Goes, HandedOn, HandsOnSo, IsLent, IsLentUnread, NotHandedOn, Refuses, StopsAtLog, StopsForMemory, as_broken, with_trouble, with_turn}
 use Rattle.smapd_queue.specs.Words.{text_of, trouble_in, with_one, word_by}
-use Rattle.smapd_queue.proofs.LentLemmas.{unread_broke}
+use Rattle.smapd_queue.proofs.LentLemmas.{unread_behind, unread_broke}
 use Rattle.smapd_queue.proofs.TurnLemmas.{line_is}
 
 -- ---- by the mailer's answer
@@ -84,7 +84,7 @@ unread_on word fault slot full store now mailers one number told leaves is puts 
     let l : Leaves reads.DiskFault slot full = subst (λ (f : ReadBack). Leaves f slot full) one leaves in
     record {
       fate = Unread (as_broken full);
-      so = record { broke = unread_broke slot full number l.0; told = told };
+      so = record { broke = unread_broke slot full number l.0; told = told; message = unread_behind slot full.disk told l.0 };
       meets = refl;
       puts = puts;
       word_is = is;

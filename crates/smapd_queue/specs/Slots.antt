@@ -7,7 +7,7 @@ use Rattle.slot_bytes.specs.Layout.{Mail}
 use Rattle.slot_bytes.specs.SlotView.{mail_view}
 use Rattle.spool_law.specs.Runs.{Known, Runs}
 use Rattle.spool_law.specs.World.{OfLetter, letters}
-use Rattle.spool_slots.specs.Images.{IsFreeImage, IsFreeOrWhole, IsWholeOrAside}
+use Rattle.spool_slots.specs.Images.{HasMessageBehind, IsFreeImage, IsFreeOrWhole, IsWholeOrAside}
 use Rattle.spool_slots.specs.States.{BrokenView, FullView, IsBrokenFull, IsOnward, Keeps, KeepsAside, SlotView}
 use Rattle.smapd_queue.specs.Turns.{Fate, Turn}
 use Rattle.smapd_queue.specs.Turns.Fate.{Freed, NotFreed, PutAside, NotAside, PutBack, Unread}
@@ -41,6 +41,10 @@ StaysWholeOrAside slot new = (m : Mail) → Keeps m slot → Through (EachImage 
 abbrev pub StaysFreeOrWhole : FullView → DiskView → Type 0
 StaysFreeOrWhole slot new = (m : Mail) → Keeps m slot → Through (EachImage (IsFreeOrWhole m)) slot.disk new
 
+-- at last the slot's message stands behind the first two bytes of every image
+abbrev pub StandsBehind : FullView → DiskView → Type 0
+StandsBehind slot new = (m : Mail) → Keeps m slot → Now (EachImage (HasMessageBehind m)) new
+
 -- ---- what became of the slot
 
 -- its message was accepted, and then its gate closed
@@ -54,6 +58,7 @@ pub record IsFreed (slot : FullView) (free : SlotView) : Type 0 where
 pub record IsNotFreed (slot : FullView) (broken : BrokenView) : Type 0 where
   pub broke : IsBrokenFull slot.number slot.disk broken
   pub images : StaysFreeOrWhole slot broken.disk
+  pub message : StandsBehind slot broken.disk
   pub events : RunsAccepted slot broken.disk
 
 -- its message was refused, and then set aside
@@ -67,12 +72,14 @@ pub record IsPutAside (slot : FullView) (aside : SlotView) : Type 0 where
 pub record IsNotAside (slot : FullView) (broken : BrokenView) : Type 0 where
   pub broke : IsBrokenFull slot.number slot.disk broken
   pub images : StaysWholeOrAside slot broken.disk
+  pub message : StandsBehind slot broken.disk
   pub events : RunsUnaccepted slot broken.disk
 
 -- its disk failed when it was read, and nothing was done to it
 pub record IsUnread (slot : FullView) (broken : BrokenView) : Type 0 where
   pub broke : IsBrokenFull slot.number slot.disk broken
   pub told : broken.disk.told ≡ slot.disk.told
+  pub message : StandsBehind slot broken.disk
 
 -- a message that was handed over is the slot's
 abbrev pub IsFateOf : FullView → Fate → Type 0

@@ -1,26 +1,27 @@
 -- Each step keeps the rule.
-use Rattle.std.proofs.Common.{◌≡◌, ◌≢◌, ℕ, zero, suc, ◌+◌, ◌%◌, ◌^◌, ◌<◌, ◌≤◌, true, cond, eqb, eq-eqb, ne_eqb, List, [], ◌∷◌, ◌++◌, length, get_or, set, refl, ap, sym, subst, ◌∙◌, arith, length-append}
+use Rattle.std.proofs.Common.{◌≡◌, ◌≢◌, ℕ, zero, suc, ◌+◌, ◌%◌, ◌^◌, ◌<◌, ⊎_elim, true, cond, eqb, eq-eqb, ne_eqb, List, [], ◌∷◌, ◌++◌, length, get_or, set, refl, ap, sym, subst, ◌∙◌, arith, length-append}
 use Rattle.std.specs.Prelude.{Option, Some, None, IfSome, sum_by}
 use Rattle.std.specs.Option.{unwrap_or}
 use mathlib.Core.List.{IsPrefix}
 use mathlib.Core.Logic.{dite}
 use mathlib.Core.Option.{none, some, some-injective, some-ne-none}
-use mathlib.Core.Option as maybe
 use native.Mathlib.Decide.{ℕ_discrete}
 use lib.ListN.{get_elem?}
 use prog.Atomic.{either}
+use Rattle.std.proofs.lemmas.Bool.{cases_lt}
 use Rattle.std.proofs.lemmas.List.Sums.{sum_by-append, sum_by_push}
-use Rattle.atomic_table.specs.Table.{State, Act, keeps, takes, gives, step, stepped, rest, put_back, carried_after, Valid, Allows, Splits, Joins}
+use Rattle.atomic_table.specs.Table.{State, Act, keeps, takes, gives, step, stepped, put_back, carried_after, Valid, Allows, Splits, Joins}
 use Rattle.atomic_table.proofs.Lists.{at_longer, exchanged, set_else, set_here}
 use Rattle.turn_lock.specs.declared.view.Hold.{Hold}
 use Rattle.turn_lock.specs.declared.view.Hold.TheVariants.{Away, Claimed, Loaded, Met}
 use Rattle.turn_lock.specs.declared.view.View.{View}
-use Rattle.turn_lock.specs.Law.{Turn, free, taken, turn_word, slot_of, Stands, AreOf, Holds, Knows, Rests, Kept, IsHeld, has_turn}
+use Rattle.turn_lock.specs.Law.{Turn, free, taken, turn_word, slot_of, AreOf, AreOnce, Holds, Knows, Rests, Kept, IsHeld, has_turn}
 use Rattle.turn_lock.specs.Places.{times}
-use Rattle.turn_lock.specs.Steps.{Held, AreTold, Takes, Claims, Loads, Enters, IsAhead, IsBack, Frees, Sees, Looks}
-use Rattle.turn_lock.specs.Views.{both, copied, entering, longer, seeing, spent, uses, with_hold}
+use Rattle.turn_lock.specs.Steps.{Ends, Held, Claims, Loads, Enters, IsAhead, IsBack, Frees, Looks}
+use Rattle.turn_lock.specs.Views.{both, copied, entering, lessened, seeing, spent, uses, with_hold}
 use Rattle.turn_lock.proofs.Fronts.{front_self, front_same, front_trans, front_length, longer_front, longer_long}
-use Rattle.turn_lock.proofs.Sums.{each_changed, each_more, sum_changed, sum_has, sum_none}
+use Rattle.turn_lock.proofs.Parts.{has_all, once_at_most, once_more, once_same, parted_join, parted_split, parted_stays}
+use Rattle.turn_lock.proofs.Sums.{each_changed, each_more, sum_changed, sum_has}
 
 free_at : {V : Type 0} (turn : Turn V) → turn_word turn ≡ 0 → (value : V) × (turn ≡ free value)
 free_at (free value) is = (value, refl)
@@ -83,9 +84,17 @@ module _ {V E O : Type 0} (entries : V → List E) (limit : V → ℕ) (origin :
   others_enter list more id j seen Loaded p ne k = absurd (ne (cc k.0))
   others_enter list more id j seen (Met own other) p ne k = (front_trans own list more k.0 p, front_trans other list more k.1 p)
 
+  -- how often each place stands in these views
+  abbrev all_uses : List W → ℕ → ℕ
+  all_uses views place = sum_by (uses place) views
+
+  abbrev Once : List E → (ℕ → ℕ) → Type 0
+  Once list count = AreOnce (length (entries about)) (length list) count
+
   -- a view with as many uses of each place keeps the sums
-  once_stays : (s : St) (r : Rule s) (id : ℕ) (v w : W) → get_elem? s.views id ≡ some v → ((place : ℕ) → uses place w ≡ uses place v) → (place : ℕ) → sum_by (uses place) (set s.views id w) ≤ 1
-  once_stays s r id v w at same place = let u = sum_changed (uses place) s.views id v w at in let o = r.once place in omega (arith, u, o, same place)
+  once_stays : (s : St) (r : Rule s) (id : ℕ) (v w : W) → get_elem? s.views id ≡ some v → ((place : ℕ) → uses place w ≡ uses place v) → Once r.list (all_uses (set s.views id w))
+  once_stays s r id v w at same = once_same (length (entries about)) (length r.list) (all_uses s.views) (all_uses (set s.views id w))
+      (λ place. let u = sum_changed (uses place) s.views id v w at in omega (arith, u, same place)) r.once
 
   -- who has the turn still says so
   held_stays : (turn : Turn V) (views : List W) (id : ℕ) (v w : W) → get_elem? views id ≡ some v → has_turn w.hold ≡ has_turn v.hold → IsHeld turn views → IsHeld turn (set views id w)
@@ -104,9 +113,9 @@ module _ {V E O : Type 0} (entries : V → List E) (limit : V → ℕ) (origin :
   held_more (taken j) views w k = (k.0, at_longer views (w ∷ []) j k.0 k.1, k.2)
 
   -- a step that changes no word and takes no slot
-  stays : (s : St) (r : Rule s) (i id : ℕ) (v w : W) → get_elem? s.views id ≡ some v → Sure r.list r.turn id w → ((place : ℕ) → uses place w ≡ uses place v) → has_turn w.hold ≡ has_turn v.hold
+  stays : (s : St) (r : Rule s) (i id : ℕ) (v w : W) → get_elem? s.views id ≡ some v → Sure r.list r.turn id w → ((place : ℕ) → uses place w ≡ uses place v) → w.parts ≡ v.parts → w.origin ≡ v.origin → has_turn w.hold ≡ has_turn v.hold
       → Rule record { words = set s.words i (get_or s.words i 0); homes = s.homes; views = set s.views id w }
-  stays s r i id v w at knows same hold = record {
+  stays s r i id v w at knows same parts of hold = record {
     list = r.list;
     turn = r.turn;
     words = words_stay s.words (turn_word r.turn) (length r.list) i r.words;
@@ -115,6 +124,7 @@ module _ {V E O : Type 0} (entries : V → List E) (limit : V → ℕ) (origin :
     held = held_stays r.turn s.views id v w at hold r.held;
     each = each_changed (Sure r.list r.turn) s.views id w knows (λ j u _ there. r.each j u there);
     once = once_stays s r id v w at same;
+    parted = parted_stays s.views id v w at parts (λ k. record { origin = of ∙ k.origin; unused = λ place. same place ∙ k.unused place }) r.parted;
   }
 
   pub claims : (slots id : ℕ) (me : Held V E O) → Allows Rule slots id me 0 (λ n. either (eqb n 0) 1 n) (Claims entries limit origin (step slots 0 0 1 none) me)
@@ -140,10 +150,11 @@ module _ {V E O : Type 0} (entries : V → List E) (limit : V → ℕ) (origin :
                 holds = others_claim r.list value id j u.seen u.hold (subst (λ t. Holds r.list t j u.seen u.hold) f.1 q.holds);
               });
           once = once_stays s r id me.0 w at (λ _. refl);
+          parted = parted_stays s.views id me.0 w at refl (λ q. record { origin = q.origin; unused = q.unused }) r.parted;
         },
         ((λ _. record { value = value; view = refl; slot = refl; about = told_of me.0.origin me.0.limit value (origin about) (limit about) k.about stands.origin_is stands.limit_is }), λ miss. absurd (miss hit)),
       ))
-      (λ miss. (me.0, keeps, tt, stays s r 0 id me.0 me.0 at k (λ _. refl) refl, ((λ hit. absurd (miss hit)), λ _. refl)))
+      (λ miss. (me.0, keeps, tt, stays s r 0 id me.0 me.0 at k (λ _. refl) refl refl refl, ((λ hit. absurd (miss hit)), λ _. refl)))
 
   pub loads : (slots id : ℕ) (me : Held V E O) (list : List E) → me.0.hold ≡ Claimed list → Allows Rule slots id me 1 (λ n. n) (λ _ new. Loads me new)
   loads slots id me list is s r wide at small = let k = r.each id me.0 at in let h = knows_hold r.list r.turn id me.0 (Claimed list) is k in let w : W = seeing me.0 list Loaded in
@@ -151,7 +162,7 @@ module _ {V E O : Type 0} (entries : V → List E) (limit : V → ℕ) (origin :
         w,
         keeps,
         tt,
-        stays s r 1 id me.0 w at record { begins = front_same list r.list h.1; below = λ place used. let b = k.below place used in omega (arith, b, long, same); about = k.about; holds = h } (λ _. refl) (sym (ap has_turn is)),
+        stays s r 1 id me.0 w at record { begins = front_same list r.list h.1; below = λ place used. let b = k.below place used in omega (arith, b, long, same); about = k.about; holds = h } (λ _. refl) refl refl (sym (ap has_turn is)),
         λ list' is'. let e : list ≡ list' = cc (is, is') in
             (ap (λ l. (seeing me.0 l Loaded, me.1)) e, subst (IsPrefix me.0.seen) (sym h.1 ∙ e) k.begins),
       )
@@ -163,21 +174,17 @@ module _ {V E O : Type 0} (entries : V → List E) (limit : V → ℕ) (origin :
   uses_more : (v : W) (list : List E) (place : ℕ) → uses place (entering v list) ≡ uses place v + cond (eqb (length v.seen) place) 1 0
   uses_more v list place = let m : times place (v.mine ++ length v.seen ∷ []) ≡ times place v.mine + cond (eqb (length v.seen) place) 1 0 = sum_by_push (λ other. cond (eqb other place) 1 0) v.mine (length v.seen) in omega (arith, m)
 
-  -- no seat has used the place at which the list ends
-  unused : (s : St) (r : Rule s) → sum_by (uses (length r.list)) s.views ≡ 0
-  unused s r = sum_none (uses (length r.list)) s.views (λ j v at. let k = r.each j v at in let l = front_length v.seen r.list k.begins in
-      dite (ℕ_discrete (uses (length r.list) v) 0) (λ none. none) (λ used. let b = k.below (length r.list) (omega (arith, used)) in absurd (omega (arith, b, l))))
+  once_enters : (s : St) (r : Rule s) (id : ℕ) (v : W) (list : List E) → get_elem? s.views id ≡ some v → v.seen ≡ r.list → length list ≡ length r.list + 1 → Once list (all_uses (set s.views id (entering v list)))
+  once_enters s r id v list at is long = let n : length v.seen ≡ length r.list = ap length is in
+      once_more (length (entries about)) (length r.list) (length list) (all_uses s.views) (all_uses (set s.views id (entering v list))) long
+      (let u = sum_changed (uses (length r.list)) s.views id v (entering v list) at in
+      let one = uses_more v list (length r.list) ∙ ap (λ b. uses (length r.list) v + (cond b 1 0)) (eq-eqb (length v.seen) (length r.list) n) in omega (arith, u, one))
+      (λ place other. let u = sum_changed (uses place) s.views id v (entering v list) at in
+      let one = uses_more v list place ∙ ap (λ b. uses place v + (cond b 1 0)) (ne_eqb (length v.seen) place (λ here. other (sym n ∙ here))) in omega (arith, u, one))
+      r.once
 
-  once_enters : (s : St) (r : Rule s) (id : ℕ) (v : W) (list : List E) → get_elem? s.views id ≡ some v → v.seen ≡ r.list → (place : ℕ) → sum_by (uses place) (set s.views id (entering v list)) ≤ 1
-  once_enters s r id v list at is place = let u = sum_changed (uses place) s.views id v (entering v list) at in let m = uses_more v list place in let n : length v.seen ≡ length r.list = ap length is in
-      let o = r.once place in
-      dite (ℕ_discrete (length v.seen) place)
-      (λ here. let none = subst (λ p. sum_by (uses p) s.views ≡ 0) (sym n ∙ here) (unused s r) in
-      let one = m ∙ ap (λ b. uses place v + (cond b 1 0)) (eq-eqb (length v.seen) place here) in omega (arith, u, one, none))
-      (λ other. let one = m ∙ ap (λ b. uses place v + (cond b 1 0)) (ne_eqb (length v.seen) place other) in omega (arith, u, one, o))
-
-  pub enters : (slots id : ℕ) (me : Held V E O) (value : V) → IsAhead entries value me → Allows Rule slots id me 1 (λ n. (n + 1) % 2 ^ 64) (λ _ new. Enters entries me new)
-  enters slots id me value ahead s r wide at small = let k = r.each id me.0 at in let h = knows_hold r.list r.turn id me.0 Loaded ahead.hold k in let list : List E = entries value in let w : W = entering me.0 list in
+  pub enters : (slots id : ℕ) (me : Held V E O) (value : V) (basis : O) → IsAhead entries value me → me.0.origin ≡ Some basis → Allows Rule slots id me 1 (λ n. (n + 1) % 2 ^ 64) (λ _ new. Enters entries me new)
+  enters slots id me value basis ahead unspent s r wide at small = let k = r.each id me.0 at in let h = knows_hold r.list r.turn id me.0 Loaded ahead.hold k in let list : List E = entries value in let w : W = entering me.0 list in
       let ws = taken_words s r id h.0 in let n = ap (λ (us : List ℕ). get_or us 1 0) ws in let same = ap length h.1 in let more = ap length ahead.list ∙ length-append me.0.seen (ahead.entry ∷ []) in
       let next : (get_or s.words 1 0 + 1) % 2 ^ 64 ≡ length list = grind (arith, n, same, more, ahead.small) in
       let p : IsPrefix r.list list = (ahead.entry ∷ [], ap (λ l. l ++ ahead.entry ∷ []) (sym h.1) ∙ sym ahead.list) in (
@@ -205,7 +212,8 @@ module _ {V E O : Type 0} (entries : V → List E) (limit : V → ℕ) (origin :
                 about = q.about;
                 holds = others_enter r.list list id j u.seen u.hold p ne (subst (λ t. Holds r.list t j u.seen u.hold) h.0 q.holds);
               });
-          once = once_enters s r id me.0 list at h.1;
+          once = once_enters s r id me.0 list at h.1 (omega (arith, more, same));
+          parted = parted_stays s.views id me.0 w at refl (λ q. absurd (cc (q.origin, unspent))) r.parted;
         },
         λ value' slot. let e = ap (value_in value) (sym ahead.slot ∙ slot) in ap (λ x. (entering me.0 (entries x), me.1)) e,
       )
@@ -232,6 +240,7 @@ module _ {V E O : Type 0} (entries : V → List E) (limit : V → ℕ) (origin :
                 holds = others_free r.list value id j u.seen u.hold ne (subst (λ t. Holds r.list t j u.seen u.hold) h.0 q.holds);
               });
           once = once_stays s r id me.0 w at (λ _. refl);
+          parted = parted_stays s.views id me.0 w at refl (λ q. record { origin = q.origin; unused = q.unused }) r.parted;
         },
         refl,
       )
@@ -242,27 +251,29 @@ module _ {V E O : Type 0} (entries : V → List E) (limit : V → ℕ) (origin :
         w,
         keeps,
         tt,
-        stays s r 1 id me.0 w at record { begins = front_self r.list; below = λ place used. let b = k.below place used in omega (arith, b, long); about = k.about; holds = tt } (λ _. refl) (sym (ap has_turn is)),
+        stays s r 1 id me.0 w at record { begins = front_self r.list; below = λ place used. let b = k.below place used in omega (arith, b, long); about = k.about; holds = tt } (λ _. refl) refl refl (sym (ap has_turn is)),
         λ own' other' is'. let e : own ≡ own' = cc (is, is') in let f : other ≡ other' = cc (is, is') in record {
           list = r.list;
           is = refl;
           own_begins = subst (λ l. IsPrefix l r.list) e h.0;
           other_begins = subst (λ l. IsPrefix l r.list) f h.1;
-          once = λ place. let o = r.once place in let m = sum_has (uses place) s.views id me.0 at in omega (arith, o, m);
+          once = λ place. let o = once_at_most (length (entries about)) (length r.list) (all_uses s.views) r.once place in let m = sum_has (uses place) s.views id me.0 at in omega (arith, o, m);
         },
       )
 
-  pub splits : (id : ℕ) (v : W) → Splits Rule id v v (copied v)
+  pub splits : (id : ℕ) (v : W) → Splits Rule id v (lessened v) (copied v)
   splits id v s r at = let k = r.each id v at in record {
     list = r.list;
     turn = r.turn;
     words = r.words;
     slot = r.slot;
     rests = r.rests;
-    held = held_more r.turn (set s.views id v) (copied v) (held_stays r.turn s.views id v v at refl r.held);
-    each = each_more (Sure r.list r.turn) (set s.views id v) (copied v) (λ j. record { begins = k.begins; below = λ place used. absurd (omega (arith, used)); about = k.about; holds = tt })
-        (each_changed (Sure r.list r.turn) s.views id v k (λ j u _ there. r.each j u there));
-    once = λ place. let u = sum_by_push (uses place) (set s.views id v) (copied v) in let o = once_stays s r id v v at (λ _. refl) place in omega (arith, u, o);
+    held = held_more r.turn (set s.views id (lessened v)) (copied v) (held_stays r.turn s.views id v (lessened v) at refl r.held);
+    each = each_more (Sure r.list r.turn) (set s.views id (lessened v)) (copied v) (λ j. record { begins = k.begins; below = λ place used. absurd (omega (arith, used)); about = k.about; holds = tt })
+        (each_changed (Sure r.list r.turn) s.views id (lessened v) record { begins = k.begins; below = k.below; about = k.about; holds = k.holds } (λ j u _ there. r.each j u there));
+    once = once_same (length (entries about)) (length r.list) (all_uses (set s.views id (lessened v))) (all_uses (set s.views id (lessened v) ++ copied v ∷ []))
+        (λ place. let u = sum_by_push (uses place) (set s.views id (lessened v)) (copied v) in omega (arith, u)) (once_stays s r id v (lessened v) at (λ _. refl));
+    parted = parted_split s.views id v at r.parted;
   }
 
   times_append : (place : ℕ) (xs ys : List ℕ) → times place (xs ++ ys) ≡ times place xs + times place ys
@@ -272,7 +283,7 @@ module _ {V E O : Type 0} (entries : V → List E) (limit : V → ℕ) (origin :
   uses_both v w place = let all : uses place (both v w) ≡ times place v.mine + times place (v.met ++ (w.mine ++ w.met)) = refl in omega (arith, all, times_append place v.met (w.mine ++ w.met), times_append place w.mine w.met)
 
   pub joins : (id : ℕ) (v : W) (other : ℕ) (w : W) → v.hold ≡ Away → w.hold ≡ Away → Joins Rule id v other w (both v w) spent
-  joins id v other w here away s r at apart there = let k = r.each id v at in let q = r.each other w (sym (set_else s.views id other (both v w) apart) ∙ there) in let l = longer_long v.seen w.seen in record {
+  joins id v other w here away s r at apart there = let k = r.each id v at in let its = sym (set_else s.views id other (both v w) apart) ∙ there in let q = r.each other w its in let l = longer_long v.seen w.seen in record {
     list = r.list;
     turn = r.turn;
     words = r.words;
@@ -291,6 +302,26 @@ module _ {V E O : Type 0} (entries : V → List E) (limit : V → ℕ) (origin :
           holds = (k.begins, q.begins);
         }
         (λ i x _ it. r.each i x it) j u this);
-    once = λ place. let a = sum_changed (uses place) s.views id v (both v w) at in let b = sum_changed (uses place) (set s.views id (both v w)) other w spent there in
-        omega (arith, a, b, uses_both v w place, r.once place);
+    once = once_same (length (entries about)) (length r.list) (all_uses s.views) (all_uses (set (set s.views id (both v w)) other spent))
+        (λ place. let a = sum_changed (uses place) s.views id v (both v w) at in let b = sum_changed (uses place) (set s.views id (both v w)) other w spent there in
+        omega (arith, a, b, uses_both v w place)) r.once;
+    parted = parted_join s.views id other v w (uses_both v w) at its there r.parted;
   }
+
+  -- what a seat that has the turn is told where the table ends
+  pub ends : (s : St) (id : ℕ) (v : W) → Rule s → get_elem? s.views id ≡ some v → v.hold ≡ Loaded → Ends (length (entries about)) v
+  ends s id v r at is =
+      let k = r.each id v at in
+      let h = knows_hold r.list r.turn id v Loaded is k in
+      let long : length v.seen ≡ length r.list = ap length h.1 in
+      let once = r.once in record {
+        within = λ place used.
+            let m : uses place v ≡ times place (v.mine ++ v.met) = sym (times_append place v.mine v.met) in
+            let below = k.below place (omega (arith, m, used)) in
+            (⊎_elim (λ low. let has = sum_has (uses place) s.views id v at in let nothing = once.before place low in absurd (omega (arith, m, used, has, nothing))) (λ high. high) (cases_lt place (length (entries about))), below);
+        whole = λ all place high inside.
+            let m : uses place v ≡ times place (v.mine ++ v.met) = sym (times_append place v.mine v.met) in
+            let sum = has_all s.views id v place at r.parted all in
+            let one = once.made place high (omega (arith, inside, long)) in
+            omega (arith, m, sum, one);
+      }

@@ -1,4 +1,5 @@
 pub mod Fronts
 mod Sums
+mod Parts
 mod Keeps
 mod Passes

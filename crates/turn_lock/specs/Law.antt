@@ -1,5 +1,5 @@
 -- The rule of the table under a lock. Word 0 is the turn, 0 where nobody has it; word 1 is the length of the list.
-use Rattle.std.specs.Prelude.{◌≡◌, Bool, true, false, ℕ, ◌<◌, ◌≤◌, List, [], ◌∷◌, length, Option, Some, IfSome, sum_by}
+use Rattle.std.specs.Prelude.{◌≡◌, Bool, true, false, ℕ, ◌^◌, ◌<◌, ◌≤◌, List, [], ◌∷◌, length, Option, Some, None, IfSome, sum_by}
 use mathlib.Core.List.{IsPrefix}
 use mathlib.Core.Option.{none, some}
 use mathlib.Core.Option as maybe
@@ -58,13 +58,33 @@ abbrev pub IsHeld : {V E O : Type 0} → Turn V → List (View E O) → Type 0
 IsHeld (free _) views = Unit {0}
 IsHeld {E = E} {O = O} (taken seat) views = (v : View E O) × (get_elem? views seat ≡ some v) × (has_turn v.hold ≡ true)
 
+-- ---- the places and the parts of all seats
+
+-- how often each place stands in the views of all seats: once, if an entry was made there since there were so many; else never
+pub record AreOnce (begun end : ℕ) (uses : ℕ → ℕ) : Type 0 where
+  pub grown : begun ≤ end
+  pub before : (place : ℕ) → place < begun → uses place ≡ 0
+  pub made : (place : ℕ) → begun ≤ place → place < end → uses place ≡ 1
+  pub after : (place : ℕ) → end ≤ place → uses place ≡ 0
+
+-- a seat that was joined to another, or was split off such a one: it is of no lock, and has no places
+pub record IsSpent {E O : Type 0} (v : View E O) : Type 0 where
+  pub origin : v.origin ≡ None
+  pub unused : (place : ℕ) → uses place v ≡ 0
+
+-- all seats have 2^64 parts together, or fewer; and while they have so many, a seat without a part is spent
+pub record Parted {E O : Type 0} (views : List (View E O)) : Type 0 where
+  pub most : sum_by (λ v. v.parts) views ≤ 2 ^ 64
+  pub part : sum_by (λ v. v.parts) views ≡ 2 ^ 64 → (seat : ℕ) (v : View E O) → get_elem? views seat ≡ some v → v.parts ≡ 0 → IsSpent v
+
 module _ {V E O : Type 0} (entries : V → List E) (limit : V → ℕ) (origin : V → O) (about : V) where
   -- where nobody has the turn, the value stands for the list
   abbrev pub Rests : List E → Turn V → Type 0
   Rests list (free value) = Stands entries limit origin list (limit about) (origin about) value
   Rests list (taken _) = Unit {0}
 
-  -- there is one list, of which each seat knows a front, and no place in it stands twice in the views of all seats
+  -- there is one list, of which each seat knows a front; the places in it that the value had not at first stand once each in the
+  -- views of all seats, and the parts of all seats are not more than there were
   pub record Kept (s : State (Option V) (View E O)) : Type 0 where
     pub list : List E
     pub turn : Turn V
@@ -73,4 +93,5 @@ module _ {V E O : Type 0} (entries : V → List E) (limit : V → ℕ) (origin :
     pub rests : Rests list turn
     pub held : IsHeld turn s.views
     pub each : (seat : ℕ) (v : View E O) → get_elem? s.views seat ≡ some v → Knows list (limit about) (origin about) turn seat v
-    pub once : (place : ℕ) → sum_by (uses place) s.views ≤ 1
+    pub once : AreOnce (length (entries about)) (length list) (λ place. sum_by (uses place) s.views)
+    pub parted : Parted s.views

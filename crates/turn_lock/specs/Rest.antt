@@ -21,6 +21,7 @@ module _ {V E O : Type 0} where
     seen = seat.me.0.seen;
     mine = seat.me.0.mine;
     met = seat.me.0.met;
+    parts = seat.me.0.parts;
     home = home_of seat.table_id;
     limit = seat.me.0.limit;
     origin = seat.me.0.origin;

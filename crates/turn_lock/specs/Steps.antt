@@ -4,6 +4,7 @@ use mathlib.Core.List.{IsPrefix}
 use Rattle.atomic_table.specs.Table.{Me, Step, rest}
 use Rattle.turn_lock.specs.declared.view.Hold.TheVariants.{Away, Claimed, Loaded, Met}
 use Rattle.turn_lock.specs.declared.view.View.{View}
+use Rattle.turn_lock.specs.Places.{AreWithin, Fill}
 use Rattle.turn_lock.specs.Views.{entering, seeing, uses, with_hold}
 
 abbrev pub Held : Type 0 → Type 0 → Type 0 → Type 0
@@ -70,3 +71,9 @@ module _ {V E O : Type 0} where
 
   abbrev pub Looks : Held V E O → Held V E O → Type 0
   Looks old new = (own other : List E) → old.0.hold ≡ Met own other → Sees own other old new
+
+-- what the end of a table tells the seat that has the turn, and so has seen the whole list: where its places are, and that they
+-- are those of all entries that were made since there were so many, if it has all parts
+pub record Ends {E O : Type 0} (begun : ℕ) (v : View E O) : Type 0 where
+  pub within : AreWithin begun (length v.seen) (v.mine ++ v.met)
+  pub whole : v.parts ≡ 2 ^ 64 → Fill begun (length v.seen) (v.mine ++ v.met)

@@ -6,6 +6,7 @@
 //! that it has seen, and the places of its own entries (`specs/Known.antt`).
 #![tactic(auto)]
 
+mod ending;
 mod pass;
 mod plays;
 mod rule;

@@ -1,5 +1,5 @@
 //! The rule of the table under a lock, and how views are cut and joined.
-ghost use Rattle.turn_lock.specs.Views.{both, first, copied, spent};
+ghost use Rattle.turn_lock.specs.Views.{both, copied, first, lessened, spent};
 
 use crate::StandsFor;
 use crate::view::View;
@@ -19,7 +19,7 @@ impl<V: StandsFor> TableRule<Option<V>, View<V::Entry, V::Origin>, Snapshot<V>> 
 pub(crate) struct Halves;
 
 impl<E, O> Split<View<E, O>> for Halves {
-    ghost left = { λ v. v };
+    ghost left = { lessened };
 
     ghost right = { copied };
 }

@@ -62,6 +62,7 @@ fn fill<V: StandsFor>(desk: &Desk<V>, seat: &mut Place<V>, value: V)
 fn enter<V: StandsFor>(desk: &Desk<V>, seat: &mut Place<V>)
     requires desk { (seat.old.table_id ≡ desk.now.table_id) × IsLock desk.now.table_id }
     requires ahead { (value : V) × IsAhead V.entries value seat.old.me }
+    requires unspent { (origin : V.Origin) × (seat.old.me.0.origin ≡ Some origin) }
     ensures same { IsSame seat.old seat.new }
     ensures entered { (value : V) → seat.old.me.1 ≡ (0, Some value) ∷ [] → seat.new.me ≡ (entering seat.old.me.0 (V.entries value), seat.old.me.1) }
 {

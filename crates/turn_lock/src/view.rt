@@ -29,6 +29,9 @@ pub struct View<E, O> {
     pub mine: LinkedList<u64>,
     /// The places of the entries of those that it met.
     pub met: LinkedList<u64>,
+    /// How many of the parts of its lock it has: all seats have 2^64 of them together, or fewer. No value has a number of
+    /// that size: proofs alone speak of it.
+    pub parts: u64,
     pub limit: u64,
     /// Nothing in a seat that was joined to another.
     pub origin: Option<O>,

@@ -11,6 +11,6 @@ returns-in-Ok g c = record {
 pub returns-in-Err : goal.returns-in-Err
 returns-in-Err g c = record {
   broken = c.in-Err.broken;
-  freed = not_freed_so c.args.full c.in-Err.broken c.in-Err.ensures.err c.in-Err.ensures.images c.in-Err.ensures.events;
+  freed = not_freed_so c.args.full c.in-Err.broken c.in-Err.ensures.err c.in-Err.ensures.images c.in-Err.ensures.message c.in-Err.ensures.events;
   puts = c.put_broken.ensures;
 }

@@ -1,4 +1,4 @@
-use Rattle.std.proofs.Common.{arith, ap, sym, refl, ◌∙◌, ◌∷◌, Some}
+use Rattle.std.proofs.Common.{arith, ap, sym, ◌∙◌, ◌∷◌, Some}
 use Rattle.atomic_table.specs.Table.{rest}
 use Rattle.turn_lock.proofs.Keeps.{loads}
 use Rattle.turn_lock.proofs.steps.take_out.Goals as goal

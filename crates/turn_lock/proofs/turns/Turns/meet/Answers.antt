@@ -1,6 +1,6 @@
 use Rattle.std.proofs.Common.{arith, ap, sym, ◌∙◌}
 use Rattle.turn_lock.proofs.Keeps.{joins, looks}
-use Rattle.turn_lock.proofs.Passes.{meet_of, rests_met, same_table}
+use Rattle.turn_lock.proofs.Passes.{meet_of, met_rise, rests_met, same_table}
 use Rattle.turn_lock.proofs.turns.Turns.meet.Goals as goal
 
 pub join_seat-requires : goal.join_seat-requires
@@ -26,4 +26,5 @@ pub returns : goal.returns
 returns g c =
     let m = meet_of c.args.self.now _ _ c.pass.inside.seat c.into_seat-seat.result c.join_seat.new.seat c.load.new.seat c.pass.view_is c.into_seat-seat.ensures.known c.requires.pass c.join_seat.ensures.0 c.join_seat.ensures.2
     c.load.ensures.0 (c.load.ensures.2 _ _ (ap (λ m. m.0.hold) c.join_seat.ensures.2)) in
-    record { met = m.0; own = m.1; places = (rests_met c.pass.inside.seat c.into_seat-seat.result c.join_seat.new.seat c.load.new.seat c.pass.invariant c.join_seat.ensures.2 (c.load.ensures.2 _ _ (ap (λ m. m.0.hold) c.join_seat.ensures.2))).places }
+    let calm = rests_met c.pass.inside.seat c.into_seat-seat.result c.join_seat.new.seat c.load.new.seat c.pass.invariant c.join_seat.ensures.2 (c.load.ensures.2 _ _ (ap (λ m. m.0.hold) c.join_seat.ensures.2)) in
+    record { met = m.0; own = m.1; places = calm.places; met_places = met_rise c.into_seat-seat.result c.args.other c.into_seat-seat.ensures.known c.into_seat-seat.ensures.rest }

@@ -1,4 +1,4 @@
-use Rattle.std.proofs.Common.{arith, ap, subst, sym, refl, ◌∙◌, ◌≡◌, ◌++◌, ◌∷◌, []}
+use Rattle.std.proofs.Common.{ap, subst, sym, ◌∙◌, ◌++◌, ◌∷◌, []}
 use Rattle.turn_lock.specs.Known.{IsPassOf}
 use Rattle.turn_lock.proofs.Passes.{grown_none, grown_one, ready, same_table, turn_more, turn_same}
 use Rattle.turn_lock.proofs.turns.Turns.with_turn.Goals as goal
