@@ -25,7 +25,7 @@ module _ {T : Type 0} (homed : T → Queues → Queues) where
   pub drain_first : (room : ℕ) (m : Moves T) (old : StockView) → count_of old.queues + room ≤ old.room → Draining room room m m old old
   drain_first room m old space = record {
     slots = [];
-    rest = refl;
+    rest = omega arith;
     moves = λ i. record { home = m.home; parts = m.parts; began = m.began; put = m.put; taken = sym (append-nil' m.taken) i };
     is = refl;
     counted = omega arith;

@@ -1,5 +1,4 @@
-ghost use Rattle.std.specs.Prelude.{◌≡◌, [], IfNone, option_map, refl};
-ghost use Rattle.spool_slots.specs.States.{SlotView, FullView, BrokenView};
+ghost use Rattle.std.specs.Prelude.{◌≡◌, [], IfNone, refl};
 ghost use Rattle.spool_rack.specs.Store.{IsOut, MayPutAside, MayPutBroken, MayPutFull, PutsBroken};
 ghost use Rattle.spool_rack.specs.Store.{TakesFree, TakesFull, put_aside, put_free, put_full};
 ghost use Rattle.shared_queue.specs.Moves.{HasAll, StandIn};
@@ -72,7 +71,7 @@ impl<'a, H: Wait, D: Disk> PoolSeat<'a, H, D> {
     /// The pass, once no slot is out.
     pub fn into_pass(self) -> PoolPass<D>
         requires { self.out ≡ [] }
-        ensures { result ≡ self.pass }
+        ensures { result ≡ self.entry.pass }
     {
         let PoolSeat {
             rt: _,
@@ -91,6 +90,94 @@ impl<'a, H: Wait, D: Disk> PoolSeat<'a, H, D> {
             breaks,
             is_closed: false,
         }
+    }
+}
+
+impl<'a, H: Wait, D: Disk> PoolSeat<'a, H, D> {
+    /// A free slot. None only if the queue of free slots was empty at one moment of the call.
+    #[tactic(auto, using(crate::proofs::Seats::after_take_free))]
+    pub fn take_free(&mut self) -> Option<Free<D>>
+        ensures takes { TakesFree result (store_of self.old) (store_of self.new) }
+        ensures none { IfNone result (HasAll self.old.free → StandIn self.old.free []) }
+    {
+        let pool = self.pool;
+        match pool.free.take(self.rt, &mut self.lanes.free) {
+            Some(slot) => {
+                self.tally = self.tally.took_free(&slot);
+                Some(slot)
+            }
+            None => {
+                self.no_free = self.no_free.saturating_add(1);
+                None
+            }
+        }
+    }
+
+    /// A slot with a message. None only if the queue of full slots was empty at one moment of the call.
+    #[tactic(auto, using(crate::proofs::Seats::after_take_full))]
+    pub fn take_full(&mut self) -> Option<Full<D>>
+        ensures takes { TakesFull result (store_of self.old) (store_of self.new) }
+        ensures none { IfNone result (HasAll self.old.full → StandIn self.old.full []) }
+    {
+        let pool = self.pool;
+        match pool.full.take(self.rt, &mut self.lanes.full) {
+            Some(letter) => {
+                let slot = letter.into_slot();
+                self.tally = self.tally.took_full(&slot);
+                Some(slot)
+            }
+            None => {
+                self.no_full = self.no_full.saturating_add(1);
+                None
+            }
+        }
+    }
+
+    /// Puts back a slot that was taken, and is free.
+    #[tactic(auto, using(crate::proofs::Seats::after_put_free))]
+    pub fn put_free(&mut self, slot: Free<D>)
+        requires { IsOut slot.number self.old.out }
+        ensures { store_of self.new ≡ put_free slot (store_of self.old) }
+    {
+        let pool = self.pool;
+        self.tally = self.tally.put_free(&slot);
+        pool.free.put(self.rt, &mut self.lanes.free, slot);
+    }
+
+    /// Puts back a slot that was taken, and has a message.
+    #[tactic(auto, using(crate::proofs::Seats::after_put_full))]
+    pub fn put_full(&mut self, slot: Full<D>)
+        requires { MayPutFull slot self.old.out }
+        ensures { store_of self.new ≡ put_full slot (store_of self.old) }
+    {
+        let pool = self.pool;
+        self.tally = self.tally.put_full(&slot);
+        pool.full.put(self.rt, &mut self.lanes.full, Letter::of(slot));
+    }
+
+    /// Puts back a slot that was taken full, and whose message was set aside.
+    #[tactic(auto, using(crate::proofs::Seats::after_put_aside))]
+    pub fn put_aside(&mut self, slot: Aside<D>)
+        requires { MayPutAside slot self.old.out }
+        ensures { store_of self.new ≡ put_aside slot (store_of self.old) }
+    {
+        let pool = self.pool;
+        self.tally = self.tally.put_aside(&slot);
+        let slot = Shelved::aside(slot);
+        pool.shelf.put(self.rt, &mut self.lanes.shelf, slot);
+    }
+
+    /// Puts back a slot that was taken, and whose disk failed.
+    #[tactic(auto, using(crate::proofs::Seats::after_put_broken))]
+    pub fn put_broken(&mut self, slot: Broken<D>)
+        requires { MayPutBroken slot self.old.out }
+        ensures { PutsBroken slot (store_of self.old) (store_of self.new) }
+    {
+        let pool = self.pool;
+        self.tally = self.tally.put_broken(&slot);
+        let slot = Shelved::broken(slot);
+        pool.shelf.put(self.rt, &mut self.lanes.shelf, slot);
+        self.breaks = self.breaks.saturating_add(1);
     }
 }
 
@@ -113,84 +200,34 @@ impl<'a, H: Wait, D: Disk> SlotStore for PoolSeat<'a, H, D> {
 
     ghost broken_view = { λ slot. slot };
 
-    /// None only if the queue of free slots was empty at one moment of the call.
-    #[tactic(auto, using(crate::proofs::Seats::after_take_free))]
-    fn take_free(&mut self) -> Option<Free<D>>
-        ensures takes { TakesFree result (store_of self.old) (store_of self.new) }
-        ensures none { IfNone result (HasAll self.old.free → StandIn self.old.free []) }
-    {
-        match self.pool.free.take(self.rt, &mut self.lanes.free) {
-            Some(slot) => {
-                self.tally = self.tally.took_free(&slot);
-                Some(slot)
-            }
-            None => {
-                self.no_free = self.no_free.saturating_add(1);
-                None
-            }
+    fn take_free(&mut self) -> Option<Free<D>> {
+        match PoolSeat::take_free(self) {
+            Some(slot) => Some(slot),
+            None => None,
         }
     }
 
-    /// None only if the queue of full slots was empty at one moment of the call.
-    #[tactic(auto, using(crate::proofs::Seats::after_take_full))]
-    fn take_full(&mut self) -> Option<Full<D>>
-        ensures takes { TakesFull result (store_of self.old) (store_of self.new) }
-        ensures none { IfNone result (HasAll self.old.full → StandIn self.old.full []) }
-    {
-        match self.pool.full.take(self.rt, &mut self.lanes.full) {
-            Some(letter) => {
-                let slot = letter.into_slot();
-                self.tally = self.tally.took_full(&slot);
-                Some(slot)
-            }
-            None => {
-                self.no_full = self.no_full.saturating_add(1);
-                None
-            }
+    fn take_full(&mut self) -> Option<Full<D>> {
+        match PoolSeat::take_full(self) {
+            Some(slot) => Some(slot),
+            None => None,
         }
     }
 
-    #[tactic(auto, using(crate::proofs::Seats::after_put_free))]
-    fn put_free(&mut self, slot: Free<D>)
-        requires { IsOut slot.number self.old.out }
-        ensures { store_of self.new ≡ put_free slot (store_of self.old) }
-    {
-        self.tally = self.tally.put_free(&slot);
-        self.pool.free.put(self.rt, &mut self.lanes.free, slot);
+    fn put_free(&mut self, slot: Free<D>) {
+        PoolSeat::put_free(self, slot);
     }
 
-    #[tactic(auto, using(crate::proofs::Seats::after_put_full))]
-    fn put_full(&mut self, slot: Full<D>)
-        requires { MayPutFull slot self.old.out }
-        ensures { store_of self.new ≡ put_full slot (store_of self.old) }
-    {
-        self.tally = self.tally.put_full(&slot);
-        self.pool
-            .full
-            .put(self.rt, &mut self.lanes.full, Letter::of(slot));
+    fn put_full(&mut self, slot: Full<D>) {
+        PoolSeat::put_full(self, slot);
     }
 
-    #[tactic(auto, using(crate::proofs::Seats::after_put_aside))]
-    fn put_aside(&mut self, slot: Aside<D>)
-        requires { MayPutAside slot self.old.out }
-        ensures { store_of self.new ≡ put_aside slot (store_of self.old) }
-    {
-        self.tally = self.tally.put_aside(&slot);
-        self.pool
-            .shelf
-            .put(self.rt, &mut self.lanes.shelf, Shelved::aside(slot));
+    fn put_aside(&mut self, slot: Aside<D>) {
+        PoolSeat::put_aside(self, slot);
     }
 
-    #[tactic(auto, using(crate::proofs::Seats::after_put_broken))]
-    fn put_broken(&mut self, slot: Broken<D>)
-        requires { MayPutBroken slot self.old.out }
-        ensures { PutsBroken slot (store_of self.old) (store_of self.new) }
-    {
-        self.tally = self.tally.put_broken(&slot);
-        self.pool
-            .shelf
-            .put(self.rt, &mut self.lanes.shelf, Shelved::broken(slot));
-        self.breaks = self.breaks.saturating_add(1);
+    fn put_broken(&mut self, slot: Broken<D>) {
+        PoolSeat::put_broken(self, slot);
     }
 }
 
