@@ -35,6 +35,19 @@ module _ {T : Type 0} where
   begin_last all first m left b e =
       (λ i. record { home = m.home; parts = m.parts; began = sym (append-nil m.began) i; put = m.put; taken = m.taken }) ∙ ap (λ l. begun_all l m) (sym e) ∙ b.whole
 
+-- other queues stay
+pub rest_free : (first old new : Queues) → old ≡ record first { free = old.free } → new ≡ record old { free = new.free } → new ≡ record first { free = new.free }
+rest_free first old new e f = f ∙ ap (λ (q : Queues). let r : Queues = record q { free = new.free } in r) e
+
+pub rest_full : (first old new : Queues) → old ≡ record first { full = old.full } → new ≡ record old { full = new.full } → new ≡ record first { full = new.full }
+rest_full first old new e f = f ∙ ap (λ (q : Queues). let r : Queues = record q { full = new.full } in r) e
+
+pub rest_aside : (first old new : Queues) → old ≡ record first { aside = old.aside } → new ≡ record old { aside = new.aside } → new ≡ record first { aside = new.aside }
+rest_aside first old new e f = f ∙ ap (λ (q : Queues). let r : Queues = record q { aside = new.aside } in r) e
+
+pub rest_broken : (first old new : Queues) → old ≡ record first { broken = old.broken } → new ≡ record old { broken = new.broken } → new ≡ record first { broken = new.broken }
+rest_broken first old new e f = f ∙ ap (λ (q : Queues). let r : Queues = record q { broken = new.broken } in r) e
+
 -- ---- all queues
 
 pub fresh_lanes : {D : Type 0} (free : Moves SlotView) (full : Moves FullView) (shelf : Moves ShelvedView) (a b c : List ℕ) → free ≡ fresh a [] → full ≡ fresh b [] → shelf ≡ fresh c []
@@ -47,16 +60,18 @@ fresh_lanes free full shelf a b c e f g = record {
 }
 
 pub begun : {D : Type 0} (home : List (List ℕ)) (l : Lanes D) (s s1 s2 s3 : Queues) (free : Moves SlotView) (full : Moves FullView) (one two : Moves ShelvedView) → IsFresh home l
-    → free ≡ begun_all s.free l.free → s1 ≡ record s { free = [] } → full ≡ begun_all s1.full l.full → s2 ≡ record s1 { full = [] }
-    → one ≡ begun_all (map is_aside s2.aside) l.shelf → s3 ≡ record s2 { aside = [] } → two ≡ begun_all (map is_broken s3.broken) one
+    → free ≡ begun_all s.free l.free → s1 ≡ record s { free = s1.free } → full ≡ begun_all s1.full l.full → s2 ≡ record s1 { full = s2.full }
+    → one ≡ begun_all (map is_aside s2.aside) l.shelf → s3 ≡ record s2 { aside = s3.aside } → two ≡ begun_all (map is_broken s3.broken) one
     → IsBegun {D = D} home s (record { free = free; full = full; shelf = two })
 begun home l s s1 s2 s3 free full one two f e p1 g p2 h p3 k =
     let asides = map is_aside s.aside in
     let brokens = map is_broken s.broken in
-    let g' : full ≡ begun_all s.full l.full = g ∙ ap (λ (q : Queues). begun_all q.full l.full) p1 in
-    let h' : one ≡ begun_all asides l.shelf = h ∙ ap (λ (q : Queues). begun_all (map is_aside q.aside) l.shelf) (p2 ∙ ap (λ (q : Queues). let r : Queues = record q { full = [] } in r) p1) in
-    let last : s3.broken ≡ s.broken = ap (λ (q : Queues). q.broken) p3 ∙ ap (λ (q : Queues). q.broken) p2 ∙ ap (λ (q : Queues). q.broken) p1 in
-    let k' : two ≡ begun_all brokens (begun_all asides l.shelf) = k ∙ ap (λ b. begun_all (map is_broken b) one) last ∙ ap (begun_all brokens) h' in
+    let same_full : s1.full ≡ s.full = ap (λ (q : Queues). q.full) p1 in
+    let same_aside : s2.aside ≡ s.aside = ap (λ (q : Queues). q.aside) p2 ∙ ap (λ (q : Queues). q.aside) p1 in
+    let same_broken : s3.broken ≡ s.broken = ap (λ (q : Queues). q.broken) p3 ∙ ap (λ (q : Queues). q.broken) p2 ∙ ap (λ (q : Queues). q.broken) p1 in
+    let g' : full ≡ begun_all s.full l.full = g ∙ ap (λ b. begun_all b l.full) same_full in
+    let h' : one ≡ begun_all asides l.shelf = h ∙ ap (λ b. begun_all (map is_aside b) l.shelf) same_aside in
+    let k' : two ≡ begun_all brokens (begun_all asides l.shelf) = k ∙ ap (λ b. begun_all (map is_broken b) one) same_broken ∙ ap (begun_all brokens) h' in
     let free_home : free.home ≡ l.free.home = ap (λ (m : Moves SlotView). m.home) e in
     let full_home : full.home ≡ l.full.home = ap (λ (m : Moves FullView). m.home) g' in
     let shelf_home : two.home ≡ l.shelf.home = ap (λ (m : Moves ShelvedView). m.home) k' in record {

@@ -81,10 +81,10 @@ module _ {X Y : Type 0} (g : X → Y) where
 
 -- ---- what became of slots
 
-slot_of : Fate → FullView
+abbrev slot_of : Fate → FullView
 slot_of fate = fate.slot
 
-end_of : Fate → End
+abbrev end_of : Fate → End
 end_of fate = fate.end
 
 pub permuted : (xs us : List FullView) (ys vs : List End) → IsPermutation us xs → IsPermutation vs ys → Became xs ys → Became us vs
@@ -170,5 +170,4 @@ all_turned (e ∷ events) t =
     let o = across (map stands (full_of e)) (outs (released_of e) (set_aside_of e) (broke_of e)) (map stands (flat_map full_of events)) (ends_of events) in
     let inner = IsPermutation-trans _ _ _ p (IsPermutation-append_right (map released (released_of e) ++ map released (flat_map released_of events)) _ _ q) in
     let outer = IsPermutation-trans _ _ _ o (IsPermutation-append_right (map stands (full_of e) ++ map stands (flat_map full_of events)) _ _ inner) in
-    let names = (λ i. sym f i ++ (sym r i ++ (sym a i ++ sym k i))) in
-    permuted _ _ _ _ (IsPermutation-sym _ _ s) (IsPermutation-sym _ _ (subst (IsPermutation ((map stands (full_of e) ++ outs (released_of e) (set_aside_of e) (broke_of e)) ++ (map stands (flat_map full_of events) ++ ends_of events))) names outer)) b
+    permuted _ _ _ _ (IsPermutation-sym _ _ s) (IsPermutation-sym _ _ (subst (IsPermutation ((map stands (full_of e) ++ outs (released_of e) (set_aside_of e) (broke_of e)) ++ (map stands (flat_map full_of events) ++ ends_of events))) (λ i. sym f i ++ (sym r i ++ (sym a i ++ sym k i))) outer)) b

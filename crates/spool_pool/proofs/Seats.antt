@@ -71,18 +71,26 @@ module _ {D : Type 0} where
               ∙ shelved_lists (homes_of (lanes free full shelf)) full.parts (began_of (lanes free full shelf)) t.events slot h.loan),
         )
 
+    pub sits_put_broken : (slot : BrokenView) (new : Moves ShelvedView) (u : TallyView) → MayPutBroken slot t.out → new ≡ put_more (is_broken slot) shelf → u ≡ given slot.number (broken_by slot (loan_of slot.number t.out)) t → Sits (lanes free full new) u home
+    sits_put_broken slot new u may e f =
+        subst (λ (k : Moves ShelvedView × TallyView). Sits (lanes free full k.0) k.1 home) (λ i. (sym e i, sym f i)) (
+          record {
+            even = record { free = s.0.even.free; shelf = s.0.even.shelf; some_part = s.0.even.some_part };
+            account = puts_broken full shelf t s.0.account slot may;
+            kept = kept_put_shelved free full shelf t.out s.0.kept (is_broken slot) (is_out (λ loan. loan.was_full ≡ slot.from_full) slot.number t.out may.was_full);
+          },
+          s.1,
+        )
+
     pub after_put_broken : (slot : BrokenView) (new : Moves ShelvedView) (u : TallyView) (count : ℕ) → Rose c count → MayPutBroken slot t.out → new ≡ put_more (is_broken slot) shelf → u ≡ given slot.number (broken_by slot (loan_of slot.number t.out)) t
-        → Sits (lanes free full new) u home × PutsBroken slot (store_of (seat_of (lanes free full shelf) t a b c)) (store_of (seat_of (lanes free full new) u a b count))
+        → PutsBroken slot (store_of (seat_of (lanes free full shelf) t a b c)) (store_of (seat_of (lanes free full new) u a b count))
     after_put_broken slot new u count rose may e f =
         let h = loan_here (λ loan. loan.was_full ≡ slot.from_full) slot.number t.out may.was_full in
-        subst (λ (k : Moves ShelvedView × TallyView). Sits (lanes free full k.0) k.1 home × PutsBroken slot (store_of (seat_of (lanes free full shelf) t a b c)) (store_of (seat_of (lanes free full k.0) k.1 a b count)))
-        (λ i. (sym e i, sym f i)) (
-          (record { even = record { free = s.0.even.free; shelf = s.0.even.shelf; some_part = s.0.even.some_part }; account = puts_broken full shelf t s.0.account slot may; kept = kept_put_shelved free full shelf t.out s.0.kept (is_broken slot) (is_out (λ loan. loan.was_full ≡ slot.from_full) slot.number t.out may.was_full) }, s.1),
-          record {
-            count = count;
-            rose = rose;
-            is = ap (λ h. let r : StoreView = record { queues = None; handed = Some h; out = (given slot.number [] t).out; no_free = a; no_full = b; broken = count } in r)
-                (ap (λ o. handed_of (homes_of (lanes free full shelf)) full.parts (began_of (lanes free full shelf)) (t.events ++ broken_by slot o)) h.is
-                ∙ broken_lists (homes_of (lanes free full shelf)) full.parts (began_of (lanes free full shelf)) t.events slot h.loan);
-          },
-        )
+        subst (λ (k : Moves ShelvedView × TallyView). PutsBroken slot (store_of (seat_of (lanes free full shelf) t a b c)) (store_of (seat_of (lanes free full k.0) k.1 a b count)))
+        (λ i. (sym e i, sym f i)) record {
+          count = count;
+          rose = rose;
+          is = ap (λ h. let r : StoreView = record { queues = None; handed = Some h; out = (given slot.number [] t).out; no_free = a; no_full = b; broken = count } in r)
+              (ap (λ o. handed_of (homes_of (lanes free full shelf)) full.parts (began_of (lanes free full shelf)) (t.events ++ broken_by slot o)) h.is
+              ∙ broken_lists (homes_of (lanes free full shelf)) full.parts (began_of (lanes free full shelf)) t.events slot h.loan);
+        }

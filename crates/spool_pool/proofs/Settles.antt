@@ -35,12 +35,12 @@ asides_put (e ∷ events) = flat_map-append aside_of (shelf_of e) (flat_map shel
     one (shelved loan slot) = refl
     one (broke loan slot) = refl
 
-alone_if : BrokenView → List BrokenView
+abbrev alone_if : BrokenView → List BrokenView
 alone_if slot = if slot.from_full then slot ∷ [] else []
 
-made_at : (slot : BrokenView) (w : Bool) (kept rest : List BrokenView) → kept ≡ rest → (if w then slot ∷ kept else kept) ≡ (if w then slot ∷ [] else []) ++ rest
-made_at slot true kept rest e = ap (λ l. slot ∷ l) e
-made_at slot false kept rest e = e
+made_at : (slot : BrokenView) (w : Bool) (found rest : List BrokenView) → found ≡ rest → (if w then slot ∷ found else found) ≡ (if w then slot ∷ [] else []) ++ rest
+made_at slot true found rest e = ap (λ l. slot ∷ l) e
+made_at slot false found rest e = e
 
 from_full_made : (slots : List BrokenView) → from_full slots ≡ flat_map alone_if slots
 from_full_made [] = refl
@@ -120,13 +120,13 @@ shelf_stands f shelf items none p =
 pub settles : {D : Type 0} (l : Lanes D) (t : TallyView) (frees : List SlotView) (fulls : List FullView) (items : List ShelvedView) → Account l.full l.shelf t → AreKept l.free l.full l.shelf t.out → t.out ≡ []
     → IsPermutation (l.free.began ++ l.free.put) (frees ++ l.free.taken) → IsPermutation (l.full.began ++ l.full.put) (fulls ++ l.full.taken) → IsPermutation (l.shelf.began ++ l.shelf.put) (items ++ l.shelf.taken)
     → IsSettled (handed_in l t.events) (record { free = frees; full = fulls; aside = flat_map aside_of items; broken = flat_map broken_of items })
-settles l t frees fulls items a kept none o p q =
+settles l t frees fulls items a numbers none o p q =
     let asides = shelf_stands aside_of l.shelf items a.shelf_taken q in
     let brokens = from_full_permuted _ _ (shelf_stands broken_of l.shelf items a.shelf_taken q) in
     let put_aside = ap (flat_map aside_of) a.shelf_put ∙ asides_put t.events in
     let put_broken = ap (λ l. from_full (flat_map broken_of l)) a.shelf_put ∙ broken_put t.events a.events_true in record {
       full = full_settled l.full.began fulls l.full l.shelf t a none p;
-      slots = numbers_left l.free l.full l.shelf frees fulls items (subst (AreKept l.free l.full l.shelf) none kept) a.shelf_taken o p q;
+      slots = numbers_left l.free l.full l.shelf frees fulls items (subst (AreKept l.free l.full l.shelf) none numbers) a.shelf_taken o p q;
       aside = subst (λ k. IsPermutation (flat_map aside_of l.shelf.began ++ k) (flat_map aside_of items)) put_aside asides;
       broken = subst (λ k. IsPermutation k (from_full (flat_map broken_of items)))
           (from_full_both (flat_map broken_of l.shelf.began) (flat_map broken_of l.shelf.put) ∙ ap (λ k. from_full (flat_map broken_of l.shelf.began) ++ k) put_broken) brokens;

@@ -110,19 +110,19 @@ some_is : (a b : Loan) → Some a ≡ Some b → a ≡ b
 some_is a b e = cc
 
 -- by whether the first has the number
-told_at : (x loan : Loan) (xs kept : List Loan) (w : Bool) (there : Option Loan) → (if w then Some x else there) ≡ Some loan
-    → (there ≡ Some loan → IsPermutation (flat_map told_of xs) (told_of loan ++ flat_map told_of kept))
-    → IsPermutation (told_of x ++ flat_map told_of xs) (told_of loan ++ flat_map told_of (if w then xs else x ∷ kept))
-told_at x loan xs kept true there e rest = subst (λ y. IsPermutation (told_of x ++ flat_map told_of xs) (told_of y ++ flat_map told_of xs)) (some_is x loan e) (IsPermutation-refl _)
-told_at x loan xs kept false there e rest = IsPermutation-trans _ _ _ (IsPermutation-append_right (told_of x) _ _ (rest e)) (over (told_of x) (told_of loan) (flat_map told_of kept))
+told_at : (x loan : Loan) (xs others : List Loan) (w : Bool) (there : Option Loan) → (if w then Some x else there) ≡ Some loan
+    → (there ≡ Some loan → IsPermutation (flat_map told_of xs) (told_of loan ++ flat_map told_of others))
+    → IsPermutation (told_of x ++ flat_map told_of xs) (told_of loan ++ flat_map told_of (if w then xs else x ∷ others))
+told_at x loan xs others true there e rest = subst (λ y. IsPermutation (told_of x ++ flat_map told_of xs) (told_of y ++ flat_map told_of xs)) (some_is x loan e) (IsPermutation-refl _)
+told_at x loan xs others false there e rest = IsPermutation-trans _ _ _ (IsPermutation-append_right (told_of x) _ _ (rest e)) (over (told_of x) (told_of loan) (flat_map told_of others))
 
 pub struck_told : (n : ℕ) (out : List Loan) (loan : Loan) → loan_of n out ≡ Some loan → IsPermutation (flat_map told_of out) (told_of loan ++ flat_map told_of (struck n out))
 struck_told n [] loan e = absurd cc
 struck_told n (x ∷ xs) loan e = told_at x loan xs (struck n xs) (x.number == n) (loan_of n xs) e (struck_told n xs loan)
 
-all_at : (P : Loan → Type 0) (x : Loan) (xs kept : List Loan) (w : Bool) → P x → AllByRecursion P xs → AllByRecursion P kept → AllByRecursion P (if w then xs else x ∷ kept)
-all_at P x xs kept true here all rest = all
-all_at P x xs kept false here all rest = (here, rest)
+all_at : (P : Loan → Type 0) (x : Loan) (xs others : List Loan) (w : Bool) → P x → AllByRecursion P xs → AllByRecursion P others → AllByRecursion P (if w then xs else x ∷ others)
+all_at P x xs others true here all rest = all
+all_at P x xs others false here all rest = (here, rest)
 
 pub struck_all : (P : Loan → Type 0) (n : ℕ) (out : List Loan) → AllByRecursion P out → AllByRecursion P (struck n out)
 struck_all P n [] h = h

@@ -55,7 +55,7 @@ fn begin_free<D: Disk, R: Wait>(
     requires home { pass.old.home ≡ queue.now.home }
     requires all { HasAll pass.old }
     ensures pass { pass.new ≡ begun_all slots.old.free pass.old }
-    ensures slots { slots.new ≡ record slots.old { free = [] } }
+    ensures slots { slots.new ≡ record slots.old { free = slots.new.free } }
 {
     while let Some(slot) = slots.next_free() {
         queue.begin(rt, pass, slot);
@@ -72,7 +72,7 @@ fn begin_full<D: Disk, R: Wait>(
     requires home { pass.old.home ≡ queue.now.home }
     requires all { HasAll pass.old }
     ensures pass { pass.new ≡ begun_all slots.old.full pass.old }
-    ensures slots { slots.new ≡ record slots.old { full = [] } }
+    ensures slots { slots.new ≡ record slots.old { full = slots.new.full } }
 {
     while let Some(slot) = slots.next_full() {
         queue.begin(rt, pass, Letter::of(slot));
@@ -89,7 +89,7 @@ fn begin_aside<D: Disk, R: Wait>(
     requires home { pass.old.home ≡ queue.now.home }
     requires all { HasAll pass.old }
     ensures pass { pass.new ≡ begun_all (map is_aside slots.old.aside) pass.old }
-    ensures slots { slots.new ≡ record slots.old { aside = [] } }
+    ensures slots { slots.new ≡ record slots.old { aside = slots.new.aside } }
 {
     while let Some(slot) = slots.next_aside() {
         queue.begin(rt, pass, Shelved::aside(slot));
@@ -106,7 +106,7 @@ fn begin_broken<D: Disk, R: Wait>(
     requires home { pass.old.home ≡ queue.now.home }
     requires all { HasAll pass.old }
     ensures pass { pass.new ≡ begun_all (map is_broken slots.old.broken) pass.old }
-    ensures slots { slots.new ≡ record slots.old { broken = [] } }
+    ensures slots { slots.new ≡ record slots.old { broken = slots.new.broken } }
 {
     while let Some(slot) = slots.next_broken() {
         queue.begin(rt, pass, Shelved::broken(slot));
