@@ -1,0 +1,22 @@
+//! Rows of two small sessions of `session_acts` over devices in memory: each row of `data/` says what is told of what is
+//! asked, by the kinds that [`kinds`] knows. `lines_of_rows` says how a row is written. The sessions are also the shortest
+//! examples of a script: one passes lines to a server, the other puts its client through.
+#![tactic(auto)]
+
+mod devices;
+mod kinds;
+mod laws;
+mod relay;
+mod run;
+mod telling;
+mod through;
+
+use kinds::Kinds;
+use lines_of_runs::compare_runs;
+use std::io;
+use std::process::ExitCode;
+
+fn main(rt: HostRuntime) -> io::Result<ExitCode> {
+    laws::the_course_is_kept::<()>();
+    compare_runs(&rt, rt, &Kinds)
+}
