@@ -1,6 +1,9 @@
+pub mod Accounts
 pub mod Full
+pub mod Mailed
 pub mod Meeting
 pub mod Passes
+pub mod Rounds
 pub mod RulesFor
 pub mod Sessions
 pub mod Stepping

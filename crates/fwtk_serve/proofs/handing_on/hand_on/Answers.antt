@@ -1,0 +1,5 @@
+use Rattle.fwtk_serve.proofs.RoundLemmas.{hands_one}
+use Rattle.fwtk_serve.proofs.handing_on.hand_on.Goals as goal
+
+pub returns-clause-hands : goal.returns-clause-hands
+returns-clause-hands g c = hands_one _ _ _ _ c.smapd_round-answer.ensures c.with.ensures
