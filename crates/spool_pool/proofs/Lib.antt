@@ -9,4 +9,3 @@ mod Passes
 mod Seats
 mod Settles
 mod Drains
-pub mod CrossingLemmas
