@@ -152,7 +152,8 @@ impl<'a, H: Wait, D: Disk> PoolSeat<'a, H, D> {
     {
         let pool = self.pool;
         self.tally = self.tally.put_full(&slot);
-        pool.full.put(self.rt, &mut self.lanes.full, Letter::of(slot));
+        pool.full
+            .put(self.rt, &mut self.lanes.full, Letter::of(slot));
     }
 
     /// Puts back a slot that was taken full, and whose message was set aside.
