@@ -48,3 +48,11 @@ module _ {W : Type 0} (view : W → WorkerView) (lock : Lock BookOrigin) (pool :
   all_ready first (w ∷ ws) [] own is k d lt = absurd (cc)
   all_ready first (w ∷ ws) (door ∷ doors) own is zero d lt = ready_one (view w) door first own (head-eq_of_cons-eq is)
   all_ready first (w ∷ ws) (door ∷ doors) own is (suc k) d lt = all_ready first ws doors own (tail-eq_of_cons-eq is) k d (omega (arith, lt))
+
+  -- the same of workers that are these
+  pub ready_along : (xs ys : List W) → ys ≡ xs → ((k : ℕ) (d : W) → k < length xs → IsReady lock pool (view (slice_index_or xs k d))) → (k : ℕ) (d : W) → k < length ys → IsReady lock pool (view (slice_index_or ys k d))
+  ready_along xs ys is ready = subst (λ (ws : List W). (k : ℕ) (d : W) → k < length ws → IsReady lock pool (view (slice_index_or ws k d))) (sym is) ready
+
+  pub worked_along : (rules : List (Service × RuleBook)) (xs ys xs_then ys_then : List W) → xs ≡ xs_then → ys ≡ ys_then → HaveWorked rules lock pool (map view xs) (map view ys) → HaveWorked rules lock pool (map view xs_then) (map view ys_then)
+  worked_along rules xs ys xs_then ys_then olds_are news_are worked =
+      subst (λ (ws : List W). HaveWorked rules lock pool (map view ws) (map view ys_then)) olds_are (subst (λ (ws : List W). HaveWorked rules lock pool (map view xs) (map view ws)) news_are worked)
