@@ -1,9 +1,9 @@
-use Rattle.std.proofs.Common.{arith, rules, ◌≡◌, ◌+◌, ◌-◌, ◌^◌, ◌≤◌, ◌++◌, List, length, map, refl, sym, ap, subst, ◌∙◌}
+use Rattle.std.proofs.Common.{arith, ◌≡◌, ◌+◌, ◌-◌, ◌^◌, ◌≤◌, ◌++◌, List, length, refl, sym, subst}
 use Rattle.std.proofs.lemmas.List.{length-map}
 use mathlib.Core.List.{IsPrefix}
 use Rattle.auth_events.specs.declared.entry.Entry.{Entry}
 use Rattle.turn_lock.specs.Places.{AreWithin, Fill}
-use Rattle.fwtk_serve.proofs.ServingLemmas.{HeldRounds, all_begin, all_have, all_served, all_taken, all_there, apart_left, hands_done, none_out, own_after, settles_done, unput_after}
+use Rattle.fwtk_serve.proofs.ServingLemmas.{all_begin, all_have, all_served, all_taken, all_there, apart_left, hands_done, none_out, own_after, settles_done, unput_after}
 use Rattle.fwtk_serve.proofs.serving.serve_over.Goals as goal
 
 pub serve_all-workers-requires-clause-ready : goal.serve_all-workers-requires-clause-ready
