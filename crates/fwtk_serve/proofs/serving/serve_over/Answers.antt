@@ -1,9 +1,8 @@
 use Rattle.std.proofs.Common.{arith, ◌≡◌, ◌+◌, ◌-◌, ◌^◌, ◌≤◌, ◌++◌, List, length, refl, sym, subst}
-use Rattle.std.proofs.lemmas.List.{length-map}
 use mathlib.Core.List.{IsPrefix}
 use Rattle.auth_events.specs.declared.entry.Entry.{Entry}
 use Rattle.turn_lock.specs.Places.{AreWithin, Fill}
-use Rattle.fwtk_serve.proofs.ServingLemmas.{all_begin, all_have, all_served, all_taken, all_there, apart_left, hands_done, none_out, own_after, settles_done, unput_after}
+use Rattle.fwtk_serve.proofs.ServingLemmas.{all_begin, all_have, all_served, all_taken, all_there, apart_left, hands_done, none_out, own_after, settles_done, some_views, unput_after}
 use Rattle.fwtk_serve.proofs.serving.serve_over.Goals as goal
 
 pub serve_all-workers-requires-clause-ready : goal.serve_all-workers-requires-clause-ready
@@ -102,7 +101,7 @@ returns-clause-hands g c =
     hands_done c.args.turns c.args.passes c.workers_of-workers.new.passes (length c.args.doors.items) c.args.each c.new-seat.result c.serve_all-workers.new.seat _ _ _ _ _ _
     (record { mail = c.requires.mail; kept = c.workers_of-workers.ensures.less; pass = c.new-seat.ensures.pass; out = c.new-seat.ensures.out; hands = c.serve_all-workers.ensures.hands })
     c.into_pass-mail.result c.meet_all-doors.new.passes.mail c.close-rack.result.1
-    (omega (arith, c.ranges.each.fits)) c.none-sums.ensures (omega (arith, c.requires.some, length-map c.args.mailers.now.items _)) c.into_pass-mail.ensures took c.close-rack.ensures.pass
+    (omega (arith, c.ranges.each.fits)) c.none-sums.ensures (some_views _ _ c.requires.some) c.into_pass-mail.ensures took c.close-rack.ensures.pass
 
 pub returns-clause-settles : goal.returns-clause-settles
 returns-clause-settles g c =
