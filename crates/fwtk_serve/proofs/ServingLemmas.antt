@@ -100,6 +100,9 @@ clerk_keeps most home parts began old new pass begins h told =
       unput = ap (λ (l : Handed). l.put) same ∙ g.lists.put;
     }
 
+pub some_views : {M : Type 0} (view : M → MailerView) (all : List M) → 0 < length all → 0 < length (map view all)
+some_views view all some = let many = length-map all view in omega (arith, some, many)
+
 -- ---- the account
 
 -- it is between the slots, the lists and the slots that are left alone

@@ -225,10 +225,8 @@ where
         rt, alloc, rules, none, &turns, &pool, workers, &mut seat, mailers, each, logs, pacer,
         &mut sums,
     );
-    let mut passes = Passes {
-        book,
-        mail: seat.into_pass(),
-    };
+    let mail = seat.into_pass();
+    let mut passes = Passes { book, mail };
     let Gathered {
         doors,
         sessions,

@@ -1,15 +1,14 @@
 -- Passes and seats: which pool they are of, and what they know after a call.
-use Rattle.std.proofs.Common.{◌≡◌, ℕ, zero, suc, ◌+◌, ◌-◌, ◌<◌, Bool, true, false, List, [], ◌∷◌, ◌++◌, map, refl, ap, sym, subst, ◌∙◌, arith}
+use Rattle.std.proofs.Common.{◌≡◌, ℕ, ◌+◌, ◌-◌, ◌<◌, Bool, true, false, List, [], ◌∷◌, ◌++◌, map, refl, ap, sym, subst, ◌∙◌, arith}
 use mathlib.Core.List.{cons≢nil, head-eq_of_cons-eq, tail-eq_of_cons-eq}
 use Rattle.std.specs.List.{flat_map}
 use Rattle.std.proofs.lemmas.List.{append-nil}
 use Rattle.std.proofs.lemmas.Grind.{flat_map-append}
 use Rattle.spool_slots.specs.States.{SlotView, BrokenView}
-use Rattle.spool_rack.specs.Store.{Handed, Queues}
 use Rattle.spool_pool.specs.declared.lanes.Lanes.{Lanes}
 use Rattle.spool_pool.specs.Shelf.{is_aside, is_broken, aside_of, broken_of}
 use Rattle.spool_pool.specs.Events.{Event, TallyView, joined}
-use Rattle.spool_pool.specs.Account.{Account, AreEven, IsSound, IsSoundUnless, all_met, handed_by, handed_in, homes_of, one_less, one_off, pass_of}
+use Rattle.spool_pool.specs.Account.{IsSound, IsSoundUnless, all_met, handed_by, handed_in, homes_of, one_less, one_off, pass_of}
 use Rattle.spool_pool.specs.Numbers.{AreKept}
 use Rattle.spool_pool.specs.Known.{IsPassOf, PassView, PoolView, both_counted, closed, less_one, met, split_off}
 use Rattle.spool_pool.proofs.Accounts.{meets, none_yet}

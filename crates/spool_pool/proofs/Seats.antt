@@ -1,17 +1,21 @@
 -- What a seat knows after each take and put.
-use Rattle.std.proofs.Common.{◌≡◌, ℕ, ◌<◌, ◌^◌, true, false, List, [], ◌∷◌, ◌++◌, Option, Some, None, refl, ap, sym, subst, ◌∙◌}
+use Rattle.std.proofs.Common.{◌≡◌, ℕ, ◌^◌, true, false, List, [], ◌++◌, Some, None, refl, ap, sym, subst, ◌∙◌}
 use Rattle.fw_outside.specs.Counts.{Rose}
 use Rattle.spool_slots.specs.States.{SlotView, FullView, BrokenView}
-use Rattle.spool_rack.specs.Store.{HasNoFree, HasNoFull, HasTakenFree, HasTakenFull, IsOut, MayPutAside, MayPutBroken, MayPutFull, PutsBroken, StoreView, loan_of, put_aside, put_free, put_full}
-use Rattle.shared_queue.specs.Moves.{Moves, put_more, taken_out}
+use Rattle.spool_rack.specs.Store.{HasTakenFree, HasTakenFull, IsOut, MayPutAside, MayPutBroken, MayPutFull, PutsBroken, StoreView, loan_of, put_aside, put_free, put_full}
+use Rattle.shared_queue.specs.Moves.{HasAll, Moves, StandIn, put_more, taken_out}
 use Rattle.spool_pool.specs.declared.lanes.Lanes.{Lanes}
 use Rattle.spool_pool.specs.Shelf.{ShelvedView, is_aside, is_broken}
 use Rattle.spool_pool.specs.Events.{TallyView, broken_by, filled_by, freed_by, given, lent, shelved_by}
-use Rattle.spool_pool.specs.Account.{Account, AreEven, IsSound, began_of, handed_of, homes_of, seat_of}
+use Rattle.spool_pool.specs.Account.{IsSound, began_of, handed_of, homes_of, seat_of}
 use Rattle.spool_pool.specs.Known.{store_of}
 use Rattle.spool_pool.proofs.Accounts.{lends_free, lends_full, puts_aside, puts_broken, puts_free, puts_full}
 use Rattle.spool_pool.proofs.Numbers.{is_out, kept_put_free, kept_put_full, kept_put_shelved, kept_take_free, kept_take_full}
 use Rattle.spool_pool.proofs.Tallies.{broken_lists, filled_lists, freed_lists, loan_here, shelved_lists}
+
+-- the pass has all parts, and so has that of the queue of free slots
+pub none_free : (free : Moves SlotView) (full : Moves FullView) → free.parts ≡ full.parts → (HasAll free → StandIn free []) → full.parts ≡ 2 ^ 64 → StandIn free []
+none_free free full even none all = none (even ∙ all)
 
 module _ {D : Type 0} where
   abbrev lanes : Moves SlotView → Moves FullView → Moves ShelvedView → Lanes D

@@ -1,5 +1,5 @@
 -- What is told by the steps of a tally.
-use Rattle.std.specs.Prelude.{ℕ, ◌+◌, true, false, List, [], ◌∷◌, ◌++◌, Option, Some, None}
+use Rattle.std.specs.Prelude.{◌+◌, true, false, List, [], ◌∷◌, ◌++◌, Option, Some, None}
 use Rattle.spool_rack.specs.Store.{Loan, loan_of, struck}
 use Rattle.spool_pool.specs.declared.tally.Link.{Link}
 use Rattle.spool_pool.specs.declared.tally.Step.{Step}

@@ -1,5 +1,5 @@
 //! Making a pool of a rack.
-ghost use Rattle.std.specs.Prelude.{◌≡◌, ◌^◌, ◌<◌, [], map, IfErr, IfOk, IfSome};
+ghost use Rattle.std.specs.Prelude.{◌≡◌, ◌^◌, ◌<◌, map, IfErr, IfOk, IfSome};
 ghost use Rattle.shared_queue.specs.Moves.{HasAll};
 ghost use Rattle.spool_pool.specs.Known.{bare};
 ghost use Rattle.spool_pool.specs.Opening.{IsBegun, IsFresh, begun_all};

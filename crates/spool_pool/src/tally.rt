@@ -1,7 +1,7 @@
 //! What the seats of a pass did, and the slots that are out, which only contracts know: they take no room where the
 //! program runs, beyond the numbers of the last step.
-ghost use Rattle.std.specs.Prelude.{◌≡◌, ◌∷◌, [], false, true, Some, None};
-ghost use Rattle.spool_rack.specs.Store.{Loan, loan_of};
+ghost use Rattle.std.specs.Prelude.{◌≡◌, [], false, true, Some, None};
+ghost use Rattle.spool_rack.specs.Store.{loan_of};
 ghost use Rattle.spool_pool.specs.Tally.{after};
 ghost use Rattle.spool_pool.specs.Events.{TallyView, broken_by, filled_by, freed_by, given, joined, lent, shelved_by};
 

@@ -1,4 +1,3 @@
-use Rattle.std.proofs.Common.{arith, rules}
 use Rattle.fwtk_serve.proofs.ServingLemmas.{bare_is, hands_for, own_bare, settles_for}
 use Rattle.fwtk_serve.proofs.serving.serve.Goals as goal
 

@@ -1,17 +1,16 @@
-use Rattle.std.proofs.Common.{arith, rules, ◌≡◌, ◌+◌, ◌-◌, ◌^◌, ◌≤◌, ◌++◌, List, length, map, refl, sym, ap, subst, ◌∙◌}
-use Rattle.std.proofs.lemmas.List.{length-map}
+use Rattle.std.proofs.Common.{arith, ◌≡◌, ◌+◌, ◌-◌, ◌^◌, ◌≤◌, ◌++◌, List, length, refl, sym, subst}
 use mathlib.Core.List.{IsPrefix}
 use Rattle.auth_events.specs.declared.entry.Entry.{Entry}
 use Rattle.turn_lock.specs.Places.{AreWithin, Fill}
-use Rattle.fwtk_serve.proofs.ServingLemmas.{HeldRounds, all_begin, all_have, all_served, all_taken, all_there, apart_left, hands_done, none_out, own_after, settles_done, unput_after}
+use Rattle.fwtk_serve.proofs.ServingLemmas.{all_begin, all_have, all_served, all_taken, all_there, apart_left, hands_done, none_out, own_after, settles_done, some_views, unput_after}
 use Rattle.fwtk_serve.proofs.serving.serve_over.Goals as goal
 
 pub serve_all-workers-requires-clause-ready : goal.serve_all-workers-requires-clause-ready
 serve_all-workers-requires-clause-ready g c κs within =
     all_begin g.A.Acceptor.acceptor_view _ c.args.turns c.args.pool c.args.doors.items c.workers_of-workers.result.items c.args.passes.book.seen c.args.passes.mail.handed.home c.args.passes.mail.handed.began c.requires.passes.mail c.workers_of-workers.ensures.are
 
-pub into_pass-requires : goal.into_pass-requires
-into_pass-requires g c κs within =
+pub into_pass-mail-requires : goal.into_pass-mail-requires
+into_pass-mail-requires g c κs within =
     none_out c.args.turns c.args.passes c.workers_of-workers.new.passes (length c.args.doors.items) c.args.each c.new-seat.result c.serve_all-workers.new.seat _ _ _ _ _ _
     (record { mail = c.requires.mail; kept = c.workers_of-workers.ensures.less; pass = c.new-seat.ensures.pass; out = c.new-seat.ensures.out; hands = c.serve_all-workers.ensures.hands })
 
@@ -19,7 +18,7 @@ pub meet_all-doors-requires-clause-passes : goal.meet_all-doors-requires-clause-
 meet_all-doors-requires-clause-passes g c κs within =
     own_after c.args.turns c.args.passes c.workers_of-workers.new.passes (length c.args.doors.items) c.args.each c.new-seat.result c.serve_all-workers.new.seat _ _ _ _ _ _
     (record { mail = c.requires.mail; kept = c.workers_of-workers.ensures.less; pass = c.new-seat.ensures.pass; out = c.new-seat.ensures.out; hands = c.serve_all-workers.ensures.hands })
-    c.args.pool c.into_pass.result c.workers_of-workers.ensures.own.book c.requires.passes.mail c.into_pass.ensures
+    c.args.pool c.into_pass-mail.result c.workers_of-workers.ensures.own.book c.requires.passes.mail c.into_pass-mail.ensures
 
 pub meet_all-doors-requires-clause-apart : goal.meet_all-doors-requires-clause-apart
 meet_all-doors-requires-clause-apart g c κs within = apart_left c.args.turns c.args.passes c.workers_of-workers.new.passes (length c.args.doors.items) c.requires.first c.workers_of-workers.ensures.less
@@ -44,7 +43,7 @@ returns-clause-doors g c =
     let front : IsPrefix c.meet_all-doors.new.passes.book.seen c.close-keeper.result.1.items = subst (λ (s : List Entry). IsPrefix c.meet_all-doors.new.passes.book.seen s) (sym history) c.close.ensures.begins in
     let unput = unput_after c.args.turns c.args.passes c.workers_of-workers.new.passes (length c.args.doors.items) c.args.each c.new-seat.result c.serve_all-workers.new.seat _ _ _ _ _ _
     (record { mail = c.requires.mail; kept = c.workers_of-workers.ensures.less; pass = c.new-seat.ensures.pass; out = c.new-seat.ensures.out; hands = c.serve_all-workers.ensures.hands })
-    c.into_pass.result c.into_pass.ensures in
+    c.into_pass-mail.result c.into_pass-mail.ensures in
     all_served
     g.A.Acceptor.acceptor_view
     _
@@ -56,7 +55,7 @@ returns-clause-doors g c =
     c.serve_all-workers.result.items
     c.args.passes
     c.workers_of-workers.new.passes
-    (record { book = c.workers_of-workers.new.passes.book; mail = c.into_pass.result })
+    (record { book = c.workers_of-workers.new.passes.book; mail = c.into_pass-mail.result })
     c.meet_all-doors.new.passes
     c.close-keeper.result.1.items
     _
@@ -94,15 +93,15 @@ returns-clause-hands g c =
     c.args.passes.book.seen
     c.args.passes.mail.handed.home
     c.args.passes.mail.handed.began
-    (record { book = c.workers_of-workers.new.passes.book; mail = c.into_pass.result })
+    (record { book = c.workers_of-workers.new.passes.book; mail = c.into_pass-mail.result })
     c.meet_all-doors.new.passes
     c.workers_of-workers.ensures.are
     c.serve_all-workers.ensures.workers
     c.meet_all-doors.ensures.met in
     hands_done c.args.turns c.args.passes c.workers_of-workers.new.passes (length c.args.doors.items) c.args.each c.new-seat.result c.serve_all-workers.new.seat _ _ _ _ _ _
     (record { mail = c.requires.mail; kept = c.workers_of-workers.ensures.less; pass = c.new-seat.ensures.pass; out = c.new-seat.ensures.out; hands = c.serve_all-workers.ensures.hands })
-    c.into_pass.result c.meet_all-doors.new.passes.mail c.close-rack.result.1
-    (omega (arith, c.ranges.each.fits)) c.none-sums.ensures (omega (arith, c.requires.some, length-map c.args.mailers.now.items _)) c.into_pass.ensures took c.close-rack.ensures.pass
+    c.into_pass-mail.result c.meet_all-doors.new.passes.mail c.close-rack.result.1
+    (omega (arith, c.ranges.each.fits)) c.none-sums.ensures (some_views _ _ c.requires.some) c.into_pass-mail.ensures took c.close-rack.ensures.pass
 
 pub returns-clause-settles : goal.returns-clause-settles
 returns-clause-settles g c =
@@ -118,12 +117,12 @@ returns-clause-settles g c =
     c.args.passes.book.seen
     c.args.passes.mail.handed.home
     c.args.passes.mail.handed.began
-    (record { book = c.workers_of-workers.new.passes.book; mail = c.into_pass.result })
+    (record { book = c.workers_of-workers.new.passes.book; mail = c.into_pass-mail.result })
     c.meet_all-doors.new.passes
     c.workers_of-workers.ensures.are
     c.serve_all-workers.ensures.workers
     c.meet_all-doors.ensures.met in
     settles_done c.args.turns c.args.passes c.workers_of-workers.new.passes (length c.args.doors.items) c.args.each c.new-seat.result c.serve_all-workers.new.seat _ _ _ _ _ _
     (record { mail = c.requires.mail; kept = c.workers_of-workers.ensures.less; pass = c.new-seat.ensures.pass; out = c.new-seat.ensures.out; hands = c.serve_all-workers.ensures.hands })
-    c.into_pass.result c.meet_all-doors.new.passes.mail c.close-rack.result.1 c.close-rack.result.0
-    c.requires.few c.into_pass.ensures took c.close-rack.ensures.pass c.close-rack.ensures.settled
+    c.into_pass-mail.result c.meet_all-doors.new.passes.mail c.close-rack.result.1 c.close-rack.result.0
+    c.requires.few c.into_pass-mail.ensures took c.close-rack.ensures.pass c.close-rack.ensures.settled
