@@ -30,4 +30,4 @@ module _ {D : Type 0} where
 
   abbrev pub tally_of : Option (Link D) → TallyView
   tally_of None = record { events = []; out = []; steps = 0 }
-  tally_of (Some link) = after link.step link.before.value link.other.value
+  tally_of (Some link) = after link.step link.before.value.value link.other.value.value
