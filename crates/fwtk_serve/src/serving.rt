@@ -97,7 +97,7 @@ where
         requires { (none.now ≡ no_rules) × All MayServe rules.now
             × All (λ w. IsReady turns.now pool.now (worker_with (A.acceptor_view w.door) w.sessions.items w.short w.passes)) workers.items }
         ensures { HaveWorked rules.entry.now turns.entry.now pool.entry.now
-            (map (λ w. worker_with (A.acceptor_view w.door) w.sessions.items w.short w.passes) workers.entry.items)
+            (map (λ w. worker_with (A.acceptor_view w.door) w.sessions.items w.short w.passes) workers.items)
             (map (λ w. worker_with (A.acceptor_view w.door) w.sessions.items w.short w.passes) result.items) }
     { work_all(rt, alloc, rules, none, turns, pool, told, workers) };
     let mut meanwhile = ||
