@@ -4,7 +4,7 @@ ghost use Rattle.fwtk_serve.specs.Meeting.{HasWorked, HaveWorked, IsReady};
 ghost use Rattle.fwtk_serve.specs.RulesFor.{MayServe, no_rules};
 ghost use Rattle.fwtk_serve.specs.Stepping.{worker_with};
 
-use crate::beside::Task;
+use crate::beside::Duty;
 use crate::passes::PassesOf;
 use crate::worker::{Worker, WorkerOf};
 use crate::working::work;
@@ -74,7 +74,7 @@ pub(crate) struct Crew<'a, H, R, N, T, P, W> {
     pub(crate) workers: Vec<W>,
 }
 
-impl<'a, H, K, A, D> Task
+impl<'a, H, K, A, D> Duty
     for Crew<'a, H, (Service, Rules), Rules, Turns<Book<K>>, Pool<D>, WorkerOf<A, K, D>>
 where
     H: Threads + Wait + Sync,
@@ -87,17 +87,17 @@ where
     <A::Dial as Dialer>::Door: Send,
     D: Disk + Send,
 {
-    type Output = Vec<WorkerOf<A, K, D>>;
+    type Outcome = Vec<WorkerOf<A, K, D>>;
 
-    ghost can_run = { λ crew. (crew.none.now ≡ no_rules) × All MayServe crew.rules.now
+    ghost may_begin = { λ crew. (crew.none.now ≡ no_rules) × All MayServe crew.rules.now
         × All (λ w. IsReady crew.turns.now crew.pool.now
         (worker_with (A.acceptor_view w.door) w.sessions.items w.short w.passes)) crew.workers.items };
 
-    ghost run_gives = { λ crew workers. HaveWorked crew.rules.now crew.turns.now crew.pool.now
+    ghost ends_with = { λ crew workers. HaveWorked crew.rules.now crew.turns.now crew.pool.now
         (map (λ w. worker_with (A.acceptor_view w.door) w.sessions.items w.short w.passes) crew.workers.items)
         (map (λ w. worker_with (A.acceptor_view w.door) w.sessions.items w.short w.passes) workers.items) };
 
-    fn run(self) -> Vec<WorkerOf<A, K, D>> {
+    fn perform(self) -> Vec<WorkerOf<A, K, D>> {
         let Crew {
             rt,
             alloc,

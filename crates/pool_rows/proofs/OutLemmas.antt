@@ -1,5 +1,5 @@
 -- A slot that was taken is out until it is put back.
-use Rattle.std.proofs.Common.{eq-eqb, ◌≡◌, ℕ, Bool, true, false, nat_eq, List, [], ◌∷◌, Option, Some, None, refl, subst, sym}
+use Rattle.std.proofs.Common.{eq-eqb, ◌≡◌, ℕ, Bool, true, false, nat_eq, List, ◌∷◌, Option, Some, None, refl, subst, sym}
 use Rattle.std.specs.Prelude.{if◌then◌else◌}
 use Rattle.spool_slots.specs.States.{SlotView}
 use Rattle.spool_rack.specs.Store.{Loan, StoreView, IsOut, OfLoan, TakesFree, loan_of}

@@ -5,19 +5,18 @@ use Rattle.std.specs.List.{flat_map, AllByRecursion}
 use Rattle.std.specs.List.Sorted.{IsPermutation}
 use Rattle.std.proofs.lemmas.List.{append-nil, append_assoc}
 use Rattle.std.proofs.lemmas.Grind.{flat_map-append}
-use Rattle.std.proofs.lemmas.List.Sorted.{IsPermutation-refl, IsPermutation-sym, IsPermutation-trans, IsPermutation-append, IsPermutation-append_left, IsPermutation-append_right, IsPermutation-to_front}
+use Rattle.std.proofs.lemmas.List.Sorted.{IsPermutation-refl, IsPermutation-trans, IsPermutation-append, IsPermutation-append_left, IsPermutation-append_right, IsPermutation-to_front}
 use Rattle.fw_disk.specs.Moments.{Now, EachImage}
 use Rattle.slot_bytes.specs.Layout.{Mail}
 use Rattle.spool_slots.specs.Images.{HasMessageBehind}
 use Rattle.spool_slots.specs.States.{SlotView, FullView, BrokenView, Keeps, KeepsAside}
-use Rattle.spool_rack.specs.Store.{IsOut, Loan, MayPutAside, MayPutBroken, MayPutFull, OfItsMessage, OfLoan, WasTaken, loan_of, struck}
-use Rattle.shared_queue.specs.Moves.{Moves, met, put_more, split_off, less_one, taken_out}
+use Rattle.spool_rack.specs.Store.{IsOut, Loan, MayPutAside, MayPutBroken, MayPutFull, OfItsMessage, loan_of, struck}
+use Rattle.shared_queue.specs.Moves.{Moves, met, put_more, taken_out}
 use Rattle.spool_pool.specs.Shelf.{ShelvedView, is_aside, is_broken}
 use Rattle.spool_pool.specs.Events.{Event, TallyView, kept, spoilt, back, freed, shelved, broke, full_of, shelf_of, taken_of, told_of, told_in, freed_by, filled_by, shelved_by, broken_by, lent, given, joined}
 use Rattle.spool_pool.specs.Account.{Account, IsTold, IsTrue, OfTaken, TellsItsSlot}
 use Rattle.spool_pool.proofs.Perms.{same}
-use Rattle.spool_pool.proofs.Fates.{across}
-use Rattle.spool_pool.proofs.Tallies.{IsLoan, loan_here, loan_holds, struck_all, struck_told}
+use Rattle.spool_pool.proofs.Tallies.{loan_here, loan_holds, struck_all, struck_told}
 
 abbrev free_loan : ℕ → Loan
 free_loan n = record { number = n; was_full = false; taken = None }

@@ -7,8 +7,9 @@ use Rattle.spool_rack.specs.Store.{Queues}
 use Rattle.shared_queue.specs.Moves.{Moves, begun_with}
 use Rattle.spool_pool.specs.declared.lanes.Lanes.{Lanes}
 use Rattle.spool_pool.specs.Shelf.{ShelvedView, is_aside, is_broken, aside_of, broken_of}
-use Rattle.spool_pool.specs.Account.{IsSound, pass_of}
-use Rattle.spool_pool.specs.Known.{bare}
+use Rattle.spool_pool.specs.Account.{IsSound, IsSoundUnless, pass_of}
+use Rattle.spool_pool.specs.Events.{TallyView}
+use Rattle.spool_pool.specs.Known.{PassView, bare}
 use Rattle.spool_pool.specs.Opening.{IsBegun, IsFresh, begun_all, fresh}
 use Rattle.spool_pool.proofs.Accounts.{none_yet}
 use Rattle.spool_pool.proofs.Numbers.{kept_none}
@@ -82,7 +83,7 @@ begun home l s s1 s2 s3 free full one two f e p1 g p2 h p3 k =
     }
 
 -- the first pass of a pool, before any call
-pub begun_sound : {D : Type 0} (home : List (List ℕ)) (s : Queues) (l : Lanes D) → IsBegun home s l → IsSound l (record { events = []; out = []; steps = 0 })
+begun_sound : {D : Type 0} (home : List (List ℕ)) (s : Queues) (l : Lanes D) → IsBegun home s l → IsSound l (record { events = []; out = []; steps = 0 })
 begun_sound home s l b =
     let free_all : l.free.parts ≡ 2 ^ 64 = ap (λ (m : Moves SlotView). m.parts) b.free_is in
     let full_all : l.full.parts ≡ 2 ^ 64 = ap (λ (m : Moves FullView). m.parts) b.full_is in
@@ -92,11 +93,21 @@ begun_sound home s l b =
       kept = kept_none l.free l.full l.shelf (ap (λ (m : Moves SlotView). m.put) b.free_is) (ap (λ (m : Moves SlotView). m.taken) b.free_is) (ap (λ (m : Moves FullView). m.put) b.full_is) (ap (λ (m : Moves FullView). m.taken) b.full_is) (ap (λ (m : Moves ShelvedView). m.put) b.shelf_is);
     }
 
-pub begun_pass : {D : Type 0} (home : List (List ℕ)) (s : Queues) (l : Lanes D) → IsBegun home s l → pass_of false l (record { events = []; out = []; steps = 0 }) 0 0 0 ≡ bare home (2 ^ 64) s
-begun_pass home s l b =
+pub begun_kept : {D : Type 0} (home : List (List ℕ)) (s : Queues) (l : Lanes D) (t : TallyView) → IsBegun home s l → t ≡ record { events = []; out = []; steps = 0 } → IsSoundUnless false l t × (t.out ≡ [])
+begun_kept home s l t b e = (subst (IsSound l) (sym e) (begun_sound home s l b), ap (λ (u : TallyView). u.out) e)
+
+pub begun_pass : {D : Type 0} (home : List (List ℕ)) (s : Queues) (l : Lanes D) (t : TallyView) → IsBegun home s l → t ≡ record { events = []; out = []; steps = 0 } → pass_of false l t 0 0 0 ≡ bare home (2 ^ 64) s
+begun_pass home s l t b e =
     let parts : l.full.parts ≡ 2 ^ 64 = ap (λ (m : Moves FullView). m.parts) b.full_is in
     let free : l.free.began ≡ s.free = ap (λ (m : Moves SlotView). m.began) b.free_is in
     let full : l.full.began ≡ s.full = ap (λ (m : Moves FullView). m.began) b.full_is in
     let aside : flat_map aside_of l.shelf.began ≡ s.aside = ap (λ (m : Moves ShelvedView). flat_map aside_of m.began) b.shelf_is ∙ asides_back s.aside s.broken in
     let broken : flat_map broken_of l.shelf.began ≡ s.broken = ap (λ (m : Moves ShelvedView). flat_map broken_of m.began) b.shelf_is ∙ brokens_back s.aside s.broken in
-    λ i. bare (b.homes i) (parts i) (record { free = free i; full = full i; aside = aside i; broken = broken i })
+    ap (λ u. pass_of false l u 0 0 0) e ∙ (λ i. bare (b.homes i) (parts i) (record { free = free i; full = full i; aside = aside i; broken = broken i }))
+
+-- the same, whatever the slots are
+pub begun_whole : {D : Type 0} (home : List (List ℕ)) (s : Queues) (l : Lanes D) (t : TallyView) → IsBegun home s l → t ≡ record { events = []; out = []; steps = 0 }
+    → pass_of false l t 0 0 0 ≡ bare home (2 ^ 64) (pass_of false l t 0 0 0).handed.began
+begun_whole home s l t b e =
+    let is = begun_pass home s l t b e in
+    is ∙ ap (bare home (2 ^ 64)) (sym (ap (λ (q : PassView). q.handed.began) is))

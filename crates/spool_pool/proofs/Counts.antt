@@ -1,7 +1,7 @@
 -- A slot more in a queue is one slot more.
-use Rattle.std.proofs.Common.{◌≡◌, ℕ, ◌+◌, List, [], ◌∷◌, ◌++◌, length, arith, length-append}
-use Rattle.spool_slots.specs.States.{SlotView, FullView, BrokenView}
-use Rattle.spool_rack.specs.Store.{Queues, with_aside, with_broken, with_free, with_full}
+use Rattle.std.proofs.Common.{◌≡◌, ◌+◌, [], ◌∷◌, arith, length-append}
+use Rattle.spool_slots.specs.States.{SlotView, FullView}
+use Rattle.spool_rack.specs.Store.{Queues, with_free, with_full}
 use Rattle.spool_rack.specs.Stock.{count_of}
 use Rattle.spool_pool.specs.Shelf.{ShelvedView, is_aside, is_broken}
 use Rattle.spool_pool.specs.Closing.{with_shelved}

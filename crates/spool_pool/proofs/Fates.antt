@@ -1,18 +1,17 @@
 -- What became of slots, and how a slot that stands again is struck out.
-use Rattle.std.proofs.Common.{◌≡◌, ◌⊎◌, inl, inr, List, [], ◌∷◌, ◌++◌, map, refl, ap, sym, subst, ◌∙◌, Option, Some, None}
+use Rattle.std.proofs.Common.{◌≡◌, ◌⊎◌, inl, inr, List, [], ◌∷◌, ◌++◌, map, refl, ap, sym, subst, ◌∙◌}
 use mathlib.Core.List.{cons≢nil, head-eq_of_cons-eq, tail-eq_of_cons-eq}
-use Rattle.std.specs.Prelude.{IfSome}
 use Rattle.std.specs.List.{flat_map, AllByRecursion}
 use Rattle.std.specs.List.Sorted.{IsPermutation}
-use Rattle.std.proofs.lemmas.List.{append_assoc, append-nil, map-append}
+use Rattle.std.proofs.lemmas.List.{append_assoc, map-append}
 use Rattle.std.proofs.lemmas.List.Sorted.{IsPermutation-refl, IsPermutation-sym, IsPermutation-trans, IsPermutation-map, IsPermutation-append, IsPermutation-append_left, IsPermutation-append_right, IsPermutation-append_comm, IsPermutation-middle}
 use Rattle.slot_bytes.specs.Layout.{Mail}
 use Rattle.spool_slots.specs.States.{SlotView, FullView, BrokenView, Keeps}
 use Rattle.spool_rack.specs.Store.{Loan}
-use Rattle.spool_pool.specs.Ends.{End, stands, released, put_aside, broke, Has, Fate, Became}
+use Rattle.spool_pool.specs.Ends.{End, stands, released, put_aside, broke, Has, ToldWith, Fate, Became}
 use Rattle.spool_pool.specs.Events.{Event, first_of, released_of, set_aside_of, broke_of, full_of, taken_of, told_in}
 use Rattle.spool_pool.specs.Events as event
-use Rattle.spool_pool.specs.Account.{IsTrue, OfTaken}
+use Rattle.spool_pool.specs.Account.{IsTrue}
 use Rattle.spool_pool.proofs.Perms.{same, taken, heads, Crossed}
 
 -- ---- lists, one after the other
@@ -150,7 +149,7 @@ turned : (e : Event) → IsTrue e → Turned e
 turned (event.kept slot) t = one slot (stands slot) (λ m keeps. keeps)
 turned (event.spoilt slot) t = nothing
 turned (event.back loan slot) t = subst (λ o. Became (told_in o) (stands slot ∷ [])) (sym t.told) (one t.slot (stands slot) t.keeps)
-turned (event.freed loan) t = subst (λ o. Became (told_in o) (released loan ∷ [])) (sym t.told) (one t.slot (released loan) (λ m keeps. subst (λ o. IfSome o (Keeps m)) (sym t.told) keeps))
+turned (event.freed loan) t = subst (λ o. Became (told_in o) (released loan ∷ [])) (sym t.told) (one t.slot (released loan) (λ m keeps. subst (ToldWith m) (sym t.told) keeps))
 turned (event.shelved loan slot) t = subst (λ o. Became (told_in o) (put_aside slot ∷ [])) (sym t.told) (one t.slot (put_aside slot) t.keeps)
 turned (event.broke loan slot) t = subst (λ o. Became (told_in o) (broke slot ∷ [])) (sym t.1.told) (one t.1.slot (broke slot) t.1.keeps)
 
@@ -170,4 +169,7 @@ all_turned (e ∷ events) t =
     let o = across (map stands (full_of e)) (outs (released_of e) (set_aside_of e) (broke_of e)) (map stands (flat_map full_of events)) (ends_of events) in
     let inner = IsPermutation-trans _ _ _ p (IsPermutation-append_right (map released (released_of e) ++ map released (flat_map released_of events)) _ _ q) in
     let outer = IsPermutation-trans _ _ _ o (IsPermutation-append_right (map stands (full_of e) ++ map stands (flat_map full_of events)) _ _ inner) in
-    permuted _ _ _ _ (IsPermutation-sym _ _ s) (IsPermutation-sym _ _ (subst (IsPermutation ((map stands (full_of e) ++ outs (released_of e) (set_aside_of e) (broke_of e)) ++ (map stands (flat_map full_of events) ++ ends_of events))) (λ i. sym f i ++ (sym r i ++ (sym a i ++ sym k i))) outer)) b
+    let names : (map stands (full_of e) ++ map stands (flat_map full_of events)) ++ ((map released (released_of e) ++ map released (flat_map released_of events)) ++ ((map put_aside (set_aside_of e) ++ map put_aside (flat_map set_aside_of events)) ++ (map broke (broke_of e) ++ map broke (flat_map broke_of events))))
+    ≡ map stands (full_of e ++ flat_map full_of events) ++ outs (released_of e ++ flat_map released_of events) (set_aside_of e ++ flat_map set_aside_of events) (broke_of e ++ flat_map broke_of events) = λ i. sym f i ++ (sym r i ++ (sym a i ++ sym k i)) in
+    let start = (map stands (full_of e) ++ outs (released_of e) (set_aside_of e) (broke_of e)) ++ (map stands (flat_map full_of events) ++ ends_of events) in
+    permuted _ _ _ _ (IsPermutation-sym _ _ s) (IsPermutation-sym _ _ (subst (IsPermutation start) names outer)) b

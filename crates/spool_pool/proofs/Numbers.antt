@@ -1,12 +1,12 @@
 -- Each take, put and meeting keeps the numbers of slots.
-use Rattle.std.proofs.Common.{◌≡◌, ℕ, ◌+◌, Bool, true, false, cond, List, [], ◌∷◌, ◌++◌, Option, Some, None, nat_eq, refl, ap, sym, subst, ◌∙◌, arith}
+use Rattle.std.proofs.Common.{◌≡◌, ℕ, ◌+◌, Bool, true, false, cond, List, [], ◌∷◌, ◌++◌, Option, Some, None, nat_eq, refl, ap, sym, ◌∙◌, arith}
 use Rattle.std.specs.List.{flat_map, sum_by}
 use Rattle.std.specs.List.Sorted.{IsPermutation}
 use Rattle.std.proofs.lemmas.Bool.{eqb-true}
 use Rattle.std.proofs.lemmas.List.Sums.{sum_by-append, sum_by-cons, sum_by_push}
 use Rattle.std.proofs.lemmas.List.Sorted.{sum_by-IsPermutation}
 use Rattle.spool_slots.specs.States.{SlotView, FullView, BrokenView}
-use Rattle.spool_rack.specs.Store.{IsOut, Loan, OfLoan, Queues, loan_of, struck}
+use Rattle.spool_rack.specs.Store.{IsOut, Loan, OfLoan, loan_of, struck}
 use Rattle.shared_queue.specs.Moves.{Moves, StandIn, met, put_more, taken_out}
 use Rattle.spool_pool.specs.Shelf.{ShelvedView, is_aside, is_broken, aside_of, broken_of, number_on}
 use Rattle.spool_pool.specs.Numbers.{AreKept, all_at, broken_at, full_at, one_at, out_at, shelved_at, slots_at}
@@ -107,7 +107,9 @@ module _ (free : Moves SlotView) (full : Moves FullView) (shelf : Moves ShelvedV
 -- two passes have met, of which one has no slot out
 pub kept_meet : (free free' : Moves SlotView) (full full' : Moves FullView) (shelf shelf' : Moves ShelvedView) (out : List Loan) → AreKept free full shelf out → AreKept free' full' shelf' [] → AreKept (met free free') (met full full') (met shelf shelf') out
 kept_meet free free' full full' shelf shelf' out s r = record {
-  each = λ k. both_sums _ _ _ _ _ _ _ _ _ _ _ _ _ _ _ _ (s.each k) (r.each k)
+  each = λ k. both_sums (slots_at k free.taken) (full_at k full.taken) (slots_at k free.put) (full_at k full.put) (shelved_at k shelf.put) (out_at k out)
+      (slots_at k free'.taken) (full_at k full'.taken) (slots_at k free'.put) (full_at k full'.put) (shelved_at k shelf'.put)
+      (slots_at k (free.taken ++ free'.taken)) (full_at k (full.taken ++ full'.taken)) (slots_at k (free.put ++ free'.put)) (full_at k (full.put ++ full'.put)) (shelved_at k (shelf.put ++ shelf'.put)) (s.each k) (r.each k)
       (sum_by-append (λ (x : SlotView). one_at k x.number) free.taken free'.taken)
       (sum_by-append (λ (x : FullView). one_at k x.number) full.taken full'.taken)
       (sum_by-append (λ (x : SlotView). one_at k x.number) free.put free'.put)
@@ -121,12 +123,14 @@ kept_meet free free' full full' shelf shelf' out s r = record {
 kinds_at : (k : ℕ) (slots : List ShelvedView) → shelved_at k slots ≡ slots_at k (flat_map aside_of slots) + broken_at k (flat_map broken_of slots)
 kinds_at k [] = refl
 kinds_at k (is_aside slot ∷ slots) =
-    one (one_at k slot.number) (shelved_at k slots) _ _ _ _ (sum_by-cons (λ x. one_at k (number_on x)) (is_aside slot) slots) (sum_by-cons (λ (x : SlotView). one_at k x.number) slot (flat_map aside_of slots)) (kinds_at k slots)
+    one (one_at k slot.number) (shelved_at k slots) (slots_at k (flat_map aside_of slots)) (broken_at k (flat_map broken_of slots)) (shelved_at k (is_aside slot ∷ slots)) (slots_at k (slot ∷ flat_map aside_of slots))
+    (sum_by-cons (λ x. one_at k (number_on x)) (is_aside slot) slots) (sum_by-cons (λ (x : SlotView). one_at k x.number) slot (flat_map aside_of slots)) (kinds_at k slots)
   where
     one : (x s a b s' a' : ℕ) → s' ≡ x + s → a' ≡ x + a → s ≡ a + b → s' ≡ a' + b
     one x s a b s' a' e f g = omega (arith, e, f, g)
 kinds_at k (is_broken slot ∷ slots) =
-    one (one_at k slot.number) (shelved_at k slots) _ _ _ _ (sum_by-cons (λ x. one_at k (number_on x)) (is_broken slot) slots) (sum_by-cons (λ (x : BrokenView). one_at k x.number) slot (flat_map broken_of slots)) (kinds_at k slots)
+    one (one_at k slot.number) (shelved_at k slots) (slots_at k (flat_map aside_of slots)) (broken_at k (flat_map broken_of slots)) (shelved_at k (is_broken slot ∷ slots)) (broken_at k (slot ∷ flat_map broken_of slots))
+    (sum_by-cons (λ x. one_at k (number_on x)) (is_broken slot) slots) (sum_by-cons (λ (x : BrokenView). one_at k x.number) slot (flat_map broken_of slots)) (kinds_at k slots)
   where
     one : (x s a b s' b' : ℕ) → s' ≡ x + s → b' ≡ x + b → s ≡ a + b → s' ≡ a + b'
     one x s a b s' b' e f g = omega (arith, e, f, g)
@@ -140,7 +144,9 @@ pub numbers_left : (free : Moves SlotView) (full : Moves FullView) (shelf : Move
     → all_at k (record { free = frees; full = fulls; aside = flat_map aside_of items; broken = flat_map broken_of items }) ≡ all_at k (record { free = free.began; full = full.began; aside = flat_map aside_of shelf.began; broken = flat_map broken_of shelf.began })
 numbers_left free full shelf frees fulls items s none p q r k =
     let gone : shelved_at k shelf.taken ≡ 0 = ap (shelved_at k) none in
-    all _ _ _ _ _ _ _ _ _ _ _ _ _ _ _ _ (s.each k) (queue_at (λ (x : SlotView). one_at k x.number) free.began free.put frees free.taken p) (queue_at (λ (x : FullView). one_at k x.number) full.began full.put fulls full.taken q)
+    all (slots_at k free.began) (slots_at k free.put) (slots_at k frees) (slots_at k free.taken) (full_at k full.began) (full_at k full.put) (full_at k fulls) (full_at k full.taken)
+    (shelved_at k shelf.began) (shelved_at k shelf.put) (shelved_at k items) (shelved_at k shelf.taken)
+    (slots_at k (flat_map aside_of shelf.began)) (broken_at k (flat_map broken_of shelf.began)) (slots_at k (flat_map aside_of items)) (broken_at k (flat_map broken_of items)) (s.each k) (queue_at (λ (x : SlotView). one_at k x.number) free.began free.put frees free.taken p) (queue_at (λ (x : FullView). one_at k x.number) full.began full.put fulls full.taken q)
     (queue_at (λ x. one_at k (number_on x)) shelf.began shelf.put items shelf.taken r) gone (kinds_at k shelf.began) (kinds_at k items)
   where
     all : (fb fp fl ft ub up ul ut sb sp sl st ba bb la lb : ℕ) → ft + ut ≡ fp + up + sp + 0 → fb + fp ≡ fl + ft → ub + up ≡ ul + ut → sb + sp ≡ sl + st → st ≡ 0 → sb ≡ ba + bb → sl ≡ la + lb → fl + ul + la + lb ≡ fb + ub + ba + bb

@@ -1,15 +1,14 @@
 -- Passes and seats: which pool they are of, and what they know after a call.
-use Rattle.std.proofs.Common.{◌≡◌, ℕ, zero, suc, ◌+◌, ◌-◌, ◌<◌, Bool, true, false, List, [], ◌∷◌, ◌++◌, map, refl, ap, sym, subst, ◌∙◌, arith}
+use Rattle.std.proofs.Common.{◌≡◌, ℕ, ◌+◌, ◌-◌, ◌<◌, Bool, true, false, List, [], ◌∷◌, ◌++◌, map, refl, ap, sym, subst, ◌∙◌, arith}
 use mathlib.Core.List.{cons≢nil, head-eq_of_cons-eq, tail-eq_of_cons-eq}
 use Rattle.std.specs.List.{flat_map}
 use Rattle.std.proofs.lemmas.List.{append-nil}
 use Rattle.std.proofs.lemmas.Grind.{flat_map-append}
 use Rattle.spool_slots.specs.States.{SlotView, BrokenView}
-use Rattle.spool_rack.specs.Store.{Handed, Queues}
 use Rattle.spool_pool.specs.declared.lanes.Lanes.{Lanes}
 use Rattle.spool_pool.specs.Shelf.{is_aside, is_broken, aside_of, broken_of}
 use Rattle.spool_pool.specs.Events.{Event, TallyView, joined}
-use Rattle.spool_pool.specs.Account.{Account, AreEven, IsSound, IsSoundUnless, all_met, handed_by, handed_in, homes_of, one_less, one_off, pass_of}
+use Rattle.spool_pool.specs.Account.{IsSound, IsSoundUnless, all_met, handed_by, handed_in, homes_of, one_less, one_off, pass_of}
 use Rattle.spool_pool.specs.Numbers.{AreKept}
 use Rattle.spool_pool.specs.Known.{IsPassOf, PassView, PoolView, both_counted, closed, less_one, met, split_off}
 use Rattle.spool_pool.proofs.Accounts.{meets, none_yet}
@@ -110,6 +109,13 @@ pub record Open {D : Type 0} (c : Bool) (l : Lanes D) (t : TallyView) (home : Li
   pub homes : homes_of l ≡ home
   pub sound_so : IsSound l t
   pub none : t.out ≡ []
+
+-- it is of each queue of this pool, and has a part of each
+pub open_homes : {D : Type 0} (c : Bool) (l : Lanes D) (t : TallyView) (x y z : List ℕ) (pool : PoolView) → record { home = x ∷ y ∷ z ∷ [] } ≡ pool → Open c l t pool.home → (l.free.home ≡ x) × (l.full.home ≡ y) × (l.shelf.home ≡ z)
+open_homes c l t x y z pool w o = homes_each l x y z (o.homes ∙ sym (ap (λ (q : PoolView). q.home) w))
+
+pub open_parts : {D : Type 0} (c : Bool) (l : Lanes D) (t : TallyView) (home : List (List ℕ)) → Open c l t home → (0 < l.free.parts) × (0 < l.full.parts) × (0 < l.shelf.parts)
+open_parts c l t home o = let e = o.sound_so.even in (omega (arith, e.some_part, e.free), e.some_part, omega (arith, e.some_part, e.shelf))
 
 module _ {D : Type 0} (c : Bool) (l : Lanes D) (t : TallyView) (a b n : ℕ) (p : PassView) (v : pass_of c l t a b n ≡ p) where
   pub opened : (x y z : List ℕ) (pool : PoolView) → record { home = x ∷ y ∷ z ∷ [] } ≡ pool → IsPassOf pool p → IsSoundUnless c l t × (t.out ≡ []) → Open c l t pool.home

@@ -1,15 +1,15 @@
 -- The lists of a pass after one event more.
-use Rattle.std.proofs.Common.{◌≡◌, ℕ, Bool, true, false, List, [], ◌∷◌, ◌++◌, Option, Some, None, refl, ap, sym, subst, ◌∙◌}
+use Rattle.std.proofs.Common.{◌≡◌, ℕ, Bool, true, false, List, [], ◌∷◌, ◌++◌, Option, Some, None, refl, ap, subst, ◌∙◌}
 use Rattle.std.specs.Prelude.{◌==◌, if◌then◌else◌}
-use Rattle.std.specs.List.{flat_map, AllByRecursion, find}
+use Rattle.std.specs.List.{flat_map, AllByRecursion}
 use Rattle.std.specs.List.Sorted.{IsPermutation}
 use Rattle.std.proofs.lemmas.List.{append-nil}
 use Rattle.std.proofs.lemmas.Grind.{flat_map-append}
 use Rattle.std.proofs.lemmas.List.Sorted.{IsPermutation-refl, IsPermutation-trans, IsPermutation-append_right}
 use Rattle.spool_slots.specs.States.{SlotView, FullView, BrokenView}
 use Rattle.spool_rack.specs.Store.{Handed, Loan, OfLoan, Queues, given_aside, given_broken, given_free, given_full, loan_of, struck}
-use Rattle.spool_pool.specs.Events.{Event, kept, spoilt, back, freed, shelved, broke, first_of, released_of, set_aside_of, broke_of, told_of, told_in, freed_by, filled_by, shelved_by, broken_by}
-use Rattle.spool_pool.specs.Account.{handed_of, TellsItsSlot}
+use Rattle.spool_pool.specs.Events.{Event, kept, spoilt, back, freed, shelved, broke, first_of, released_of, set_aside_of, broke_of, told_of, freed_by, filled_by, shelved_by, broken_by}
+use Rattle.spool_pool.specs.Account.{handed_of}
 use Rattle.spool_pool.proofs.Fates.{over}
 
 module _ {X Y : Type 0} (f : X → List Y) where

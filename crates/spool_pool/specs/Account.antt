@@ -1,11 +1,11 @@
 -- How a pass's lists follow from what its seats did, and what its queues know of that.
-use Rattle.std.specs.Prelude.{◌≡◌, ℕ, ◌<◌, Bool, true, false, List, [], ◌∷◌, ◌++◌, Option, Some, None, flat_map, if◌then◌else◌}
+use Rattle.std.specs.Prelude.{◌≡◌, ℕ, ◌<◌, Bool, true, false, List, [], ◌∷◌, ◌++◌, Option, Some, None, flat_map}
 use Rattle.std.specs.List.{AllByRecursion}
 use Rattle.std.specs.List.Sorted.{IsPermutation}
 use Rattle.fw_disk.specs.Moments.{Now, EachImage}
 use Rattle.slot_bytes.specs.Layout.{Mail}
 use Rattle.spool_slots.specs.Images.{HasMessageBehind}
-use Rattle.spool_slots.specs.States.{SlotView, FullView, BrokenView, Keeps, KeepsAside}
+use Rattle.spool_slots.specs.States.{FullView, Keeps, KeepsAside}
 use Rattle.spool_rack.specs.Store.{Handed, Loan, Queues}
 use Rattle.shared_queue.specs.Moves.{Moves, less_one, met, split_off}
 use Rattle.spool_pool.specs.declared.lanes.Lanes.{Lanes}

@@ -1,5 +1,5 @@
 -- What became of slots with messages.
-use Rattle.std.specs.Prelude.{◌≡◌, ℕ, Bool, true, List, ◌++◌, map, filter, Option, IfSome}
+use Rattle.std.specs.Prelude.{◌≡◌, ℕ, List, ◌++◌, map, filter, Option, Some, None}
 use Rattle.std.specs.List.Sorted.{IsPermutation}
 use Rattle.fw_disk.specs.Moments.{Now, EachImage}
 use Rattle.slot_bytes.specs.Layout.{Mail}
@@ -15,10 +15,15 @@ pub data End : Type 0 where
   put_aside : SlotView → End
   broke : BrokenView → End
 
+-- a full slot is told, and has this message
+abbrev pub ToldWith : Mail → Option FullView → Type 0
+ToldWith m None = ⊥
+ToldWith m (Some slot) = Keeps m slot
+
 -- the message that the slot has, or had when it was taken
 abbrev pub Has : Mail → End → Type 0
 Has m (stands slot) = Keeps m slot
-Has m (released loan) = IfSome loan.taken (Keeps m)
+Has m (released loan) = ToldWith m loan.taken
 Has m (put_aside slot) = KeepsAside m slot
 Has m (broke slot) = Now (EachImage (HasMessageBehind m)) slot.disk
 

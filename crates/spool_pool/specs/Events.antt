@@ -1,7 +1,7 @@
 -- What the seats of a pass did with slots.
-use Rattle.std.specs.Prelude.{◌≡◌, ℕ, ◌+◌, Bool, true, false, List, [], ◌∷◌, ◌++◌, Option, Some, None, flat_map, if◌then◌else◌}
+use Rattle.std.specs.Prelude.{ℕ, ◌+◌, List, [], ◌∷◌, ◌++◌, Option, Some, None, if◌then◌else◌}
 use Rattle.spool_slots.specs.States.{SlotView, FullView, BrokenView}
-use Rattle.spool_rack.specs.Store.{Loan, loan_of, struck}
+use Rattle.spool_rack.specs.Store.{Loan, struck}
 use Rattle.spool_pool.specs.Shelf.{ShelvedView, is_aside, is_broken}
 
 -- A slot that wasn't taken full was put full, or broke; one that was taken full was put full again, given free, set

@@ -1,5 +1,5 @@
 -- What is told by the steps of a tally.
-use Rattle.std.specs.Prelude.{ℕ, ◌+◌, true, false, List, [], ◌∷◌, ◌++◌, Option, Some, None}
+use Rattle.std.specs.Prelude.{◌+◌, true, false, List, [], ◌∷◌, ◌++◌, Option, Some, None}
 use Rattle.spool_rack.specs.Store.{Loan, loan_of, struck}
 use Rattle.spool_pool.specs.declared.tally.Link.{Link}
 use Rattle.spool_pool.specs.declared.tally.Step.{Step}
@@ -30,4 +30,4 @@ module _ {D : Type 0} where
 
   abbrev pub tally_of : Option (Link D) → TallyView
   tally_of None = record { events = []; out = []; steps = 0 }
-  tally_of (Some link) = after link.step link.before.value link.other.value
+  tally_of (Some link) = after link.step link.before.value.value link.other.value.value

@@ -1,6 +1,6 @@
 //! Emptying a queue of the pool.
 ghost use Rattle.std.specs.Prelude.{◌≡◌, ◌+◌, ◌<◌, ◌≤◌, List, length};
-ghost use Rattle.spool_rack.specs.Store.{Queues, with_aside, with_broken, with_free, with_full};
+ghost use Rattle.spool_rack.specs.Store.{Queues, with_free, with_full};
 ghost use Rattle.spool_rack.specs.Stock.{count_of};
 ghost use Rattle.shared_queue.specs.Moves.{HasAll, StandIn};
 ghost use Rattle.spool_pool.specs.Closing.{Drains, with_shelved};

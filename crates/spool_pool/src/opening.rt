@@ -1,5 +1,5 @@
 //! Making a pool of a rack.
-ghost use Rattle.std.specs.Prelude.{◌≡◌, ◌^◌, ◌<◌, [], map, IfErr, IfOk, IfSome};
+ghost use Rattle.std.specs.Prelude.{◌≡◌, ◌^◌, ◌<◌, map, IfErr, IfOk, IfSome};
 ghost use Rattle.shared_queue.specs.Moves.{HasAll};
 ghost use Rattle.spool_pool.specs.Known.{bare};
 ghost use Rattle.spool_pool.specs.Opening.{IsBegun, IsFresh, begun_all};
@@ -134,13 +134,14 @@ fn begin<D: Disk, R: Wait>(rt: &R, pool: &Pool<D>, lanes: Lanes<D>, slots: RackS
 
 impl<D: Disk> Pool<D> {
     /// A pool of the slots that stand in a rack, and the pass with all parts. It waits while a queue is full.
-    #[tactic(auto, using(crate::proofs::Begins::begun_sound, crate::proofs::Begins::begun_pass))]
+    #[tactic(auto, using(crate::proofs::Begins::begun_kept, crate::proofs::Begins::begun_pass, crate::proofs::Begins::begun_whole))]
     pub fn new<R: Wait>(
         rt: &R,
         alloc: Global,
         rack: Rack<D>,
     ) -> Result<(Pool<D>, PoolPass<D>), (Rack<D>, NoMemory)>
         ensures pass { IfOk result (λ made. IfSome rack.queues (λ q. made.1 ≡ bare made.0.home (2 ^ 64) q)) }
+        ensures whole { IfOk result (λ made. made.1 ≡ bare made.0.home (2 ^ 64) made.1.handed.began) }
         ensures back { IfErr result (λ fault. fault.0 ≡ rack) }
     {
         let room = rack.room().max(1);

@@ -1,7 +1,7 @@
-ghost use Rattle.std.specs.Prelude.{◌≡◌, [], IfNone, refl};
+ghost use Rattle.std.specs.Prelude.{◌≡◌, ◌^◌, [], IfNone, refl};
 ghost use Rattle.spool_rack.specs.Store.{IsOut, MayPutAside, MayPutBroken, MayPutFull, PutsBroken};
 ghost use Rattle.spool_rack.specs.Store.{TakesFree, TakesFull, put_aside, put_free, put_full};
-ghost use Rattle.shared_queue.specs.Moves.{HasAll, StandIn};
+ghost use Rattle.shared_queue.specs.Moves.{StandIn};
 ghost use Rattle.spool_pool.specs.Known.{IsPassOf, store_of};
 
 use crate::lanes::Lanes;
@@ -95,10 +95,10 @@ impl<'a, H: Wait, D: Disk> PoolSeat<'a, H, D> {
 
 impl<'a, H: Wait, D: Disk> PoolSeat<'a, H, D> {
     /// A free slot. None only if the queue of free slots was empty at one moment of the call.
-    #[tactic(auto, using(crate::proofs::Seats::after_take_free))]
+    #[tactic(auto, using(crate::proofs::Seats::after_take_free, crate::proofs::Seats::none_free))]
     pub fn take_free(&mut self) -> Option<Free<D>>
         ensures takes { TakesFree result (store_of self.old) (store_of self.new) }
-        ensures none { IfNone result (HasAll self.old.free → StandIn self.old.free []) }
+        ensures none { IfNone result (self.old.pass.handed.parts ≡ 2 ^ 64 → StandIn self.old.free []) }
     {
         let pool = self.pool;
         match pool.free.take(self.rt, &mut self.lanes.free) {
@@ -117,7 +117,7 @@ impl<'a, H: Wait, D: Disk> PoolSeat<'a, H, D> {
     #[tactic(auto, using(crate::proofs::Seats::after_take_full))]
     pub fn take_full(&mut self) -> Option<Full<D>>
         ensures takes { TakesFull result (store_of self.old) (store_of self.new) }
-        ensures none { IfNone result (HasAll self.old.full → StandIn self.old.full []) }
+        ensures none { IfNone result (self.old.pass.handed.parts ≡ 2 ^ 64 → StandIn self.old.full []) }
     {
         let pool = self.pool;
         match pool.full.take(self.rt, &mut self.lanes.full) {
@@ -152,7 +152,8 @@ impl<'a, H: Wait, D: Disk> PoolSeat<'a, H, D> {
     {
         let pool = self.pool;
         self.tally = self.tally.put_full(&slot);
-        pool.full.put(self.rt, &mut self.lanes.full, Letter::of(slot));
+        pool.full
+            .put(self.rt, &mut self.lanes.full, Letter::of(slot));
     }
 
     /// Puts back a slot that was taken full, and whose message was set aside.

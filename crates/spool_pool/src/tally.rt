@@ -1,7 +1,7 @@
-//! What the seats of a pass did, and the slots that are out, which only contracts know: they take no room where the
-//! program runs, beyond the numbers of the last step.
-ghost use Rattle.std.specs.Prelude.{◌≡◌, ◌∷◌, [], false, true, Some, None};
-ghost use Rattle.spool_rack.specs.Store.{Loan, loan_of};
+//! What the seats of a pass did, and the slots that are out, which only contracts know: they take no room when the program
+//! runs.
+ghost use Rattle.std.specs.Prelude.{◌≡◌, [], false, true, Some, None};
+ghost use Rattle.spool_rack.specs.Store.{loan_of};
 ghost use Rattle.spool_pool.specs.Tally.{after};
 ghost use Rattle.spool_pool.specs.Events.{TallyView, broken_by, filled_by, freed_by, given, joined, lent, shelved_by};
 
@@ -21,20 +21,38 @@ enum Step<D: Disk> {
     Met,
 }
 
-// A step, the steps before it, and those of another tally, which is empty unless the two have met.
+// A step, the steps before it, and those of another tally, which are none unless the two have met.
 #[cycle(tally)]
 #[derive(Drop)]
 struct Link<D: Disk> {
-    before: Snapshot<Tally<D>>,
-    other: Snapshot<Tally<D>>,
+    before: Snapshot<Snapshot<Steps<D>>>,
+    other: Snapshot<Snapshot<Steps<D>>>,
     step: Step<D>,
 }
 
-/// The steps so far.
+// The steps so far, each of which leads back to those before it.
 #[cycle(tally)]
 #[derive(Drop)]
-pub(crate) struct Tally<D: Disk> {
+struct Steps<D: Disk> {
     link: Option<Link<D>>,
+}
+
+impl<D: Disk> Model for Steps<D> {
+    ghost use Rattle.spool_pool.specs.Events.{TallyView};
+
+    ghost Value = { TallyView };
+
+    ghost use Rattle.spool_pool.specs.Tally.{tally_of};
+
+    ghost view = { λ s. tally_of s.link };
+
+    ghost size = { λ s. s.steps };
+}
+
+/// The steps so far. It has no bytes, so it may cross threads.
+#[derive(Drop)]
+pub(crate) struct Tally<D: Disk> {
+    last: Snapshot<Steps<D>>,
 }
 
 impl<D: Disk> Model for Tally<D> {
@@ -42,29 +60,31 @@ impl<D: Disk> Model for Tally<D> {
 
     ghost Value = { TallyView };
 
-    ghost use Rattle.spool_pool.specs.Tally.{tally_of};
-
-    ghost view = { λ t. tally_of t.link };
-
-    ghost size = { λ t. t.steps };
+    ghost view = { λ t. t.last.value };
 }
 
 impl<D: Disk> Tally<D> {
     pub(crate) fn none() -> Tally<D>
         ensures { result ≡ record { events = []; out = []; steps = 0 } }
     {
-        Tally { link: None }
+        let steps = Steps { link: None };
+        Tally {
+            last: Snapshot::of(&steps),
+        }
     }
 
     fn after(&self, step: Step<D>, other: &Tally<D>) -> Tally<D>
         ensures { result ≡ after step self.now other.now }
     {
         let link = Link {
-            before: Snapshot::of(self),
-            other: Snapshot::of(other),
+            before: Snapshot::of(&self.last),
+            other: Snapshot::of(&other.last),
             step,
         };
-        Tally { link: Some(link) }
+        let steps = Steps { link: Some(link) };
+        Tally {
+            last: Snapshot::of(&steps),
+        }
     }
 
     pub(crate) fn took_free(&self, slot: &Free<D>) -> Tally<D>

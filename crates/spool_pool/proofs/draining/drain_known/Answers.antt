@@ -1,4 +1,4 @@
-use Rattle.std.proofs.Common.{◌≡◌, ◌+◌, ◌-◌, ◌<◌, ◌≤◌, List, length, subst, arith}
+use Rattle.std.proofs.Common.{◌≡◌, ◌-◌, ◌≤◌, List, length, subst, arith}
 use Rattle.shared_queue.specs.Moves.{HasAll, StandIn}
 use Rattle.spool_pool.proofs.Drains.{Draining, drain_full, drain_next, drain_none}
 use Rattle.spool_pool.proofs.draining.drain_known.Goals as goal

@@ -1,4 +1,3 @@
-use Rattle.std.proofs.Common.{◌≡◌}
 use Rattle.spool_pool.proofs.Drains.{Draining}
 use Rattle.spool_pool.proofs.draining.drain_known.Given as goal
 

@@ -1,5 +1,5 @@
 use Rattle.std.proofs.Common.{◌≡◌, map, length}
-use Rattle.spool_pool.specs.Shelf.{is_aside, is_broken}
+use Rattle.spool_pool.specs.Shelf.{is_aside}
 use Rattle.spool_pool.proofs.Begins.{Beginning}
 use Rattle.spool_pool.proofs.opening.begin_aside.Given as goal
 

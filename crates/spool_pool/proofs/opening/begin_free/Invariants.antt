@@ -1,5 +1,4 @@
-use Rattle.std.proofs.Common.{◌≡◌, map, length}
-use Rattle.spool_pool.specs.Shelf.{is_aside, is_broken}
+use Rattle.std.proofs.Common.{◌≡◌, length}
 use Rattle.spool_pool.proofs.Begins.{Beginning}
 use Rattle.spool_pool.proofs.opening.begin_free.Given as goal
 
