@@ -1,12 +1,13 @@
 -- No message is lost, and none stands twice.
 use Rattle.std.proofs.Common.{◌≡◌, refl, sym, ap, ap₂, subst, ◌∙◌, List, [], ◌∷◌, ◌++◌, append_assoc}
 use Rattle.std.proofs.lemmas.List.{map-append}
-use Rattle.std.proofs.lemmas.List.Sorted.{IsPermutation, IsPermutation-append_comm, IsPermutation-append_left, IsPermutation-append_right, IsPermutation-map, IsPermutation-sym, IsPermutation-trans}
+use Rattle.std.proofs.lemmas.List.Sorted.{IsPermutation-append_comm, IsPermutation-append_left, IsPermutation-append_right, IsPermutation-map, IsPermutation-sym, IsPermutation-trans}
+use Rattle.std.specs.List.Sorted.{IsPermutation}
 use Rattle.std.specs.Prelude.{map}
 use Rattle.spool_pool.specs.Ends.{End, Fate, IsSettled, from_full}
 use Rattle.spool_pool.specs.Ends.End.{broke, put_aside, released, stands}
 use Rattle.spool_rack.specs.Store.{Handed, Queues}
-use Rattle.spool_slots.specs.States.{BrokenView, FullView}
+use Rattle.spool_slots.specs.States.{BrokenView}
 use Rattle.fwtk_serve.specs.Accounts.{NoneIsLost, Start, Way}
 use Rattle.fwtk_serve.specs.Accounts.Start.{was_broken, was_full}
 

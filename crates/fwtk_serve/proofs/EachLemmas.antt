@@ -1,5 +1,6 @@
 -- From each worker to all.
-use Rattle.std.proofs.Common.{arith, ◌≡◌, sym, ap, subst, ◌∙◌, ℕ, zero, suc, ◌<◌, List, [], ◌∷◌, length}
+use Rattle.std.proofs.Common.{arith, ◌≡◌, sym, ap, subst, ◌∙◌, ℕ, zero, suc, ◌<◌, List, [], ◌∷◌, ◌++◌, length, take}
+use Rattle.std.proofs.lemmas.List.{take_at}
 use Rattle.std.specs.Prelude.{map, slice_index_or}
 use mathlib.Core.List.{head-eq_of_cons-eq, tail-eq_of_cons-eq}
 use Rattle.acceptors.specs.AcceptorView.{AcceptorView}
@@ -48,3 +49,12 @@ module _ {W : Type 0} (view : W → WorkerView) (lock : Lock BookOrigin) (pool :
   all_ready first (w ∷ ws) [] own is k d lt = absurd (cc)
   all_ready first (w ∷ ws) (door ∷ doors) own is zero d lt = ready_one (view w) door first own (head-eq_of_cons-eq is)
   all_ready first (w ∷ ws) (door ∷ doors) own is (suc k) d lt = all_ready first ws doors own (tail-eq_of_cons-eq is) k d (omega (arith, lt))
+
+  -- the same of workers that are these
+  pub ready_along : (xs ys : List W) → ys ≡ xs → ((k : ℕ) (d : W) → k < length xs → IsReady lock pool (view (slice_index_or xs k d))) → (k : ℕ) (d : W) → k < length ys → IsReady lock pool (view (slice_index_or ys k d))
+  ready_along xs ys is ready = subst (λ (ws : List W). (k : ℕ) (d : W) → k < length ws → IsReady lock pool (view (slice_index_or ws k d))) (sym is) ready
+
+  -- and of those behind a slice that was lent
+  pub worked_along : (rules : List (Service × RuleBook)) (olds slice news rest : List W) (n : ℕ) → slice ≡ olds → HaveWorked rules lock pool (map view slice) (map view news) → length news ≡ n → HaveWorked rules lock pool (map view olds) (map view (take n (news ++ rest)))
+  worked_along rules olds slice news rest n same worked len =
+      subst (λ (ws : List W). HaveWorked rules lock pool (map view olds) (map view ws)) (sym (take_at news rest n len)) (subst (λ (ws : List W). HaveWorked rules lock pool (map view ws) (map view news)) same worked)

@@ -1,15 +1,16 @@
 -- Workers that begin at their doors, and workers whose passes are met, one after the other.
-use Rattle.std.proofs.Common.{arith, ◌≡◌, refl, sym, ap, ap₂, subst, ◌∙◌, ℕ, ◌+◌, ◌-◌, ◌^◌, ◌<◌, ◌≤◌, min, cond, List, [], ◌∷◌, ◌++◌, length, map, Option, Some, None, append_assoc, append-nil}
+use Rattle.std.proofs.Common.{arith, ◌≡◌, refl, sym, ap, subst, ◌∙◌, ℕ, ◌+◌, ◌-◌, ◌^◌, ◌<◌, ◌≤◌, min, cond, List, [], ◌∷◌, ◌++◌, length, map, Option, Some, None, append_assoc, append-nil}
 use Rattle.std.proofs.lemmas.List.{length-map, map-append}
 use Rattle.std.proofs.lemmas.List.Sums.{sum_by_push}
 use Rattle.acceptors.specs.AcceptorView.{AcceptorView}
 use Rattle.auth_machine.specs.Port.{BookOrigin}
 use Rattle.spool_pool.specs.Known.{PassView, PoolView, met}
 use Rattle.turn_lock.specs.Known.{IsPassOf, Lock, knowing}
-use Rattle.fwtk_serve.specs.Meeting.{HasPasses, HavePasses, WorkerView, passes_of, with_passes}
+use Rattle.fwtk_serve.specs.Meeting.{HasPasses, HavePasses, WorkerView, passes_of, starting, with_passes}
 use Rattle.fwtk_serve.specs.Passes.{AreOf, IsApart, MeetAll, MetAll, Pass, less, met_each}
 use Rattle.fwtk_serve.specs.Sessions.{Both, ServedView}
 use Rattle.fwtk_serve.specs.Stepping.{GatheredView, with_worker, workers_short}
+use Rattle.fwtk_serve.specs.Working.{at_first}
 use Rattle.fwtk_serve.proofs.PassLemmas.{met_more, met_none}
 
 -- a pass of a lock is what it knows
@@ -18,75 +19,83 @@ known_is lock pass own = λ i. record { seen = pass.seen; mine = pass.mine; met 
 
 -- ---- workers that begin
 
+-- two passes, by what each knows
+pub both_are : (both : Both) (book : Pass) (mail : PassView) → both.book ≡ book → both.mail ≡ mail → both ≡ record { book = book; mail = mail }
+both_are both book mail book_is mail_is = λ i. record { book = book_is i; mail = mail_is i }
+
 less_none : (lock : Lock BookOrigin) (pool : PoolView) (both : Both) → AreOf lock pool both → both ≡ less lock 0 both
 less_none lock pool both own =
     let parts : both.book.parts ≡ both.book.parts - 0 = omega arith in
     let shares : both.mail.handed.parts ≡ both.mail.handed.parts - 0 = omega arith in
-    ap₂ (λ (book : Pass) (mail : PassView). record { book = book; mail = mail })
+    both_are both (less lock 0 both).book (less lock 0 both).mail
     (known_is lock both.book own.book ∙ ap (λ (n : ℕ). knowing lock n both.book.seen both.book.mine both.book.met) parts)
-    (ap (λ (n : ℕ). record (both.mail) { handed = record (both.mail.handed) { parts = n } }) shares)
+    (λ i. record (both.mail) { handed = record (both.mail.handed) { parts = shares i } })
 
 less_more : (lock : Lock BookOrigin) (n : ℕ) (both : Both) → less lock 1 (less lock n both) ≡ less lock (n + 1) both
 less_more lock n both =
     let parts : (both.book.parts - n) - 1 ≡ both.book.parts - (n + 1) = omega arith in
     let shares : (both.mail.handed.parts - n) - 1 ≡ both.mail.handed.parts - (n + 1) = omega arith in
-    ap₂ (λ (a b : ℕ). record {
-      book = knowing lock a both.book.seen both.book.mine both.book.met;
-      mail = record (both.mail) { handed = record (both.mail.handed) { parts = b } };
-    }) parts shares
+    both_are (less lock 1 (less lock n both)) (less lock (n + 1) both).book (less lock (n + 1) both).mail
+    (λ i. knowing lock (parts i) both.book.seen both.book.mine both.book.met)
+    (λ i. record (both.mail) { handed = record (both.mail.handed) { parts = shares i } })
+
+-- a worker that begins at a door, with passes that are split off from these
+abbrev pub begun_at : {A : Type 0} → Lock BookOrigin → (A → AcceptorView) → Both → A → WorkerView
+begun_at lock look both door = starting (look door) (at_first lock both.book.seen both.mail.handed.home both.mail.handed.began)
+
+-- as many workers as doors
+pub as_many : {A W V : Type 0} (view : W → V) (begun : A → V) (workers : List W) (all : List A) → map view workers ≡ map begun all → length workers ≡ length all
+as_many {A} {W} {V} view begun workers all are = sym (length-map workers view) ∙ ap (λ (l : List V). length l) are ∙ length-map all begun
 
 -- at each door but those that are left there is a worker; there is room for the others; and the passes are as they were, but that
 -- they have a part less for each worker, and one for each door that is left and more
-pub record IsBeginning {A W : Type 0} (lock : Lock BookOrigin) (view : W → WorkerView) (begun : A → WorkerView) (all left : List A) (workers : List W) (first both : Both) (count left_count room : ℕ) : Type 0 where
-  pub are : map view workers ++ map begun left ≡ map begun all
+pub record IsBeginning {A W : Type 0} (lock : Lock BookOrigin) (pool : PoolView) (view : W → WorkerView) (look : A → AcceptorView) (all left : List A) (workers : List W) (first both : Both) (count left_count room : ℕ) : Type 0 where
+  pub are : map view workers ++ map (begun_at lock look first) left ≡ map (begun_at lock look first) all
   pub same : both ≡ less lock count first
-  pub parts : count + left_count < first.book.parts
-  pub shares : count + left_count < first.mail.handed.parts
+  pub own : AreOf lock pool both
+  pub parts : left_count < both.book.parts
+  pub shares : left_count < both.mail.handed.parts
   pub fits : count + left_count ≤ room
   pub sized : left_count ≡ length left
 
-module _ {A W : Type 0} (lock : Lock BookOrigin) (pool : PoolView) (view : W → WorkerView) (begun : A → WorkerView) (all : List A) (first : Both) where
+module _ {A W : Type 0} (lock : Lock BookOrigin) (pool : PoolView) (view : W → WorkerView) (look : A → AcceptorView) (all : List A) (first : Both) where
   pub begin_none : (left : List A) (workers : List W) (count left_count room : ℕ) → AreOf lock pool first → left ≡ all → workers ≡ [] → count ≡ 0 → left_count ≡ length left → left_count ≤ room
-      → left_count < first.book.parts → left_count < first.mail.handed.parts → IsBeginning lock view begun all left workers first first count left_count room
+      → left_count < first.book.parts → left_count < first.mail.handed.parts → IsBeginning lock pool view look all left workers first first count left_count room
   begin_none left workers count left_count room own same none empty sized fits parts shares = record {
-    are = ap (λ (ws : List W). map view ws ++ map begun left) none ∙ ap (λ (ds : List A). map begun ds) same;
+    are = ap (λ (ws : List W). map view ws ++ map (begun_at lock look first) left) none ∙ ap (λ (ds : List A). map (begun_at lock look first) ds) same;
     same = less_none lock pool first own ∙ ap (λ (n : ℕ). less lock n first) (sym empty);
-    parts = omega (arith, empty, parts);
-    shares = omega (arith, empty, shares);
+    own = own;
+    parts = parts;
+    shares = shares;
     fits = omega (arith, empty, fits);
     sized = sized;
   }
 
-  -- there is a part for the next worker, and one more
-  pub begin_next : (left : List A) (workers : List W) (both : Both) (count left_count room rest_count : ℕ) → IsBeginning lock view begun all left workers first both count left_count room → rest_count + 1 ≡ left_count → 1 < both.book.parts
-  begin_next left workers both count left_count room rest_count h shorter =
-      let more = h.parts in
-      let is : both.book.parts ≡ first.book.parts - count = ap (λ (b : Both). b.book.parts) h.same in
-      omega (arith, more, shorter, is)
+  -- a worker that begins by the passes as they are now is as one by those at first
+  begun_same : (mid : Both) (count : ℕ) (door : A) → mid ≡ less lock count first → begun_at lock look mid door ≡ begun_at lock look first door
+  begun_same mid count door is = ap (λ (both : Both). begun_at lock look both door) is
 
-  pub begin_share : (left : List A) (workers : List W) (both : Both) (count left_count room rest_count : ℕ) → IsBeginning lock view begun all left workers first both count left_count room → rest_count + 1 ≡ left_count → 1 < both.mail.handed.parts
-  begin_share left workers both count left_count room rest_count h shorter =
-      let more = h.shares in
-      let is : both.mail.handed.parts ≡ first.mail.handed.parts - count = ap (λ (b : Both). b.mail.handed.parts) h.same in
-      omega (arith, more, shorter, is)
-
-  pub begin_more : (left rest : List A) (workers more : List W) (mid both : Both) (count left_count room count_more rest_count room_then : ℕ) (door : A) → IsBeginning lock view begun all left workers first mid count left_count room
-      → left ≡ door ∷ rest → map view more ≡ map view workers ++ begun door ∷ [] → both ≡ less lock 1 mid → count_more ≡ count + 1 → rest_count + 1 ≡ left_count → room_then ≡ room
-      → IsBeginning lock view begun all rest more first both count_more rest_count room_then
-  begin_more left rest workers more mid both count left_count room count_more rest_count room_then door h is grew kept longer shorter roomy =
+  pub begin_more : (left rest : List A) (workers more : List W) (mid both : Both) (count left_count room count_more rest_count room_then : ℕ) (door : A) → IsBeginning lock pool view look all left workers first mid count left_count room
+      → left ≡ door ∷ rest → map view more ≡ map view workers ++ begun_at lock look mid door ∷ [] → both ≡ less lock 1 mid → AreOf lock pool both → count_more ≡ count + 1 → rest_count + 1 ≡ left_count → room_then ≡ room
+      → IsBeginning lock pool view look all rest more first both count_more rest_count room_then
+  begin_more left rest workers more mid both count left_count room count_more rest_count room_then door h is grew kept own longer shorter roomy =
       let long : length left ≡ length (door ∷ rest) = ap (λ (l : List A). length l) is in
+      let part : both.book.parts ≡ mid.book.parts - 1 = ap (λ (b : Both). b.book.parts) kept in
+      let share : both.mail.handed.parts ≡ mid.mail.handed.parts - 1 = ap (λ (b : Both). b.mail.handed.parts) kept in
       let fits = h.fits in
       let sized = h.sized in
       let parts = h.parts in
       let shares = h.shares in
       record {
-        are = ap (λ (l : List WorkerView). l ++ map begun rest) grew
-            ∙ append_assoc (map view workers) (begun door ∷ []) (map begun rest)
-            ∙ ap (λ (l : List A). map view workers ++ map begun l) (sym is)
+        are = ap (λ (l : List WorkerView). l ++ map (begun_at lock look first) rest) grew
+            ∙ ap (λ (w : WorkerView). (map view workers ++ w ∷ []) ++ map (begun_at lock look first) rest) (begun_same mid count door h.same)
+            ∙ append_assoc (map view workers) (begun_at lock look first door ∷ []) (map (begun_at lock look first) rest)
+            ∙ ap (λ (l : List A). map view workers ++ map (begun_at lock look first) l) (sym is)
             ∙ h.are;
         same = kept ∙ ap (less lock 1) h.same ∙ less_more lock count first ∙ ap (λ (n : ℕ). less lock n first) (sym longer);
-        parts = omega (arith, parts, longer, shorter);
-        shares = omega (arith, shares, longer, shorter);
+        own = own;
+        parts = omega (arith, parts, part, shorter);
+        shares = omega (arith, shares, share, shorter);
         fits = omega (arith, fits, longer, shorter, roomy);
         sized = omega (arith, sized, long, shorter);
       }
@@ -95,20 +104,17 @@ module _ {A W : Type 0} (lock : Lock BookOrigin) (pool : PoolView) (view : W →
   no_more [] is = refl
   no_more (d ∷ ds) is = absurd (omega (arith, is))
 
-  pub begin_all : (left : List A) (workers : List W) (both : Both) (count left_count room : ℕ) → IsBeginning lock view begun all left workers first both count left_count room → left_count ≡ 0
-      → map view workers ≡ map begun all
+  pub begin_all : (left : List A) (workers : List W) (both : Both) (count left_count room : ℕ) → IsBeginning lock pool view look all left workers first both count left_count room → left_count ≡ 0
+      → map view workers ≡ map (begun_at lock look first) all
   begin_all left workers both count left_count room h over =
       let none : left ≡ [] = no_more left (sym h.sized ∙ over) in
-      sym (append-nil (map view workers)) ∙ ap (λ (l : List A). map view workers ++ map begun l) (sym none) ∙ h.are
-
-  pub as_many : (workers : List W) → map view workers ≡ map begun all → length workers ≡ length all
-  as_many workers are = sym (length-map workers view) ∙ ap (λ (l : List WorkerView). length l) are ∙ length-map all begun
+      sym (append-nil (map view workers)) ∙ ap (λ (l : List A). map view workers ++ map (begun_at lock look first) l) (sym none) ∙ h.are
 
   -- the passes have a part less for each
-  pub left_all : (left : List A) (workers : List W) (both : Both) (count left_count room : ℕ) → IsBeginning lock view begun all left workers first both count left_count room → left_count ≡ 0 → count ≡ length workers
+  pub left_all : (left : List A) (workers : List W) (both : Both) (count left_count room : ℕ) → IsBeginning lock pool view look all left workers first both count left_count room → left_count ≡ 0 → count ≡ length workers
       → both ≡ less lock (length all) first
   left_all left workers both count left_count room h over counted =
-      h.same ∙ ap (λ (n : ℕ). less lock n first) (counted ∙ as_many workers (begin_all left workers both count left_count room h over))
+      h.same ∙ ap (λ (n : ℕ). less lock n first) (counted ∙ as_many view (begun_at lock look first) workers all (begin_all left workers both count left_count room h over))
 
 -- ---- workers whose passes are met
 

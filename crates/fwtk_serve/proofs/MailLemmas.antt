@@ -1,5 +1,5 @@
 -- What the passes of the pool come to once they have met.
-use Rattle.std.proofs.Common.{arith, ◌≡◌, refl, sym, ap, ap₂, subst, ◌∙◌, ℕ, ◌+◌, ◌-◌, ◌^◌, ◌≤◌, min, List, [], ◌∷◌, ◌++◌, length, map, flat_map, sum_by, Option, Some, append_assoc, append-nil}
+use Rattle.std.proofs.Common.{arith, ◌≡◌, refl, sym, ap, subst, ◌∙◌, ℕ, ◌+◌, ◌-◌, ◌^◌, ◌≤◌, min, List, [], ◌∷◌, ◌++◌, length, map, flat_map, sum_by, Option, Some, append_assoc, append-nil}
 use Rattle.std.proofs.lemmas.List.Concat.{flat_map-append}
 use Rattle.std.proofs.lemmas.List.Sums.{sum_by-append}
 use Rattle.acceptors.specs.AcceptorView.{AcceptorView}
@@ -14,8 +14,8 @@ use Rattle.turn_lock.specs.Known.{Lock}
 use Rattle.fwtk_serve.specs.Meeting.{HasWorked, HaveWorked, WorkerView, passes_of, starting, with_passes}
 use Rattle.fwtk_serve.specs.Passes.{met_each}
 use Rattle.fwtk_serve.specs.Sessions.{Both, Sitting}
-use Rattle.fwtk_serve.specs.Working.{DoorView, all_sittings, at_first}
-use Rattle.fwtk_serve.proofs.SessionLemmas.{broken_served, no_free_served, no_full_served, put_served}
+use Rattle.fwtk_serve.specs.Working.{at_first}
+use Rattle.fwtk_serve.proofs.SessionLemmas.{broken_served, no_free_served, put_served}
 
 -- ---- one worker
 
@@ -102,12 +102,12 @@ module _ (rules : List (Service × RuleBook)) (lock : Lock BookOrigin) (pool : P
   abbrev first : Both
   first = at_first lock before home began
 
-  both_or : Both → Option Both → Both
+  abbrev both_or : Both → Option Both → Both
   both_or other (Some both) = both
   both_or other _ = other
 
   -- a worker that began with passes that were split off
-  began_so : (old : AcceptorView) (new : WorkerView) → (h : HasWorked rules lock pool (starting old first) new) → h.first ≡ first
+  pub began_so : (old : AcceptorView) (new : WorkerView) → (h : HasWorked rules lock pool (starting old first) new) → h.first ≡ first
   began_so old new h = ap (both_or h.first) (sym h.had)
 
   tells : (old : AcceptorView) (new : WorkerView) → (h : HasWorked rules lock pool (starting old first) new) → Tells h.sittings home began h.last.mail
@@ -127,7 +127,7 @@ module _ (rules : List (Service × RuleBook)) (lock : Lock BookOrigin) (pool : P
   begun olds = map (λ (old : AcceptorView). starting old first) olds
 
   -- all sessions of workers that have worked, in order
-  pub sittings_of : (olds : List AcceptorView) (news : List WorkerView) → HaveWorked rules lock pool (begun olds) news → List Sitting
+  abbrev pub sittings_of : (olds : List AcceptorView) (news : List WorkerView) → HaveWorked rules lock pool (begun olds) news → List Sitting
   sittings_of [] [] worked = []
   sittings_of (old ∷ olds) (new ∷ news) worked = worked.0.sittings ++ sittings_of olds news worked.1
   sittings_of [] (new ∷ news) worked = []

@@ -1,6 +1,7 @@
 -- What the workers did, once their passes have met.
-use Rattle.std.proofs.Common.{◌≡◌, refl, sym, ap, ap₂, subst, ◌∙◌, arith, ℕ, ◌+◌, ◌-◌, ◌^◌, ◌≤◌, min, cond, List, [], ◌∷◌, ◌++◌, length, flat_map, sum_by, count_by, Option, Some, None, append-nil}
+use Rattle.std.proofs.Common.{◌≡◌, refl, sym, ap, ap₂, subst, ◌∙◌, arith, ℕ, ◌+◌, ◌-◌, ◌^◌, ◌≤◌, min, cond, List, [], ◌∷◌, ◌++◌, length, flat_map, sum_by, count_by, Option, append-nil}
 use Rattle.std.proofs.lemmas.List.Concat.{flat_map-append}
+use Rattle.std.proofs.lemmas.List.Sums.{sum_by-cons}
 use Rattle.std.specs.Prelude.{map}
 use Rattle.std.specs.List.{AllByRecursion}
 use Rattle.std.specs.List.Sorted.{IsStrictlyIncreasing}
@@ -12,13 +13,13 @@ use Rattle.gate_rules.specs.declared.service.Service.{Service}
 use Rattle.spool_pool.specs.Known.{PassView, PoolView}
 use Rattle.spool_rack.specs.Store.{Queues}
 use Rattle.spool_slots.specs.States.{FullView}
-use Rattle.turn_lock.specs.Known.{Lock, knowing}
+use Rattle.turn_lock.specs.Known.{Lock}
 use Rattle.turn_lock.specs.Places.{AreWithin, Fill, NoneTwice}
 use Rattle.fwtk_serve.specs.Meeting.{HasPasses, HasWorked, HavePasses, HaveWorked, WorkerView, passes_of, starting, with_passes}
 use Rattle.fwtk_serve.specs.Passes.{AreOf, IsMet, MeetAll, MetAll, Pass, held_by, parts_of}
 use Rattle.fwtk_serve.specs.Sessions.{Both, ServedView, Sitting, places_of}
 use Rattle.fwtk_serve.specs.Stepping.{workers_short}
-use Rattle.fwtk_serve.specs.Working.{DoorView, ServedAll, ServedDoor, ServedDoors, Worked, all_sittings, at_first, reported, short_count, split_off}
+use Rattle.fwtk_serve.specs.Working.{DoorView, ServedAll, ServedDoor, ServedDoors, Worked, all_sittings, at_first, reported, short_count}
 use Rattle.fwtk_serve.proofs.MailLemmas.{Takes, began_so, sittings_of}
 use Rattle.fwtk_serve.proofs.PassLemmas.{met_later}
 use Rattle.fwtk_serve.proofs.SessionLemmas.{met_served, mine_served, parts_served}
@@ -30,6 +31,13 @@ have_passes rules lock pool [] [] worked = tt
 have_passes rules lock pool (old ∷ olds) (new ∷ news) worked = (subst (HasPasses (AreOf lock pool)) (sym worked.0.has) worked.0.own, have_passes rules lock pool olds news worked.1)
 have_passes rules lock pool [] (new ∷ news) worked = absurd worked
 have_passes rules lock pool (old ∷ olds) [] worked = absurd worked
+
+-- they are as many as before
+pub as_many_worked : (rules : List (Service × RuleBook)) (lock : Lock BookOrigin) (pool : PoolView) (olds news : List WorkerView) → HaveWorked rules lock pool olds news → length news ≡ length olds
+as_many_worked rules lock pool [] [] worked = refl
+as_many_worked rules lock pool (old ∷ olds) (new ∷ news) worked = let more = as_many_worked rules lock pool olds news worked.1 in omega (arith, more)
+as_many_worked rules lock pool [] (new ∷ news) worked = absurd worked
+as_many_worked rules lock pool (old ∷ olds) [] worked = absurd worked
 
 module _ (rules : List (Service × RuleBook)) (lock : Lock BookOrigin) (pool : PoolView) (before : List Entry) (home : List (List ℕ)) (began : Queues) where
   abbrev first : Both
@@ -66,7 +74,7 @@ module _ (rules : List (Service × RuleBook)) (lock : Lock BookOrigin) (pool : P
 
   -- ---- all workers
 
-  pub doors_of : (olds : List AcceptorView) (news : List WorkerView) → HaveWorked rules lock pool (begun olds) news → List DoorView
+  abbrev pub doors_of : (olds : List AcceptorView) (news : List WorkerView) → HaveWorked rules lock pool (begun olds) news → List DoorView
   doors_of [] [] worked = []
   doors_of (old ∷ olds) (new ∷ news) worked = door_of old new worked.0 ∷ doors_of olds news worked.1
   doors_of [] (new ∷ news) worked = []
@@ -89,7 +97,10 @@ module _ (rules : List (Service × RuleBook)) (lock : Lock BookOrigin) (pool : P
     where
       counts : (olds : List AcceptorView) (news : List WorkerView) (worked : HaveWorked rules lock pool (begun olds) news) → count_by (λ (d : DoorView). d.short) (doors_of olds news worked) ≡ count_by (λ (w : WorkerView). w.short) news
       counts [] [] worked = refl
-      counts (old ∷ olds) (new ∷ news) worked = ap (λ (n : ℕ). cond new.short 1 0 + n) (counts olds news worked.1)
+      counts (old ∷ olds) (new ∷ news) worked =
+          sum_by-cons (λ (d : DoorView). cond d.short 1 0) (door_of old new worked.0) (doors_of olds news worked.1)
+          ∙ ap (λ (n : ℕ). cond new.short 1 0 + n) (counts olds news worked.1)
+          ∙ sym (sum_by-cons (λ (w : WorkerView). cond w.short 1 0) new news)
       counts [] (new ∷ news) worked = absurd worked
       counts (old ∷ olds) [] worked = absurd worked
 

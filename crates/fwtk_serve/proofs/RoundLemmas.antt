@@ -1,33 +1,30 @@
 -- What rounds that follow one another come to.
-use Rattle.std.proofs.Common.{arith, ◌≡◌, refl, sym, ap, ap₂, subst, ◌∙◌, ℕ, ◌+◌, ◌-◌, ◌^◌, ◌<◌, ◌≤◌, ◌⊎◌, inl, inr, min, cond, Bool, true, false, List, [], ◌∷◌, ◌++◌, length, flat_map, sum_by, count_by, Option, Some, None, Result, Ok, Err, append_assoc, append-nil}
-use Rattle.std.proofs.lemmas.List.Sums.{sum_by_push}
+use Rattle.std.proofs.Common.{arith, ◌≡◌, refl, sym, ap, ap₂, subst, ◌∙◌, ℕ, ◌+◌, ◌-◌, ◌^◌, ◌<◌, ◌≤◌, ◌⊎◌, inl, inr, min, cond, Bool, true, List, [], ◌∷◌, ◌++◌, length, map, sum_by, count_by, Option, Some, None, Result, Ok, Err, append_assoc, append-nil}
+use Rattle.std.proofs.lemmas.List.{length-append, length-map}
+use Rattle.std.proofs.lemmas.List.Sums.{sum_by-cons, sum_by_push}
 use Rattle.std.proofs.lemmas.List.Elements.{Contains-append_right}
 use Rattle.std.specs.List.{AllByRecursion, Contains}
 use mathlib.Core.List.{head-eq_of_cons-eq, tail-eq_of_cons-eq}
-use Rattle.fw_disk.specs.Moments.{EachImage, Now}
+use Rattle.fw_disk.specs.Moments.{EachImage}
 use Rattle.fw_disk.proofs.MomentLemmas.{through_now}
 use Rattle.fw_mail.specs.MailerView.{MailerView}
 use Rattle.fw_outside.specs.Counts.{Rose}
 use Rattle.fw_outside.specs.SinkView.{SinkView}
 use Rattle.fw_outside.specs.ToldList.{grown}
 use Rattle.fw_types.specs.declared.message.Message.{Message}
-use Rattle.slot_bytes.specs.Layout.{Mail}
 use Rattle.smapd_queue.specs.Meeting.{End, Meeting, last_turn, lacked_of, meeting_with}
 use Rattle.smapd_queue.specs.Meeting.End.{AllTaken, NoneFull, Unlogged, Lacked}
-use Rattle.smapd_queue.specs.Laws.{AddsUp}
-use Rattle.smapd_queue.specs.Round.{CountsNone, HandsOn, IsTurn, answer_of, round_of}
+use Rattle.smapd_queue.specs.Round.{CountsNone, HandsOn, IsTurn, TurnsFit, answer_of, round_of}
 use Rattle.smapd_queue.specs.Sums.{ListsGo, LogGoes, MailersGo, StoreGoes, ToldListsGo, failures_of, refusals_of, released_by, released_of}
-use Rattle.smapd_queue.specs.Turns.{Fate, Turn, accepted_by, accepted_of, broken_by, broken_of, failed_by, put_aside_by, put_aside_of, refused_by}
+use Rattle.smapd_queue.specs.Turns.{Fate, Turn, accepted_by, accepted_of, broken_by, broken_of, freed_by, freed_of, put_aside_by, put_aside_of, put_back_by, put_back_of}
 use Rattle.smapd_queue.specs.Turns.Fate.{Freed, NotFreed, PutAside, NotAside, PutBack, Unread}
 use Rattle.smapd_queue.specs.declared.round.Round.{Round}
 use Rattle.smapd_queue.specs.declared.round.RoundFault.{RoundFault}
 use Rattle.smapd_queue.specs.declared.round.RoundFault.TheVariants as faults
-use Rattle.smapd_queue.proofs.LawLemmas.{adds_up}
-use Rattle.smapd_queue.proofs.MailerLemmas.{grown_both, mailers_here, HasFirst}
 use Rattle.spool_pool.specs.Known.{PassView, bare}
 use Rattle.spool_rack.specs.Store.{Handed, Loan, Queues, StoreView}
 use Rattle.spool_slots.specs.Images.{IsWholeOrAside}
-use Rattle.spool_slots.specs.States.{BrokenView, FullView, Keeps, SlotView}
+use Rattle.spool_slots.specs.States.{BrokenView, FullView, SlotView}
 use Rattle.fwtk_serve.specs.Clerks.{ClerkView, HandsMore, HandsOnce, HandsToEnd, no_sums, with_answer, with_rounds}
 use Rattle.fwtk_serve.specs.Sessions.{store_at}
 use Rattle.fwtk_serve.specs.Rounds.{BrokeSafely, HandsOnAll, IsRound, RoundView, WereRounds, all_turns, is_starved, numbers_in, starved_count, total_by, total_of, turns_of}
@@ -62,11 +59,11 @@ accepted_both [] b = refl
 accepted_both (t ∷ a) b = ap (λ (l : List Message). accepted_by t.fate ++ l) (accepted_both a b) ∙ sym (append_assoc (accepted_by t.fate) (accepted_of a) (accepted_of b))
 
 refusals_both : (a b : List Turn) → refusals_of (a ++ b) ≡ refusals_of a + refusals_of b
-refusals_both [] b = refl
+refusals_both [] b = omega arith
 refusals_both (t ∷ a) b = omega (arith, refusals_both a b)
 
 failures_both : (a b : List Turn) → failures_of (a ++ b) ≡ failures_of a + failures_of b
-failures_both [] b = refl
+failures_both [] b = omega arith
 failures_both (t ∷ a) b = omega (arith, failures_both a b)
 
 each_both : (a b : List Turn) → AllByRecursion IsTurn a → AllByRecursion IsTurn b → AllByRecursion IsTurn (a ++ b)
@@ -118,7 +115,7 @@ told_so turns before None go = absurd go
 
 none_falls : (ending : End) (old new : StoreView) → CountsNone ending old new → min old.no_full (2 ^ 64 - 1) ≤ new.no_full
 none_falls AllTaken old new none = omega (arith, none)
-none_falls NoneFull old new none = let rose = none.0.1 in omega (arith, rose)
+none_falls NoneFull old new none = let rose = none.0.0 in omega (arith, rose)
 none_falls (Unlogged turn) old new none = omega (arith, none)
 none_falls (Lacked slot message) old new none = omega (arith, none)
 
@@ -166,6 +163,46 @@ grows_all most (r ∷ rs) before old new told were =
 
 -- ---- the mailers
 
+-- mailers with a first one
+pub record HasFirst (mailers : List MailerView) : Type 0 where
+  pub first : MailerView
+  pub others : List MailerView
+  pub is : mailers ≡ first ∷ others
+
+pub has_first : (mailers : List MailerView) → 0 < length mailers → HasFirst mailers
+has_first [] some = absurd (omega (arith, some))
+has_first (first ∷ others) some = record { first = first; others = others; is = refl }
+
+-- a round leaves as many as there were
+pub mailers_many : {A : Type 0} (view : A → MailerView) (turns : List Turn) (old new : List A) → MailersGo turns (map view old) (map view new) → length new ≡ length old
+mailers_many view turns old new h =
+    let a = length-map old view in
+    let b = length-map new view in
+    let were : length (map view old) ≡ length (h.first ∷ h.others) = ap length h.were in
+    let are : length (map view new) ≡ length (h.after ∷ h.others) = ap length h.are in
+    omega (arith, a, b, were, are)
+
+grown_nil : {A : Type 0} (told : Option (List A)) → told ≡ grown told []
+grown_nil None = refl
+grown_nil {A} (Some xs) = ap (λ (l : List A). Some l) (sym (append-nil xs))
+
+grown_both : {A : Type 0} (told : Option (List A)) (xs ys : List A) → grown (grown told xs) ys ≡ grown told (xs ++ ys)
+grown_both None xs ys = refl
+grown_both {A} (Some zs) xs ys = ap (λ (l : List A). Some l) (append_assoc zs xs ys)
+
+mailers_none : (old new : List MailerView) → HasFirst old → new ≡ old → MailersGo [] old new
+mailers_none old new h same = record {
+  first = h.first;
+  after = h.first;
+  others = h.others;
+  were = h.is;
+  are = same ∙ h.is;
+  accepted = grown_nil h.first.accepted;
+  took = sym (append-nil h.first.took);
+  refusals = omega arith;
+  faults = omega arith;
+}
+
 mailers_both : (a b : List Turn) (old mid new : List MailerView) → MailersGo a old mid → MailersGo b mid new → MailersGo (a ++ b) old new
 mailers_both a b old mid new x y =
     let front : y.first ≡ x.after = head-eq_of_cons-eq (sym y.were ∙ x.are) in
@@ -195,7 +232,7 @@ mailers_both a b old mid new x y =
     }
 
 pub mailers_all : (most : ℕ) (rounds : List RoundView) (old new : Meeting) → HasFirst old.mailers → WereRounds most rounds old new → MailersGo (all_turns rounds) old.mailers new.mailers
-mailers_all most [] old new some were = mailers_here old.mailers new.mailers some (ap (λ (m : Meeting). m.mailers) were)
+mailers_all most [] old new some were = mailers_none old.mailers new.mailers some (ap (λ (m : Meeting). m.mailers) were)
 mailers_all most (r ∷ rs) old new some were =
     let a = subst (λ (t : List Turn). MailersGo t old.mailers were.middle.mailers) (turns_same most r old were.middle were.first) were.first.hands.mailers in
     let has : HasFirst were.middle.mailers = record { first = a.after; others = a.others; is = a.are } in
@@ -242,9 +279,9 @@ broke_by turns slot (Unread broken) has told h = (
   tt,
 )
 
-broken_all : {P : BrokenView → Type 0} (xs ys : List BrokenView) → AllByRecursion P xs → AllByRecursion P ys → AllByRecursion P (xs ++ ys)
-broken_all [] ys x y = y
-broken_all (b ∷ xs) ys x y = (x.0, broken_all xs ys x.1 y)
+broken_all : (P : BrokenView → Type 0) (xs ys : List BrokenView) → AllByRecursion P xs → AllByRecursion P ys → AllByRecursion P (xs ++ ys)
+broken_all P [] ys x y = y
+broken_all P (b ∷ xs) ys x y = (x.0, broken_all P xs ys x.1 y)
 
 here_in : {X : Type 0} (front : List X) (x : X) (rest : List X) → Contains (front ++ x ∷ rest) x
 here_in front x rest = Contains-append_right front (x ∷ rest) x (0, omega arith, refl)
@@ -258,7 +295,7 @@ broke_rest : (front rest : List Turn) → AllByRecursion IsTurn rest → AllByRe
 broke_rest front [] each = tt
 broke_rest front (t ∷ rest) each =
     let more = subst (λ (l : List Turn). AllByRecursion (BrokeSafely l) (broken_of rest)) (append_assoc front (t ∷ []) rest) (broke_rest (front ++ t ∷ []) rest each.1) in
-    broken_all (broken_by t.fate) (broken_of rest) (broke_by (front ++ t ∷ rest) t.slot t.fate (here_in front t rest) (accepted_in front t rest) each.0) more
+    broken_all (BrokeSafely (front ++ t ∷ rest)) (broken_by t.fate) (broken_of rest) (broke_by (front ++ t ∷ rest) t.slot t.fate (here_in front t rest) (accepted_in front t rest) each.0) more
 
 -- each slot that broke did so safely
 pub broke_all : (turns : List Turn) → AllByRecursion IsTurn turns → AllByRecursion (BrokeSafely turns) (broken_of turns)
@@ -294,8 +331,22 @@ with_small answer sums = record { accepted = omega arith; refused = omega arith;
 small_is : (n : ℕ) → n ≤ 2 ^ 32 - 1 → n ≡ min (n + 0) (2 ^ 32 - 1)
 small_is n small = omega (arith, small)
 
-one_then : (n x more : ℕ) → min (min (n + x) (2 ^ 32 - 1) + more) (2 ^ 32 - 1) ≡ min (n + (x + more)) (2 ^ 32 - 1)
-one_then n x more = omega arith
+one_then : (n x more all : ℕ) → all ≡ x + more → min (min (n + x) (2 ^ 32 - 1) + more) (2 ^ 32 - 1) ≡ min (n + all) (2 ^ 32 - 1)
+one_then n x more all is = omega (arith, is)
+
+-- one number of a round, and of rounds after it
+number_then : (number : Round → ℕ) (n : ℕ) (r : RoundView) (rs : List RoundView)
+    → from_by number (min (n + number (numbers_in r.answer)) (2 ^ 32 - 1)) rs ≡ from_by number n (r ∷ rs)
+number_then number n r rs =
+    let of : RoundView → ℕ = λ (r : RoundView). number (numbers_in r.answer) in
+    one_then n (of r) (sum_by of rs) (sum_by of (r ∷ rs)) (sum_by-cons of r rs)
+
+starved_then : (n : ℕ) (r : RoundView) (rs : List RoundView)
+    → min (min (n + cond (is_starved r.answer) 1 0) (2 ^ 32 - 1) + count_by (λ (r : RoundView). is_starved r.answer) rs) (2 ^ 32 - 1)
+    ≡ min (n + count_by (λ (r : RoundView). is_starved r.answer) (r ∷ rs)) (2 ^ 32 - 1)
+starved_then n r rs =
+    let of : RoundView → ℕ = λ (r : RoundView). cond (is_starved r.answer) 1 0 in
+    one_then n (of r) (sum_by of rs) (sum_by of (r ∷ rs)) (sum_by-cons of r rs)
 
 sums_are : (rounds : List RoundView) (sums : Sums) → AreSmall sums → with_rounds rounds sums ≡ sums_from rounds sums
 sums_are [] sums small = λ i. record {
@@ -308,23 +359,39 @@ sums_are [] sums small = λ i. record {
   starved = small_is sums.starved small.starved i;
 }
 sums_are (r ∷ rs) sums small =
-    let n = numbers_in r.answer in
     sums_are rs (with_answer r.answer sums) (with_small r.answer sums)
     ∙ (λ i. record {
       round = record {
-        accepted = one_then sums.round.accepted n.accepted (sum_by (λ (r : RoundView). (numbers_in r.answer).accepted) rs) i;
-        refused = one_then sums.round.refused n.refused (sum_by (λ (r : RoundView). (numbers_in r.answer).refused) rs) i;
-        failed = one_then sums.round.failed n.failed (sum_by (λ (r : RoundView). (numbers_in r.answer).failed) rs) i;
-        broken = one_then sums.round.broken n.broken (sum_by (λ (r : RoundView). (numbers_in r.answer).broken) rs) i;
+        accepted = number_then (λ (n : Round). n.accepted) sums.round.accepted r rs i;
+        refused = number_then (λ (n : Round). n.refused) sums.round.refused r rs i;
+        failed = number_then (λ (n : Round). n.failed) sums.round.failed r rs i;
+        broken = number_then (λ (n : Round). n.broken) sums.round.broken r rs i;
       };
-      starved = one_then sums.starved (cond (is_starved r.answer) 1 0) (count_by (λ (r : RoundView). is_starved r.answer) rs) i;
+      starved = starved_then sums.starved r rs i;
     })
 
 no_sums_small : AreSmall no_sums
 no_sums_small = record { accepted = omega arith; refused = omega arith; failed = omega arith; broken = omega arith; starved = omega arith }
 
+-- and from none on
+from_none : (number : Round → ℕ) (rounds : List RoundView) → from_by number 0 rounds ≡ total_by number rounds
+from_none number rounds = omega arith
+
+none_starved : (rounds : List RoundView) → min (0 + count_by (λ (r : RoundView). is_starved r.answer) rounds) (2 ^ 32 - 1) ≡ starved_count rounds
+none_starved rounds = omega arith
+
 pub sums_of : (rounds : List RoundView) → with_rounds rounds no_sums ≡ record { round = total_of rounds; starved = starved_count rounds }
-sums_of rounds = sums_are rounds no_sums no_sums_small
+sums_of rounds =
+    sums_are rounds no_sums no_sums_small
+    ∙ (λ i. record {
+      round = record {
+        accepted = from_none (λ (n : Round). n.accepted) rounds i;
+        refused = from_none (λ (n : Round). n.refused) rounds i;
+        failed = from_none (λ (n : Round). n.failed) rounds i;
+        broken = from_none (λ (n : Round). n.broken) rounds i;
+      };
+      starved = none_starved rounds i;
+    })
 
 with_last : (rounds : List RoundView) (round : RoundView) (sums : Sums) → with_answer round.answer (with_rounds rounds sums) ≡ with_rounds (rounds ++ round ∷ []) sums
 with_last [] round sums = refl
@@ -351,11 +418,6 @@ hands_one most answer old new h sums = record {
   went = record { middle = new.met; first = record { hands = h; turns_are = refl; ending_is = refl }; more = refl };
   sums = sums;
 }
-
--- mailers with a first one
-pub has_first : (mailers : List MailerView) → 0 < length mailers → HasFirst mailers
-has_first (first ∷ others) some = record { first = first; others = others; is = refl }
-has_first [] some = absurd (omega (arith, some))
 
 -- ---- the log
 
@@ -384,22 +446,60 @@ EndsSo most answer old new =
     (0 < new.store.no_full) ⊎ (most ≤ (numbers_in answer).accepted + (numbers_in answer).refused + (numbers_in answer).failed + (numbers_in answer).broken)
     ⊎ Rose old.logs.faults new.logs.faults ⊎ (is_starved answer ≡ true)
 
-not_logged : (r s : Round) (ending : End) → (let x : Result Round RoundFault = Err (faults.LogFault r) in x ≡ answer_of ending s) → (turns : List Turn) (old new : SinkView) → LogGoes turns ending old new → Rose old.faults new.faults
-not_logged r s AllTaken e turns old new h = absurd cc
-not_logged r s NoneFull e turns old new h = absurd cc
+not_ok : (r s : Round) → (let x : Result Round RoundFault = Err (faults.LogFault r) in x ≡ Ok s) → ⊥
+not_ok r s e = absurd cc
+
+not_lacked : (r s : Round) → (let x : Result Round RoundFault = Err (faults.LogFault r) in x ≡ Err (faults.NoMemory s)) → ⊥
+not_lacked r s e = absurd cc
+
+not_logged : (r s : Round) (ending : End) → Err (faults.LogFault r) ≡ answer_of ending s → (turns : List Turn) (old new : SinkView) → LogGoes turns ending old new → Rose old.faults new.faults
+not_logged r s AllTaken e turns old new h = absurd (not_ok r s e)
+not_logged r s NoneFull e turns old new h = absurd (not_ok r s e)
 not_logged r s (Unlogged turn) e turns old new h =
     let whole = ap (λ (k : SinkView). k.faults) h.whole in
     let is = ap (λ (k : SinkView). k.faults) h.cut.is in
-    let rose = h.cut.rose in
-    (omega (arith, whole, is, rose.0), omega (arith, whole, is, rose.1))
-not_logged r s (Lacked slot message) e turns old new h = absurd cc
+    let low = h.cut.rose.0 in
+    let high = h.cut.rose.1 in
+    (omega (arith, whole, is, low), omega (arith, whole, is, high))
+not_logged r s (Lacked slot message) e turns old new h = absurd (not_lacked r s e)
 
-added_up : (most : ℕ) (round : Round) (old new : Meeting) → AddsUp most round old new → EndsSo most (Ok round) old new
-added_up most round old new (inl sum) = inr (inl (omega (arith, sum)))
-added_up most round old new (inr none) = let rose = none.0.1 in inl (omega (arith, rose))
+-- each turn is counted in one number
+one_way : (slot : FullView) (fate : Fate) → length (freed_by fate) + length (put_aside_by fate) + length (put_back_by slot fate) + length (broken_by fate) ≡ 1
+one_way slot (Freed message free) = omega arith
+one_way slot (NotFreed message broken) = omega arith
+one_way slot (PutAside message aside) = omega arith
+one_way slot (NotAside message broken) = omega arith
+one_way slot (PutBack message) = omega arith
+one_way slot (Unread broken) = omega arith
+
+all_ways : (turns : List Turn) → length (freed_of turns) + length (put_aside_of turns) + length (put_back_of turns) + length (broken_of turns) ≡ length turns
+all_ways [] = refl
+all_ways (turn ∷ turns) =
+    let a = length-append (freed_by turn.fate) (freed_of turns) in
+    let b = length-append (put_aside_by turn.fate) (put_aside_of turns) in
+    let c = length-append (put_back_by turn.slot turn.fate) (put_back_of turns) in
+    let d = length-append (broken_by turn.fate) (broken_of turns) in
+    let one = one_way turn.slot turn.fate in
+    let more = all_ways turns in
+    omega (arith, a, b, c, d, one, more)
+
+ok_is : (r s : Round) → (let x : Result Round RoundFault = Ok r in x ≡ Ok s) → r ≡ s
+ok_is r s e = cc
+
+not_err : (r : Round) (f : RoundFault) → (let x : Result Round RoundFault = Ok r in x ≡ Err f) → ⊥
+not_err r f e = absurd cc
+
+well_by : (most : ℕ) (round : Round) (turns : List Turn) (ending : End) (old new : Meeting) → Ok round ≡ answer_of ending (round_of turns) → TurnsFit ending (length turns) most → CountsNone ending old.store new.store → EndsSo most (Ok round) old new
+well_by most round turns AllTaken old new answer fits none =
+    let is : round ≡ round_of turns = ok_is round (round_of turns) answer in
+    let ways = all_ways turns in
+    inr (inl (subst (λ (r : Round). most ≤ r.accepted + r.refused + r.failed + r.broken) (sym is) (omega (arith, ways, fits))))
+well_by most round turns NoneFull old new answer fits none = let rose = none.0.1 in inl (omega (arith, rose))
+well_by most round turns (Unlogged turn) old new answer fits none = absurd (not_err round _ answer)
+well_by most round turns (Lacked slot message) old new answer fits none = absurd (not_err round _ answer)
 
 ends_by : (most : ℕ) (answer : Result Round RoundFault) (old new : Meeting) → HandsOn most answer old new → EndsSo most answer old new
-ends_by most (Ok round) old new h = added_up most round old new (adds_up most round old new h)
+ends_by most (Ok round) old new h = well_by most round h.turns h.ending old new h.answer h.fits h.none
 ends_by most (Err (faults.NoMemory round)) old new h = inr (inr (inr refl))
 ends_by most (Err (faults.LogFault round)) old new h = inr (inr (inl (not_logged round (round_of h.turns) h.ending h.answer h.turns old.logs new.logs h.logs)))
 
@@ -424,7 +524,7 @@ ends_after most rounds last old mid new fits held (inr (inl sum)) =
 ends_after most rounds last old mid new fits held (inr (inr (inl rose))) = inr (inr (inl (omega (arith, held, rose.0), omega (arith, held, rose.1))))
 ends_after most rounds last old mid new fits held (inr (inr (inr starved))) =
     let sum = sum_by_push (λ (r : RoundView). cond (is_starved r.answer) 1 0) rounds last in
-    let one = ap (λ (b : Bool). cond b 1 0) starved in
+    let one = ap {B = ℕ} (λ (b : Bool). cond b 1 0) starved in
     inr (inr (inr (omega (arith, sum, one))))
 
 pub ends_all : (most : ℕ) (rounds : List RoundView) (last : RoundView) (old mid new : Meeting) → most ≤ 2 ^ 32 - 1 → WereRounds most rounds old mid → IsRound most last mid new → EndAll most (rounds ++ last ∷ []) old new

@@ -1,8 +1,7 @@
 -- From the first passes to the report.
-use Rattle.std.proofs.Common.{arith, ◌≡◌, refl, sym, ap, ap₂, subst, ◌∙◌, ℕ, ◌+◌, ◌-◌, ◌^◌, ◌<◌, ◌≤◌, min, List, [], ◌∷◌, ◌++◌, length, Option, Some, None, IfSome, append-nil}
+use Rattle.std.proofs.Common.{arith, ◌≡◌, refl, sym, ap, ap₂, subst, ◌∙◌, ℕ, ◌+◌, ◌-◌, ◌^◌, ◌<◌, ◌≤◌, min, List, [], ◌∷◌, ◌++◌, length, Option, Some, None, IfSome}
 use Rattle.std.proofs.lemmas.List.{length-map}
 use Rattle.std.specs.Prelude.{map, slice_index_or}
-use Rattle.std.specs.List.Sorted.{IsPermutation}
 use Rattle.acceptors.specs.AcceptorView.{AcceptorView}
 use Rattle.auth_events.specs.declared.entry.Entry.{Entry}
 use Rattle.auth_machine.specs.Port.{BookOrigin}
@@ -10,24 +9,25 @@ use Rattle.fw_mail.specs.MailerView.{MailerView}
 use Rattle.fw_outside.specs.SinkView.{SinkView}
 use Rattle.gate_rules.specs.Reading.{RuleBook}
 use Rattle.gate_rules.specs.declared.service.Service.{Service}
-use Rattle.spool_pool.specs.Ends.{Became, IsSettled, from_full}
-use Rattle.spool_pool.specs.Known.{PassView, PoolView, bare, closed}
 use Rattle.smapd_queue.specs.declared.round.Round.{Round}
+use Rattle.spool_pool.specs.Ends.{IsSettled}
+use Rattle.spool_pool.specs.Known.{PassView, PoolView, SeatView, bare, closed, store_of}
 use Rattle.spool_rack.specs.Stock.{count_of, rack_of}
-use Rattle.spool_rack.specs.Store.{Handed, Queues, StoreView}
-use Rattle.turn_lock.specs.Known.{IsPassOf, Lock, knowing}
+use Rattle.spool_rack.specs.Store.{Handed, Loan, Queues, StoreView}
+use Rattle.turn_lock.specs.Known.{IsPassOf, Lock}
 use Rattle.turn_lock.specs.Places.{AreWithin, Fill, NoneTwice}
-use Rattle.fwtk_serve.specs.Clerks.{ClerkView, HandsToEnd}
+use Rattle.fwtk_serve.specs.Clerks.{ClerkView, HandsToEnd, clerk_with, no_sums}
 use Rattle.fwtk_serve.specs.Meeting.{HavePasses, HaveWorked, IsReady, WorkerView, passes_of, starting}
-use Rattle.fwtk_serve.specs.Passes.{AreOf, IsApart, MeetAll, Pass, first_of, less, met_each}
+use Rattle.fwtk_serve.specs.Passes.{AreOf, IsApart, MeetAll, Pass, first_of, less}
 use Rattle.fwtk_serve.specs.Rounds.{HandsOnAll, Settles, all_turns, of_rack, turns_for}
 use Rattle.fwtk_serve.specs.Sessions.{Both, ServedView, store_at}
 use Rattle.fwtk_serve.specs.Stepping.{workers_short}
-use Rattle.fwtk_serve.specs.Working.{ServedAll, at_first, split_off}
+use Rattle.fwtk_serve.specs.Working.{ServedAll, at_first}
+use Rattle.fwtk_serve.specs.declared.sums.Sums.{Sums}
 use Rattle.fwtk_serve.proofs.EachLemmas.{all_ready}
 use Rattle.fwtk_serve.proofs.MailLemmas.{Takes, sittings_of, takes_all}
-use Rattle.fwtk_serve.proofs.ReportLemmas.{have_passes, served_all}
-use Rattle.fwtk_serve.proofs.RoundLemmas.{Grows, grows_all, rounds_more}
+use Rattle.fwtk_serve.proofs.ReportLemmas.{as_many_worked, have_passes, served_all}
+use Rattle.fwtk_serve.proofs.RoundLemmas.{Grows, grows_all, hands_all, has_first, rounds_more}
 use mathlib.Core.List.{IsPrefix}
 
 -- ---- the first passes
@@ -36,9 +36,17 @@ use mathlib.Core.List.{IsPrefix}
 own_first : (lock : Lock BookOrigin) (pool : PoolView) (seen : List Entry) (home : List (List ℕ)) (began : Queues) → home ≡ pool.home → AreOf lock pool (at_first lock seen home began)
 own_first lock pool seen home began same = record { book = record { home = refl; limit = refl; origin = refl }; mail = same }
 
--- that of a new lock
-pub is_first : (lock : Lock BookOrigin) (history : List Entry) (pass : Pass) → pass ≡ knowing lock (2 ^ 64) history [] [] → pass ≡ first_of lock pass.seen
-is_first lock history pass h = h ∙ ap (λ (s : List Entry). first_of lock s) (sym (ap (λ (p : Pass). p.seen) h))
+-- the first pass of a pool is of it
+pub own_bare : (lock : Lock BookOrigin) (pool : PoolView) (both : Both) → IsPassOf lock both.book → both.mail ≡ bare pool.home (2 ^ 64) both.mail.handed.began → AreOf lock pool both
+own_bare lock pool both book is = record { book = book; mail = ap (λ (p : PassView). p.handed.home) is }
+
+-- and knows which
+pub bare_is : (home : List (List ℕ)) (mail : PassView) → mail ≡ bare home (2 ^ 64) mail.handed.began → mail ≡ bare mail.handed.home (2 ^ 64) mail.handed.began
+bare_is home mail is = is ∙ ap (λ (h : List (List ℕ)). bare h (2 ^ 64) mail.handed.began) (sym (ap (λ (p : PassView). p.handed.home) is))
+
+-- it has a part for each worker, and one more
+pub more_parts : (mail : PassView) (count : ℕ) → mail ≡ bare mail.handed.home (2 ^ 64) mail.handed.began → count < 2 ^ 64 → count < mail.handed.parts
+more_parts mail count is few = let all = ap (λ (p : PassView). p.handed.parts) is in omega (arith, all, few)
 
 -- what they have left when the workers begin
 module _ (lock : Lock BookOrigin) (first mid : Both) (count : ℕ) (book : first.book ≡ first_of lock first.book.seen) (kept : mid ≡ less lock count first) where
@@ -64,15 +72,11 @@ mail_left lock first mid count mail kept =
 -- ---- the clerk
 
 -- his store after all rounds
-pub clerk_grows : (most : ℕ) (home : List (List ℕ)) (parts : ℕ) (began : Queues) (old new : ClerkView) → old.met.store ≡ store_at (bare home parts began) → (h : HandsToEnd most old new)
+clerk_grows : (most : ℕ) (home : List (List ℕ)) (parts : ℕ) (began : Queues) (old new : ClerkView) → old.met.store ≡ store_at (bare home parts began) → (h : HandsToEnd most old new)
     → Grows (all_turns (h.more.rounds ++ h.last.round ∷ [])) (bare home parts began).handed old.met.store new.met.store
 clerk_grows most home parts began old new begins h =
     grows_all most (h.more.rounds ++ h.last.round ∷ []) (bare home parts began).handed old.met new.met (ap (λ (s : StoreView). s.handed) begins)
     (rounds_more most h.more.rounds (h.last.round ∷ []) old.met h.middle.met new.met h.more.went h.last.went)
-
--- none of his slots is out
-pub clerk_out : (most : ℕ) (home : List (List ℕ)) (parts : ℕ) (began : Queues) (old new : ClerkView) → old.met.store ≡ store_at (bare home parts began) → HandsToEnd most old new → new.met.store.out ≡ []
-clerk_out most home parts began old new begins h = (clerk_grows most home parts began old new begins h).out ∙ ap (λ (s : StoreView). s.out) begins
 
 -- what his pass knows of the pool stays, and nothing was put
 pub record IsKept (home : List (List ℕ)) (parts : ℕ) (began : Queues) (pass : PassView) : Type 0 where
@@ -84,7 +88,7 @@ pub record IsKept (home : List (List ℕ)) (parts : ℕ) (began : Queues) (pass 
 some_same : {X : Type 0} {x y : X} → Some x ≡ Some y → x ≡ y
 some_same e = cc
 
-pub clerk_keeps : (most : ℕ) (home : List (List ℕ)) (parts : ℕ) (began : Queues) (old new : ClerkView) (pass : PassView) → old.met.store ≡ store_at (bare home parts began) → HandsToEnd most old new → new.met.store.handed ≡ Some pass.handed
+clerk_keeps : (most : ℕ) (home : List (List ℕ)) (parts : ℕ) (began : Queues) (old new : ClerkView) (pass : PassView) → old.met.store ≡ store_at (bare home parts began) → HandsToEnd most old new → new.met.store.handed ≡ Some pass.handed
     → IsKept home parts began pass
 clerk_keeps most home parts began old new pass begins h told =
     let g = clerk_grows most home parts began old new begins h in
@@ -96,6 +100,9 @@ clerk_keeps most home parts began old new pass begins h told =
       unput = ap (λ (l : Handed). l.put) same ∙ g.lists.put;
     }
 
+pub some_views : {M : Type 0} (view : M → MailerView) (all : List M) → 0 < length all → 0 < length (map view all)
+some_views view all some = let many = length-map all view in omega (arith, some, many)
+
 -- ---- the account
 
 -- it is between the slots, the lists and the slots that are left alone
@@ -103,10 +110,10 @@ settled_by : (handed lists : Handed) (left : Queues) → handed.began ≡ lists.
 settled_by handed lists left began put released aside broken h =
     let same : record handed { home = lists.home; parts = lists.parts } ≡ lists =
     λ i. record { home = lists.home; parts = lists.parts; began = began i; put = put i; released = released i; aside = aside i; broken = broken i } in
-    subst (λ (l : Handed). IsSettled l left) same (record { full = h.full; aside = h.aside; broken = h.broken })
+    subst (λ (l : Handed). IsSettled l left) same (record { full = h.full; slots = h.slots; aside = h.aside; broken = h.broken })
 
 -- the pool was closed by the pass that has all parts
-pub settles_all : (before : Queues) (pass mail : PassView) (rack : StoreView) (left : Queues) → pass.handed.began ≡ before → pass.handed.parts ≡ 2 ^ 64 → mail ≡ closed pass → rack ≡ rack_of left
+settles_all : (before : Queues) (pass mail : PassView) (rack : StoreView) (left : Queues) → pass.handed.began ≡ before → pass.handed.parts ≡ 2 ^ 64 → mail ≡ closed pass → rack ≡ rack_of left
     → (pass.handed.parts ≡ 2 ^ 64 → IsSettled pass.handed left) → Settles before mail rack
 settles_all before pass mail rack left began parts is rack_is settled = record {
   left = left;
@@ -117,12 +124,11 @@ settles_all before pass mail rack left began parts is rack_is settled = record {
 
 -- ---- by the slots of the rack
 
--- as many turns as there are slots
-pub hands_for : (queues : Option Queues) (slots each : ℕ) (round : Round) (starved : ℕ) (mail : PassView) (mailers after : List MailerView) (logs log_after : SinkView) → IfSome queues (λ q. slots ≡ count_of q) → each ≡ min slots (2 ^ 32 - 1)
-    → HandsOnAll each round starved mail mailers after logs log_after → IfSome queues (λ q. HandsOnAll (turns_for q) round starved mail mailers after logs log_after)
+-- at least as many turns as there are slots
+pub hands_for : (queues : Option Queues) (slots each : ℕ) (round : Round) (starved : ℕ) (mail : PassView) (mailers after : List MailerView) (logs log_after : SinkView) → IfSome queues (λ q. count_of q ≤ slots) → each ≡ min slots (2 ^ 32 - 1)
+    → HandsOnAll each round starved mail mailers after logs log_after → IfSome queues (λ q. (most : ℕ) × (turns_for q ≤ most) × HandsOnAll most round starved mail mailers after logs log_after)
 hands_for None slots each round starved mail mailers after logs log_after count is h = tt
-hands_for (Some q) slots each round starved mail mailers after logs log_after count is h =
-    subst (λ (n : ℕ). HandsOnAll n round starved mail mailers after logs log_after) (is ∙ ap (λ (n : ℕ). min n (2 ^ 32 - 1)) count) h
+hands_for (Some q) slots each round starved mail mailers after logs log_after count is h = (each, omega (arith, count, is), h)
 
 -- the pool began with them
 pub settles_for : (queues : Option Queues) (home : List (List ℕ)) (first mail : PassView) (rack : StoreView) → IfSome queues (λ q. first ≡ bare home (2 ^ 64) q) → Settles first.handed.began mail rack → IfSome queues (λ q. Settles q mail rack)
@@ -141,7 +147,7 @@ pub record TookIn (many : ℕ) (old new : PassView) : Type 0 where
   pub no_full : min old.no_full (2 ^ 64 - 1) ≤ new.no_full
 
 -- workers that begin at these doors
-pub begun_map : {A : Type 0} (door_view : A → AcceptorView) (first : Both) (doors : List A)
+begun_map : {A : Type 0} (door_view : A → AcceptorView) (first : Both) (doors : List A)
     → map (λ (door : A). starting (door_view door) first) doors ≡ map (λ (door : AcceptorView). starting door first) (map door_view doors)
 begun_map door_view first [] = refl
 begun_map door_view first (door ∷ doors) = ap (λ (l : List WorkerView). starting (door_view door) first ∷ l) (begun_map door_view first doors)
@@ -154,6 +160,14 @@ module _ {A W : Type 0} (door_view : A → AcceptorView) (view : W → WorkerVie
   all_begin doors workers seen home began same are =
       all_ready view lock pool (at_first lock seen home began) workers (map door_view doors) (own_first lock pool seen home began same)
       (are ∙ begun_map door_view (at_first lock seen home began) doors)
+
+  -- who has worked has passes
+  pub all_have : (rules : List (Service × RuleBook)) (workers news : List W) → HaveWorked rules lock pool (map view workers) (map view news) → HavePasses lock pool (map view news)
+  all_have rules workers news worked = have_passes rules lock pool (map view workers) (map view news) worked
+
+  -- as many as began
+  pub all_there : (rules : List (Service × RuleBook)) (workers news : List W) → HaveWorked rules lock pool (map view workers) (map view news) → length news ≡ length workers
+  all_there rules workers news worked = sym (length-map news view) ∙ as_many_worked rules lock pool (map view workers) (map view news) worked ∙ length-map workers view
 
   -- what all did is reported
   pub all_served : (rules : List (Service × RuleBook)) (doors : List A) (workers news : List W) (first mid old new : Both) (history : List Entry) (after : List AcceptorView) (sessions : List (List ServedView)) (short : ℕ) (mail : PassView)
@@ -194,3 +208,53 @@ module _ {A W : Type 0} (door_view : A → AcceptorView) (view : W → WorkerVie
         broke = t.broke;
         no_full = t.no_full;
       }
+
+-- ---- the clerk at his seat
+
+-- He began at a seat of a pass with what was left of the parts of the first, which had put nothing; and no slot was out.
+pub record HeldRounds (lock : Lock BookOrigin) (first mid : Both) (count most : ℕ) (seat after : SeatView) (mailers mailers_after : List MailerView) (logs logs_after : SinkView) (sums sums_after : Sums) : Type 0 where
+  pub mail : first.mail ≡ bare first.mail.handed.home (2 ^ 64) first.mail.handed.began
+  pub kept : mid ≡ less lock count first
+  pub pass : seat.pass ≡ mid.mail
+  pub out : seat.out ≡ []
+  pub hands : HandsToEnd most (clerk_with (store_of seat) mailers logs sums) (clerk_with (store_of after) mailers_after logs_after sums_after)
+
+module _ (lock : Lock BookOrigin) (first mid : Both) (count most : ℕ) (seat after : SeatView) (mailers mailers_after : List MailerView) (logs logs_after : SinkView) (sums sums_after : Sums) (h : HeldRounds lock first mid count most seat after mailers mailers_after logs logs_after sums sums_after) where
+  begins : store_of seat ≡ store_at (bare first.mail.handed.home (2 ^ 64 - count) first.mail.handed.began)
+  begins = ap (λ (out : List Loan). record (store_of seat) { out = out }) h.out ∙ ap store_at (h.pass ∙ mail_left lock first mid count h.mail h.kept)
+
+  -- no slot is out then
+  pub none_out : after.out ≡ []
+  none_out =
+      (clerk_grows most first.mail.handed.home (2 ^ 64 - count) first.mail.handed.began (clerk_with (store_of seat) mailers logs sums) (clerk_with (store_of after) mailers_after logs_after sums_after) begins h.hands).out
+      ∙ h.out
+
+  still : IsKept first.mail.handed.home (2 ^ 64 - count) first.mail.handed.began after.pass
+  still =
+      clerk_keeps most first.mail.handed.home (2 ^ 64 - count) first.mail.handed.began (clerk_with (store_of seat) mailers logs sums) (clerk_with (store_of after) mailers_after logs_after sums_after) after.pass begins h.hands refl
+
+  -- the pass that comes back is of the pool, and had put nothing
+  pub own_after : (pool : PoolView) (left : PassView) → IsPassOf lock mid.book → first.mail.handed.home ≡ pool.home → left ≡ after.pass → AreOf lock pool (record { book = mid.book; mail = left })
+  own_after pool left book home is = record { book = book; mail = ap (λ (p : PassView). p.handed.home) is ∙ still.home_is ∙ home }
+
+  pub unput_after : (left : PassView) → left ≡ after.pass → left.handed.put ≡ []
+  unput_after left is = ap (λ (p : PassView). p.handed.put) is ∙ still.unput
+
+  -- what the rounds came to
+  pub hands_done : (left last mail : PassView) → most ≤ 2 ^ 32 - 1 → sums ≡ no_sums → 0 < length mailers → left ≡ after.pass → TookIn count left last → mail ≡ closed last
+      → HandsOnAll most sums_after.round sums_after.starved mail mailers mailers_after logs logs_after
+  hands_done left last mail fits none some is took closed_is =
+      let more = took.no_full in
+      let told = ap (λ (p : PassView). p.no_full) closed_is in
+      hands_all most first.mail.handed.home (2 ^ 64 - count) first.mail.handed.began (clerk_with (store_of seat) mailers logs sums) (clerk_with (store_of after) mailers_after logs_after sums_after) left mail fits h.hands begins none (has_first mailers some)
+      (ap (λ (p : PassView). Some p.handed) (sym is)) (ap (λ (p : PassView). p.no_full) (sym is))
+      (ap (λ (p : PassView). p.handed.released) closed_is ∙ took.released) (ap (λ (p : PassView). p.handed.aside) closed_is ∙ took.aside) (ap (λ (p : PassView). p.handed.broken) closed_is ∙ took.broke)
+      (omega (arith, more, told))
+
+  -- and the account
+  pub settles_done : (left last mail : PassView) (rack : StoreView) → count < 2 ^ 64 → left ≡ after.pass → TookIn count left last → mail ≡ closed last
+      → (q : Queues) × (rack ≡ rack_of q) × (last.handed.parts ≡ 2 ^ 64 → IsSettled last.handed q) → Settles first.mail.handed.began mail rack
+  settles_done left last mail rack few is took closed_is closes =
+      let all = took.parts in
+      let rest = ap (λ (p : PassView). p.handed.parts) is ∙ still.parts_are in
+      settles_all first.mail.handed.began last mail rack closes.0 (took.began ∙ ap (λ (p : PassView). p.handed.began) is ∙ still.began_is) (omega (arith, all, rest, few)) closed_is closes.1 closes.2

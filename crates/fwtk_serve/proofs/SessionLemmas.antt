@@ -1,5 +1,6 @@
 -- What sessions over one pass make of it.
 use Rattle.std.proofs.Common.{arith, ◌≡◌, refl, sym, ap, ap₂, subst, ◌∙◌, ℕ, ◌+◌, ◌-◌, ◌^◌, ◌≤◌, min, List, [], ◌∷◌, ◌++◌, flat_map, sum_by, append_assoc, append-nil}
+use Rattle.std.proofs.lemmas.List.Sums.{sum_by-cons}
 use mathlib.Core.List.{IsPrefix}
 use Rattle.auth_machine.specs.Port.{BookOrigin}
 use Rattle.auth_port.specs.Shared.{SharedOrigin}
@@ -11,8 +12,7 @@ use Rattle.gate_rules.specs.declared.verdict.Verdict.{Verdict}
 use Rattle.gate_rules.specs.declared.verdict.Verdict.TheVariants.{Permit, Deny}
 use Rattle.turn_lock.specs.Known.{Lock}
 use Rattle.turn_lock.proofs.Fronts.{front_same, front_trans}
-use Rattle.spool_pool.specs.Known.{PassView}
-use Rattle.spool_rack.specs.Store.{Handed, with_put}
+use Rattle.spool_rack.specs.Store.{with_put}
 use Rattle.spool_slots.specs.States.{FullView}
 use Rattle.fwtk_serve.specs.Passes.{Pass}
 use Rattle.fwtk_serve.specs.Sessions.{Both, Held, Sitting, WasServed, WereServed, places_of}
@@ -55,6 +55,10 @@ module _ (rules : RuleBook) (lock : Lock BookOrigin) (first last : Both) (sittin
 
 -- ---- one after the other
 
+-- the slots that all these sessions put full
+abbrev pub puts_of : List Sitting → List FullView
+puts_of sittings = flat_map (λ sitting. sitting.mailed.put) sittings
+
 module _ (rules : List (Service × RuleBook)) (lock : Lock BookOrigin) where
   -- one session more
   pub were_more : (first mid last : Both) (sittings : List Sitting) (one : Sitting) → WereServed rules lock first mid sittings → WasServed rules lock mid last one → WereServed rules lock first last (sittings ++ one ∷ [])
@@ -91,9 +95,6 @@ module _ (rules : List (Service × RuleBook)) (lock : Lock BookOrigin) where
 
   -- ---- the pass of the pool
 
-  abbrev pub puts_of : List Sitting → List FullView
-  puts_of sittings = flat_map (λ sitting. sitting.mailed.put) sittings
-
   -- nothing was put but what the sessions put
   pub put_served : (first last : Both) (sittings : List Sitting) → WereServed rules lock first last sittings → last.mail.handed ≡ with_put (puts_of sittings) first.mail.handed
   put_served first last [] were =
@@ -113,7 +114,8 @@ module _ (rules : List (Service × RuleBook)) (lock : Lock BookOrigin) where
   no_free_served first last (s ∷ ss) were =
       let one = were.first.held.no_free in
       let rest = no_free_served were.middle last ss were.more in
-      omega (arith, one, rest)
+      let sum = sum_by-cons (λ (s : Sitting). s.mailed.unslotted) s ss in
+      omega (arith, one, rest, sum)
 
   pub broken_served : (first last : Both) (sittings : List Sitting) → WereServed rules lock first last sittings
       → min (first.mail.broken + sum_by (λ (s : Sitting). s.mailed.faulted) sittings) (2 ^ 64 - 1) ≤ last.mail.broken
@@ -121,4 +123,5 @@ module _ (rules : List (Service × RuleBook)) (lock : Lock BookOrigin) where
   broken_served first last (s ∷ ss) were =
       let one = were.first.held.broken in
       let rest = broken_served were.middle last ss were.more in
-      omega (arith, one, rest)
+      let sum = sum_by-cons (λ (s : Sitting). s.mailed.faulted) s ss in
+      omega (arith, one, rest, sum)

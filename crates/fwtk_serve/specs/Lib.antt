@@ -1,4 +1,5 @@
 pub mod Accounts
+pub mod Clerks
 pub mod Full
 pub mod Mailed
 pub mod Meeting

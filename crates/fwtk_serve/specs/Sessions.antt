@@ -1,5 +1,5 @@
 -- The sessions that a server holds over one book and one pool of slots.
-use Rattle.std.specs.Prelude.{◌≡◌, ℕ, ◌+◌, ◌-◌, ◌^◌, ◌≤◌, min, false, List, [], ◌∷◌, ◌++◌, flat_map, None, Some}
+use Rattle.std.specs.Prelude.{◌≡◌, ℕ, ◌+◌, ◌-◌, ◌^◌, ◌≤◌, min, false, List, [], ◌∷◌, flat_map, None, Some}
 use Rattle.acceptors.specs.AcceptorView.{IsFresh, Visit}
 use Rattle.auth_events.specs.Port.{Port}
 use Rattle.auth_events.specs.declared.entry.Entry.{Entry}

@@ -11,7 +11,7 @@ use Rattle.fwtk_serve.specs.Mailed.{Mailed}
 use Rattle.fwtk_serve.specs.Meeting.{WorkerView}
 use Rattle.fwtk_serve.specs.Passes.{AreOf}
 use Rattle.fwtk_serve.specs.RulesFor.{rules_for}
-use Rattle.fwtk_serve.specs.Sessions.{Both, Held, ServedView, Sitting}
+use Rattle.fwtk_serve.specs.Sessions.{Both, Held, ServedView}
 use Rattle.fwtk_serve.specs.declared.step.Step.{Step}
 use Rattle.fwtk_serve.specs.declared.step.Step.TheVariants.{Served, Over, Short}
 

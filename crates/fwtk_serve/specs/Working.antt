@@ -1,7 +1,7 @@
 -- What a worker does at its door.
-use Rattle.std.specs.Prelude.{◌≡◌, ℕ, ◌^◌, ◌-◌, ◌≤◌, ◌⊎◌, min, Bool, true, false, List, [], ◌∷◌, ◌++◌, length, map, flat_map, sum_by, count_by}
+use Rattle.std.specs.Prelude.{◌≡◌, ℕ, ◌^◌, ◌-◌, ◌≤◌, ◌⊎◌, min, Bool, true, false, List, [], ◌∷◌, length, map, flat_map, sum_by, count_by}
 use Rattle.std.specs.List.Sorted.{IsStrictlyIncreasing}
-use Rattle.acceptors.specs.AcceptorView.{AcceptorView, Visit}
+use Rattle.acceptors.specs.AcceptorView.{AcceptorView}
 use Rattle.auth_events.specs.declared.entry.Entry.{Entry}
 use Rattle.auth_machine.specs.Port.{BookOrigin}
 use Rattle.fw_outside.specs.Counts.{Grew, Rose}

@@ -1,110 +1,109 @@
-//! Two tasks side by side.
+//! Work in another thread beside work in this one.
 ghost use Rattle.std.specs.Prelude.{◌≡◌};
 
 use std::snapshot::Snapshot;
 use std::sync::Wait;
 use std::thread::{self, Promise, Threads};
 
-/// What is done once.
-pub(crate) trait Task {
-    type Output;
+/// What is done once, by the thread that has it.
+pub(crate) trait Duty {
+    type Outcome;
 
-    ghost can_run: { Self → Type 0 };
+    /// When it may be done.
+    ghost may_begin: { Self → Type 0 };
 
-    ghost run_gives: { Self → Self.Output → Type 0 };
+    /// What may come of it.
+    ghost ends_with: { Self → Self.Outcome → Type 0 };
 
-    fn run(self) -> Self::Output
-        requires { can_run self }
-        ensures { run_gives self result };
+    fn perform(self) -> Self::Outcome
+        requires { may_begin self }
+        ensures { ends_with self result };
 }
 
-// A closure that is lent. It is given back, so that it is known what it left in what it captures.
+// A call of a closure that is lent. The closure comes back with what it answers, so that one knows what it left in its captures.
 #[derive(Drop)]
-struct Lent<'a, F> {
-    f: &'a mut F,
+struct Call<'a, F> {
+    closure: &'a mut F,
 }
 
-impl<'a, F: FnMut() -> A, A> Task for Lent<'a, F> {
-    type Output = (&'a mut F, A);
+impl<'a, F: FnMut() -> A, A> Duty for Call<'a, F> {
+    type Outcome = (&'a mut F, A);
 
-    ghost can_run = { λ t. F.pre t.f.now };
+    ghost may_begin = { λ call. F.pre call.closure.now };
 
-    ghost run_gives = { λ t r. (r.0.ghost_name ≡ t.f.ghost_name) × F.step t.f.now r.1 r.0.now };
+    ghost ends_with = { λ call outcome. (outcome.0.ghost_name ≡ call.closure.ghost_name)
+        × F.step call.closure.now outcome.1 outcome.0.now };
 
-    fn run(self) -> (&'a mut F, A) {
-        let Lent { f } = self;
-        let a = f();
-        (f, a)
+    fn perform(self) -> (&'a mut F, A) {
+        let Call { closure } = self;
+        let answer = closure();
+        (closure, answer)
     }
 }
 
-// That a task gives what it is said to give.
+// That of a call of this closure comes what may come of it.
 #[derive(Drop)]
-struct Given<T> {
-    task: Snapshot<T>,
+struct Kept<F> {
+    closure: Snapshot<F>,
 }
 
-impl<T: Task> Promise<T::Output> for Given<T> {
-    ghost kept_by = { λ promise result. T.run_gives promise.task.value result };
+impl<A, F: FnOnce() -> A> Promise<A> for Kept<F> {
+    ghost kept_by = { λ promise answer. F.post promise.closure.value answer };
 }
 
-// Runs the first in a new thread and the other in this one. Where no thread can be made both are run in this one, the first before
-// the other.
+// Calls the closure in a new thread, and performs the duty in this one. Where no thread can be made both are done in this one, the
+// closure before the duty.
 fn run_both<H, S, T, A, B>(rt: &H, there: S, here: T) -> (A, B)
 where
     H: Threads + Wait,
-    S: Task<Output = A> + Send + Drop,
-    T: Task<Output = B> + Drop,
+    S: FnOnce() -> A + Send + Drop,
+    T: Duty<Outcome = B> + Drop,
     A: Send + Drop,
-    requires { S.can_run there × T.can_run here }
-    ensures { S.run_gives there result.0 × T.run_gives here result.1 }
+    requires { S.pre there × T.may_begin here }
+    ensures { S.post there result.0 × T.ends_with here result.1 }
 {
     thread::scope(
         thread::scope_env(),
         rt,
         move |scope| -> (A, B)
-            requires { S.can_run there × T.can_run here }
-            ensures { S.run_gives there result.0 × T.run_gives here result.1 }
+            requires { S.pre there × T.may_begin here }
+            ensures { S.post there result.0 × T.ends_with here result.1 }
         {
-            let promise = Given {
-                task: Snapshot::of(&there),
+            let promise = Kept {
+                closure: Snapshot::of(&there),
             };
-            let task = move || -> A
-                requires { S.can_run there }
-                ensures { S.run_gives there result }
-            { there.run() };
-            match scope.spawn_with(promise, task) {
+            match scope.spawn_with(promise, there) {
                 Ok(handle) => {
-                    let own = here.run();
+                    let own = here.perform();
                     (handle.join(rt), own)
                 }
                 Err(refused) => {
                     let other = (refused.value)();
-                    (other, here.run())
+                    (other, here.perform())
                 }
             }
         },
     )
 }
 
-// Does nothing. By this use of a reference that is given back the borrow checker knows whose it is.
-fn take_back<T>(x: &mut T)
-    ensures { x.new ≡ x.old }
+// A last look at what was lent. It changes nothing, but by it the borrow checker knows that the loan came from the caller.
+fn look_back<T>(lent: &mut T)
+    ensures { lent.new ≡ lent.old }
 {}
 
-/// Runs the task in a new thread, and the closure in this one. Where no thread can be made both are run in this one, the task before
-/// the closure, which may so wait for the task's end.
+/// Calls the one closure in a new thread, and the other, which is lent, in this one. Where no thread can be made both are called in
+/// this one, the one before the other, which so may wait for its end.
 pub(crate) fn run_beside<H, S, F, A, B>(rt: &H, there: S, here: &mut F) -> (A, B)
 where
     H: Threads + Wait,
-    S: Task<Output = A> + Send + Drop,
+    S: FnOnce() -> A + Send + Drop,
     F: FnMut() -> B,
     A: Send + Drop,
-    requires { S.can_run there × F.pre here.old }
-    ensures there { S.run_gives there result.0 }
+    requires { S.pre there × F.pre here.old }
+    ensures there { S.post there result.0 }
     ensures here { F.step here.old result.1 here.new }
 {
-    let (a, (f, b)) = run_both(rt, there, Lent { f: here });
-    take_back(f);
-    (a, b)
+    let (other, (closure, answer)) = run_both(rt, there, Call { closure: here });
+    look_back(closure);
+    (other, answer)
 }

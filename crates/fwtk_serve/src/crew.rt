@@ -4,7 +4,6 @@ ghost use Rattle.fwtk_serve.specs.Meeting.{HasWorked, HaveWorked, IsReady};
 ghost use Rattle.fwtk_serve.specs.RulesFor.{MayServe, no_rules};
 ghost use Rattle.fwtk_serve.specs.Stepping.{worker_with};
 
-use crate::beside::Task;
 use crate::passes::PassesOf;
 use crate::worker::{Worker, WorkerOf};
 use crate::working::work;
@@ -61,21 +60,17 @@ where
     for_each_mut(rt, workers, threads, &at_door);
 }
 
-/// All workers, with what they share; and where it is told that all have ended.
-#[derive(Drop)]
-pub(crate) struct Crew<'a, H, R, N, T, P, W> {
-    pub(crate) rt: &'a H,
-    pub(crate) alloc: Global,
-    pub(crate) rules: &'a [R],
-    pub(crate) none: &'a N,
-    pub(crate) turns: &'a T,
-    pub(crate) pool: &'a P,
-    pub(crate) ended: &'a AtomicU64,
-    pub(crate) workers: Vec<W>,
-}
-
-impl<'a, H, K, A, D> Task
-    for Crew<'a, H, (Service, Rules), Rules, Turns<Book<K>>, Pool<D>, WorkerOf<A, K, D>>
+/// All workers work, and then it is told that all have ended.
+pub(crate) fn work_all<H, K, A, D>(
+    rt: &H,
+    alloc: Global,
+    rules: &[(Service, Rules)],
+    none: &Rules,
+    turns: &Turns<Book<K>>,
+    pool: &Pool<D>,
+    ended: &AtomicU64,
+    workers: Vec<WorkerOf<A, K, D>>,
+) -> Vec<WorkerOf<A, K, D>>
 where
     H: Threads + Wait + Sync,
     K: Keeper + Send,
@@ -86,31 +81,16 @@ where
     A::Rand: Send,
     <A::Dial as Dialer>::Door: Send,
     D: Disk + Send,
+    requires none { none.now ≡ no_rules }
+    requires may { All MayServe rules.now }
+    requires ready { All (λ w. IsReady turns.now pool.now
+        (worker_with (A.acceptor_view w.door) w.sessions.items w.short w.passes)) workers.items }
+    ensures { HaveWorked rules.now turns.now pool.now
+        (map (λ w. worker_with (A.acceptor_view w.door) w.sessions.items w.short w.passes) workers.items)
+        (map (λ w. worker_with (A.acceptor_view w.door) w.sessions.items w.short w.passes) result.items) }
 {
-    type Output = Vec<WorkerOf<A, K, D>>;
-
-    ghost can_run = { λ crew. (crew.none.now ≡ no_rules) × All MayServe crew.rules.now
-        × All (λ w. IsReady crew.turns.now crew.pool.now
-        (worker_with (A.acceptor_view w.door) w.sessions.items w.short w.passes)) crew.workers.items };
-
-    ghost run_gives = { λ crew workers. HaveWorked crew.rules.now crew.turns.now crew.pool.now
-        (map (λ w. worker_with (A.acceptor_view w.door) w.sessions.items w.short w.passes) crew.workers.items)
-        (map (λ w. worker_with (A.acceptor_view w.door) w.sessions.items w.short w.passes) workers.items) };
-
-    fn run(self) -> Vec<WorkerOf<A, K, D>> {
-        let Crew {
-            rt,
-            alloc,
-            rules,
-            none,
-            turns,
-            pool,
-            ended,
-            workers,
-        } = self;
-        let mut workers = workers;
-        all_work(rt, alloc, rules, none, turns, pool, workers.as_mut_slice());
-        ended.store(1, Ordering::SeqCst);
-        workers
-    }
+    let mut workers = workers;
+    all_work(rt, alloc, rules, none, turns, pool, workers.as_mut_slice());
+    ended.store(1, Ordering::SeqCst);
+    workers
 }

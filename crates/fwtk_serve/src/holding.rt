@@ -1,8 +1,10 @@
 //! One session.
+ghost use Rattle.std.specs.Prelude.{◌≡◌};
 ghost use Rattle.client_service.specs.Conn.{IsServed};
 ghost use Rattle.fwtk_serve.specs.Passes.{AreOf};
-ghost use Rattle.fwtk_serve.specs.Sessions.{visit_with};
+ghost use Rattle.fwtk_serve.specs.Sessions.{GoesAs, devices_of, visit_with};
 ghost use Rattle.fwtk_serve.specs.Stepping.{Holds};
+ghost use Rattle.spool_pool.specs.Known.{store_of};
 
 use crate::passes::{Passes, PassesOf};
 use crate::report::Served;
@@ -11,11 +13,55 @@ use auth_port::{Book, SharedBook, Turns};
 use client_service::conn;
 use fw_disk::Disk;
 use fw_outside::Keeper;
+use fw_types::Ending;
 use gate_rules::Rules;
 use spool_pool::{Pool, PoolSeat};
 use std::alloc::Global;
 use std::sync::Wait;
 use std::thread::Threads;
+
+// The session of a client, over this port and this seat.
+fn attend<'b, 's, H, K, A, D>(
+    rt: &H,
+    alloc: Global,
+    rules: &Rules,
+    port: &mut SharedBook<'b, H, K>,
+    seat: &mut PoolSeat<'s, H, D>,
+    caller: &mut CallerOf<A>,
+) -> Ending
+where
+    H: Threads + Wait + Sync,
+    K: Keeper,
+    A: Acceptor,
+    D: Disk,
+    requires service { IsServed caller.old.service rules.now }
+    ensures goes { GoesAs caller.old.service rules.now caller.old.peer result
+        (devices_of (visit_with caller.old.service caller.old.peer (A.From.source_view caller.old.from)
+        (A.To.sink_view caller.old.to) (A.Logs.sink_view caller.old.logs) (A.Dial.dialer_view caller.old.dialer)
+        (A.Tick.clock_view caller.old.clock) (A.Rand.dice_view caller.old.dice)) port.old (store_of seat.old))
+        (devices_of (visit_with caller.new.service caller.new.peer (A.From.source_view caller.new.from)
+        (A.To.sink_view caller.new.to) (A.Logs.sink_view caller.new.logs) (A.Dial.dialer_view caller.new.dialer)
+        (A.Tick.clock_view caller.new.clock) (A.Rand.dice_view caller.new.dice)) port.new (store_of seat.new)) }
+    ensures service { caller.new.service ≡ caller.old.service }
+    ensures peer { caller.new.peer ≡ caller.old.peer }
+    ensures origin { port.new.origin ≡ port.old.origin }
+{
+    conn(
+        rt,
+        alloc,
+        &caller.service,
+        rules,
+        &caller.peer,
+        port,
+        &mut caller.from,
+        &mut caller.to,
+        &mut caller.logs,
+        &mut caller.dialer,
+        seat,
+        &mut caller.clock,
+        &mut caller.dice,
+    )
+}
 
 /// Serves a client by these rules, over the port and the mail store of these passes. What it leaves of the client's devices, what
 /// the passes know then, and what is reported.
@@ -49,21 +95,7 @@ where
     let Passes { book, mail } = passes;
     let mut port = SharedBook::new(rt, alloc, turns, book);
     let mut seat = PoolSeat::new(rt, pool, mail);
-    let ending = conn(
-        rt,
-        alloc,
-        &caller.service,
-        rules,
-        &caller.peer,
-        &mut port,
-        &mut caller.from,
-        &mut caller.to,
-        &mut caller.logs,
-        &mut caller.dialer,
-        &mut seat,
-        &mut caller.clock,
-        &mut caller.dice,
-    );
+    let ending = attend::<H, K, A, D>(rt, alloc, rules, &mut port, &mut seat, &mut caller);
     let (book, places) = port.into_pass();
     let mail = seat.into_pass();
     let served = Served {

@@ -1,5 +1,5 @@
 //! A server.
-ghost use Rattle.std.specs.Prelude.{◌≡◌, ◌-◌, ◌^◌, ◌<◌, ◌≤◌, [], All, IfErr, IfOk, IfSome, length, map, min};
+ghost use Rattle.std.specs.Prelude.{◌≡◌, ℕ, ◌-◌, ◌^◌, ◌<◌, ◌≤◌, [], All, IfErr, IfOk, IfSome, length, map, min};
 ghost use Rattle.std.specs.Vec.{vec_capacity};
 ghost use Rattle.auth_machine.specs.History.{CountsUnkept, HasRecords, IsLegal};
 ghost use Rattle.auth_machine.specs.Port.{book_origin};
@@ -15,7 +15,7 @@ ghost use mathlib.Core.List.{IsPrefix};
 
 use crate::beside::run_beside;
 use crate::choosing::no_rules;
-use crate::crew::Crew;
+use crate::crew::work_all;
 use crate::handing_on::{hand_on, hand_on_meanwhile};
 use crate::meeting::{Gathered, meet_all};
 use crate::passes::{Passes, PassesOf};
@@ -50,8 +50,68 @@ fn close<K: Keeper>(book: Book<K>) -> (K, Vec<Entry>)
     book.close()
 }
 
-// All workers work, in threads of theirs. Meanwhile mail is handed on in this one, in rounds of at most so many turns, and once
-// more when all have ended.
+// All workers work, in threads of theirs. Meanwhile mail is handed on in this one, in rounds of at most so many turns.
+fn serve_meanwhile<'a, H, K, A, D, G, P>(
+    rt: &'a H,
+    alloc: Global,
+    rules: &[(Service, Rules)],
+    none: &Rules,
+    turns: &Turns<Book<K>>,
+    pool: &'a Pool<D>,
+    workers: Vec<WorkerOf<A, K, D>>,
+    seat: &mut PoolSeat<'a, H, D>,
+    mailers: &mut Vec<Box<dyn Mailer>>,
+    each: u32,
+    logs: &mut G,
+    pacer: &mut P,
+    sums: &mut Sums,
+) -> Vec<WorkerOf<A, K, D>>
+where
+    H: Threads + Wait + Sync,
+    K: Keeper + Send,
+    A: Acceptor + Send,
+    A::Logs: Send,
+    A::Dial: Send,
+    A::Tick: Send,
+    A::Rand: Send,
+    <A::Dial as Dialer>::Door: Send,
+    D: Disk + Send,
+    G: Sink,
+    P: Pacer,
+    requires none { none.now ≡ no_rules }
+    requires may { All MayServe rules.now }
+    requires ready { All (λ w. IsReady turns.now pool.now
+        (worker_with (A.acceptor_view w.door) w.sessions.items w.short w.passes)) workers.items }
+    requires some { 0 < length mailers.old.items }
+    ensures workers { HaveWorked rules.now turns.now pool.now
+        (map (λ w. worker_with (A.acceptor_view w.door) w.sessions.items w.short w.passes) workers.items)
+        (map (λ w. worker_with (A.acceptor_view w.door) w.sessions.items w.short w.passes) result.items) }
+    ensures hands { HandsMore each
+        (clerk_with (store_of seat.old) (map (λ m. mailer_view m) mailers.old.items) (G.sink_view logs.old) sums.old)
+        (clerk_with (store_of seat.new) (map (λ m. mailer_view m) mailers.new.items) (G.sink_view logs.new) sums.new) }
+    ensures many { length mailers.new.items ≡ length mailers.old.items }
+{
+    let ended = AtomicU64::new(0);
+    let told = &ended;
+    let crew = move || -> Vec<WorkerOf<A, K, D>>
+        requires { (none.now ≡ no_rules) × All MayServe rules.now
+            × All (λ w. IsReady turns.now pool.now (worker_with (A.acceptor_view w.door) w.sessions.items w.short w.passes)) workers.items }
+        ensures { HaveWorked rules.entry.now turns.entry.now pool.entry.now
+            (map (λ w. worker_with (A.acceptor_view w.door) w.sessions.items w.short w.passes) workers.items)
+            (map (λ w. worker_with (A.acceptor_view w.door) w.sessions.items w.short w.passes) result.items) }
+    { work_all(rt, alloc, rules, none, turns, pool, told, workers) };
+    let mut meanwhile = ||
+        requires { 0 < length mailers.now.items }
+        ensures { HandsMore each
+            (clerk_with (store_of seat.entry.now) (map (λ m. mailer_view m) mailers.entry.now.items) (G.sink_view logs.entry.now) sums.entry.now)
+            (clerk_with (store_of seat.exit.now) (map (λ m. mailer_view m) mailers.exit.now.items) (G.sink_view logs.exit.now) sums.exit.now)
+            × (length mailers.exit.now.items ≡ length mailers.entry.now.items) }
+    { hand_on_meanwhile(rt, alloc, told, pacer, seat, mailers, each, logs, sums) };
+    let (workers, ()) = run_beside(rt, crew, &mut meanwhile);
+    workers
+}
+
+// So, and mail is handed on once more when all workers have ended.
 fn serve_all<'a, H, K, A, D, G, P>(
     rt: &'a H,
     alloc: Global,
@@ -91,26 +151,9 @@ where
         (clerk_with (store_of seat.old) (map (λ m. mailer_view m) mailers.old.items) (G.sink_view logs.old) sums.old)
         (clerk_with (store_of seat.new) (map (λ m. mailer_view m) mailers.new.items) (G.sink_view logs.new) sums.new) }
 {
-    let ended = AtomicU64::new(0);
-    let told = &ended;
-    let crew = Crew {
-        rt,
-        alloc,
-        rules,
-        none,
-        turns,
-        pool,
-        ended: told,
-        workers,
-    };
-    let mut meanwhile = ||
-        requires { 0 < length mailers.now.items }
-        ensures { HandsMore each
-            (clerk_with (store_of seat.entry.now) (map (λ m. mailer_view m) mailers.entry.now.items) (G.sink_view logs.entry.now) sums.entry.now)
-            (clerk_with (store_of seat.exit.now) (map (λ m. mailer_view m) mailers.exit.now.items) (G.sink_view logs.exit.now) sums.exit.now)
-            × (length mailers.exit.now.items ≡ length mailers.entry.now.items) }
-    { hand_on_meanwhile(rt, alloc, told, pacer, seat, mailers, each, logs, sums) };
-    let (workers, ()) = run_beside(rt, crew, &mut meanwhile);
+    let workers = serve_meanwhile(
+        rt, alloc, rules, none, turns, pool, workers, seat, mailers, each, logs, pacer, sums,
+    );
     hand_on(alloc, seat, mailers, each, logs, sums);
     workers
 }
@@ -179,10 +222,8 @@ where
         rt, alloc, rules, none, &turns, &pool, workers, &mut seat, mailers, each, logs, pacer,
         &mut sums,
     );
-    let mut passes = Passes {
-        book,
-        mail: seat.into_pass(),
-    };
+    let mail = seat.into_pass();
+    let mut passes = Passes { book, mail };
     let Gathered {
         doors,
         sessions,
@@ -204,7 +245,7 @@ where
     }
 }
 
-// As many turns as there are slots, as a number of 32 bits.
+// As many turns as there may be slots, as a number of 32 bits.
 fn turns_for(slots: usize) -> u32
     ensures { result ≡ min slots (2 ^ 32 - 1) }
 {
@@ -216,8 +257,8 @@ fn turns_for(slots: usize) -> u32
 /// started is run by the thread of another, behind that one's work, and if none at all can be started by this one. Before each
 /// client its worker takes the memory to report it; a worker that finds none ends.
 ///
-/// Meanwhile this thread hands on mail, in rounds of as many turns as there are slots, with a rest after each, until all workers
-/// have ended, and once more. A round that fails adds the numbers that it came to, and the next one follows.
+/// Meanwhile this thread hands on mail, in rounds of as many turns as the rack has room for slots, with a rest after each, until all
+/// workers have ended, and once more. A round that fails adds the numbers that it came to, and the next one follows.
 ///
 /// It waits for the clients, so that it returns isn't promised. Want of memory is answered before any client is served, and what
 /// was handed in by value is dropped then: so it is in the code, and no clause says it, but that neither mailers nor log were used.
@@ -256,16 +297,16 @@ where
     ensures unkept { IfOk result (λ report. CountsUnkept book.failed_before report.history.items
         (K.keeper_view report.keeper)) }
     // Of each door, in order: the clients that it handed out and took back, where it tells them, with the session of each over
-    // its devices, and the door's end. No entry is of two sessions. What was put into the spool is what the sessions kept, in
-    // their order, and all that failed there is counted.
+    // its devices, and the door's end. Each entry that came to what the book had is of exactly one session. What was put into the
+    // spool is what the sessions kept, in their order, and all that failed there is counted.
     ensures doors { IfOk result (λ report. ServedAll rules.now book.history report.history.items book.limit (book_origin book)
         (map A.acceptor_view doors.items) (map A.acceptor_view report.doors.items)
         (map (λ s. s.items) report.sessions.items) report.short report.mail) }
-    // The mail was handed on in rounds as `smapd_round` says: what was released, set aside and broke, what the mailers took, by
-    // which lines the log grew, and what the rounds add up to.
-    ensures hands { IfOk result (λ report. IfSome rack.queues (λ q. HandsOnAll (turns_for q) report.round report.starved
-        report.mail (map (λ m. mailer_view m) mailers.old.items) (map (λ m. mailer_view m) mailers.new.items)
-        (G.sink_view logs.old) (G.sink_view logs.new))) }
+    // The mail was handed on in rounds as `smapd_round` says, of at least as many turns as there are slots: what was released, set
+    // aside and broke, what the mailers took, by which lines the log grew, and what the rounds add up to.
+    ensures hands { IfOk result (λ report. IfSome rack.queues (λ q. (most : ℕ) × (turns_for q ≤ most) × HandsOnAll most
+        report.round report.starved report.mail (map (λ m. mailer_view m) mailers.old.items)
+        (map (λ m. mailer_view m) mailers.new.items) (G.sink_view logs.old) (G.sink_view logs.new))) }
     // No message is lost, and none stands twice: those that were in the rack, and those that were put, are those that were
     // released or set aside, and those that are in the rack now.
     ensures settles { IfOk result (λ report. IfSome rack.queues (λ q. Settles q report.mail report.rack)) }
@@ -279,7 +320,7 @@ where
         sessions: Vec::with_capacity(alloc, doors.len())?,
         short: 0,
     };
-    let each = turns_for(rack.count());
+    let each = turns_for(rack.room());
     match Pool::new(rt, alloc, rack) {
         Ok((pool, mail)) => match Turns::new(alloc, book) {
             Ok((turns, book)) => Ok(serve_over(

@@ -1,6 +1,6 @@
 //! What rounds of handing on mail come to.
 ghost use Rattle.std.specs.Prelude.{◌≡◌, ◌+◌, ◌-◌, ◌^◌, if◌then◌else◌, min};
-ghost use Rattle.fwtk_serve.specs.Clerks.{SumsView, no_sums, with_answer, with_round};
+ghost use Rattle.fwtk_serve.specs.Clerks.{no_sums, with_answer, with_round};
 ghost use Rattle.fwtk_serve.specs.Rounds.{is_starved, numbers_in};
 
 use smapd_queue::{Round, RoundFault};

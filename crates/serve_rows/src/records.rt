@@ -1,5 +1,5 @@
 //! A book of two users, and rules that let every client of `authsrv` or of `smap` in.
-ghost use Rattle.std.specs.Prelude.{◌≡◌, IfSome};
+ghost use Rattle.std.specs.Prelude.{IfSome};
 ghost use Rattle.fwtk_serve.specs.RulesFor.{MayServe};
 
 use auth_machine::{Book, Policy};

@@ -1,8 +1,8 @@
 //! The spool of the scenes, and who hands its mail on.
-ghost use Rattle.std.specs.Prelude.{◌<◌, ◌≤◌, IfOk, length};
+ghost use Rattle.std.specs.Prelude.{◌<◌, IfOk, length};
 
 use acceptors::Pacer;
-use fw_mail::{Mailer, Message};
+use fw_mail::Mailer;
 use fw_memory::{Calls, MemDisk, MemMailer};
 use fw_types::{NoMemory, Octets};
 use spool_rack::Rack;
