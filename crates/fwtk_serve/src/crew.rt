@@ -61,6 +61,39 @@ where
     for_each_mut(rt, workers, threads, &at_door);
 }
 
+// The same of workers by value, which are given back.
+fn have_worked<H, K, A, D>(
+    rt: &H,
+    alloc: Global,
+    rules: &[(Service, Rules)],
+    none: &Rules,
+    turns: &Turns<Book<K>>,
+    pool: &Pool<D>,
+    workers: Vec<WorkerOf<A, K, D>>,
+) -> Vec<WorkerOf<A, K, D>>
+where
+    H: Threads + Wait + Sync,
+    K: Keeper + Send,
+    A: Acceptor + Send,
+    A::Logs: Send,
+    A::Dial: Send,
+    A::Tick: Send,
+    A::Rand: Send,
+    <A::Dial as Dialer>::Door: Send,
+    D: Disk + Send,
+    requires none { none.now ≡ no_rules }
+    requires may { All MayServe rules.now }
+    requires ready { All (λ w. IsReady turns.now pool.now
+        (worker_with (A.acceptor_view w.door) w.sessions.items w.short w.passes)) workers.items }
+    ensures { HaveWorked rules.now turns.now pool.now
+        (map (λ w. worker_with (A.acceptor_view w.door) w.sessions.items w.short w.passes) workers.items)
+        (map (λ w. worker_with (A.acceptor_view w.door) w.sessions.items w.short w.passes) result.items) }
+{
+    let mut workers = workers;
+    all_work(rt, alloc, rules, none, turns, pool, workers.as_mut_slice());
+    workers
+}
+
 /// All workers, with what they share; and where it is told that all have ended.
 #[derive(Drop)]
 pub(crate) struct Crew<'a, H, R, N, T, P, W> {
@@ -108,9 +141,8 @@ where
             ended,
             workers,
         } = self;
-        let mut workers = workers;
-        all_work(rt, alloc, rules, none, turns, pool, workers.as_mut_slice());
+        let worked = have_worked(rt, alloc, rules, none, turns, pool, workers);
         ended.store(1, Ordering::SeqCst);
-        workers
+        worked
     }
 }
