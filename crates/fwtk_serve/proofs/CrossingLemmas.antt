@@ -41,3 +41,9 @@ pub six_sync : (name : Sym) (A B C D E F : RattleType) → IsSync A → IsSync B
 six_sync name A B C D E F a b c d e f =
     let all = A ∷ B ∷ C ∷ D ∷ E ∷ F ∷ [] in
     recorded_sync (field_at name all).row _ _ (type_at name all).to_one (struct_sync (shape (type_at name all)) (a, (b, (c, (d, (e, (f, tt)))))))
+
+-- and sent where each of its eight may
+pub eight_send : (name : Sym) (A B C D E F G H : RattleType) → IsSend A → IsSend B → IsSend C → IsSend D → IsSend E → IsSend F → IsSend G → IsSend H → IsSend (TupleAt name (A ∷ B ∷ C ∷ D ∷ E ∷ F ∷ G ∷ H ∷ []))
+eight_send name A B C D E F G H a b c d e f g h =
+    let all = A ∷ B ∷ C ∷ D ∷ E ∷ F ∷ G ∷ H ∷ [] in
+    recorded_send (field_at name all).row _ _ (type_at name all).to_one (struct_send (shape (type_at name all)) (a, (b, (c, (d, (e, (f, (g, (h, tt)))))))))

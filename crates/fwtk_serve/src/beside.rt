@@ -1,4 +1,4 @@
-//! Two duties side by side.
+//! Work in another thread beside work in this one.
 ghost use Rattle.std.specs.Prelude.{◌≡◌};
 
 use std::snapshot::Snapshot;
@@ -41,42 +41,38 @@ impl<'a, F: FnMut() -> A, A> Duty for Call<'a, F> {
     }
 }
 
-// That of this duty comes what may come of it.
+// That of a call of this closure comes what may come of it.
 #[derive(Drop)]
-struct Kept<T> {
-    duty: Snapshot<T>,
+struct Kept<F> {
+    closure: Snapshot<F>,
 }
 
-impl<T: Duty> Promise<T::Outcome> for Kept<T> {
-    ghost kept_by = { λ promise outcome. T.ends_with promise.duty.value outcome };
+impl<A, F: FnOnce() -> A> Promise<A> for Kept<F> {
+    ghost kept_by = { λ promise answer. F.post promise.closure.value answer };
 }
 
-// Runs the first in a new thread and the other in this one. Where no thread can be made both are run in this one, the first before
-// the other.
+// Calls the closure in a new thread, and performs the duty in this one. Where no thread can be made both are done in this one, the
+// closure before the duty.
 fn run_both<H, S, T, A, B>(rt: &H, there: S, here: T) -> (A, B)
 where
     H: Threads + Wait,
-    S: Duty<Outcome = A> + Send + Drop,
+    S: FnOnce() -> A + Send + Drop,
     T: Duty<Outcome = B> + Drop,
     A: Send + Drop,
-    requires { S.may_begin there × T.may_begin here }
-    ensures { S.ends_with there result.0 × T.ends_with here result.1 }
+    requires { S.pre there × T.may_begin here }
+    ensures { S.post there result.0 × T.ends_with here result.1 }
 {
     thread::scope(
         thread::scope_env(),
         rt,
         move |scope| -> (A, B)
-            requires { S.may_begin there × T.may_begin here }
-            ensures { S.ends_with there result.0 × T.ends_with here result.1 }
+            requires { S.pre there × T.may_begin here }
+            ensures { S.post there result.0 × T.ends_with here result.1 }
         {
             let promise = Kept {
-                duty: Snapshot::of(&there),
+                closure: Snapshot::of(&there),
             };
-            let task = move || -> A
-                requires { S.may_begin there }
-                ensures { S.ends_with there result }
-            { there.perform() };
-            match scope.spawn_with(promise, task) {
+            match scope.spawn_with(promise, there) {
                 Ok(handle) => {
                     let own = here.perform();
                     (handle.join(rt), own)
@@ -95,19 +91,19 @@ fn look_back<T>(lent: &mut T)
     ensures { lent.new ≡ lent.old }
 {}
 
-/// Performs the duty in a new thread, and calls the closure in this one. Where no thread can be made both are done in this one, the
-/// duty before the closure, which so may wait for the duty's end.
+/// Calls the one closure in a new thread, and the other, which is lent, in this one. Where no thread can be made both are called in
+/// this one, the one before the other, which so may wait for its end.
 pub(crate) fn run_beside<H, S, F, A, B>(rt: &H, there: S, here: &mut F) -> (A, B)
 where
     H: Threads + Wait,
-    S: Duty<Outcome = A> + Send + Drop,
+    S: FnOnce() -> A + Send + Drop,
     F: FnMut() -> B,
     A: Send + Drop,
-    requires { S.may_begin there × F.pre here.old }
-    ensures there { S.ends_with there result.0 }
+    requires { S.pre there × F.pre here.old }
+    ensures there { S.post there result.0 }
     ensures here { F.step here.old result.1 here.new }
 {
-    let (outcome, (closure, answer)) = run_both(rt, there, Call { closure: here });
+    let (other, (closure, answer)) = run_both(rt, there, Call { closure: here });
     look_back(closure);
-    (outcome, answer)
+    (other, answer)
 }

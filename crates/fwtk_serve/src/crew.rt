@@ -4,7 +4,6 @@ ghost use Rattle.fwtk_serve.specs.Meeting.{HasWorked, HaveWorked, IsReady};
 ghost use Rattle.fwtk_serve.specs.RulesFor.{MayServe, no_rules};
 ghost use Rattle.fwtk_serve.specs.Stepping.{worker_with};
 
-use crate::beside::Duty;
 use crate::passes::PassesOf;
 use crate::worker::{Worker, WorkerOf};
 use crate::working::work;
@@ -61,14 +60,20 @@ where
     for_each_mut(rt, workers, threads, &at_door);
 }
 
+<<<<<<< HEAD
 // The same of workers by value, which are given back.
 fn have_worked<H, K, A, D>(
+=======
+/// All workers work, and then it is told that all have ended.
+pub(crate) fn work_all<H, K, A, D>(
+>>>>>>> d2c8b0f43c757362f4400e6313929da3dff4c3db
     rt: &H,
     alloc: Global,
     rules: &[(Service, Rules)],
     none: &Rules,
     turns: &Turns<Book<K>>,
     pool: &Pool<D>,
+<<<<<<< HEAD
     workers: Vec<WorkerOf<A, K, D>>,
 ) -> Vec<WorkerOf<A, K, D>>
 where
@@ -109,6 +114,11 @@ pub(crate) struct Crew<'a, H, R, N, T, P, W> {
 
 impl<'a, H, K, A, D> Duty
     for Crew<'a, H, (Service, Rules), Rules, Turns<Book<K>>, Pool<D>, WorkerOf<A, K, D>>
+=======
+    ended: &AtomicU64,
+    workers: Vec<WorkerOf<A, K, D>>,
+) -> Vec<WorkerOf<A, K, D>>
+>>>>>>> d2c8b0f43c757362f4400e6313929da3dff4c3db
 where
     H: Threads + Wait + Sync,
     K: Keeper + Send,
@@ -119,7 +129,15 @@ where
     A::Rand: Send,
     <A::Dial as Dialer>::Door: Send,
     D: Disk + Send,
+    requires none { none.now ≡ no_rules }
+    requires may { All MayServe rules.now }
+    requires ready { All (λ w. IsReady turns.now pool.now
+        (worker_with (A.acceptor_view w.door) w.sessions.items w.short w.passes)) workers.items }
+    ensures { HaveWorked rules.now turns.now pool.now
+        (map (λ w. worker_with (A.acceptor_view w.door) w.sessions.items w.short w.passes) workers.items)
+        (map (λ w. worker_with (A.acceptor_view w.door) w.sessions.items w.short w.passes) result.items) }
 {
+<<<<<<< HEAD
     type Outcome = Vec<WorkerOf<A, K, D>>;
 
     ghost may_begin = { λ crew. (crew.none.now ≡ no_rules) × All MayServe crew.rules.now
@@ -145,4 +163,10 @@ where
         ended.store(1, Ordering::SeqCst);
         worked
     }
+=======
+    let mut workers = workers;
+    all_work(rt, alloc, rules, none, turns, pool, workers.as_mut_slice());
+    ended.store(1, Ordering::SeqCst);
+    workers
+>>>>>>> d2c8b0f43c757362f4400e6313929da3dff4c3db
 }

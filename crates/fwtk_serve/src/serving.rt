@@ -15,7 +15,7 @@ ghost use mathlib.Core.List.{IsPrefix};
 
 use crate::beside::run_beside;
 use crate::choosing::no_rules;
-use crate::crew::Crew;
+use crate::crew::work_all;
 use crate::handing_on::{hand_on, hand_on_meanwhile};
 use crate::meeting::{Gathered, meet_all};
 use crate::passes::{Passes, PassesOf};
@@ -93,16 +93,13 @@ where
 {
     let ended = AtomicU64::new(0);
     let told = &ended;
-    let crew = Crew {
-        rt,
-        alloc,
-        rules,
-        none,
-        turns,
-        pool,
-        ended: told,
-        workers,
-    };
+    let crew = move || -> Vec<WorkerOf<A, K, D>>
+        requires { (none.now ≡ no_rules) × All MayServe rules.now
+            × All (λ w. IsReady turns.now pool.now (worker_with (A.acceptor_view w.door) w.sessions.items w.short w.passes)) workers.items }
+        ensures { HaveWorked rules.entry.now turns.entry.now pool.entry.now
+            (map (λ w. worker_with (A.acceptor_view w.door) w.sessions.items w.short w.passes) workers.items)
+            (map (λ w. worker_with (A.acceptor_view w.door) w.sessions.items w.short w.passes) result.items) }
+    { work_all(rt, alloc, rules, none, turns, pool, told, workers) };
     let mut meanwhile = ||
         requires { 0 < length mailers.now.items }
         ensures { HandsMore each

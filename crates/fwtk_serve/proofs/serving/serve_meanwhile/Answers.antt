@@ -7,8 +7,7 @@ use Rattle.spool_pool.proofs.pass.PoolPass.TheSendSync as PoolPass
 use Rattle.spool_pool.proofs.pool.Pool.TheSendSync as Pool
 use Rattle.turn_lock.proofs.pass.Pass.TheSendSync as Pass
 use Rattle.turn_lock.proofs.turns.Turns.TheSendSync as Turns
-use Rattle.fwtk_serve.proofs.CrossingLemmas.{book_send}
-use Rattle.fwtk_serve.proofs.crew.Crew.TheSendSync as Crew
+use Rattle.fwtk_serve.proofs.CrossingLemmas.{book_send, eight_send}
 use Rattle.fwtk_serve.proofs.passes.Passes.TheSendSync as Passes
 use Rattle.fwtk_serve.proofs.worker.Worker.TheSendSync as Worker
 use Rattle.fwtk_serve.proofs.serving.serve_meanwhile.Goals as goal
@@ -19,7 +18,7 @@ run_beside-workers-requires-send-S g c κs within =
     let a = c.type_bounds.send-A in
     let h = c.type_bounds.sync-H in
     let d = c.type_bounds.send-D in
-    search (Crew.the_send, Worker.the_send, Passes.the_send, Pass.the_send, PoolPass.the_send, Turns.the_sync, Pool.the_sync, Rules.the_sync, Service.the_sync, book_send, sendable, crosses) depth 30 fits 20000
+    search (eight_send, Worker.the_send, Passes.the_send, Pass.the_send, PoolPass.the_send, Turns.the_sync, Pool.the_sync, Rules.the_sync, Service.the_sync, book_send, sendable, crosses) depth 30 fits 20000
 
 pub run_beside-workers-requires-send-A : goal.run_beside-workers-requires-send-A
 run_beside-workers-requires-send-A g c κs within =
