@@ -60,65 +60,17 @@ where
     for_each_mut(rt, workers, threads, &at_door);
 }
 
-<<<<<<< HEAD
-// The same of workers by value, which are given back.
-fn have_worked<H, K, A, D>(
-=======
 /// All workers work, and then it is told that all have ended.
 pub(crate) fn work_all<H, K, A, D>(
->>>>>>> d2c8b0f43c757362f4400e6313929da3dff4c3db
     rt: &H,
     alloc: Global,
     rules: &[(Service, Rules)],
     none: &Rules,
     turns: &Turns<Book<K>>,
     pool: &Pool<D>,
-<<<<<<< HEAD
-    workers: Vec<WorkerOf<A, K, D>>,
-) -> Vec<WorkerOf<A, K, D>>
-where
-    H: Threads + Wait + Sync,
-    K: Keeper + Send,
-    A: Acceptor + Send,
-    A::Logs: Send,
-    A::Dial: Send,
-    A::Tick: Send,
-    A::Rand: Send,
-    <A::Dial as Dialer>::Door: Send,
-    D: Disk + Send,
-    requires none { none.now ≡ no_rules }
-    requires may { All MayServe rules.now }
-    requires ready { All (λ w. IsReady turns.now pool.now
-        (worker_with (A.acceptor_view w.door) w.sessions.items w.short w.passes)) workers.items }
-    ensures { HaveWorked rules.now turns.now pool.now
-        (map (λ w. worker_with (A.acceptor_view w.door) w.sessions.items w.short w.passes) workers.items)
-        (map (λ w. worker_with (A.acceptor_view w.door) w.sessions.items w.short w.passes) result.items) }
-{
-    let mut workers = workers;
-    all_work(rt, alloc, rules, none, turns, pool, workers.as_mut_slice());
-    workers
-}
-
-/// All workers, with what they share; and where it is told that all have ended.
-#[derive(Drop)]
-pub(crate) struct Crew<'a, H, R, N, T, P, W> {
-    pub(crate) rt: &'a H,
-    pub(crate) alloc: Global,
-    pub(crate) rules: &'a [R],
-    pub(crate) none: &'a N,
-    pub(crate) turns: &'a T,
-    pub(crate) pool: &'a P,
-    pub(crate) ended: &'a AtomicU64,
-    pub(crate) workers: Vec<W>,
-}
-
-impl<'a, H, K, A, D> Duty
-    for Crew<'a, H, (Service, Rules), Rules, Turns<Book<K>>, Pool<D>, WorkerOf<A, K, D>>
-=======
     ended: &AtomicU64,
     workers: Vec<WorkerOf<A, K, D>>,
 ) -> Vec<WorkerOf<A, K, D>>
->>>>>>> d2c8b0f43c757362f4400e6313929da3dff4c3db
 where
     H: Threads + Wait + Sync,
     K: Keeper + Send,
@@ -137,36 +89,8 @@ where
         (map (λ w. worker_with (A.acceptor_view w.door) w.sessions.items w.short w.passes) workers.items)
         (map (λ w. worker_with (A.acceptor_view w.door) w.sessions.items w.short w.passes) result.items) }
 {
-<<<<<<< HEAD
-    type Outcome = Vec<WorkerOf<A, K, D>>;
-
-    ghost may_begin = { λ crew. (crew.none.now ≡ no_rules) × All MayServe crew.rules.now
-        × All (λ w. IsReady crew.turns.now crew.pool.now
-        (worker_with (A.acceptor_view w.door) w.sessions.items w.short w.passes)) crew.workers.items };
-
-    ghost ends_with = { λ crew workers. HaveWorked crew.rules.now crew.turns.now crew.pool.now
-        (map (λ w. worker_with (A.acceptor_view w.door) w.sessions.items w.short w.passes) crew.workers.items)
-        (map (λ w. worker_with (A.acceptor_view w.door) w.sessions.items w.short w.passes) workers.items) };
-
-    fn perform(self) -> Vec<WorkerOf<A, K, D>> {
-        let Crew {
-            rt,
-            alloc,
-            rules,
-            none,
-            turns,
-            pool,
-            ended,
-            workers,
-        } = self;
-        let worked = have_worked(rt, alloc, rules, none, turns, pool, workers);
-        ended.store(1, Ordering::SeqCst);
-        worked
-    }
-=======
     let mut workers = workers;
     all_work(rt, alloc, rules, none, turns, pool, workers.as_mut_slice());
     ended.store(1, Ordering::SeqCst);
     workers
->>>>>>> d2c8b0f43c757362f4400e6313929da3dff4c3db
 }

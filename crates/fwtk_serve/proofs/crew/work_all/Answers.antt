@@ -1,11 +1,7 @@
 use Rattle.std.proofs.Common.{rules}
 use Rattle.fwtk_serve.specs.Stepping.{worker_with}
 use Rattle.fwtk_serve.proofs.EachLemmas.{ready_along, worked_along}
-<<<<<<<< HEAD:crates/fwtk_serve/proofs/crew/have_worked/Answers.antt
-use Rattle.fwtk_serve.proofs.crew.have_worked.Goals as goal
-========
 use Rattle.fwtk_serve.proofs.crew.work_all.Goals as goal
->>>>>>>> d2c8b0f43c757362f4400e6313929da3dff4c3db:crates/fwtk_serve/proofs/crew/work_all/Answers.antt
 
 pub all_work-requires-clause-ready : goal.all_work-requires-clause-ready
 all_work-requires-clause-ready g c κs within =
