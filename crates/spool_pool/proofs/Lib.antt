@@ -9,3 +9,4 @@ mod Passes
 mod Seats
 mod Settles
 mod Drains
+pub mod CrossingLemmas

@@ -8,7 +8,7 @@ into_pass-mail-requires g c = all_back c.attend-ending.ensures.goes c.new-seat.e
 pub returns-clause-holds : goal.returns-clause-holds
 returns-clause-holds g c = holds_so _ _ _ _ _ _ _ c.new-port.result c.attend-ending.new.port c.new-seat.result c.attend-ending.new.seat
     (record {
-      port_is = c.new-port.ensures;
+      port_is = c.new-port.ensures.is;
       pass_is = c.new-seat.ensures.pass;
       out = c.new-seat.ensures.out;
       goes = c.attend-ending.ensures.goes;
@@ -28,6 +28,6 @@ returns-clause-holds g c = holds_so _ _ _ _ _ _ _ c.new-port.result c.attend-end
 
 pub returns-clause-own : goal.returns-clause-own
 returns-clause-own g c = record {
-  book = book_own _ _ _ c.new-port.result c.attend-ending.new.port c.new-port.ensures c.attend-ending.ensures.origin c.into_pass-book.ensures.given;
+  book = book_own _ _ _ c.new-port.result c.attend-ending.new.port c.new-port.ensures.is c.attend-ending.ensures.origin c.into_pass-book.ensures.given;
   mail = mail_own _ c.new-seat.result c.attend-ending.new.seat c.args.passes.mail _ c.attend-ending.ensures.goes refl refl c.new-seat.ensures.pass c.into_pass-mail.ensures c.requires.passes.mail;
 }

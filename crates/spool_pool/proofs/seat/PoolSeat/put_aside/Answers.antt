@@ -1,6 +1,7 @@
 use Rattle.std.proofs.Common.{◌<◌, ap, subst, sym, ◌∙◌}
 use Rattle.shared_queue.specs.Moves.{put_more}
-use Rattle.spool_pool.specs.Known.{PoolView}
+use Rattle.spool_rack.specs.Store.{MayPutAside}
+use Rattle.spool_pool.specs.Known.{PoolView, SeatView}
 use Rattle.spool_pool.proofs.Passes.{homes_each}
 use Rattle.spool_pool.proofs.Seats.{after_put_aside}
 use Rattle.spool_pool.proofs.seat.PoolSeat.put_aside.Goals as goal
@@ -13,4 +14,4 @@ put-requires-clause-part g c = subst (λ n. 0 < n) (sym c.self.invariant.0.even.
 
 pub invariant_of-self : goal.invariant_of-self
 invariant_of-self g c = (after_put_aside {D = g.row.D.Denot} c.self.inside.lanes.free c.self.inside.lanes.full c.self.inside.lanes.shelf c.self.inside.tally c.self.inside.pool.now.home c.self.inside.no_free c.self.inside.no_full c.self.inside.breaks c.self.invariant
-    c.args.slot c.put.new.pass c.put_aside.result c.requires (c.put.ensures ∙ ap (λ x. put_more x c.self.inside.lanes.shelf) c.aside-slot.ensures) c.put_aside.ensures).0
+    c.args.slot c.put.new.pass c.put_aside.result (subst (λ (s : SeatView). MayPutAside c.args.slot s.out) (sym c.self.view_is) c.requires) (c.put.ensures ∙ ap (λ x. put_more x c.self.inside.lanes.shelf) c.aside-slot.ensures) c.put_aside.ensures).0

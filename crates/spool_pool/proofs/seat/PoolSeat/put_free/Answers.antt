@@ -1,5 +1,6 @@
 use Rattle.std.proofs.Common.{◌<◌, ap, subst, sym, ◌∙◌}
-use Rattle.spool_pool.specs.Known.{PoolView}
+use Rattle.spool_rack.specs.Store.{IsOut}
+use Rattle.spool_pool.specs.Known.{PoolView, SeatView}
 use Rattle.spool_pool.proofs.Passes.{homes_each}
 use Rattle.spool_pool.proofs.Seats.{after_put_free}
 use Rattle.spool_pool.proofs.seat.PoolSeat.put_free.Goals as goal
@@ -12,4 +13,4 @@ put-requires-clause-part g c = subst (λ n. 0 < n) (sym c.self.invariant.0.even.
 
 pub invariant_of-self : goal.invariant_of-self
 invariant_of-self g c = (after_put_free {D = g.row.D.Denot} c.self.inside.lanes.free c.self.inside.lanes.full c.self.inside.lanes.shelf c.self.inside.tally c.self.inside.pool.now.home c.self.inside.no_free c.self.inside.no_full c.self.inside.breaks c.self.invariant
-    c.args.slot c.put.new.pass c.put_free.result c.requires c.put.ensures c.put_free.ensures).0
+    c.args.slot c.put.new.pass c.put_free.result (subst (λ (s : SeatView). IsOut c.args.slot.number s.out) (sym c.self.view_is) c.requires) c.put.ensures c.put_free.ensures).0
