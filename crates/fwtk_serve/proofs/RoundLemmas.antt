@@ -1,5 +1,5 @@
 -- What rounds that follow one another come to.
-use Rattle.std.proofs.Common.{arith, lit<, ◌≡◌, refl, sym, ap, ap₂, subst, ◌∙◌, ℕ, ◌+◌, ◌-◌, ◌^◌, ◌<◌, ◌≤◌, ◌⊎◌, inl, inr, min, cond, Bool, true, List, [], ◌∷◌, ◌++◌, length, map, sum_by, count_by, Option, Some, None, Result, Ok, Err, append_assoc, append-nil}
+use Rattle.std.proofs.Common.{arith, ◌≡◌, refl, sym, ap, ap₂, subst, ◌∙◌, ℕ, ◌+◌, ◌-◌, ◌^◌, ◌<◌, ◌≤◌, ◌⊎◌, inl, inr, min, cond, Bool, true, List, [], ◌∷◌, ◌++◌, length, map, sum_by, count_by, Option, Some, None, Result, Ok, Err, append_assoc, append-nil}
 use Rattle.std.proofs.lemmas.List.{length-append, length-map}
 use Rattle.std.proofs.lemmas.List.Sums.{sum_by-cons, sum_by_push}
 use Rattle.std.proofs.lemmas.List.Elements.{Contains-append_right}
@@ -284,7 +284,7 @@ broken_all P [] ys x y = y
 broken_all P (b ∷ xs) ys x y = (x.0, broken_all P xs ys x.1 y)
 
 here_in : {X : Type 0} (front : List X) (x : X) (rest : List X) → Contains (front ++ x ∷ rest) x
-here_in front x rest = Contains-append_right front (x ∷ rest) x (0, lit< tt, refl)
+here_in front x rest = Contains-append_right front (x ∷ rest) x (0, omega arith, refl)
 
 accepted_in : (front : List Turn) (turn : Turn) (rest : List Turn) (message : Message) → accepted_by turn.fate ≡ message ∷ [] → Contains (accepted_of (front ++ turn ∷ rest)) message
 accepted_in front turn rest message is =
@@ -524,7 +524,7 @@ ends_after most rounds last old mid new fits held (inr (inl sum)) =
 ends_after most rounds last old mid new fits held (inr (inr (inl rose))) = inr (inr (inl (omega (arith, held, rose.0), omega (arith, held, rose.1))))
 ends_after most rounds last old mid new fits held (inr (inr (inr starved))) =
     let sum = sum_by_push (λ (r : RoundView). cond (is_starved r.answer) 1 0) rounds last in
-    let one = ap (λ (b : Bool). cond b 1 0) starved in
+    let one = ap {B = ℕ} (λ (b : Bool). cond b 1 0) starved in
     inr (inr (inr (omega (arith, sum, one))))
 
 pub ends_all : (most : ℕ) (rounds : List RoundView) (last : RoundView) (old mid new : Meeting) → most ≤ 2 ^ 32 - 1 → WereRounds most rounds old mid → IsRound most last mid new → EndAll most (rounds ++ last ∷ []) old new
