@@ -1,9 +1,9 @@
 -- Emptying a queue, slot after slot.
-use Rattle.std.proofs.Common.{◌≡◌, ℕ, ◌+◌, ◌*◌, ◌<◌, ◌≤◌, List, [], ◌∷◌, ◌++◌, length, refl, ap, sym, subst, ◌∙◌, arith, length-append}
+use Rattle.std.proofs.Common.{◌≡◌, ℕ, ◌+◌, ◌<◌, ◌≤◌, List, [], ◌∷◌, ◌++◌, length, refl, ap, sym, subst, ◌∙◌, arith, length-append}
 use Rattle.std.proofs.lemmas.List.{append_assoc}
 use Rattle.std.proofs.lemmas.List.Sorted.{IsPermutation-trans, length_permutation, IsPermutation-append_comm}
 use Rattle.spool_rack.specs.Store.{Queues}
-use Rattle.spool_rack.specs.Stock.{StockView, count_of, no_slots}
+use Rattle.spool_rack.specs.Stock.{StockView, count_of}
 use Rattle.shared_queue.specs.Moves.{Moves, HasAll, StandIn, taken_out}
 use Rattle.spool_pool.specs.Closing.{Drains, with_all}
 
@@ -82,10 +82,3 @@ module _ {T : Type 0} (homed : T → Queues → Queues) where
           let q = length_permutation _ _ now in
           let e = nothing s.0 (omega (arith, p, q, b.1, d.rest, length-append b.0 first.taken, length-append s.0 (first.taken ++ d.slots), length-append first.taken d.slots)) in
           subst (StandIn m) e s.2
-
-  -- there is room behind a queue, if there was room for it and more
-  pub space_behind : (room more : ℕ) (m : Moves T) (old new : StockView) → Drains homed room m old new → count_of old.queues + room + more ≤ old.room → count_of new.queues + more ≤ new.room
-  space_behind room more m old new d space = omega (arith, d.counted, space, ap (λ (s : StockView). s.room) d.is)
-
-pub space_for_three : (room : ℕ) (first : StockView) → first.queues ≡ no_slots → room * 3 ≤ first.room → count_of first.queues + room + (room + room) ≤ first.room
-space_for_three room first bare space = subst (λ (q : Queues). count_of q + room + (room + room) ≤ first.room) (sym bare) (omega (arith, space))

@@ -2,13 +2,13 @@
 use Rattle.std.proofs.Common.{◌≡◌, ℕ, ◌^◌, true, false, List, [], ◌++◌, Some, None, refl, ap, sym, subst, ◌∙◌}
 use Rattle.fw_outside.specs.Counts.{Rose}
 use Rattle.spool_slots.specs.States.{SlotView, FullView, BrokenView}
-use Rattle.spool_rack.specs.Store.{HasNoFree, HasNoFull, HasTakenFree, HasTakenFull, IsOut, MayPutAside, MayPutBroken, MayPutFull, PutsBroken, StoreView, loan_of, put_aside, put_free, put_full}
+use Rattle.spool_rack.specs.Store.{HasTakenFree, HasTakenFull, IsOut, MayPutAside, MayPutBroken, MayPutFull, PutsBroken, StoreView, loan_of, put_aside, put_free, put_full}
 use Rattle.shared_queue.specs.Moves.{HasAll, Moves, StandIn, put_more, taken_out}
 use Rattle.spool_pool.specs.declared.lanes.Lanes.{Lanes}
 use Rattle.spool_pool.specs.Shelf.{ShelvedView, is_aside, is_broken}
 use Rattle.spool_pool.specs.Events.{TallyView, broken_by, filled_by, freed_by, given, lent, shelved_by}
 use Rattle.spool_pool.specs.Account.{IsSound, began_of, handed_of, homes_of, seat_of}
-use Rattle.spool_pool.specs.Known.{SeatView, store_of}
+use Rattle.spool_pool.specs.Known.{store_of}
 use Rattle.spool_pool.proofs.Accounts.{lends_free, lends_full, puts_aside, puts_broken, puts_free, puts_full}
 use Rattle.spool_pool.proofs.Numbers.{is_out, kept_put_free, kept_put_full, kept_put_shelved, kept_take_free, kept_take_full}
 use Rattle.spool_pool.proofs.Tallies.{broken_lists, filled_lists, freed_lists, loan_here, shelved_lists}
@@ -98,37 +98,3 @@ module _ {D : Type 0} where
               (ap (λ o. handed_of (homes_of (lanes free full shelf)) full.parts (began_of (lanes free full shelf)) (t.events ++ broken_by slot o)) h.is
               ∙ broken_lists (homes_of (lanes free full shelf)) full.parts (began_of (lanes free full shelf)) t.events slot h.loan);
         }
-
-    -- the same where the seat is seen
-    module _ (old : SeatView) (v : seat_of (lanes free full shelf) t a b c ≡ old) where
-      pub told_take_free : (slot : SlotView) (new : Moves SlotView) (u : TallyView) → new ≡ taken_out slot free → u ≡ lent (record { number = slot.number; was_full = false; taken = None }) t
-          → HasTakenFree slot (store_of old) (store_of (seat_of (lanes new full shelf) u a b c))
-      told_take_free slot new u e f = subst (λ (o : SeatView). HasTakenFree slot (store_of o) (store_of (seat_of (lanes new full shelf) u a b c))) v (after_take_free slot new u e f).1
-
-      pub told_no_free : (new : Moves SlotView) (count : ℕ) → new ≡ free → Rose a count → HasNoFree (store_of old) (store_of (seat_of (lanes new full shelf) t count b c))
-      told_no_free new count e rose =
-          subst (λ (k : Moves SlotView × SeatView). HasNoFree (store_of k.1) (store_of (seat_of (lanes k.0 full shelf) t count b c))) (λ i. (sym e i, v i)) record { none = tt; count = count; rose = rose; is = refl }
-
-      pub told_take_full : (slot : FullView) (new : Moves FullView) (u : TallyView) → slot.unread ≡ false → new ≡ taken_out slot full → u ≡ lent (record { number = slot.number; was_full = true; taken = Some slot }) t
-          → HasTakenFull slot (store_of old) (store_of (seat_of (lanes free new shelf) u a b c))
-      told_take_full slot new u read e f = subst (λ (o : SeatView). HasTakenFull slot (store_of o) (store_of (seat_of (lanes free new shelf) u a b c))) v (after_take_full slot new u read e f).1
-
-      pub told_no_full : (new : Moves FullView) (count : ℕ) → new ≡ full → Rose b count → HasNoFull (store_of old) (store_of (seat_of (lanes free new shelf) t a count c))
-      told_no_full new count e rose =
-          subst (λ (k : Moves FullView × SeatView). HasNoFull (store_of k.1) (store_of (seat_of (lanes free k.0 shelf) t a count c))) (λ i. (sym e i, v i)) record { none = tt; count = count; rose = rose; is = refl }
-
-      pub told_put_free : (slot : SlotView) (new : Moves SlotView) (u : TallyView) → IsOut slot.number t.out → new ≡ put_more slot free → u ≡ given slot.number (freed_by (loan_of slot.number t.out)) t
-          → store_of (seat_of (lanes new full shelf) u a b c) ≡ put_free slot (store_of old)
-      told_put_free slot new u out e f = (after_put_free slot new u out e f).1 ∙ ap (λ (o : SeatView). put_free slot (store_of o)) v
-
-      pub told_put_full : (slot : FullView) (new : Moves FullView) (u : TallyView) → MayPutFull slot t.out → new ≡ put_more slot full → u ≡ given slot.number (filled_by slot (loan_of slot.number t.out)) t
-          → store_of (seat_of (lanes free new shelf) u a b c) ≡ put_full slot (store_of old)
-      told_put_full slot new u may e f = (after_put_full slot new u may e f).1 ∙ ap (λ (o : SeatView). put_full slot (store_of o)) v
-
-      pub told_put_aside : (slot : SlotView) (new : Moves ShelvedView) (u : TallyView) → MayPutAside slot t.out → new ≡ put_more (is_aside slot) shelf → u ≡ given slot.number (shelved_by slot (loan_of slot.number t.out)) t
-          → store_of (seat_of (lanes free full new) u a b c) ≡ put_aside slot (store_of old)
-      told_put_aside slot new u may e f = (after_put_aside slot new u may e f).1 ∙ ap (λ (o : SeatView). put_aside slot (store_of o)) v
-
-      pub told_put_broken : (slot : BrokenView) (new : Moves ShelvedView) (u : TallyView) (count : ℕ) → Rose c count → MayPutBroken slot t.out → new ≡ put_more (is_broken slot) shelf → u ≡ given slot.number (broken_by slot (loan_of slot.number t.out)) t
-          → PutsBroken slot (store_of old) (store_of (seat_of (lanes free full new) u a b count))
-      told_put_broken slot new u count rose may e f = subst (λ (o : SeatView). PutsBroken slot (store_of o) (store_of (seat_of (lanes free full new) u a b count))) v (after_put_broken slot new u count rose may e f)
