@@ -4,8 +4,7 @@ use Rattle.acceptors.specs.AcceptorView.{Visit}
 use Rattle.acceptors.specs.declared.caller.Guest.{Guest}
 use Rattle.auth_events.specs.Port.{Port}
 use Rattle.auth_machine.specs.History.{IsLegal}
-use Rattle.auth_machine.specs.Port.{full_at}
-use Rattle.auth_machine.specs.Port.{BookOrigin}
+use Rattle.auth_machine.specs.Port.{BookOrigin, full_at}
 use Rattle.auth_port.specs.Shared.{SeesLegal, SharedOrigin, pass_of}
 use Rattle.client_service.specs.Conn.{Mails}
 use Rattle.client_service.specs.MailService.{MailsOrFails}

@@ -4,12 +4,8 @@ use Rattle.std.proofs.lemmas.List.Sums.{sum_by-cons}
 use mathlib.Core.List.{IsPrefix}
 use Rattle.auth_machine.specs.Port.{BookOrigin}
 use Rattle.auth_port.specs.Shared.{SharedOrigin}
-use Rattle.client_service.specs.Conn.{Unthrown, Untouched}
 use Rattle.gate_rules.specs.Reading.{RuleBook}
 use Rattle.gate_rules.specs.declared.service.Service.{Service}
-use Rattle.gate_rules.specs.declared.service.Service.TheVariants.{Netacl, TnGw, FtpGw, PlugGw, Smap, Authsrv}
-use Rattle.gate_rules.specs.declared.verdict.Verdict.{Verdict}
-use Rattle.gate_rules.specs.declared.verdict.Verdict.TheVariants.{Permit, Deny}
 use Rattle.turn_lock.specs.Known.{Lock}
 use Rattle.turn_lock.proofs.Fronts.{front_same, front_trans}
 use Rattle.spool_rack.specs.Store.{with_put}
@@ -18,30 +14,6 @@ use Rattle.fwtk_serve.specs.Passes.{Pass}
 use Rattle.fwtk_serve.specs.Sessions.{Both, Held, Sitting, WasServed, WereServed, places_of}
 
 -- ---- one session
-
--- what isn't touched means what it meant
-module _ {A B : Type 0} (view : A → B) (old new : A) where
-  pub untouched_as : (service : Service) (verdict : Verdict) → Untouched service verdict old new → Untouched service verdict (view old) (view new)
-  untouched_as (PlugGw port) (Permit line) is = ap view is
-  untouched_as (PlugGw port) (Deny line) is = ap view is
-  untouched_as Smap (Permit line) is = ap view is
-  untouched_as Smap (Deny line) is = ap view is
-  untouched_as (Netacl label) (Permit line) is = tt
-  untouched_as (Netacl label) (Deny line) is = ap view is
-  untouched_as TnGw (Permit line) is = tt
-  untouched_as TnGw (Deny line) is = ap view is
-  untouched_as FtpGw (Permit line) is = tt
-  untouched_as FtpGw (Deny line) is = ap view is
-  untouched_as Authsrv (Permit line) is = tt
-  untouched_as Authsrv (Deny line) is = ap view is
-
-  pub unthrown_as : (service : Service) (verdict : Verdict) → Unthrown service verdict old new → Unthrown service verdict (view old) (view new)
-  unthrown_as TnGw verdict is = ap view is
-  unthrown_as FtpGw verdict is = ap view is
-  unthrown_as (Netacl label) verdict is = untouched_as (Netacl label) verdict is
-  unthrown_as (PlugGw port) verdict is = untouched_as (PlugGw port) verdict is
-  unthrown_as Smap verdict is = untouched_as Smap verdict is
-  unthrown_as Authsrv verdict is = untouched_as Authsrv verdict is
 
 module _ (rules : RuleBook) (lock : Lock BookOrigin) (first last : Both) (sitting : Sitting) where
   pub mine_held : Held rules lock first last sitting → last.book.mine ≡ first.book.mine ++ sitting.served.places
