@@ -5,24 +5,24 @@ use denote.Struct.Declared.{shape}
 use Rattle.std.proofs.Crossing.{crosses}
 use Rattle.fw_disk.specs.declared.disk.Disk.{Ghosts}
 use Rattle.spool_pool.proofs.lanes.Lanes.TheSendSync as Lanes
-use Rattle.spool_pool.proofs.pool.Pool.TheSendSync as Pooling
+use Rattle.spool_pool.proofs.pool.Pool.TheSendSync as Sharing
 use Rattle.spool_pool.specs.contracts.pass.PoolPass as PoolPass
-use Rattle.spool_pool.specs.contracts.pass.PoolPass.TheInside as InPass
+use Rattle.spool_pool.specs.contracts.pass.PoolPass.TheInside as Pass
 use Rattle.spool_pool.specs.contracts.pool.Pool as Pool
 use Rattle.spool_pool.specs.contracts.tally.Tally as Tally
-use Rattle.spool_pool.specs.contracts.tally.Tally.TheInside as InTally
+use Rattle.spool_pool.specs.contracts.tally.Tally.TheInside as Inside
 
--- a tally may be sent anywhere, since it is a snapshot
+-- the steps so far have no bytes
 tally_send : (D : RattleType) (g : Ghosts D.Denot) → IsSend (Tally.the_row D g)
 tally_send D g =
-    view_send (InTally.the_row D g) _ _ _ _ (recorded_send (InTally.the_field D g).row _ _ (InTally.the_type D g).to_one (struct_send (shape (InTally.the_type D g)) (search (sendable, crosses) depth 20, tt)))
+    view_send (Inside.the_row D g) _ _ _ _ (recorded_send (Inside.the_field D g).row _ _ (Inside.the_type D g).to_one (struct_send (shape (Inside.the_type D g)) (search (sendable, crosses) depth 20, tt)))
 
 pub pass_send : (D : RattleType) (g : Ghosts D.Denot) → IsSend D → IsSend (PoolPass.the_row D g)
 pass_send D g s =
-    view_send (InPass.the_row D g) _ _ _ _ (recorded_send (InPass.the_field D g).row _ _ (InPass.the_type D g).to_one (struct_send (shape (InPass.the_type D g)) (
-      Lanes.the_field_send D g s,
-      (tally_send D g, (search (sendable, crosses) depth 20, (search (sendable, crosses) depth 20, (search (sendable, crosses) depth 20, (search (sendable, crosses) depth 20, tt))))),
+    view_send (Pass.the_row D g) _ _ _ _ (recorded_send (Pass.the_field D g).row _ _ (Pass.the_type D g).to_one (struct_send (shape (Pass.the_type D g)) (
+      search (Lanes.the_field_send, Lanes.the_send, sendable) depth 20,
+      (search (tally_send, sendable) depth 20, (search sendable depth 20, (search sendable depth 20, (search sendable depth 20, (search sendable depth 20, tt))))),
     )))
 
 pub pool_sync : (D : RattleType) (g : Ghosts D.Denot) → IsSend D → IsSync (Pool.the_row D g)
-pool_sync D g s = Pooling.the_sync D g s
+pool_sync D g s = Sharing.the_sync D g s
