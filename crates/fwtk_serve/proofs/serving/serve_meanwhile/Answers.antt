@@ -3,8 +3,7 @@ use denote.Param.Send.{sendable}
 use Rattle.std.proofs.Crossing.{crosses}
 use Rattle.gate_rules.proofs.rules.Rules.TheSendSync as Rules
 use Rattle.gate_rules.proofs.service.Service.TheSendSync as Service
-use Rattle.spool_pool.proofs.pass.PoolPass.TheSendSync as PoolPass
-use Rattle.spool_pool.proofs.pool.Pool.TheSendSync as Pool
+use Rattle.spool_pool.proofs.CrossingLemmas.{pass_send, pool_sync}
 use Rattle.turn_lock.proofs.pass.Pass.TheSendSync as Pass
 use Rattle.turn_lock.proofs.turns.Turns.TheSendSync as Turns
 use Rattle.fwtk_serve.proofs.CrossingLemmas.{book_send, eight_send}
@@ -18,14 +17,14 @@ run_beside-workers-requires-send-S g c κs within =
     let a = c.type_bounds.send-A in
     let h = c.type_bounds.sync-H in
     let d = c.type_bounds.send-D in
-    search (eight_send, Worker.the_send, Passes.the_send, Pass.the_send, PoolPass.the_send, Turns.the_sync, Pool.the_sync, Rules.the_sync, Service.the_sync, book_send, sendable, crosses) depth 30 fits 20000
+    search (eight_send, Worker.the_send, Passes.the_send, Pass.the_send, pass_send, Turns.the_sync, pool_sync, Rules.the_sync, Service.the_sync, book_send, sendable, crosses) depth 30 fits 20000
 
 pub run_beside-workers-requires-send-A : goal.run_beside-workers-requires-send-A
 run_beside-workers-requires-send-A g c κs within =
     let k = c.type_bounds.send-K in
     let a = c.type_bounds.send-A in
     let d = c.type_bounds.send-D in
-    search (Worker.the_send, Passes.the_send, Pass.the_send, PoolPass.the_send, book_send, sendable) depth 14
+    search (Worker.the_send, Passes.the_send, Pass.the_send, pass_send, book_send, sendable) depth 14
 
 pub returns-clause-hands : goal.returns-clause-hands
 returns-clause-hands g c =
