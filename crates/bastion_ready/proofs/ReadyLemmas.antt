@@ -311,7 +311,7 @@ cannot_status line (Slot slot at) old mid new h later = slots_status line (Unrea
 status_for : (line : ServerLine) (outcome : Outcome) (old mid new : WorldView) → StopsFor line outcome old mid → Later mid new → IsStatusFor line (status_of outcome) old new
 status_for line (Unread refusal) old mid new h later = cannot_status line refusal old mid new h later
 status_for line (Failed device.Table) old mid new h later = inl (inr (refl, later_counted line old mid new later (inl (stops_for_rose line (Failed device.Table) old mid h))))
-status_for line (Failed device.Records) old mid new h later = inl (inr (refl, later_counted line old mid new later (inr (inl (h.site, stops_for_rose line (Failed device.Records) old mid h))))
+status_for line (Failed device.Records) old mid new h later = inl (inr (refl, later_counted line old mid new later (inr (inl (h.site, stops_for_rose line (Failed device.Records) old mid h)))))
 status_for line (Failed (device.Disk slot)) old mid new h later = slots_status line (Failed (device.Disk slot)) old mid new h later
 status_for line (NoMemory step) old mid new h later = inr refl
 status_for line outcome old mid new h later = absurd h
