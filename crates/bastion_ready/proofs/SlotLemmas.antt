@@ -1,5 +1,5 @@
 -- From slots that weren't opened to what stopped the server.
-use Rattle.std.proofs.Common.{◌≡◌, ◌∙◌, ◌≤◌, ℕ, List, length, ap, refl, sym, subst, inl, inr, ◌⊎◌, true}
+use Rattle.std.proofs.Common.{◌≡◌, ◌∙◌, ◌≤◌, ℕ, List, length, ap, refl, sym, subst, inl, inr, true}
 use Rattle.std.specs.Prelude.{Some, None, IsSome, Ok}
 use Rattle.auth_machine.specs.Book.{BookView}
 use Rattle.auth_machine.specs.Policy.{PolicyView}

@@ -1,5 +1,5 @@
 -- What making a server ready comes to, and what it leaves.
-use Rattle.std.specs.Prelude.{◌≡◌, ℕ, ◌⊎◌, true, false, not, List, Option, Some, None, Result, Ok, Err}
+use Rattle.std.specs.Prelude.{◌≡◌, ℕ, ◌⊎◌, true, false, not, List, Option, Some, None, Ok, Err}
 use Rattle.auth_machine.specs.Book.{BookView}
 use Rattle.auth_machine.specs.Policy.{PolicyView}
 use Rattle.bastion.specs.Inputs.{is_of_line}
