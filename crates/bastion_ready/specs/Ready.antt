@@ -1,5 +1,5 @@
 -- What making a server ready comes to, and what it leaves.
-use Rattle.std.specs.Prelude.{◌≡◌, ℕ, ◌⊎◌, true, false, not, List, Option, Some, None, Ok, Err}
+use Rattle.std.specs.Prelude.{◌≡◌, ℕ, ◌⊎◌, true, false, not, List, [], Option, Some, None, Result, Ok, Err}
 use Rattle.auth_machine.specs.Book.{BookView}
 use Rattle.auth_machine.specs.Policy.{PolicyView}
 use Rattle.bastion.specs.Inputs.{is_of_line}
@@ -183,6 +183,16 @@ pub record SlotsUnreadBehind (book : BookView) (outcome : Outcome) (old new : Wo
   pub middle : WorldView
   pub unread : SlotsUnread outcome old middle
   pub shut : ShutsBook book middle new
+
+-- the slots were opened behind the book, which there is
+abbrev pub OpensBehind : Result BookView Outcome → BookView → StoreView → WorldView → WorldView → Type 0
+OpensBehind (Ok first) book rack old new = (book ≡ first) × OpensRack rack old new
+OpensBehind (Err outcome) book rack old new = ⊥
+
+-- there is no book, and nothing more was done; or not all slots were opened behind it
+abbrev pub StopsBehind : Result BookView Outcome → Outcome → WorldView → WorldView → Type 0
+StopsBehind (Ok book) outcome old new = SlotsUnreadBehind book outcome old new
+StopsBehind (Err first) outcome old new = (outcome ≡ first) × (new ≡ old)
 
 -- the book was opened, by this policy, and then all slots
 pub record OpensBoth (policy : PolicyView) (book : BookView) (rack : StoreView) (old new : WorldView) : Type 0 where

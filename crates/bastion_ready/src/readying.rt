@@ -3,7 +3,7 @@ ghost use Rattle.std.specs.Prelude.{◌≡◌, ◌≤◌, true, All, IfOk, IfErr
 ghost use Rattle.bastion.specs.Mailing.{OpensRack};
 ghost use Rattle.bastion.specs.Outcome.{fault_line_of, status_of};
 ghost use Rattle.bastion.specs.Run.{TellsIf};
-ghost use Rattle.bastion_ready.specs.Ready.{AreBack, IsReady, IsReadyFor, IsRefused, IsStatus, OpensBoth, OpensNotBoth, ShutsBook, SlotsUnreadBehind, Stops, StopsFor};
+ghost use Rattle.bastion_ready.specs.Ready.{AreBack, IsReady, IsReadyFor, IsRefused, IsStatus, OpensBehind, OpensBoth, OpensNotBoth, ShutsBook, SlotsUnreadBehind, Stops, StopsBehind, StopsFor};
 ghost use Rattle.bastion_ready.specs.Words.{doors_of, is_for_server, server_of, services_of};
 ghost use Rattle.fwtk_serve.specs.RulesFor.{MayServe};
 
@@ -45,6 +45,22 @@ fn open_slots<T: Kit>(
     }
 }
 
+// The slots are opened behind the book, if there is one.
+fn open_behind<T: Kit>(
+    alloc: Global,
+    opened: Result<Book<T::Keeper>, Outcome>,
+    world: &mut World<T>,
+) -> Result<(Book<T::Keeper>, Rack<T::Disk>), Outcome>
+    requires { length world.old.inputs.disks ≤ 64 }
+    ensures opened { IfOk result (λ both. OpensBehind opened.entry both.0 both.1 world.old world.new) }
+    ensures unopened { IfErr result (λ outcome. StopsBehind opened.entry outcome world.old world.new) }
+{
+    match opened {
+        Ok(book) => open_slots(alloc, book, world),
+        Err(outcome) => Err(outcome),
+    }
+}
+
 // The book is opened, and then the slots.
 fn open_both<T: Kit>(
     alloc: Global,
@@ -56,10 +72,8 @@ fn open_both<T: Kit>(
     ensures opened { IfOk result (λ both. OpensBoth policy both.0 both.1 world.old world.new) }
     ensures unopened { IfErr result (λ outcome. OpensNotBoth policy outcome world.old world.new) }
 {
-    match open_book(alloc, world, policy) {
-        Ok(book) => open_slots(alloc, book, world),
-        Err(outcome) => Err(outcome),
-    }
+    let opened = open_book(alloc, world, policy);
+    open_behind(alloc, opened, world)
 }
 
 // Book and slots are opened, by what the table says.
