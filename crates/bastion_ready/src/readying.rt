@@ -52,8 +52,8 @@ fn open_behind<T: Kit>(
     world: &mut World<T>,
 ) -> Result<(Book<T::Keeper>, Rack<T::Disk>), Outcome>
     requires { length world.old.inputs.disks ≤ 64 }
-    ensures opened { IfOk result (λ both. OpensBehind opened.entry both.0 both.1 world.old world.new) }
-    ensures unopened { IfErr result (λ outcome. StopsBehind opened.entry outcome world.old world.new) }
+    ensures opened { IfOk result (λ both. OpensBehind opened both.0 both.1 world.old world.new) }
+    ensures unopened { IfErr result (λ outcome. StopsBehind opened outcome world.old world.new) }
 {
     match opened {
         Ok(book) => open_slots(alloc, book, world),
