@@ -1,6 +1,6 @@
 -- From what was read to a server that is ready, or to what stopped it.
-use Rattle.std.proofs.Common.{◌≡◌, ◌∙◌, ℕ, List, [], ap, refl, sym, subst, inl, inr, ◌⊎◌, Bool, true, false}
-use Rattle.std.specs.Prelude.{Option, Some, None, Result, Ok, Err, IfSome, IsSome, is_some, not}
+use Rattle.std.proofs.Common.{◌≡◌, ◌∙◌, ℕ, List, [], ap, refl, sym, subst, inl, inr, Bool, true, false}
+use Rattle.std.specs.Prelude.{All, Option, Some, None, Result, Ok, Err, IfSome, IsSome, is_some, not}
 use Rattle.auth_machine.specs.Book.{BookView}
 use Rattle.auth_machine.specs.History.{Origin}
 use Rattle.auth_machine.specs.Opening.{ReadsAs}
@@ -10,6 +10,7 @@ use Rattle.fw_disk.specs.DiskView.{DiskView}
 use Rattle.fw_outside.specs.Counts.{Rose}
 use Rattle.fw_outside.specs.FilesView.{FilesView}
 use Rattle.fw_outside.specs.KeeperView.{AreLoaded, IsCalled, KeeperFailed, KeeperView, NamedBytes}
+use Rattle.fwtk_serve.specs.RulesFor.{MayServe}
 use Rattle.gate_rules.specs.Reading.{RuleBook}
 use Rattle.gate_rules.specs.declared.service.Service.{Service}
 use Rattle.spool_rack.specs.Opening.{IsRackOf}
@@ -17,15 +18,15 @@ use Rattle.spool_rack.specs.Store.{StoreView}
 use Rattle.bastion.specs.Inputs.{IsAllOf, OfText, is_of_line}
 use Rattle.bastion.specs.Mailing.{with_disks}
 use Rattle.bastion.specs.Outcome.{DeviceRose, KeeperRose, SlotsRose, fault_line_of, status_of}
-use Rattle.bastion.specs.Reading.{Finds, Unfound, is_early, ruling_in}
-use Rattle.bastion.specs.Run.{AsksTable, FilesUnread, ReadsOnly, TellsIf, Unused}
+use Rattle.bastion.specs.Reading.{Finds, is_early, ruling_in}
+use Rattle.bastion.specs.Run.{AsksTable, ReadsOnly, TellsIf}
 use Rattle.bastion.specs.Serving.{book_at_first, most_entries}
 use Rattle.bastion.specs.SessionSteps.{Opened, Unopened}
 use Rattle.bastion.specs.Status.{DisksRose}
 use Rattle.bastion.specs.WorldView.{SessionInputs, WorldView}
 use Rattle.bastion.specs.declared.outcome.Device.TheVariants as device
 use Rattle.bastion.specs.declared.outcome.Outcome.{Outcome}
-use Rattle.bastion.specs.declared.outcome.Outcome.TheVariants.{Usage, Unread, Failed, NoMemory, Done, Decided, Ended}
+use Rattle.bastion.specs.declared.outcome.Outcome.TheVariants.{Unread, Failed, NoMemory}
 use Rattle.bastion.specs.declared.outcome.Refusal.{Refusal}
 use Rattle.bastion.specs.declared.outcome.Refusal.TheVariants.{Table, Rule, Record, Slot}
 use Rattle.bastion.specs.declared.outcome.Step.{Step}
@@ -37,9 +38,9 @@ use Rattle.bastion.proofs.LeftLemmas.{Later, Left, only_left, some_there, stops_
 use Rattle.bastion.proofs.ReadingLemmas.{of_text}
 use Rattle.bastion.proofs.RoseLemmas.{stops_rose}
 use Rattle.bastion_ready.specs.Inputs.{HasInputs, HasSite, IsSaidOf, ServerInputs, SiteRules, inputs_by, is_of_table, origin_of, site_rules_of, whose, with_records}
-use Rattle.bastion_ready.specs.Ready.{AreBack, CannotRead, IsCounted, IsReady, IsReadyFor, IsRefused, IsStatus, IsStatusFor, Lacks, OpensBookAlone, OpensBoth, OpensNotBoth, RecordsUnread, Refuses, SlotsStop, Stops, StopsFor}
-use Rattle.bastion_ready.specs.Words.{Door, ServerLine, doors_of, services_of}
-use Rattle.bastion_ready.proofs.SiteLemmas.{whose_said}
+use Rattle.bastion_ready.specs.Ready.{AreBack, CannotRead, IsCounted, IsReady, IsReadyFor, IsRefused, IsStatus, IsStatusFor, Lacks, OpensBehind, OpensBookAlone, OpensBoth, OpensNotBoth, OpensSite, Refuses, SlotsStop, SlotsUnreadBehind, Stops, StopsBehind, StopsFor, StopsSite}
+use Rattle.bastion_ready.specs.Words.{Door, ServerLine, doors_of, is_for_server, services_of}
+use Rattle.bastion_ready.proofs.SiteLemmas.{may_said, whose_said}
 use Rattle.bastion_ready.proofs.SlotLemmas.{keeper_back, with_keeper, slots_back, slots_keeper, slots_out, slots_rose, slots_status, slots_stop}
 
 -- ---- the table
@@ -198,6 +199,39 @@ module _ (line : ServerLine) (site : SiteRules) (old mid : WorldView) (found : S
   pub not_both_stops : (outcome : Outcome) (new : WorldView) → OpensNotBoth site.policy outcome mid new → StopsFor line outcome old new
   not_both_stops outcome new (inl h) = unopened_stops outcome new h
   not_both_stops outcome new (inr h) = slots_stop line outcome old new (alone_stops outcome new h)
+
+-- ---- the answers of `prepare_by`
+
+module _ (line : ServerLine) (name : List ℕ) (services : List Service) (is : name ≡ line.table) (are : services ≡ services_of line.plan.posts) where
+  site_stops_by : (read : Result SiteRules Outcome) (outcome : Outcome) (old mid new : WorldView) → SiteFound line read old.files mid.files → AskedFiles old mid → StopsBehind read outcome mid new → StopsFor line outcome old new
+  site_stops_by (Ok site) outcome old mid new found asked h = not_both_stops line site old mid found asked outcome new (inl h)
+  site_stops_by (Err first) outcome old mid new found asked h =
+      subst (λ (o : Outcome). StopsFor line o old new) (sym h.0)
+      (subst (λ (w : WorldView). StopsFor line first old w) (sym h.1) (unfound_stops line first old mid found asked))
+
+  -- not read, or no book
+  pub site_stops : (outcome : Outcome) (old new : WorldView) → StopsSite name services outcome old new → StopsFor line outcome old new
+  site_stops outcome old new h =
+      site_stops_by h.read outcome old h.middle new (found_for line services name h.read old.files h.middle.files are is h.found) (record { output = h.output; logs = h.logs; inputs = h.inputs }) h.stops
+
+  module _ (rules : List (Service × RuleBook)) (book : BookView) (old mid : WorldView) (h : OpensSite name services rules book old mid) where
+    found_so : SiteFound line (Ok h.site) old.files h.middle.files
+    found_so = found_for line services name (Ok h.site) old.files h.middle.files are is h.found
+
+    asked_so : AskedFiles old h.middle
+    asked_so = record { output = h.output; logs = h.logs; inputs = h.inputs }
+
+    pub behind_ready : (doors own_doors : List Door) (own_rules : List (Service × RuleBook)) (own_book : BookView) (rack : StoreView) (new : WorldView) → doors ≡ doors_of line.plan → OpensBehind doors rules book own_doors own_rules own_book rack mid new
+        → IsReadyFor line own_doors own_rules own_book rack old new
+    behind_ready doors own_doors own_rules own_book rack new doors_are b =
+        let both : OpensBoth h.site.policy own_book rack h.middle new = record { middle = mid; opened = subst (λ (k : BookView). Opened h.site.policy k h.middle mid) (sym b.book_is) h.opened; slots = b.slots } in
+        opened_ready line h.site old h.middle found_so asked_so (said_for line services h.site are h.said) own_doors own_rules own_book rack new (b.doors_are ∙ doors_are) (b.rules_are ∙ h.rules_are) both
+
+    pub behind_stops : (outcome : Outcome) (new : WorldView) → SlotsUnreadBehind book outcome mid new → StopsFor line outcome old new
+    behind_stops outcome new b = not_both_stops line h.site old h.middle found_so asked_so outcome new (inr (record { book = book; middle = mid; opened = h.opened; behind = b }))
+
+    pub behind_may : All (λ s. is_for_server s ≡ true) services → (own_rules : List (Service × RuleBook)) → own_rules ≡ rules → All MayServe own_rules
+    behind_may served own_rules same = subst (All MayServe) (sym (same ∙ h.rules_are)) (may_said services h.site served h.said)
 
 -- memory was wanting for the words, which ask for a server
 pub lacks_start : (line : Option ServerLine) (world : WorldView) → is_some line ≡ true → Stops line (NoMemory steps.Start) world world

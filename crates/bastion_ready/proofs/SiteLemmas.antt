@@ -1,5 +1,5 @@
 -- From the rules of each service to what the table says of a server's services.
-use Rattle.std.proofs.Common.{◌≡◌, ◌∙◌, ◌≤◌, ◌-◌, ℕ, List, [], ◌∷◌, ◌++◌, ap, refl, sym, subst, Bool, true, false, length, take, drop, get_or, arith, append_assoc, append-nil}
+use Rattle.std.proofs.Common.{◌≡◌, ◌∙◌, ◌≤◌, ◌-◌, List, [], ◌∷◌, ◌++◌, ap, refl, sym, subst, true, length, take, drop, get_or, arith, append_assoc, append-nil}
 use Rattle.std.specs.Prelude.{All, IfOk, Result, Ok, Err}
 use Rattle.std.proofs.lemmas.List.{take_rest}
 use Rattle.std.proofs.lemmas.List.Elements.{All-cons, All-head, All-nil, All-tail}

@@ -1,27 +1,22 @@
 -- From slots that weren't opened to what stopped the server.
-use Rattle.std.proofs.Common.{◌≡◌, ◌∙◌, ◌≤◌, ℕ, List, length, ap, refl, sym, subst, inl, inr, true}
-use Rattle.std.specs.Prelude.{Some, None, IsSome, IfErr, IfOk, Result, Ok, Err}
+use Rattle.std.proofs.Common.{◌≡◌, ◌∙◌, ℕ, List, ap, refl, sym, subst, inl, inr, true}
+use Rattle.std.specs.Prelude.{Some, None, IsSome, Ok}
 use Rattle.auth_machine.specs.Book.{BookView}
-use Rattle.auth_machine.specs.Policy.{PolicyView}
 use Rattle.fw_disk.specs.DiskView.{DiskView}
 use Rattle.fw_outside.specs.KeeperView.{KeeperView}
 use Rattle.spool_rack.specs.Opening.{IsRackFault}
-use Rattle.spool_rack.specs.Store.{StoreView}
 use Rattle.spool_slots.specs.declared.slot_why.SlotWhy.{SlotWhy}
 use Rattle.spool_slots.specs.declared.slot_why.SlotWhy.TheVariants as whys
-use Rattle.bastion.specs.Mailing.{OpensRack, SlotsUnread, slot_fault, with_disks}
+use Rattle.bastion.specs.Mailing.{SlotsUnread, slot_fault, with_disks}
 use Rattle.bastion.specs.Outcome.{SlotsRose, status_of}
-use Rattle.bastion.specs.SessionSteps.{Opened, Unopened}
 use Rattle.bastion.specs.WorldView.{SessionInputs, WorldView}
-use Rattle.bastion.specs.declared.outcome.Device.TheVariants as device
 use Rattle.bastion.specs.declared.outcome.Outcome.{Outcome}
-use Rattle.bastion.specs.declared.outcome.Outcome.TheVariants.{Unread, Failed, NoMemory}
-use Rattle.bastion.specs.declared.outcome.Refusal.TheVariants.{Record}
+use Rattle.bastion.specs.declared.outcome.Outcome.TheVariants.{NoMemory}
 use Rattle.bastion.specs.declared.outcome.Step.TheVariants as steps
 use Rattle.bastion.proofs.LeftLemmas.{Later, Left, only_left}
 use Rattle.bastion.proofs.MailedLemmas.{unread_rose}
 use Rattle.bastion_ready.specs.Inputs.{HasInputs, ServerInputs}
-use Rattle.bastion_ready.specs.Ready.{AreBack, IsStatusFor, OpensBehind, OpensBoth, OpensNotBoth, ShutsBook, SlotsStop, StopsBehind, StopsFor}
+use Rattle.bastion_ready.specs.Ready.{AreBack, IsStatusFor, ShutsBook, SlotsStop, StopsFor}
 use Rattle.bastion_ready.specs.Words.{ServerLine}
 
 -- ---- the keeper is taken, and put back
@@ -32,29 +27,9 @@ without_keeper world = record world { inputs = record (world.inputs) { keeper = 
 abbrev pub with_keeper : KeeperView → WorldView → WorldView
 with_keeper keeper world = record world { inputs = record (world.inputs) { keeper = Some keeper } }
 
--- as few disks are there where a book wasn't opened
-few_unopened : (outcome : Outcome) (old new : WorldView) → Unopened outcome old new → length old.inputs.disks ≤ 64 → length new.inputs.disks ≤ 64
-few_unopened (Failed device.Records) old new h few = subst (λ (w : WorldView). length w.inputs.disks ≤ 64) (sym h.is) few
-few_unopened (Unread (Record user at)) old new h few = subst (λ (w : WorldView). length w.inputs.disks ≤ 64) (sym h.is) few
-few_unopened (NoMemory steps.Records) old new h few = subst (λ (w : WorldView). length w.inputs.disks ≤ 64) (sym h.is) few
-few_unopened outcome old new h few = absurd h
-
-module _ (policy : PolicyView) (old mid : WorldView) where
-  -- and where it was
-  pub few_still : (opened : Result BookView Outcome) → IfOk opened (λ book. Opened policy book old mid) → IfErr opened (λ outcome. Unopened outcome old mid) → length old.inputs.disks ≤ 64 → length mid.inputs.disks ≤ 64
-  few_still (Ok book) is none few = subst (λ (w : WorldView). length w.inputs.disks ≤ 64) (sym is.is) few
-  few_still (Err outcome) is none few = few_unopened outcome old mid none few
-
-  -- book and slots
-  pub opens_both : (opened : Result BookView Outcome) (book : BookView) (rack : StoreView) (new : WorldView) → IfOk opened (λ first. Opened policy first old mid) → OpensBehind opened book rack mid new → OpensBoth policy book rack old new
-  opens_both (Ok first) book rack new is h = record { middle = mid; opened = subst (λ (b : BookView). Opened policy b old mid) (sym h.0) is; slots = h.1 }
-  opens_both (Err outcome) book rack new is h = absurd h
-
-  -- or not both
-  pub opens_not_both : (opened : Result BookView Outcome) (outcome : Outcome) (new : WorldView) → IfOk opened (λ first. Opened policy first old mid) → IfErr opened (λ first. Unopened first old mid) → StopsBehind opened outcome mid new → OpensNotBoth policy outcome old new
-  opens_not_both (Ok book) outcome new is none h = inr (record { book = book; middle = mid; opened = is; behind = h })
-  opens_not_both (Err first) outcome new is none h =
-      inl (subst (λ (o : Outcome). Unopened o old new) (sym h.0) (subst (λ (w : WorldView). Unopened first old w) (sym h.1) none))
+-- more disks than a rack has room for
+pub no_room : (world : WorldView) → SlotsUnread (NoMemory steps.Slots) world world
+no_room world = record { slot = 0; why = whys.NoMemory; fault = inl (refl, refl); comes = refl; is = refl }
 
 -- not all slots were opened, behind a keeper that was put back
 pub keeper_back : (outcome : Outcome) (book : BookView) (old mid last new : WorldView) → mid ≡ without_keeper old → SlotsUnread outcome mid last → ShutsBook book last new → SlotsUnread outcome (with_keeper book.keeper old) new

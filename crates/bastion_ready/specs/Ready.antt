@@ -5,6 +5,7 @@ use Rattle.auth_machine.specs.Policy.{PolicyView}
 use Rattle.bastion.specs.Inputs.{is_of_line}
 use Rattle.bastion.specs.Mailing.{OpensRack, SlotsUnread}
 use Rattle.bastion.specs.Outcome.{DeviceRose, SlotsRose, fault_line_of, status_of}
+use Rattle.bastion.specs.Reading.{Finds, ruling_in}
 use Rattle.bastion.specs.Run.{AsksTable, FilesUnread, ReadsOnly, TellsIf, Unused}
 use Rattle.bastion.specs.Serving.{book_at_first, most_entries}
 use Rattle.bastion.specs.SessionSteps.{Opened, Unopened}
@@ -18,7 +19,7 @@ use Rattle.bastion.specs.declared.outcome.Refusal.{Refusal}
 use Rattle.bastion.specs.declared.outcome.Refusal.TheVariants.{Table, Rule, Record, Slot}
 use Rattle.bastion.specs.declared.outcome.Step.{Step}
 use Rattle.bastion.specs.declared.outcome.Step.TheVariants as steps
-use Rattle.bastion_ready.specs.Inputs.{HasInputs, HasSite, IsSaidOf, ServerInputs, origin_of, whose}
+use Rattle.bastion_ready.specs.Inputs.{HasInputs, HasSite, IsSaidOf, ServerInputs, SiteRules, origin_of, site_rules_of, whose}
 use Rattle.bastion_ready.specs.Words.{Door, ServerLine, doors_of, services_of}
 use Rattle.fw_disk.specs.DiskView.{DiskView}
 use Rattle.fw_outside.specs.KeeperView.{KeeperFailed, KeeperView}
@@ -184,15 +185,39 @@ pub record SlotsUnreadBehind (book : BookView) (outcome : Outcome) (old new : Wo
   pub unread : SlotsUnread outcome old middle
   pub shut : ShutsBook book middle new
 
--- the slots were opened behind the book, which there is
-abbrev pub OpensBehind : Result BookView Outcome → BookView → StoreView → WorldView → WorldView → Type 0
-OpensBehind (Ok first) book rack old new = (book ≡ first) × OpensRack rack old new
-OpensBehind (Err outcome) book rack old new = ⊥
+-- the slots were opened behind these doors and rules and this book, which stand beside them
+pub record OpensBehind (doors : List Door) (rules : List (Service × RuleBook)) (book : BookView) (own_doors : List Door) (own_rules : List (Service × RuleBook)) (own_book : BookView) (rack : StoreView) (old new : WorldView) : Type 0 where
+  pub doors_are : own_doors ≡ doors
+  pub rules_are : own_rules ≡ rules
+  pub book_is : own_book ≡ book
+  pub slots : OpensRack rack old new
 
--- there is no book, and nothing more was done; or not all slots were opened behind it
-abbrev pub StopsBehind : Result BookView Outcome → Outcome → WorldView → WorldView → Type 0
-StopsBehind (Ok book) outcome old new = SlotsUnreadBehind book outcome old new
+-- what the table with this name says of the services was read, and the book opened by it
+pub record OpensSite (name : List ℕ) (services : List Service) (rules : List (Service × RuleBook)) (book : BookView) (old new : WorldView) : Type 0 where
+  pub site : SiteRules
+  pub middle : WorldView
+  pub found : Finds (ruling_in (site_rules_of services)) name (Ok site) old.files middle.files
+  pub said : IsSaidOf services site
+  pub output : middle.output ≡ old.output
+  pub logs : middle.logs ≡ old.logs
+  pub inputs : middle.inputs ≡ old.inputs
+  pub rules_are : rules ≡ site.rules
+  pub opened : Opened site.policy book middle new
+
+-- the book wasn't opened by what was read, or nothing could be read, and nothing more was done
+abbrev pub StopsBehind : Result SiteRules Outcome → Outcome → WorldView → WorldView → Type 0
+StopsBehind (Ok site) outcome old new = Unopened outcome old new
 StopsBehind (Err first) outcome old new = (outcome ≡ first) × (new ≡ old)
+
+-- what the table with this name says of the services wasn't read, or the book not opened by it
+pub record StopsSite (name : List ℕ) (services : List Service) (outcome : Outcome) (old new : WorldView) : Type 0 where
+  pub read : Result SiteRules Outcome
+  pub middle : WorldView
+  pub found : Finds (ruling_in (site_rules_of services)) name read old.files middle.files
+  pub output : middle.output ≡ old.output
+  pub logs : middle.logs ≡ old.logs
+  pub inputs : middle.inputs ≡ old.inputs
+  pub stops : StopsBehind read outcome middle new
 
 -- the book was opened, by this policy, and then all slots
 pub record OpensBoth (policy : PolicyView) (book : BookView) (rack : StoreView) (old new : WorldView) : Type 0 where

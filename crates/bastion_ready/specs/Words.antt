@@ -1,5 +1,5 @@
 -- The words of a server: `[OPTIONS] serve WORKERS SERVICE@PORT`, and more of these.
-use Rattle.std.specs.Prelude.{◌≡◌, ℕ, Bool, true, false, ◌*◌, ◌==◌, ◌||◌, nat_le, List, [], ◌∷◌, ◌++◌, length, flat_map, replicate, Option, Some, None, codes, if◌then◌else◌}
+use Rattle.std.specs.Prelude.{ℕ, Bool, true, false, ◌*◌, ◌==◌, ◌||◌, nat_le, List, [], ◌∷◌, ◌++◌, length, flat_map, replicate, Option, Some, None, codes, if◌then◌else◌}
 use Rattle.std.specs.List.{after_first, before_first, list_any}
 use Rattle.std.specs.Str.{bytes_eq}
 use Rattle.bastion.specs.Words.{PlaceNames, after_options, any_twice, default_table, places_in, word_or}

@@ -1,14 +1,15 @@
 //! A server is made ready.
-ghost use Rattle.std.specs.Prelude.{◌≡◌, ◌≤◌, true, All, IfOk, IfErr, IfSome, IsSome, length};
-ghost use Rattle.bastion.specs.Mailing.{OpensRack};
+ghost use Rattle.std.specs.Prelude.{◌≡◌, ◌≤◌, true, All, IfOk, IfErr, IfSome, IsSome, OnOk, length};
+ghost use Rattle.bastion.specs.Mailing.{OpensRack, SlotsUnread};
 ghost use Rattle.bastion.specs.Outcome.{fault_line_of, status_of};
 ghost use Rattle.bastion.specs.Run.{TellsIf};
-ghost use Rattle.bastion_ready.specs.Ready.{AreBack, IsReady, IsReadyFor, IsRefused, IsStatus, OpensBehind, OpensBoth, OpensNotBoth, ShutsBook, SlotsUnreadBehind, Stops, StopsBehind, StopsFor};
+ghost use Rattle.bastion.specs.SessionSteps.{Opened, Unopened};
+ghost use Rattle.bastion_ready.specs.Ready.{AreBack, IsReady, IsReadyFor, IsRefused, IsStatus, OpensBehind, OpensSite, ShutsBook, SlotsUnreadBehind, Stops, StopsFor, StopsSite};
 ghost use Rattle.bastion_ready.specs.Words.{doors_of, is_for_server, server_of, services_of};
 ghost use Rattle.fwtk_serve.specs.RulesFor.{MayServe};
 
 use crate::doors::{doors_of, services_for};
-use crate::reading::{SiteRules, site_for};
+use crate::reading::{Ruled, SiteRules, site_for};
 use crate::server::Ready;
 use crate::{Door, ServerLine};
 use auth_machine::{Book, Policy};
@@ -26,17 +27,44 @@ fn shut<T: Kit>(book: Book<T::Keeper>, world: &mut World<T>)
     world.keeper = Some(keeper);
 }
 
+fn disk_count<T: Kit>(world: &World<T>) -> usize
+    ensures { result ≡ length world.now.inputs.disks }
+{
+    world.disks.len()
+}
+
+// There is room in a rack for the disks, or none.
+fn check_room<T: Kit>(world: &World<T>) -> Result<(), NoMemory>
+    ensures { OnOk result (length world.now.inputs.disks ≤ 64) }
+{
+    if disk_count(world) <= 64 {
+        Ok(())
+    } else {
+        Err(NoMemory)
+    }
+}
+
+// The slots of the disks are opened. Where there are more than a rack has room for, that is want of memory.
+fn open_disks<T: Kit>(alloc: Global, world: &mut World<T>) -> Result<Rack<T::Disk>, Outcome>
+    ensures opened { IfOk result (λ rack. OpensRack rack world.old world.new) }
+    ensures unopened { IfErr result (λ outcome. SlotsUnread outcome world.old world.new) }
+{
+    match check_room(world) {
+        Ok(()) => open_rack(alloc, world),
+        Err(NoMemory) => Err(Outcome::NoMemory(Step::Slots)),
+    }
+}
+
 // The slots are opened behind this book, whose keeper goes back to the world where one can't be.
 fn open_slots<T: Kit>(
     alloc: Global,
     book: Book<T::Keeper>,
     world: &mut World<T>,
 ) -> Result<(Book<T::Keeper>, Rack<T::Disk>), Outcome>
-    requires { length world.old.inputs.disks ≤ 64 }
     ensures opened { IfOk result (λ both. (both.0 ≡ book) × OpensRack both.1 world.old world.new) }
     ensures unopened { IfErr result (λ outcome. SlotsUnreadBehind book outcome world.old world.new) }
 {
-    match open_rack(alloc, world) {
+    match open_disks(alloc, world) {
         Ok(rack) => Ok((book, rack)),
         Err(outcome) => {
             shut(book, world);
@@ -45,52 +73,53 @@ fn open_slots<T: Kit>(
     }
 }
 
-// The slots are opened behind the book, if there is one.
-fn open_behind<T: Kit>(
+// The book is opened, by what the table says, with the rules beside it.
+fn open_by<T: Kit>(
     alloc: Global,
-    opened: Result<Book<T::Keeper>, Outcome>,
+    site: SiteRules,
     world: &mut World<T>,
-) -> Result<(Book<T::Keeper>, Rack<T::Disk>), Outcome>
-    requires { length world.old.inputs.disks ≤ 64 }
-    ensures opened { IfOk result (λ both. OpensBehind opened both.0 both.1 world.old world.new) }
-    ensures unopened { IfErr result (λ outcome. StopsBehind opened outcome world.old world.new) }
+) -> Result<(Ruled, Book<T::Keeper>), Outcome>
+    requires keeper { IsSome world.old.inputs.keeper }
+    ensures opened { IfOk result (λ both. (both.0 ≡ site.rules) × Opened site.policy both.1 world.old world.new) }
+    ensures unopened { IfErr result (λ outcome. Unopened outcome world.old world.new) }
 {
-    match opened {
-        Ok(book) => open_slots(alloc, book, world),
+    let SiteRules { ruled, policy } = site;
+    match open_book(alloc, world, policy) {
+        Ok(book) => Ok((ruled, book)),
         Err(outcome) => Err(outcome),
     }
 }
 
-// The book is opened, and then the slots.
-fn open_both<T: Kit>(
+// What the table says of the services is read, and the book opened by it.
+fn open_site<T: Kit>(
     alloc: Global,
-    policy: Policy,
+    name: &[u8],
+    services: &[Service],
     world: &mut World<T>,
-) -> Result<(Book<T::Keeper>, Rack<T::Disk>), Outcome>
+) -> Result<(Ruled, Book<T::Keeper>), Outcome>
     requires keeper { IsSome world.old.inputs.keeper }
-    requires few { length world.old.inputs.disks ≤ 64 }
-    ensures opened { IfOk result (λ both. OpensBoth policy both.0 both.1 world.old world.new) }
-    ensures unopened { IfErr result (λ outcome. OpensNotBoth policy outcome world.old world.new) }
+    ensures opened { IfOk result (λ both. OpensSite name.now services.now both.0 both.1 world.old world.new) }
+    ensures unopened { IfErr result (λ outcome. StopsSite name.now services.now outcome world.old world.new) }
 {
-    let opened = open_book(alloc, world, policy);
-    open_behind(alloc, opened, world)
+    match site_for(alloc, name, services, world) {
+        Ok(site) => open_by(alloc, site, world),
+        Err(outcome) => Err(outcome),
+    }
 }
 
-// Book and slots are opened, by what the table says.
-fn open<T: Kit>(
+// Behind these the slots are opened, and all is together.
+fn open_behind<T: Kit>(
     alloc: Global,
     doors: Vec<Door>,
-    site: SiteRules,
+    ruled: Ruled,
+    book: Book<T::Keeper>,
     world: &mut World<T>,
 ) -> Result<Ready<T::Keeper, T::Disk>, Outcome>
-    requires keeper { IsSome world.old.inputs.keeper }
-    requires few { length world.old.inputs.disks ≤ 64 }
-    ensures opened { IfOk result (λ ready. (ready.doors.items ≡ doors.items) × (ready.rules.items ≡ site.rules)
-        × OpensBoth site.policy ready.book ready.rack world.old world.new) }
-    ensures unopened { IfErr result (λ outcome. OpensNotBoth site.policy outcome world.old world.new) }
+    ensures opened { IfOk result (λ ready. OpensBehind doors.items ruled book ready.doors.items ready.rules.items ready.book
+        ready.rack world.old world.new) }
+    ensures unopened { IfErr result (λ outcome. SlotsUnreadBehind book outcome world.old world.new) }
 {
-    let SiteRules { ruled, policy } = site;
-    match open_both(alloc, policy, world) {
+    match open_slots(alloc, book, world) {
         Ok((book, rack)) => Ok(Ready {
             doors,
             rules: ruled.rules,
@@ -123,7 +152,6 @@ fn prepare_by<T: Kit>(
     world: &mut World<T>,
 ) -> Result<Ready<T::Keeper, T::Disk>, Outcome>
     requires keeper { IsSome world.old.inputs.keeper }
-    requires few { length world.old.inputs.disks ≤ 64 }
     requires name { name.now ≡ line.now.table }
     requires doors { doors.items ≡ doors_of line.now.plan }
     requires services { services.now ≡ services_of line.now.plan.posts }
@@ -134,8 +162,8 @@ fn prepare_by<T: Kit>(
     ensures stops { IfErr result (λ outcome. StopsFor line.now outcome world.old world.new) }
 {
     let _ = line;
-    match site_for(alloc, name, services, world) {
-        Ok(site) => open(alloc, doors, site, world),
+    match open_site(alloc, name, services, world) {
+        Ok((ruled, book)) => open_behind(alloc, doors, ruled, book, world),
         Err(outcome) => Err(outcome),
     }
 }
@@ -147,7 +175,6 @@ fn prepare_for<T: Kit>(
     world: &mut World<T>,
 ) -> Result<Ready<T::Keeper, T::Disk>, Outcome>
     requires keeper { IsSome world.old.inputs.keeper }
-    requires few { length world.old.inputs.disks ≤ 64 }
     requires served { All (λ post. is_for_server post.0 ≡ true) line.now.plan.posts }
     ensures ready { IfOk result (λ ready. IsReadyFor line.now ready.doors.items ready.rules.items ready.book
         ready.rack world.old world.new) }
@@ -177,7 +204,6 @@ fn prepare_read<T: Kit>(
     world: &mut World<T>,
 ) -> Result<Ready<T::Keeper, T::Disk>, Outcome>
     requires keeper { IsSome world.old.inputs.keeper }
-    requires few { length world.old.inputs.disks ≤ 64 }
     requires served { IfSome read (λ line. All (λ post. is_for_server post.0 ≡ true) line.plan.posts) }
     ensures ready { IfOk result (λ ready. IsReady read.entry ready.doors.items ready.rules.items ready.book ready.rack
         world.old world.new) }
@@ -197,7 +223,6 @@ fn prepare<T: Kit>(
     world: &mut World<T>,
 ) -> Result<Ready<T::Keeper, T::Disk>, Outcome>
     requires keeper { IsSome world.old.inputs.keeper }
-    requires few { length world.old.inputs.disks ≤ 64 }
     ensures ready { IfOk result (λ ready. IsReady (server_of words.now) ready.doors.items ready.rules.items ready.book
         ready.rack world.old world.new) }
     ensures may { IfOk result (λ ready. All MayServe ready.rules.items) }
