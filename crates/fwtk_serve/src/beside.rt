@@ -20,6 +20,25 @@ pub(crate) trait Duty {
         ensures { ends_with self result };
 }
 
+// A call of a closure that is given away.
+#[derive(Drop)]
+struct Given<F> {
+    closure: F,
+}
+
+impl<F: FnOnce() -> A, A> Duty for Given<F> {
+    type Outcome = A;
+
+    ghost may_begin = { λ call. F.pre call.closure };
+
+    ghost ends_with = { λ call outcome. F.post call.closure outcome };
+
+    fn perform(self) -> A {
+        let Given { closure } = self;
+        closure()
+    }
+}
+
 // A call of a closure that is lent. The closure comes back with what it answers, so that one knows what it left in its captures.
 #[derive(Drop)]
 struct Call<'a, F> {
@@ -41,38 +60,42 @@ impl<'a, F: FnMut() -> A, A> Duty for Call<'a, F> {
     }
 }
 
-// That of a call of this closure comes what may come of it.
+// That of this duty comes what may come of it.
 #[derive(Drop)]
-struct Kept<F> {
-    closure: Snapshot<F>,
+struct Kept<T> {
+    duty: Snapshot<T>,
 }
 
-impl<A, F: FnOnce() -> A> Promise<A> for Kept<F> {
-    ghost kept_by = { λ promise answer. F.post promise.closure.value answer };
+impl<T: Duty> Promise<T::Outcome> for Kept<T> {
+    ghost kept_by = { λ promise outcome. T.ends_with promise.duty.value outcome };
 }
 
-// Calls the closure in a new thread, and performs the duty in this one. Where no thread can be made both are done in this one, the
-// closure before the duty.
+// Runs the first in a new thread and the other in this one. Where no thread can be made both are run in this one, the first before
+// the other.
 fn run_both<H, S, T, A, B>(rt: &H, there: S, here: T) -> (A, B)
 where
     H: Threads + Wait,
-    S: FnOnce() -> A + Send + Drop,
+    S: Duty<Outcome = A> + Send + Drop,
     T: Duty<Outcome = B> + Drop,
     A: Send + Drop,
-    requires { S.pre there × T.may_begin here }
-    ensures { S.post there result.0 × T.ends_with here result.1 }
+    requires { S.may_begin there × T.may_begin here }
+    ensures { S.ends_with there result.0 × T.ends_with here result.1 }
 {
     thread::scope(
         thread::scope_env(),
         rt,
         move |scope| -> (A, B)
-            requires { S.pre there × T.may_begin here }
-            ensures { S.post there result.0 × T.ends_with here result.1 }
+            requires { S.may_begin there × T.may_begin here }
+            ensures { S.ends_with there result.0 × T.ends_with here result.1 }
         {
             let promise = Kept {
-                closure: Snapshot::of(&there),
+                duty: Snapshot::of(&there),
             };
-            match scope.spawn_with(promise, there) {
+            let task = move || -> A
+                requires { S.may_begin there }
+                ensures { S.ends_with there result }
+            { there.perform() };
+            match scope.spawn_with(promise, task) {
                 Ok(handle) => {
                     let own = here.perform();
                     (handle.join(rt), own)
@@ -103,7 +126,7 @@ where
     ensures there { S.post there result.0 }
     ensures here { F.step here.old result.1 here.new }
 {
-    let (other, (closure, answer)) = run_both(rt, there, Call { closure: here });
+    let (other, (closure, answer)) = run_both(rt, Given { closure: there }, Call { closure: here });
     look_back(closure);
     (other, answer)
 }

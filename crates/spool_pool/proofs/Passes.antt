@@ -110,6 +110,13 @@ pub record Open {D : Type 0} (c : Bool) (l : Lanes D) (t : TallyView) (home : Li
   pub sound_so : IsSound l t
   pub none : t.out ≡ []
 
+-- it is of each queue of this pool, and has a part of each
+pub open_homes : {D : Type 0} (c : Bool) (l : Lanes D) (t : TallyView) (x y z : List ℕ) (pool : PoolView) → record { home = x ∷ y ∷ z ∷ [] } ≡ pool → Open c l t pool.home → (l.free.home ≡ x) × (l.full.home ≡ y) × (l.shelf.home ≡ z)
+open_homes c l t x y z pool w o = homes_each l x y z (o.homes ∙ sym (ap (λ (q : PoolView). q.home) w))
+
+pub open_parts : {D : Type 0} (c : Bool) (l : Lanes D) (t : TallyView) (home : List (List ℕ)) → Open c l t home → (0 < l.free.parts) × (0 < l.full.parts) × (0 < l.shelf.parts)
+open_parts c l t home o = let e = o.sound_so.even in (omega (arith, e.some_part, e.free), e.some_part, omega (arith, e.some_part, e.shelf))
+
 module _ {D : Type 0} (c : Bool) (l : Lanes D) (t : TallyView) (a b n : ℕ) (p : PassView) (v : pass_of c l t a b n ≡ p) where
   pub opened : (x y z : List ℕ) (pool : PoolView) → record { home = x ∷ y ∷ z ∷ [] } ≡ pool → IsPassOf pool p → IsSoundUnless c l t × (t.out ≡ []) → Open c l t pool.home
   opened x y z pool w of inv =

@@ -14,10 +14,12 @@ use Rattle.spool_pool.specs.declared.lanes.Lanes.{Lanes}
 use Rattle.spool_pool.specs.Shelf.{ShelvedView, is_aside, is_broken, aside_of, broken_of}
 use Rattle.spool_pool.specs.Ends.{Became, IsSettled, from_full, stands}
 use Rattle.spool_pool.specs.Events.{Event, TallyView, kept, spoilt, back, freed, shelved, broke, first_of, set_aside_of, broke_of, full_of, shelf_of, taken_of, told_of}
-use Rattle.spool_pool.specs.Account.{Account, IsSound, IsTrue, handed_in}
+use Rattle.spool_pool.specs.Account.{Account, IsSound, IsTrue, handed_in, pass_of}
 use Rattle.spool_pool.specs.Closing.{Drains, with_all, with_shelved}
+use Rattle.spool_pool.specs.Known.{PassView}
 use Rattle.spool_pool.specs.Numbers.{AreKept}
 use Rattle.spool_pool.proofs.Numbers.{numbers_left}
+use Rattle.spool_pool.proofs.Passes.{Open, parts_are, same_pass}
 use Rattle.spool_pool.proofs.Perms.{same, flat_map_permuted}
 use Rattle.spool_pool.proofs.Fates.{all_turned, both, cancel_all, ends_of, over, permuted, stand}
 
@@ -143,3 +145,10 @@ emptied l t room first second third last s none bare a b c all =
     let two = ap (λ (k : Queues). let r : Queues = record { free = k.free; full = k.full ++ b.slots; aside = k.aside; broken = k.broken } in r) (o ∙ one) in
     let three = ap (λ (k : Queues). let r : Queues = record { free = k.free; full = k.full; aside = k.aside ++ flat_map aside_of c.slots; broken = k.broken ++ flat_map broken_of c.slots } in r) (p ∙ two) in
     subst (IsSettled (handed_in l t.events)) (sym (q ∙ three)) (settles l t a.slots b.slots c.slots s.account s.kept none (a.all (s.even.free ∙ all)) (b.all all) (c.all (s.even.shelf ∙ all)))
+
+-- the same of a pass that is handed in
+pub settled : {D : Type 0} (c : Bool) (l : Lanes D) (t : TallyView) (a b n : ℕ) (p : PassView) (v : pass_of c l t a b n ≡ p) (home : List (List ℕ)) (room : ℕ) (first second third last : StockView) → Open c l t home → first.queues ≡ no_slots
+    → Drains with_free room l.free first second → Drains with_full room l.full second third → Drains with_shelved room l.shelf third last → p.handed.parts ≡ 2 ^ 64 → IsSettled p.handed last.queues
+settled c l t a b n p v home room first second third last o bare one two three all =
+    subst (λ (q : PassView). IsSettled q.handed last.queues) (same_pass c l t a b n p v o.is_so)
+    (emptied l t room first second third last o.sound_so o.none bare one two three (parts_are c l t a b n p v o.is_so ∙ all))
