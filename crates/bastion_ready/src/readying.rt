@@ -1,9 +1,9 @@
 //! A server is made ready.
-ghost use Rattle.std.specs.Prelude.{◌≡◌, true, All, IfOk, IfErr, IfSome, IsSome};
+ghost use Rattle.std.specs.Prelude.{◌≡◌, ◌≤◌, true, All, IfOk, IfErr, IfSome, IsSome, length};
+ghost use Rattle.bastion.specs.Mailing.{OpensRack};
 ghost use Rattle.bastion.specs.Outcome.{fault_line_of, status_of};
 ghost use Rattle.bastion.specs.Run.{TellsIf};
-ghost use Rattle.bastion.specs.SessionSteps.{Opened, Unopened};
-ghost use Rattle.bastion_ready.specs.Ready.{IsReady, IsReadyFor, IsRefused, IsStatus, Stops, StopsFor};
+ghost use Rattle.bastion_ready.specs.Ready.{AreBack, IsReady, IsReadyFor, IsRefused, IsStatus, OpensBehind, OpensBoth, OpensNotBoth, ShutsBook, SlotsUnreadBehind, Stops, StopsBehind, StopsFor};
 ghost use Rattle.bastion_ready.specs.Words.{doors_of, is_for_server, server_of, services_of};
 ghost use Rattle.fwtk_serve.specs.RulesFor.{MayServe};
 
@@ -11,29 +11,91 @@ use crate::doors::{doors_of, services_for};
 use crate::reading::{SiteRules, site_for};
 use crate::server::Ready;
 use crate::{Door, ServerLine};
-use bastion::{Kit, Outcome, Step, World, open_book, tell};
+use auth_machine::{Book, Policy};
+use bastion::{Kit, Outcome, Step, World, open_book, open_rack, tell};
 use fw_types::{NoMemory, Octets};
 use gate_rules::Service;
+use spool_rack::Rack;
 use std::alloc::Global;
 
-// The book is opened, by what the table says.
+// The keeper of this book is in the world again.
+fn shut<T: Kit>(book: Book<T::Keeper>, world: &mut World<T>)
+    ensures { ShutsBook book world.old world.new }
+{
+    let (keeper, _history) = book.close();
+    world.keeper = Some(keeper);
+}
+
+// The slots are opened behind this book, whose keeper goes back to the world where one can't be.
+fn open_slots<T: Kit>(
+    alloc: Global,
+    book: Book<T::Keeper>,
+    world: &mut World<T>,
+) -> Result<(Book<T::Keeper>, Rack<T::Disk>), Outcome>
+    requires { length world.old.inputs.disks ≤ 64 }
+    ensures opened { IfOk result (λ both. (both.0 ≡ book) × OpensRack both.1 world.old world.new) }
+    ensures unopened { IfErr result (λ outcome. SlotsUnreadBehind book outcome world.old world.new) }
+{
+    match open_rack(alloc, world) {
+        Ok(rack) => Ok((book, rack)),
+        Err(outcome) => {
+            shut(book, world);
+            Err(outcome)
+        }
+    }
+}
+
+// The slots are opened behind the book, if there is one.
+fn open_behind<T: Kit>(
+    alloc: Global,
+    opened: Result<Book<T::Keeper>, Outcome>,
+    world: &mut World<T>,
+) -> Result<(Book<T::Keeper>, Rack<T::Disk>), Outcome>
+    requires { length world.old.inputs.disks ≤ 64 }
+    ensures opened { IfOk result (λ both. OpensBehind opened both.0 both.1 world.old world.new) }
+    ensures unopened { IfErr result (λ outcome. StopsBehind opened outcome world.old world.new) }
+{
+    match opened {
+        Ok(book) => open_slots(alloc, book, world),
+        Err(outcome) => Err(outcome),
+    }
+}
+
+// The book is opened, and then the slots.
+fn open_both<T: Kit>(
+    alloc: Global,
+    policy: Policy,
+    world: &mut World<T>,
+) -> Result<(Book<T::Keeper>, Rack<T::Disk>), Outcome>
+    requires keeper { IsSome world.old.inputs.keeper }
+    requires few { length world.old.inputs.disks ≤ 64 }
+    ensures opened { IfOk result (λ both. OpensBoth policy both.0 both.1 world.old world.new) }
+    ensures unopened { IfErr result (λ outcome. OpensNotBoth policy outcome world.old world.new) }
+{
+    let opened = open_book(alloc, world, policy);
+    open_behind(alloc, opened, world)
+}
+
+// Book and slots are opened, by what the table says.
 fn open<T: Kit>(
     alloc: Global,
     doors: Vec<Door>,
     site: SiteRules,
     world: &mut World<T>,
-) -> Result<Ready<T::Keeper>, Outcome>
+) -> Result<Ready<T::Keeper, T::Disk>, Outcome>
     requires keeper { IsSome world.old.inputs.keeper }
+    requires few { length world.old.inputs.disks ≤ 64 }
     ensures opened { IfOk result (λ ready. (ready.doors.items ≡ doors.items) × (ready.rules.items ≡ site.rules)
-        × Opened site.policy ready.book world.old world.new) }
-    ensures unopened { IfErr result (λ fault. Unopened fault world.old world.new) }
+        × OpensBoth site.policy ready.book ready.rack world.old world.new) }
+    ensures unopened { IfErr result (λ outcome. OpensNotBoth site.policy outcome world.old world.new) }
 {
     let SiteRules { ruled, policy } = site;
-    match open_book(alloc, world, policy) {
-        Ok(book) => Ok(Ready {
+    match open_both(alloc, policy, world) {
+        Ok((book, rack)) => Ok(Ready {
             doors,
             rules: ruled.rules,
             book,
+            rack,
         }),
         Err(outcome) => Err(outcome),
     }
@@ -51,7 +113,7 @@ fn posts_of<'a>(line: &'a ServerLine) -> &'a [Door]
     line.plan.posts.as_slice()
 }
 
-// What a server with these doors and services needs is read, and its book opened.
+// What a server with these doors and services needs is read, and its book and slots opened.
 fn prepare_by<T: Kit>(
     alloc: Global,
     name: &[u8],
@@ -59,14 +121,15 @@ fn prepare_by<T: Kit>(
     doors: Vec<Door>,
     services: &[Service],
     world: &mut World<T>,
-) -> Result<Ready<T::Keeper>, Outcome>
+) -> Result<Ready<T::Keeper, T::Disk>, Outcome>
     requires keeper { IsSome world.old.inputs.keeper }
+    requires few { length world.old.inputs.disks ≤ 64 }
     requires name { name.now ≡ line.now.table }
     requires doors { doors.items ≡ doors_of line.now.plan }
     requires services { services.now ≡ services_of line.now.plan.posts }
     requires served { All (λ s. is_for_server s ≡ true) services.now }
-    ensures ready { IfOk result (λ ready. IsReadyFor line.now ready.doors.items ready.rules.items ready.book world.old
-        world.new) }
+    ensures ready { IfOk result (λ ready. IsReadyFor line.now ready.doors.items ready.rules.items ready.book
+        ready.rack world.old world.new) }
     ensures may { IfOk result (λ ready. All MayServe ready.rules.items) }
     ensures stops { IfErr result (λ outcome. StopsFor line.now outcome world.old world.new) }
 {
@@ -77,16 +140,17 @@ fn prepare_by<T: Kit>(
     }
 }
 
-// What the server of this line needs is read, and its book opened.
+// What the server of this line needs is read, and its book and slots opened.
 fn prepare_for<T: Kit>(
     alloc: Global,
     line: &ServerLine,
     world: &mut World<T>,
-) -> Result<Ready<T::Keeper>, Outcome>
+) -> Result<Ready<T::Keeper, T::Disk>, Outcome>
     requires keeper { IsSome world.old.inputs.keeper }
+    requires few { length world.old.inputs.disks ≤ 64 }
     requires served { All (λ post. is_for_server post.0 ≡ true) line.now.plan.posts }
-    ensures ready { IfOk result (λ ready. IsReadyFor line.now ready.doors.items ready.rules.items ready.book world.old
-        world.new) }
+    ensures ready { IfOk result (λ ready. IsReadyFor line.now ready.doors.items ready.rules.items ready.book
+        ready.rack world.old world.new) }
     ensures may { IfOk result (λ ready. All MayServe ready.rules.items) }
     ensures stops { IfErr result (λ outcome. StopsFor line.now outcome world.old world.new) }
 {
@@ -111,10 +175,12 @@ fn prepare_read<T: Kit>(
     alloc: Global,
     read: Option<ServerLine>,
     world: &mut World<T>,
-) -> Result<Ready<T::Keeper>, Outcome>
+) -> Result<Ready<T::Keeper, T::Disk>, Outcome>
     requires keeper { IsSome world.old.inputs.keeper }
+    requires few { length world.old.inputs.disks ≤ 64 }
     requires served { IfSome read (λ line. All (λ post. is_for_server post.0 ≡ true) line.plan.posts) }
-    ensures ready { IfOk result (λ ready. IsReady read.entry ready.doors.items ready.rules.items ready.book world.old world.new) }
+    ensures ready { IfOk result (λ ready. IsReady read.entry ready.doors.items ready.rules.items ready.book ready.rack
+        world.old world.new) }
     ensures may { IfOk result (λ ready. All MayServe ready.rules.items) }
     ensures stops { IfErr result (λ outcome. Stops read.entry outcome world.old world.new) }
 {
@@ -129,10 +195,11 @@ fn prepare<T: Kit>(
     alloc: Global,
     words: &[Octets],
     world: &mut World<T>,
-) -> Result<Ready<T::Keeper>, Outcome>
+) -> Result<Ready<T::Keeper, T::Disk>, Outcome>
     requires keeper { IsSome world.old.inputs.keeper }
+    requires few { length world.old.inputs.disks ≤ 64 }
     ensures ready { IfOk result (λ ready. IsReady (server_of words.now) ready.doors.items ready.rules.items ready.book
-        world.old world.new) }
+        ready.rack world.old world.new) }
     ensures may { IfOk result (λ ready. All MayServe ready.rules.items) }
     ensures stops { IfErr result (λ outcome. Stops (server_of words.now) outcome world.old world.new) }
 {
@@ -152,45 +219,45 @@ fn refuse<T: Kit>(outcome: &Outcome, world: &mut World<T>) -> u8
 }
 
 /// Makes the server ready that the words `serve WORKERS SERVICE@PORT` and more of these ask for, over the devices of a world.
-/// WORKERS is a decimal number from 1 to 64. Each SERVICE is one that may be served, which is neither `netacl-` and a label nor
-/// `smap`, and each PORT a decimal number from 1 to 65,535, of which none stands twice. Each has so many workers, and there are
-/// at most 64 in all.
+/// WORKERS is a decimal number from 1 to 64. Each SERVICE is one that may be served, which is any but `netacl-` and a label, and
+/// each PORT a decimal number from 1 to 65,535, of which none stands twice. Each has so many workers, and there are at most 64
+/// in all.
 ///
-/// The table is read, then the rules of each service in the order of the words, then what the authentication server goes by,
-/// and then the book of the records is opened.
+/// The table is read, then the rules of each service in the order of the words, then what the authentication server goes by.
+/// Then the book of the records is opened, and then the slots of all disks, in the order of their numbers.
 ///
 /// # Errors
 ///
 /// The exit status, after a line in the log that names the cause:
 ///
 /// - 2 where the words ask for no server;
-/// - 3 where a line of the table, of one of the services or of `authsrv`, or a user's record can't be read;
-/// - 4 where the files or the keeper failed, which its count shows;
+/// - 3 where a line of the table, of one of the services or of `authsrv`, a user's record or a slot can't be read;
+/// - 4 where the files, the keeper or a disk failed, which its count shows;
 /// - 5 for want of memory.
 ///
-/// The keeper is back in the world then.
+/// Keeper and disks are back in the world then.
 pub fn ready<T: Kit>(
     alloc: Global,
     words: &[Octets],
     world: &mut World<T>,
-) -> Result<Ready<T::Keeper>, u8>
+) -> Result<Ready<T::Keeper, T::Disk>, u8>
     requires keeper { IsSome world.old.inputs.keeper }
-    // A door for each worker and the rules of each service, each once, in the order of the words; and the book is of all the
-    // records that the keeper had, and goes by what the table says.
+    requires few { length world.old.inputs.disks ≤ 64 }
+    // A door for each worker and the rules of each service, each once, in the order of the words; the book is of all the
+    // records that the keeper had, and goes by what the table says; and the rack is of the slots on all disks.
     ensures ready { IfOk result (λ ready. IsReady (server_of words.now) ready.doors.items ready.rules.items ready.book
-        world.old world.new) }
+        ready.rack world.old world.new) }
     // The rules may be served.
     ensures may { IfOk result (λ ready. All MayServe ready.rules.items) }
     // What stopped it, and that nothing else was done; its line in the log, and its status.
     ensures refused { IfErr result (λ status. IsRefused (server_of words.now) status world.old world.new) }
-    // 2 is for words that ask for no server; 3 is for inputs that can't be read, and 4 for a count that rose.
+    // 2 is for words that ask for no server; 3 is for inputs or a slot that can't be read, and 4 for a count that rose.
     ensures status { IfErr result (λ status. IsStatus (server_of words.now) status world.old world.new) }
     // Each source that it got was given back: as many are out as before.
     ensures returned { world.new.files.out ≡ world.old.files.out }
-    // The disks are as they were.
-    ensures disks { world.new.inputs.disks ≡ world.old.inputs.disks }
-    // After a refusal the keeper is there.
+    // After a refusal the keeper is there, and so are the disks: as they were, or as opening the slots before a bad one left them.
     ensures kept { IfErr result (λ _. IsSome world.new.inputs.keeper) }
+    ensures disks { IfErr result (λ _. AreBack world.old.inputs.disks world.new.inputs.disks) }
 {
     match prepare(alloc, words, world) {
         Ok(ready) => Ok(ready),

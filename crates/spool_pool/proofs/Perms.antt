@@ -5,10 +5,9 @@ use mathlib.Core.List.Permᴰ
 use mathlib.Core.List.{cons≢nil, head-eq_of_cons-eq, tail-eq_of_cons-eq}
 use Rattle.std.specs.List.{flat_map}
 use Rattle.std.specs.List.Sorted.{IsPermutation}
-use Rattle.core.specs.List.{swap}
-use Rattle.core.proofs.slice.Lists.{exchanged_same, swap_is}
+use Rattle.std.specs.Prelude.{swap}
 use Rattle.std.proofs.lemmas.Bool.{eqb-true, eqb-false}
-use Rattle.std.proofs.lemmas.List.{length-set, get_or-set_other, append_assoc}
+use Rattle.std.proofs.lemmas.List.{length-set, get_or-set_other, set-get_or, append_assoc}
 use Rattle.std.proofs.lemmas.List.Sorted.{IsPermutation-refl, IsPermutation-trans, IsPermutation-cons, IsPermutation-keeps, IsPermutation-append_left, IsPermutation-append_right, IsPermutation-append_comm, IsPermutation-middle}
 
 -- two numbers are one, or not
@@ -94,13 +93,20 @@ module _ {X : Type 0} where
       let is : get_or m j d ≡ a = get_or-set_other l i j a d apart in
       less a l (set m j b) (Permᴰ.symm (Permᴰ.trans (subst (λ y. Permᴰ (y ∷ set m j b) (b ∷ m)) is two) one))
 
+  -- an item that changes places with itself stays where it is
+  stays : (d : X) (l : List X) (i j : ℕ) → i ≡ j → d ∷ l ≡ swap (d ∷ l) i j
+  stays d l i j e =
+      let same : set (d ∷ l) i (get_or (d ∷ l) i d) ≡ d ∷ l = set-get_or (d ∷ l) i d in
+      let twice : set (set (d ∷ l) i (get_or (d ∷ l) i d)) i (get_or (d ∷ l) i d) ≡ d ∷ l = ap (λ (m : List X). set m i (get_or (d ∷ l) i d)) same ∙ same in
+      subst (λ (k : ℕ). d ∷ l ≡ set (set (d ∷ l) i (get_or (d ∷ l) k d)) k (get_or (d ∷ l) i d)) e (sym twice)
+
   swapped : (l : List X) (i j : ℕ) → i < length l → j < length l → Permᴰ l (swap l i j)
   swapped [] i j p q = absurd (omega (arith, p))
   swapped (d ∷ l) i j p q = by_case (which j i)
     where
       by_case : (j ≡ i) ⊎ (j ≡ i → ⊥) → Permᴰ (d ∷ l) (swap (d ∷ l) i j)
-      by_case (inl e) = subst (Permᴰ (d ∷ l)) (exchanged_same (d ∷ l) i j (sym e)) (Permᴰ.refl (d ∷ l))
-      by_case (inr apart) = subst (Permᴰ (d ∷ l)) (swap_is (d ∷ l) i j d p q) (swapped_apart (d ∷ l) i j d p q apart)
+      by_case (inl e) = subst (Permᴰ (d ∷ l)) (stays d l i j (sym e)) (Permᴰ.refl (d ∷ l))
+      by_case (inr apart) = swapped_apart (d ∷ l) i j d p q apart
 
   pub derived : (xs ys : List X) → IsPermutation xs ys → Permᴰ xs ys
   derived xs ys p = IsPermutation-keeps xs (Permᴰ xs) (Permᴰ.refl xs) (λ l i j lt lt' d. Permᴰ.trans d (swapped l i j lt lt')) ys p
