@@ -1,4 +1,4 @@
-use Rattle.std.proofs.Common.{arith, ◌≡◌, ◌+◌, ◌-◌, ◌^◌, ◌≤◌, ◌++◌, List, length, refl, sym, subst}
+use Rattle.std.proofs.Common.{arith, ◌≡◌, ◌^◌, ◌++◌, List, length, refl, sym, subst}
 use mathlib.Core.List.{IsPrefix}
 use Rattle.auth_events.specs.declared.entry.Entry.{Entry}
 use Rattle.turn_lock.specs.Places.{AreWithin, Fill}
