@@ -94,7 +94,7 @@ impl<'a, H: Wait, D: Disk> PoolSeat<'a, H, D> {
 }
 
 impl<'a, H: Wait, D: Disk> PoolSeat<'a, H, D> {
-    /// A free slot. None only if the queue of free slots was empty at one moment of the call.
+    /// A free slot. A pass with all parts gets none only if each slot that the queue of free slots had was taken.
     #[tactic(auto, using(crate::proofs::Seats::after_take_free, crate::proofs::Seats::none_free))]
     pub fn take_free(&mut self) -> Option<Free<D>>
         ensures takes { TakesFree result (store_of self.old) (store_of self.new) }
@@ -113,7 +113,7 @@ impl<'a, H: Wait, D: Disk> PoolSeat<'a, H, D> {
         }
     }
 
-    /// A slot with a message. None only if the queue of full slots was empty at one moment of the call.
+    /// A slot with a message. A pass with all parts gets none only if each slot that the queue of full slots had was taken.
     #[tactic(auto, using(crate::proofs::Seats::after_take_full))]
     pub fn take_full(&mut self) -> Option<Full<D>>
         ensures takes { TakesFull result (store_of self.old) (store_of self.new) }
