@@ -110,8 +110,8 @@ pub record BrokeSafely (turns : List Turn) (broken : BrokenView) : Type 0 where
 -- What a server did with its mail, in rounds of at most so many turns, with the mailers and the log. What its pass tells in the
 -- end that was released, was set aside, and broke after it was taken full is what these rounds did, in order; so each message
 -- that was released was accepted, by a hand of its own, and the first mailer took just these messages, and those of slots that
--- broke afterwards. The numbers of the report are those of the rounds together. The last round ended since no slot was full,
--- which the pass counted, or took as many turns as there may be; or the log failed, or memory was wanting.
+-- broke afterwards. The numbers of the report are those of the rounds together. The pass
+-- counted that no slot was full; or the numbers come to as many turns as there may be; or the log failed; or memory was wanting.
 pub record HandsOnAll (most : ℕ) (round : Round) (starved : ℕ) (mail : PassView) (mailers after : List MailerView) (logs log_after : SinkView) : Type 0 where
   pub rounds : List RoundView
   pub home : List (List ℕ)
