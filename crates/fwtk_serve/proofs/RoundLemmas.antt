@@ -563,8 +563,10 @@ hands_all most home parts began old new pass mail fits h begins none some handed
     let same : pass.handed ≡ grows.after = some_same (sym handed ∙ grows.is) in
     let each = each_all most rounds old.met new.met went in
     let broke : mail.handed.broken ≡ broken_of (all_turns rounds) = broken ∙ ap (λ (l : Handed). l.broken) same ∙ grows.lists.broken in
+    let many : length rounds ≡ length h.more.rounds + 1 = length-append h.more.rounds (h.last.round ∷ []) in
     record {
       rounds = rounds;
+      held = omega (arith, many);
       home = home;
       parts = parts;
       began = began;

@@ -19,7 +19,7 @@ use Rattle.turn_lock.specs.Places.{AreWithin, Fill, NoneTwice}
 use Rattle.fwtk_serve.specs.Clerks.{ClerkView, HandsToEnd, clerk_with, no_sums}
 use Rattle.fwtk_serve.specs.Meeting.{HavePasses, HaveWorked, IsReady, WorkerView, passes_of, starting}
 use Rattle.fwtk_serve.specs.Passes.{AreOf, IsApart, MeetAll, Pass, first_of, less}
-use Rattle.fwtk_serve.specs.Rounds.{HandsOnAll, Settles, all_turns, of_rack, turns_for}
+use Rattle.fwtk_serve.specs.Rounds.{HandsOnAll, HandsOnSlots, Settles, SettlesSlots, all_turns, of_rack}
 use Rattle.fwtk_serve.specs.Sessions.{Both, ServedView, store_at}
 use Rattle.fwtk_serve.specs.Stepping.{workers_short}
 use Rattle.fwtk_serve.specs.Working.{ServedAll, at_first}
@@ -125,15 +125,16 @@ settles_all before pass mail rack left began parts is rack_is settled = record {
 -- ---- by the slots of the rack
 
 -- at least as many turns as there are slots
-pub hands_for : (queues : Option Queues) (slots each : ℕ) (round : Round) (starved : ℕ) (mail : PassView) (mailers after : List MailerView) (logs log_after : SinkView) → IfSome queues (λ q. count_of q ≤ slots) → each ≡ min slots (2 ^ 32 - 1)
-    → HandsOnAll each round starved mail mailers after logs log_after → IfSome queues (λ q. (most : ℕ) × (turns_for q ≤ most) × HandsOnAll most round starved mail mailers after logs log_after)
-hands_for None slots each round starved mail mailers after logs log_after count is h = tt
-hands_for (Some q) slots each round starved mail mailers after logs log_after count is h = (each, omega (arith, count, is), h)
+pub hands_for : (queues : Option Queues) (q : Queues) (slots each : ℕ) (round : Round) (starved : ℕ) (mail : PassView) (mailers after : List MailerView) (logs log_after : SinkView)
+    → queues ≡ Some q → IfSome queues (λ q. count_of q ≤ slots) → each ≡ min slots (2 ^ 32 - 1)
+    → HandsOnAll each round starved mail mailers after logs log_after → HandsOnSlots queues round starved mail mailers after logs log_after
+hands_for queues q slots each round starved mail mailers after logs log_after told count is h =
+    let fits : count_of q ≤ slots = subst (λ (o : Option Queues). IfSome o (λ q. count_of q ≤ slots)) told count in
+    record { slots = q; told = told; most = each; enough = omega (arith, fits, is); hands = h }
 
 -- the pool began with them
-pub settles_for : (queues : Option Queues) (home : List (List ℕ)) (first mail : PassView) (rack : StoreView) → IfSome queues (λ q. first ≡ bare home (2 ^ 64) q) → Settles first.handed.began mail rack → IfSome queues (λ q. Settles q mail rack)
-settles_for None home first mail rack is h = tt
-settles_for (Some q) home first mail rack is h = subst (λ (b : Queues). Settles b mail rack) (ap (λ (p : PassView). p.handed.began) is) h
+pub settles_for : (queues : Option Queues) (first mail : PassView) (rack : StoreView) → queues ≡ Some first.handed.began → Settles first.handed.began mail rack → SettlesSlots queues mail rack
+settles_for queues first mail rack told h = record { slots = first.handed.began; told = told; settles = h }
 
 -- ---- the workers
 

@@ -1,5 +1,5 @@
 -- The rounds in which a server hands on its mail.
-use Rattle.std.specs.Prelude.{◌≡◌, ◌⊎◌, ℕ, ◌+◌, ◌-◌, ◌^◌, ◌<◌, ◌≤◌, min, Bool, true, false, List, [], ◌∷◌, ◌++◌, flat_map, sum_by, count_by, Result, Ok, Err}
+use Rattle.std.specs.Prelude.{◌≡◌, ◌⊎◌, ℕ, ◌+◌, ◌-◌, ◌^◌, ◌<◌, ◌≤◌, min, Bool, true, false, List, [], ◌∷◌, ◌++◌, length, flat_map, sum_by, count_by, Option, Some, Result, Ok, Err}
 use Rattle.std.specs.List.{AllByRecursion, Contains}
 use Rattle.fw_disk.specs.Moments.{EachImage, Now}
 use Rattle.fw_mail.specs.MailerView.{MailerView}
@@ -110,10 +110,11 @@ pub record BrokeSafely (turns : List Turn) (broken : BrokenView) : Type 0 where
 -- What a server did with its mail, in rounds of at most so many turns, with the mailers and the log. What its pass tells in the
 -- end that was released, was set aside, and broke after it was taken full is what these rounds did, in order; so each message
 -- that was released was accepted, by a hand of its own, and the first mailer took just these messages, and those of slots that
--- broke afterwards. The numbers of the report are those of the rounds together. The pass
--- counted that no slot was full; or the numbers come to as many turns as there may be; or the log failed; or memory was wanting.
+-- broke afterwards. A round was held at least once, and the numbers of the report are those of the rounds together. The pass counted
+-- that no slot was full; or the numbers come to as many turns as there may be; or the log failed; or memory was wanting.
 pub record HandsOnAll (most : ℕ) (round : Round) (starved : ℕ) (mail : PassView) (mailers after : List MailerView) (logs log_after : SinkView) : Type 0 where
   pub rounds : List RoundView
+  pub held : 0 < length rounds
   pub home : List (List ℕ)
   pub parts : ℕ
   pub began : Queues
@@ -129,6 +130,14 @@ pub record HandsOnAll (most : ℕ) (round : Round) (starved : ℕ) (mail : PassV
   pub starved_is : starved ≡ starved_count rounds
   pub ends : (0 < mail.no_full) ⊎ (most ≤ round.accepted + round.refused + round.failed + round.broken) ⊎ Rose logs.faults log_after.faults ⊎ (0 < starved)
 
+-- the same by the slots that the rack had: a round might take a turn of each
+pub record HandsOnSlots (queues : Option Queues) (round : Round) (starved : ℕ) (mail : PassView) (mailers after : List MailerView) (logs log_after : SinkView) : Type 0 where
+  pub slots : Queues
+  pub told : queues ≡ Some slots
+  pub most : ℕ
+  pub enough : turns_for slots ≤ most
+  pub hands : HandsOnAll most round starved mail mailers after logs log_after
+
 -- ---- the account
 
 abbrev pub of_rack : Queues → Handed → Handed
@@ -140,3 +149,9 @@ pub record Settles (before : Queues) (mail : PassView) (rack : StoreView) : Type
   pub left : Queues
   pub rack_is : rack ≡ rack_of left
   pub settled : IsSettled (of_rack before mail.handed) left
+
+-- the same by the slots that the rack had
+pub record SettlesSlots (queues : Option Queues) (mail : PassView) (rack : StoreView) : Type 0 where
+  pub slots : Queues
+  pub told : queues ≡ Some slots
+  pub settles : Settles slots mail rack

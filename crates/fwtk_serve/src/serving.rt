@@ -1,12 +1,12 @@
 //! A server.
-ghost use Rattle.std.specs.Prelude.{◌≡◌, ℕ, ◌-◌, ◌^◌, ◌<◌, ◌≤◌, [], All, IfErr, IfOk, IfSome, length, map, min};
+ghost use Rattle.std.specs.Prelude.{◌≡◌, ℕ, ◌-◌, ◌^◌, ◌<◌, ◌≤◌, [], All, IfErr, IfOk, length, map, min};
 ghost use Rattle.std.specs.Vec.{vec_capacity};
 ghost use Rattle.auth_machine.specs.History.{CountsUnkept, HasRecords, IsLegal};
 ghost use Rattle.auth_machine.specs.Port.{book_origin};
 ghost use Rattle.fwtk_serve.specs.Clerks.{HandsMore, HandsToEnd, clerk_with};
 ghost use Rattle.fwtk_serve.specs.Meeting.{HaveWorked, IsReady};
 ghost use Rattle.fwtk_serve.specs.Passes.{AreOf, first_of};
-ghost use Rattle.fwtk_serve.specs.Rounds.{HandsOnAll, Settles, turns_for};
+ghost use Rattle.fwtk_serve.specs.Rounds.{HandsOnAll, HandsOnSlots, Settles, SettlesSlots};
 ghost use Rattle.fwtk_serve.specs.RulesFor.{MayServe, no_rules};
 ghost use Rattle.fwtk_serve.specs.Stepping.{worker_with};
 ghost use Rattle.fwtk_serve.specs.Working.{ServedAll};
@@ -381,10 +381,10 @@ where
     ensures doors { IfOk result (λ report. ServedAll rules.now book.history report.history.items book.limit (book_origin book)
         (map A.acceptor_view doors.items) (map A.acceptor_view report.doors.items)
         (map (λ s. s.items) report.sessions.items) report.short report.mail) }
-    ensures hands { IfOk result (λ report. IfSome rack.queues (λ q. (most : ℕ) × (turns_for q ≤ most) × HandsOnAll most
-        report.round report.starved report.mail (map (λ m. mailer_view m) mailers.old.items)
-        (map (λ m. mailer_view m) mailers.new.items) (G.sink_view logs.old) (G.sink_view logs.new))) }
-    ensures settles { IfOk result (λ report. IfSome rack.queues (λ q. Settles q report.mail report.rack)) }
+    ensures hands { IfOk result (λ report. HandsOnSlots rack.queues report.round report.starved report.mail
+        (map (λ m. mailer_view m) mailers.old.items) (map (λ m. mailer_view m) mailers.new.items)
+        (G.sink_view logs.old) (G.sink_view logs.new)) }
+    ensures settles { IfOk result (λ report. SettlesSlots rack.queues report.mail report.rack) }
     ensures unused { IfErr result (λ lack. (mailers.new ≡ mailers.old) × (logs.new ≡ logs.old)) }
 {
     let each = turns_for(rack.room());
@@ -447,14 +447,14 @@ where
     ensures doors { IfOk result (λ report. ServedAll rules.now book.history report.history.items book.limit (book_origin book)
         (map A.acceptor_view doors.items) (map A.acceptor_view report.doors.items)
         (map (λ s. s.items) report.sessions.items) report.short report.mail) }
-    // The mail was handed on in rounds as `smapd_round` says, of at least as many turns as there are slots: what was released, set
+    // The mail was handed on in rounds as `smapd_round` says, each of which might take a turn of each slot: what was released, set
     // aside and broke, what the mailers took, by which lines the log grew, and what the rounds add up to.
-    ensures hands { IfOk result (λ report. IfSome rack.queues (λ q. (most : ℕ) × (turns_for q ≤ most) × HandsOnAll most
-        report.round report.starved report.mail (map (λ m. mailer_view m) mailers.old.items)
-        (map (λ m. mailer_view m) mailers.new.items) (G.sink_view logs.old) (G.sink_view logs.new))) }
+    ensures hands { IfOk result (λ report. HandsOnSlots rack.queues report.round report.starved report.mail
+        (map (λ m. mailer_view m) mailers.old.items) (map (λ m. mailer_view m) mailers.new.items)
+        (G.sink_view logs.old) (G.sink_view logs.new)) }
     // No message is lost, and none stands twice: those that were in the rack, and those that were put, are those that were
     // released or set aside, and those that are in the rack now.
-    ensures settles { IfOk result (λ report. IfSome rack.queues (λ q. Settles q report.mail report.rack)) }
+    ensures settles { IfOk result (λ report. SettlesSlots rack.queues report.mail report.rack) }
     // For want of memory nothing was handed on.
     ensures unused { IfErr result (λ lack. (mailers.new ≡ mailers.old) × (logs.new ≡ logs.old)) }
 {
