@@ -253,7 +253,7 @@ fn turns_for(slots: usize) -> u32
 }
 
 // Room for what is gathered of so many workers.
-fn room_for<A>(alloc: Global, count: usize) -> Result<Gathered<A>, NoMemory>
+fn room_for<A: Acceptor>(alloc: Global, count: usize) -> Result<Gathered<A>, NoMemory>
     ensures empty { IfOk result (λ g. (g.doors.items ≡ []) × (g.sessions.items ≡ []) × (g.short ≡ 0)) }
     ensures doors { IfOk result (λ g. count ≤ vec_capacity g.doors) }
     ensures sessions { IfOk result (λ g. count ≤ vec_capacity g.sessions) }
