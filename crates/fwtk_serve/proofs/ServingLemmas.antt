@@ -1,7 +1,7 @@
 -- From the first passes to the report.
-use Rattle.std.proofs.Common.{arith, ◌≡◌, refl, sym, ap, ap₂, subst, ◌∙◌, ℕ, ◌+◌, ◌-◌, ◌^◌, ◌<◌, ◌≤◌, min, List, [], ◌∷◌, ◌++◌, length, Option, Some, None, IfSome}
+use Rattle.std.proofs.Common.{arith, ◌≡◌, refl, sym, ap, ap₂, subst, ◌∙◌, ℕ, ◌+◌, ◌-◌, ◌^◌, ◌<◌, ◌≤◌, min, List, [], ◌∷◌, ◌++◌, length, Option, Some, None, IfSome, Result, Ok, Err}
 use Rattle.std.proofs.lemmas.List.{length-map}
-use Rattle.std.specs.Prelude.{map, slice_index_or}
+use Rattle.std.specs.Prelude.{map, slice_index_or, IfOk}
 use Rattle.acceptors.specs.AcceptorView.{AcceptorView}
 use Rattle.auth_events.specs.declared.entry.Entry.{Entry}
 use Rattle.auth_machine.specs.Port.{BookOrigin}
@@ -124,6 +124,11 @@ settles_all before pass mail rack left began parts is rack_is settled = record {
 
 -- ---- by the slots of the rack
 
+-- what follows for each value follows for the one that there is
+pub ok_so : {T E : Type 0} {P Q : T → Type 0} (r : Result T E) → IfOk r P → ((x : T) → P x → Q x) → IfOk r Q
+ok_so (Ok x) is so = so x is
+ok_so (Err e) is so = tt
+
 -- at least as many turns as there are slots
 pub hands_for : (queues : Option Queues) (q : Queues) (slots each : ℕ) (round : Round) (starved : ℕ) (mail : PassView) (mailers after : List MailerView) (logs log_after : SinkView)
     → queues ≡ Some q → IfSome queues (λ q. count_of q ≤ slots) → each ≡ min slots (2 ^ 32 - 1)
@@ -133,8 +138,8 @@ hands_for queues q slots each round starved mail mailers after logs log_after to
     record { slots = q; told = told; most = each; enough = omega (arith, fits, is); hands = h }
 
 -- the pool began with them
-pub settles_for : (queues : Option Queues) (first mail : PassView) (rack : StoreView) → queues ≡ Some first.handed.began → Settles first.handed.began mail rack → SettlesSlots queues mail rack
-settles_for queues first mail rack told h = record { slots = first.handed.began; told = told; settles = h }
+pub settles_for : (queues : Option Queues) (began : Queues) (mail : PassView) (rack : StoreView) → queues ≡ Some began → Settles began mail rack → SettlesSlots queues mail rack
+settles_for queues began mail rack told h = record { slots = began; told = told; settles = h }
 
 -- ---- the workers
 

@@ -1,6 +1,6 @@
 use Rattle.std.proofs.Common.{sym}
 use denote.Param.Send.{sendable}
-use Rattle.std.proofs.Crossing.{crosses}
+use Rattle.std.proofs.Crossing.{Vec-send, crosses}
 use Rattle.gate_rules.proofs.rules.Rules.TheSendSync as Rules
 use Rattle.gate_rules.proofs.service.Service.TheSendSync as Service
 use Rattle.spool_pool.proofs.CrossingLemmas.{pass_send, pool_sync}
@@ -24,7 +24,7 @@ run_beside-workers-requires-send-A g c κs within =
     let k = c.type_bounds.send-K in
     let a = c.type_bounds.send-A in
     let d = c.type_bounds.send-D in
-    search (Worker.the_send, Passes.the_send, Pass.the_send, pass_send, book_send, sendable) depth 14
+    search (Vec-send, Worker.the_send, Passes.the_send, Pass.the_send, pass_send, book_send, sendable) depth 16 fits 20000
 
 pub returns-clause-hands : goal.returns-clause-hands
 returns-clause-hands g c =

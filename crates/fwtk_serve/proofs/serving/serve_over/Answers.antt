@@ -10,7 +10,7 @@ serve_all-workers-requires-clause-ready g c κs within =
     all_begin g.A.Acceptor.acceptor_view _ c.args.turns c.args.pool c.args.doors.items c.workers_of-workers.result.items c.args.passes.book.seen c.args.passes.mail.handed.home c.args.passes.mail.handed.began c.requires.passes.mail c.workers_of-workers.ensures.are
 
 pub into_pass-mail-requires : goal.into_pass-mail-requires
-into_pass-mail-requires g c κs within =
+into_pass-mail-requires g c =
     none_out c.args.turns c.args.passes c.workers_of-workers.new.passes (length c.args.doors.items) c.args.each c.new-seat.result c.serve_all-workers.new.seat _ _ _ _ _ _
     (record { mail = c.requires.mail; kept = c.workers_of-workers.ensures.less; pass = c.new-seat.ensures.pass; out = c.new-seat.ensures.out; hands = c.serve_all-workers.ensures.hands })
 

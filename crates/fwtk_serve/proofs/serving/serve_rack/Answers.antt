@@ -1,5 +1,4 @@
-use Rattle.auth_machine.proofs.OpeningLemmas.{ok_so}
-use Rattle.fwtk_serve.proofs.ServingLemmas.{hands_for, settles_for}
+use Rattle.fwtk_serve.proofs.ServingLemmas.{hands_for, ok_so, settles_for}
 use Rattle.fwtk_serve.proofs.serving.serve_rack.Goals as goal
 
 pub returns-in-Ok-clause-hands : goal.returns-in-Ok-clause-hands
