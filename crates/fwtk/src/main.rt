@@ -5,7 +5,7 @@
 #![tactic(auto)]
 
 use bastion::{
-    Command, CommandLine, Device, Job, Order, Outcome, Places, Step, World, places, run,
+    Command, CommandLine, Device, Job, Mailer, Order, Outcome, Places, Step, World, places, run,
 };
 use fw_memory::MemDice;
 use fw_outside::{Dice, Sink};
@@ -14,7 +14,7 @@ use fw_types::Octets;
 use process::Process;
 use real_links::{ClientHosts, LinkSink, Programs, StandardOutput, TcpDialer};
 use serving::{is_server, serve_words};
-use spool::{Slots, disks_of, mailers_of};
+use spool::{Slots, disks_of, mailer_of};
 use std::env;
 use std::fs::File;
 use std::io::ErrorKind;
@@ -168,7 +168,8 @@ where
         launcher: Programs::new(rt, rt.alloc()),
         disks: disks_of(rt, &needs.places, needs.slots)?,
     };
-    let mut mailers = mailers_of(rt, &needs.places)?;
+    let mut mailers: Vec<Box<dyn Mailer>> = Vec::new(rt.alloc());
+    mailers.push(Box::new(rt.alloc(), mailer_of(rt, &needs.places)?)?)?;
     Ok(run(threads, rt.alloc(), words, &mut mailers, &mut world))
 }
 

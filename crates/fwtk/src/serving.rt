@@ -3,7 +3,7 @@ ghost use Rattle.std.specs.Prelude.{◌<◌, All, length};
 ghost use Rattle.fwtk_serve.specs.RulesFor.{MayServe};
 
 use crate::process::{Process, SlotDisk};
-use crate::spool::{Slots, disks_of, mailers_of};
+use crate::spool::{Slots, disks_of, mailer_of};
 use arrayvec::ArrayVec;
 use bastion::{LogLine, Mailer, Outcome, World, after_options, places_in};
 use bastion_ready::{Ready, ServerLine, ready};
@@ -143,7 +143,8 @@ pub fn serve_words<H: Threads + Wait + Sync>(
 ) -> Result<u8, Outcome> {
     let places = places_in(words);
     let slots = slots_for(rt.alloc(), words)?;
-    let mut mailers = mailers_of(rt, &places)?;
+    let mut mailers: Vec<Box<dyn Mailer>> = Vec::new(rt.alloc());
+    mailers.push(Box::new(rt.alloc(), mailer_of(rt, &places)?)?)?;
     let stdout = StandardOutput::of(rt.stdout());
     let hosts = stdout.hosts();
     let mut world: World<Process<MemDice>> = World {

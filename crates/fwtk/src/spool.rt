@@ -1,8 +1,8 @@
 //! The disks of the slots, and who mail is handed to.
-ghost use Rattle.std.specs.Prelude.{◌<◌, ◌≤◌, length, IfOk};
+ghost use Rattle.std.specs.Prelude.{◌≤◌, length, IfOk};
 
 use crate::process::SlotDisk;
-use bastion::{Mailer, Outcome, Places};
+use bastion::{Outcome, Places};
 use fw_real::{FileDisk, SlotFile};
 use fw_types::NoMemory;
 use real_links::MailerProgram;
@@ -53,11 +53,6 @@ pub fn disks_of(rt: HostRuntime, places: &Places, slots: Slots) -> Result<Vec<Sl
 }
 
 /// The program that mail is handed to.
-pub fn mailers_of(rt: HostRuntime, places: &Places) -> Result<Vec<Box<dyn Mailer>>, Outcome>
-    ensures { IfOk result (λ mailers. 0 < length mailers.items) }
-{
-    let mailer = MailerProgram::new(rt, places.mailer, places.spool, HAND_SECONDS)?;
-    let mut mailers: Vec<Box<dyn Mailer>> = Vec::new(rt.alloc());
-    mailers.push(Box::new(rt.alloc(), mailer)?)?;
-    Ok(mailers)
+pub fn mailer_of(rt: HostRuntime, places: &Places) -> Result<MailerProgram, NoMemory> {
+    MailerProgram::new(rt, places.mailer, places.spool, HAND_SECONDS)
 }

@@ -5,10 +5,11 @@ ghost use Rattle.fwtk_serve.specs.RulesFor.{MayServe};
 use crate::door::{Asked, Door, new_door};
 use crate::parts::{ATTACK, BOTH_GREETED, ONE_WORD, Part, TWO_LETTERS};
 use crate::records::{book, mail_rules, rules};
-use crate::spool::{Resting, mailers, rack, took};
+use crate::spool::{Resting, rack, took};
 use crate::telling::{tell_mail, tell_report, tell_told};
 use acceptors::Acceptor;
-use fw_memory::{Calls, MemDisk, MemKeeper, MemSink};
+use fw_mail::Mailer;
+use fw_memory::{Calls, MemDisk, MemKeeper, MemMailer, MemSink};
 use fw_outside::Dialer;
 use fw_types::NoMemory;
 use fwtk_serve::{Report, serve};
@@ -25,7 +26,7 @@ type Answer<A> = Result<(Report<MemKeeper, A, MemDisk>, u64), NoMemory>;
 // The server's own log has room for so many bytes.
 const LOG_ROOM: usize = 1000;
 
-// Serves over so many slots, with a rest between rounds until so many marks were told.
+// Serves over so many slots, with a mailer that accepts all, and a rest between rounds until so many marks were told.
 fn serve_by<H, A>(
     rt: &H,
     alloc: Global,
@@ -49,7 +50,8 @@ where
         return Err(NoMemory);
     };
     let rack = rack(alloc, slots)?;
-    let mut mailers = mailers(alloc)?;
+    let mut mailers: Vec<Box<dyn Mailer>> = Vec::new(alloc);
+    mailers.push(Box::new(alloc, MemMailer::new(alloc, Vec::new(alloc)))?)?;
     let mut logs = MemSink::new(alloc, LOG_ROOM, Calls::none())?;
     let mut pacer = Resting {
         rt,

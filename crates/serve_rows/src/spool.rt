@@ -1,9 +1,8 @@
-//! The spool of the scenes, and who hands its mail on.
-ghost use Rattle.std.specs.Prelude.{◌<◌, IfOk, length};
+//! The spool of the scenes, and the rest between two rounds.
 
 use acceptors::Pacer;
 use fw_mail::Mailer;
-use fw_memory::{Calls, MemDisk, MemMailer};
+use fw_memory::{Calls, MemDisk};
 use fw_types::{NoMemory, Octets};
 use spool_rack::Rack;
 use std::alloc::Global;
@@ -57,15 +56,6 @@ pub(crate) fn rack(alloc: Global, slots: u32) -> Result<Rack<MemDisk>, NoMemory>
         Ok(rack) => Ok(rack),
         Err(_) => Err(NoMemory),
     }
-}
-
-/// A mailer that accepts all.
-pub(crate) fn mailers(alloc: Global) -> Result<Vec<Box<dyn Mailer>>, NoMemory>
-    ensures { IfOk result (λ mailers. 0 < length mailers.items) }
-{
-    let mut mailers: Vec<Box<dyn Mailer>> = Vec::new(alloc);
-    mailers.push(Box::new(alloc, MemMailer::new(alloc, Vec::new(alloc)))?)?;
-    Ok(mailers)
 }
 
 /// How many messages the first mailer took.
