@@ -69,7 +69,7 @@ abbrev pub Mailed : Peer → Inputs → outcomes.Outcome → WorldView → World
 Mailed peer inputs out old new = SlotsUnread out old new ⊎ MailServed peer inputs out old new
 
 -- ---- step by step
--- No public clause cites these: they say what private functions answer.
+-- Public clauses cite `OpensRack` alone: the others say what private functions answer.
 
 -- these are the disks, which are in the world no more
 pub record TakesOut (disks : List DiskView) (old new : WorldView) : Type 0 where

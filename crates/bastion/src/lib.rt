@@ -13,7 +13,7 @@
 //! or, where the devices tell what they hold, in the table's text, the records and the slots. [`conn`] serves one client.
 //!
 //! A server takes the steps before its sessions one by one: [`after_options`], [`any_twice`], [`word_or`] and [`places_in`]
-//! of its words, then [`read_table`], [`read_rules`], [`read_policy`] and [`open_book`], and [`tell`].
+//! of its words, then [`read_table`], [`read_rules`], [`read_policy`], [`open_book`] and [`open_rack`], and [`tell`].
 #![tactic(auto)]
 
 mod authsrv;
@@ -41,6 +41,7 @@ pub use client_service::{LogLine, conn, decision_line, denied_line, ending_line}
 pub use drill_lines::Drill;
 pub use fw_mail::Mailer;
 pub use kit::{Kit, World};
+pub use mailing::open_rack;
 pub use obeying::tell;
 pub use outcome::{Device, Outcome, Refusal, Step, ending_status};
 pub use place_names::Places;

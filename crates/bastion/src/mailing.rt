@@ -52,10 +52,7 @@ pub(crate) fn disk_count<T: Kit>(world: &World<T>) -> usize
 }
 
 /// Opens the slots of the disks, which are in the rack then. Where one can't be opened, they are in the world again.
-pub(crate) fn open_rack<T: Kit>(
-    alloc: Global,
-    world: &mut World<T>,
-) -> Result<Rack<T::Disk>, Outcome>
+pub fn open_rack<T: Kit>(alloc: Global, world: &mut World<T>) -> Result<Rack<T::Disk>, Outcome>
     requires few { length world.old.inputs.disks ≤ 64 }
     ensures opened { IfOk result (λ rack. OpensRack rack world.old world.new) }
     ensures unopened { IfErr result (λ outcome. SlotsUnread outcome world.old world.new) }

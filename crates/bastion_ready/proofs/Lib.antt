@@ -1,4 +1,5 @@
 pub mod ReadyLemmas
 pub mod ServedLemmas
 pub mod SiteLemmas
+pub mod SlotLemmas
 pub mod WordLemmas

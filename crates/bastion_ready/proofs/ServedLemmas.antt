@@ -1,10 +1,10 @@
 -- The services of a plan may be served.
-use Rattle.std.proofs.Common.{◌≡◌, ◌∙◌, ℕ, List, [], ◌∷◌, ◌++◌, ap, refl, sym, subst, Bool, true, false}
+use Rattle.std.proofs.Common.{◌≡◌, ℕ, List, [], ◌∷◌, ◌++◌, refl, Bool, true, false}
 use Rattle.std.specs.Prelude.{All, Option, Some, None, IfSome, if◌then◌else◌}
 use Rattle.std.proofs.lemmas.List.Elements.{All-cons, All-head, All-nil, All-tail}
 use Rattle.bastion.specs.Words.{after_options, any_twice}
 use Rattle.gate_rules.specs.declared.service.Service.{Service}
-use Rattle.bastion_ready.specs.Words.{Door, Plan, ServerLine, any_port_twice, door_by, door_in, doors_in, has_service, in_front, is_for_server, line_with, others_in, plan_by, plan_in, plan_of, plan_with, services_of, workers_in}
+use Rattle.bastion_ready.specs.Words.{Door, Plan, any_port_twice, door_by, door_in, doors_in, has_service, in_front, is_for_server, line_with, others_in, plan_by, plan_in, plan_of, plan_with, services_of, workers_in}
 
 abbrev pub MayBe : Service → Type 0
 MayBe service = is_for_server service ≡ true

@@ -1,5 +1,5 @@
 -- From the rules of each service to what the table says of a server's services.
-use Rattle.std.proofs.Common.{◌≡◌, ◌∙◌, ◌≤◌, ◌-◌, ℕ, List, [], ◌∷◌, ◌++◌, ap, refl, sym, subst, Bool, true, false, length, take, drop, get_or, arith, append_assoc, append-nil}
+use Rattle.std.proofs.Common.{◌≡◌, ◌∙◌, ◌≤◌, ◌-◌, List, [], ◌∷◌, ◌++◌, ap, refl, sym, subst, true, length, take, drop, get_or, arith, append_assoc, append-nil}
 use Rattle.std.specs.Prelude.{All, IfOk, Result, Ok, Err}
 use Rattle.std.proofs.lemmas.List.{take_rest}
 use Rattle.std.proofs.lemmas.List.Elements.{All-cons, All-head, All-nil, All-tail}
@@ -92,11 +92,11 @@ each_whose (service ∷ more) lines = front_whose service more (rules_of service
 -- the rules of a service may be served, where its clients may
 may_serve : (service : Service) (rules : RuleBook) → is_for_server service ≡ true → AreRulesOf service rules → MayServe (service, rules)
 may_serve (Netacl label) rules may are = absurd (cc)
-may_serve TnGw rules may are = record { served = tt; mailless = refl }
-may_serve FtpGw rules may are = record { served = tt; mailless = refl }
-may_serve (PlugGw port) rules may are = record { served = are; mailless = refl }
-may_serve Smap rules may are = absurd (cc)
-may_serve Authsrv rules may are = record { served = tt; mailless = refl }
+may_serve TnGw rules may are = record { served = tt }
+may_serve FtpGw rules may are = record { served = tt }
+may_serve (PlugGw port) rules may are = record { served = are }
+may_serve Smap rules may are = record { served = tt }
+may_serve Authsrv rules may are = record { served = tt }
 
 front_may : (service : Service) (lines : List Line) (said : Result RuleBook RuleFault) (others : RulesRead) → rules_of service lines ≡ said → is_for_server service ≡ true → IfOk others (All MayServe) → IfOk (ruled_by service said others) (All MayServe)
 front_may service lines (Ok rules) (Ok ruled) is may all =

@@ -1,5 +1,5 @@
 -- From words to the doors of a plan.
-use Rattle.std.proofs.Common.{◌≡◌, ◌∙◌, ℕ, List, [], ◌∷◌, ◌++◌, ap, refl, sym, Bool, true, false, ◌-◌, ◌≤◌, length, take, drop, get_or, arith, append_assoc, append-nil}
+use Rattle.std.proofs.Common.{◌≡◌, ◌∙◌, ℕ, List, [], ◌∷◌, ◌++◌, ap, refl, sym, false, ◌-◌, ◌≤◌, length, take, drop, get_or, arith, append_assoc, append-nil}
 use Rattle.std.specs.Prelude.{Option, Some, None, is_some}
 use Rattle.std.proofs.lemmas.List.{take_rest}
 use Rattle.bastion_ready.specs.Words.{Door, door_in, doors_in, in_front}

@@ -1,5 +1,5 @@
 -- What a server needs, and what that is read as.
-use Rattle.std.specs.Prelude.{◌≡◌, ℕ, Bool, true, false, List, [], ◌∷◌, ◌++◌, map, Result, Ok, Err, IfSome}
+use Rattle.std.specs.Prelude.{◌≡◌, ℕ, Bool, false, List, [], ◌∷◌, ◌++◌, map, Result, Ok, Err, IfSome}
 use Rattle.auth_machine.specs.History.{Origin}
 use Rattle.auth_machine.specs.Opening.{records_in}
 use Rattle.auth_machine.specs.Policy.{PolicyView, policy_of}

@@ -1,5 +1,5 @@
 -- The words of a server: `[OPTIONS] serve WORKERS SERVICE@PORT`, and more of these.
-use Rattle.std.specs.Prelude.{◌≡◌, ℕ, Bool, true, false, ◌*◌, ◌==◌, ◌||◌, nat_le, List, [], ◌∷◌, ◌++◌, length, flat_map, replicate, Option, Some, None, codes, if◌then◌else◌}
+use Rattle.std.specs.Prelude.{ℕ, Bool, true, false, ◌*◌, ◌==◌, ◌||◌, nat_le, List, [], ◌∷◌, ◌++◌, length, flat_map, replicate, Option, Some, None, codes, if◌then◌else◌}
 use Rattle.std.specs.List.{after_first, before_first, list_any}
 use Rattle.std.specs.Str.{bytes_eq}
 use Rattle.bastion.specs.Words.{PlaceNames, after_options, any_twice, default_table, places_in, word_or}
@@ -17,13 +17,13 @@ Door = Service × ℕ
 abbrev pub is_at : ℕ → Bool
 is_at b = b == 64
 
--- the services whose clients a server may be for: the access wrapper has no sessions, and mail isn't served
+-- the services whose clients a server may be for: the access wrapper has no sessions
 abbrev pub is_for_server : Service → Bool
 is_for_server (Netacl label) = false
 is_for_server TnGw = true
 is_for_server FtpGw = true
 is_for_server (PlugGw port) = true
-is_for_server Smap = false
+is_for_server Smap = true
 is_for_server Authsrv = true
 
 abbrev pub door_by : Option Service → Option ℕ → Option Door

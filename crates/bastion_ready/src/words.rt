@@ -67,7 +67,7 @@ fn is_for_server(service: &Service) -> bool
         Service::TnGw => true,
         Service::FtpGw => true,
         Service::PlugGw(_) => true,
-        Service::Smap => false,
+        Service::Smap => true,
         Service::Authsrv => true,
     }
 }

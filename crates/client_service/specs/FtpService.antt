@@ -44,7 +44,7 @@ pub record Serves {Origin : Type 0} (line : ℕ) (rules : RuleBook) (peer : Peer
 -- else; each is of a command that isn't blocked. Data links are the session's own, and so are doors and copies. As many links
 -- were hung up or let go as came up by these deeds, and the dialer counted so many come up. What the client was told as a denial
 -- the log was given right before, whole; a text that is no name is denied without a line. And each request is one that its
--- command asks for.
+-- command asks for, but a close.
 pub record ServesBehind {Origin : Type 0} (line : List ℕ) (gate : Gate) (ending : Ending) (old new : Devices Origin) : Type 0 where
   pub session : Session (ftp_rows gate) ftp_row (with_line line old) new ending
   pub asked : Adds (gives called (deeds_of session.held)) old.dialer.asked new.dialer.asked

@@ -46,7 +46,7 @@ pub fn each_denial_is_logged<Origin>()
 
 /// The server is given what the commands are passed as, in order, and nothing else: all of it, unless the dialogue stopped;
 /// then a front of it (`passage`). Whatever it is given is of a command whose verb isn't denied, and for which a login stands,
-/// if one is asked for; and a link is up whose server greeted well (`unblocked`).
+/// if one is asked for; and a link came up whose server greeted well (`unblocked`).
 pub fn what_the_server_is_given<Origin>()
     ensures passage { (gate : Gate) (old new : World Origin) (ending : Ending) (held : Held (ftp_rows gate) ftp_row old new ending) →
         GivesPassage gate held }

@@ -4,20 +4,17 @@
 //! `main` has no contract of its own. It answers `--help` and `--version`.
 #![tactic(auto)]
 
-ghost use Rattle.std.specs.Prelude.{◌≤◌, length, IfOk};
-
 use bastion::{
     Command, CommandLine, Device, Job, Mailer, Order, Outcome, Places, Step, World, places, run,
 };
 use fw_memory::MemDice;
 use fw_outside::{Dice, Sink};
-use fw_real::{
-    FileDisk, Paths, Reading, Records, Salts, SlotFile, StandardInput, SystemClock, Writing,
-};
+use fw_real::{Paths, Reading, Records, Salts, StandardInput, SystemClock, Writing};
 use fw_types::Octets;
-use process::{Process, SlotDisk};
-use real_links::{ClientHosts, LinkSink, MailerProgram, Programs, StandardOutput, TcpDialer};
+use process::Process;
+use real_links::{ClientHosts, LinkSink, Programs, StandardOutput, TcpDialer};
 use serving::{is_server, serve_words};
+use spool::{Slots, disks_of, mailer_of};
 use std::env;
 use std::fs::File;
 use std::io::ErrorKind;
@@ -27,6 +24,7 @@ use std::thread::Threads;
 
 mod process;
 mod serving;
+mod spool;
 
 const HELP: &[u8] = b"\
 usage: fwtk [-t FILE] netacl [-run] DAEMON ADDRESS [NAME]
@@ -35,7 +33,7 @@ usage: fwtk [-t FILE] netacl [-run] DAEMON ADDRESS [NAME]
        fwtk [-t FILE] plug-gw PORT ADDRESS [NAME]
        fwtk [-t FILE] [-r FILE] tn-gw ADDRESS [NAME]
        fwtk [-t FILE] [-r FILE] ftp-gw ADDRESS [NAME]
-       fwtk [-t FILE] [-r FILE] serve WORKERS SERVICE@PORT ..
+       fwtk [-t FILE] [-r FILE] [-s FOLDER] [-n SLOTS] [-m PROGRAM] serve WORKERS SERVICE@PORT ..
        fwtk [-t FILE] [-s FOLDER] [-n SLOTS] smap ADDRESS [NAME]
        fwtk [-s FOLDER] [-n SLOTS] [-m PROGRAM] smapd
        fwtk [-s FOLDER] [-n SLOTS] spool-init
@@ -119,17 +117,6 @@ struct Needs<'a> {
     slots: Slots,
 }
 
-// What a command does with the slots.
-#[derive(Clone, Copy)]
-enum Slots {
-    // It has none.
-    Unused,
-    // They are opened; one that is missing has no byte.
-    Opened,
-    // They are made.
-    Made,
-}
-
 fn slots_for(order: &Order) -> Slots {
     match order {
         Order::Alone(Job::SpoolInit) => Slots::Made,
@@ -156,40 +143,6 @@ impl<'a> Needs<'a> {
     }
 }
 
-/// The most slots of a spool.
-const MOST_SLOTS: usize = 64;
-
-// The disks of the slots, none if they aren't used. A file that is missing is made where they are made.
-fn all_disks(rt: HostRuntime, needs: &Needs) -> Result<Vec<SlotDisk>, Outcome> {
-    let mut disks = Vec::new(rt.alloc());
-    let count = match needs.slots {
-        Slots::Unused => 0,
-        Slots::Opened | Slots::Made => needs.places.slots,
-    };
-    for number in 0..count {
-        let file = match needs.slots {
-            Slots::Made => SlotFile::made(rt, needs.places.spool, number)?,
-            Slots::Unused | Slots::Opened => SlotFile::new(rt, needs.places.spool, number)?,
-        };
-        disks.push(FileDisk::new(file))?;
-    }
-    Ok(disks)
-}
-
-// So many a run takes: the words name no more.
-fn disks_of(rt: HostRuntime, needs: &Needs) -> Result<Vec<SlotDisk>, Outcome>
-    ensures { IfOk result (λ disks. length disks.items ≤ 64) }
-{
-    let disks = all_disks(rt, needs)?;
-    if disks.len() > MOST_SLOTS {
-        return Err(Outcome::Usage);
-    }
-    Ok(disks)
-}
-
-/// How many seconds the mailer's program has for each message.
-const HAND_SECONDS: u32 = 300;
-
 fn run_with<H, D>(
     threads: &H,
     rt: HostRuntime,
@@ -213,11 +166,10 @@ where
         keeper: Some(Records::new(rt, needs.places.db)?),
         dialer: TcpDialer::new(rt, rt.alloc(), hosts),
         launcher: Programs::new(rt, rt.alloc()),
-        disks: disks_of(rt, needs)?,
+        disks: disks_of(rt, &needs.places, needs.slots)?,
     };
-    let mailer = MailerProgram::new(rt, needs.places.mailer, needs.places.spool, HAND_SECONDS)?;
     let mut mailers: Vec<Box<dyn Mailer>> = Vec::new(rt.alloc());
-    mailers.push(Box::new(rt.alloc(), mailer)?)?;
+    mailers.push(Box::new(rt.alloc(), mailer_of(rt, &needs.places)?)?)?;
     Ok(run(threads, rt.alloc(), words, &mut mailers, &mut world))
 }
 

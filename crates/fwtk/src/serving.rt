@@ -1,18 +1,21 @@
 //! The command `serve`: the devices of a server, and its doors.
-ghost use Rattle.std.specs.Prelude.{All};
+ghost use Rattle.std.specs.Prelude.{◌<◌, All, length};
 ghost use Rattle.fwtk_serve.specs.RulesFor.{MayServe};
 
-use crate::process::Process;
+use crate::process::{Process, SlotDisk};
+use crate::spool::{Slots, disks_of, mailer_of};
 use arrayvec::ArrayVec;
-use bastion::{LogLine, Outcome, World, after_options, places_in};
-use bastion_ready::{Ready, ready};
+use bastion::{LogLine, Mailer, Outcome, World, after_options, places_in};
+use bastion_ready::{Ready, ServerLine, ready};
 use fw_memory::MemDice;
 use fw_outside::Sink;
 use fw_real::{Paths, Reading, Records, StandardInput, SystemClock, Writing};
 use fw_types::{NoMemory, Octets, append, append_u32};
 use fwtk_serve::serve;
-use real_doors::{Closer, Doors, HostNames, TcpAcceptor, open_doors};
+use gate_rules::Service;
+use real_doors::{Closer, Doors, HostNames, SystemPacer, TcpAcceptor, open_doors};
 use real_links::{LinkSink, Programs, StandardOutput, TcpDialer};
+use std::alloc::Global;
 use std::fs;
 use std::io::ErrorKind;
 use std::sync::Wait;
@@ -20,6 +23,9 @@ use std::thread::{self, Threads};
 
 /// Where the names of clients stand.
 const HOSTS: &str = "/etc/hosts";
+
+/// How many milliseconds lie between two rounds in which mail is handed on.
+const REST: u32 = 1;
 
 /// Whether the words are those of a server, well formed or not.
 pub fn is_server(words: &[Octets]) -> bool {
@@ -80,24 +86,65 @@ fn end_with_input<H: Threads>(
 fn serve_doors<H: Threads + Wait + Sync>(
     threads: &H,
     rt: HostRuntime,
-    ready: Ready<Records>,
+    ready: Ready<Records, SlotDisk>,
+    mailers: &mut Vec<Box<dyn Mailer>>,
 ) -> Result<u8, NoMemory>
-    requires { All MayServe ready.rules.items }
+    requires may { All MayServe ready.rules.items }
+    requires some { 0 < length mailers.old.items }
 {
-    let Ready { doors, rules, book } = ready;
+    let Ready {
+        doors,
+        rules,
+        book,
+        rack,
+    } = ready;
     let Doors { doors, closer } = open_doors(rt, &doors, host_names(&rt)?)?;
     tell_closed(&rt, &doors);
     end_with_input(threads, rt, closer)?;
-    serve(threads, rt.alloc(), &rules, book, doors)?;
+    let mut logs = Writing::new(rt.stderr());
+    let mut pacer = SystemPacer::new(rt, REST);
+    serve(
+        threads,
+        rt.alloc(),
+        &rules,
+        book,
+        doors,
+        rack,
+        mailers,
+        &mut logs,
+        &mut pacer,
+    )?;
     Ok(0)
 }
 
-/// Serves the clients of these words, until standard input ends or no door is left: the exit status.
+// A server has slots if mail is among its services.
+fn slots_of(line: &ServerLine) -> Slots {
+    let posts = line.plan.posts.as_slice();
+    if posts.iter().any(|post| matches!(post.0, Service::Smap)) {
+        return Slots::Opened;
+    }
+    Slots::Unused
+}
+
+// What is done with the slots, also where the words ask for no server.
+fn slots_for(alloc: Global, words: &[Octets]) -> Result<Slots, NoMemory> {
+    match ServerLine::read(alloc, words)? {
+        Some(line) => Ok(slots_of(&line)),
+        None => Ok(Slots::Unused),
+    }
+}
+
+/// Serves the clients of these words, until standard input ends or no door is left: the exit status. The files of the slots are
+/// opened only for a server of mail.
 pub fn serve_words<H: Threads + Wait + Sync>(
     threads: &H,
     rt: HostRuntime,
     words: &[Octets],
 ) -> Result<u8, Outcome> {
+    let places = places_in(words);
+    let slots = slots_for(rt.alloc(), words)?;
+    let mut mailers: Vec<Box<dyn Mailer>> = Vec::new(rt.alloc());
+    mailers.push(Box::new(rt.alloc(), mailer_of(rt, &places)?)?)?;
     let stdout = StandardOutput::of(rt.stdout());
     let hosts = stdout.hosts();
     let mut world: World<Process<MemDice>> = World {
@@ -107,13 +154,13 @@ pub fn serve_words<H: Threads + Wait + Sync>(
         logs: Writing::new(rt.stderr()),
         clock: SystemClock::new(rt),
         dice: MemDice::new(0),
-        keeper: Some(Records::new(rt, places_in(words).db)?),
+        keeper: Some(Records::new(rt, places.db)?),
         dialer: TcpDialer::new(rt, rt.alloc(), hosts),
         launcher: Programs::new(rt, rt.alloc()),
-        disks: Vec::new(rt.alloc()),
+        disks: disks_of(rt, &places, slots)?,
     };
     match ready(rt.alloc(), words, &mut world) {
-        Ok(ready) => Ok(serve_doors(threads, rt, ready)?),
+        Ok(ready) => Ok(serve_doors(threads, rt, ready, &mut mailers)?),
         Err(status) => Ok(status),
     }
 }

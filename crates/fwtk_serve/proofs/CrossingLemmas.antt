@@ -36,8 +36,14 @@ book_send K g s =
       ),
     )))
 
--- a closure may be shared where each of its five captures may
-pub five_sync : (name : Sym) (A B C D E : RattleType) → IsSync A → IsSync B → IsSync C → IsSync D → IsSync E → IsSync (TupleAt name (A ∷ B ∷ C ∷ D ∷ E ∷ []))
-five_sync name A B C D E a b c d e =
-    let all = A ∷ B ∷ C ∷ D ∷ E ∷ [] in
-    recorded_sync (field_at name all).row _ _ (type_at name all).to_one (struct_sync (shape (type_at name all)) (a, (b, (c, (d, (e, tt))))))
+-- a closure may be shared where each of its six captures may
+pub six_sync : (name : Sym) (A B C D E F : RattleType) → IsSync A → IsSync B → IsSync C → IsSync D → IsSync E → IsSync F → IsSync (TupleAt name (A ∷ B ∷ C ∷ D ∷ E ∷ F ∷ []))
+six_sync name A B C D E F a b c d e f =
+    let all = A ∷ B ∷ C ∷ D ∷ E ∷ F ∷ [] in
+    recorded_sync (field_at name all).row _ _ (type_at name all).to_one (struct_sync (shape (type_at name all)) (a, (b, (c, (d, (e, (f, tt)))))))
+
+-- and sent where each of its eight may
+pub eight_send : (name : Sym) (A B C D E F G H : RattleType) → IsSend A → IsSend B → IsSend C → IsSend D → IsSend E → IsSend F → IsSend G → IsSend H → IsSend (TupleAt name (A ∷ B ∷ C ∷ D ∷ E ∷ F ∷ G ∷ H ∷ []))
+eight_send name A B C D E F G H a b c d e f g h =
+    let all = A ∷ B ∷ C ∷ D ∷ E ∷ F ∷ G ∷ H ∷ [] in
+    recorded_send (field_at name all).row _ _ (type_at name all).to_one (struct_send (shape (type_at name all)) (a, (b, (c, (d, (e, (f, (g, (h, tt)))))))))

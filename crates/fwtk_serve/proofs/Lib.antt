@@ -1,10 +1,14 @@
+pub mod AccountLemmas
 pub mod CrossingLemmas
 pub mod DoorLemmas
 pub mod EachLemmas
 pub mod FullLemmas
 pub mod GatheringLemmas
+pub mod HoldingLemmas
+pub mod MailLemmas
 pub mod PassLemmas
 pub mod ReportLemmas
+pub mod RoundLemmas
 pub mod RulesLemmas
 pub mod ServingLemmas
 pub mod SessionLemmas

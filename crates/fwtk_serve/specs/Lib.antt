@@ -1,6 +1,10 @@
+pub mod Accounts
+pub mod Clerks
 pub mod Full
+pub mod Mailed
 pub mod Meeting
 pub mod Passes
+pub mod Rounds
 pub mod RulesFor
 pub mod Sessions
 pub mod Stepping

@@ -1,11 +1,14 @@
 -- The passes of all workers, which are met in the end.
-use Rattle.std.specs.Prelude.{◌≡◌, ℕ, ◌+◌, ◌^◌, List, [], ◌∷◌, ◌++◌}
+use Rattle.std.specs.Prelude.{◌≡◌, ℕ, ◌+◌, ◌-◌, ◌^◌, List, [], ◌∷◌, ◌++◌, map}
 use Rattle.std.specs.List.{AllByRecursion}
 use Rattle.std.specs.List.Sorted.{IsStrictlyIncreasing}
 use Rattle.auth_events.specs.declared.entry.Entry.{Entry}
 use Rattle.auth_machine.specs.Port.{BookOrigin}
-use Rattle.turn_lock.specs.Known.{Known, Lock, knowing}
+use Rattle.spool_pool.specs.Known.{PassView, PoolView, met}
+use Rattle.spool_pool.specs.Known as pools
+use Rattle.turn_lock.specs.Known.{IsPassOf, Known, Lock, knowing}
 use Rattle.turn_lock.specs.Places.{NoneTwice}
+use Rattle.fwtk_serve.specs.Sessions.{Both}
 use mathlib.Core.List.{IsPrefix}
 
 abbrev pub Pass : Type 0
@@ -41,3 +44,27 @@ pub record MetAll (lock : Lock BookOrigin) (others : List Pass) (old new : Pass)
   pub met : AllByRecursion (IsMet seen) others
   pub is : new ≡ knowing lock (old.parts + parts_of others) seen old.mine (old.met ++ held_by others)
   pub apart : IsApart new
+
+-- ---- passes of a book and of a pool
+
+-- two passes, of this book and of this pool
+pub record AreOf (lock : Lock BookOrigin) (pool : PoolView) (both : Both) : Type 0 where
+  pub book : IsPassOf lock both.book
+  pub mail : pools.IsPassOf pool both.mail
+
+-- the two after so many were split off, each with one part
+abbrev pub less : Lock BookOrigin → ℕ → Both → Both
+less lock n both = record {
+  book = knowing lock (both.book.parts - n) both.book.seen both.book.mine both.book.met;
+  mail = record both.mail { handed = record both.mail.handed { parts = both.mail.handed.parts - n } };
+}
+
+-- the pass of the pool once it has met all these, one after the other
+abbrev pub met_each : List PassView → PassView → PassView
+met_each [] pass = pass
+met_each (other ∷ others) pass = met_each others (met pass other)
+
+-- the two have met all these
+pub record MeetAll (lock : Lock BookOrigin) (others : List Both) (old new : Both) : Type 0 where
+  pub books : MetAll lock (map (λ both. both.book) others) old.book new.book
+  pub mail : new.mail ≡ met_each (map (λ both. both.mail) others) old.mail

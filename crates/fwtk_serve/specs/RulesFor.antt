@@ -1,5 +1,5 @@
 -- By which rules a client is served.
-use Rattle.std.specs.Prelude.{◌≡◌, ℕ, ◌==◌, Bool, true, false, List, [], find, Option, Some, None}
+use Rattle.std.specs.Prelude.{ℕ, ◌==◌, Bool, true, false, List, [], find, Option, Some, None}
 use Rattle.client_service.specs.Conn.{IsServed}
 use Rattle.gate_rules.specs.Reading.{RuleBook}
 use Rattle.gate_rules.specs.Service.{is_authsrv, is_smap}
@@ -49,7 +49,6 @@ first_for service rules = find (λ ruled. is_same_service ruled.0 service) rules
 abbrev pub rules_for : Service → List (Service × RuleBook) → RuleBook
 rules_for service rules = found_or_none (first_for service rules)
 
--- rules that `serve` takes: they are their service's, where that is the plug; and mail isn't served, nor the access wrapper
+-- rules that `serve` takes: they are their service's, where that is the plug; and the access wrapper isn't served
 pub record MayServe (ruled : Service × RuleBook) : Type 0 where
   pub served : IsServed ruled.0 ruled.1
-  pub mailless : is_smap ruled.0 ≡ false

@@ -1,5 +1,5 @@
--- The sessions that a server holds over one book.
-use Rattle.std.specs.Prelude.{◌≡◌, ℕ, false, List, [], ◌∷◌, ◌++◌}
+-- The sessions that a server holds over one book and one pool of slots.
+use Rattle.std.specs.Prelude.{◌≡◌, ℕ, ◌+◌, ◌-◌, ◌^◌, ◌≤◌, min, false, List, [], ◌∷◌, flat_map, None, Some}
 use Rattle.acceptors.specs.AcceptorView.{IsFresh, Visit}
 use Rattle.auth_events.specs.Port.{Port}
 use Rattle.auth_events.specs.declared.entry.Entry.{Entry}
@@ -20,9 +20,13 @@ use Rattle.gate_rules.specs.Reading.{RuleBook}
 use Rattle.gate_rules.specs.Verdict.{verdict_of}
 use Rattle.gate_rules.specs.declared.service.Service.{Service}
 use Rattle.session_acts.specs.Causes.{KeepsAs}
-use Rattle.session_acts.specs.World.{Devices, devices_with}
+use Rattle.session_acts.specs.World.{Devices, mail_devices_with}
+use Rattle.spool_pool.specs.Known.{PassView}
+use Rattle.spool_rack.specs.Store.{StoreView, with_put}
 use Rattle.turn_lock.specs.Known.{Known, Lock}
+use Rattle.fwtk_serve.specs.Mailed.{Mailed, mailed_by}
 use Rattle.fwtk_serve.specs.RulesFor.{rules_for}
+use Rattle.fwtk_serve.specs.declared.passes.Passes.{Passes}
 use mathlib.Core.List.{IsPrefix}
 
 -- what is reported of a session: whose it was, how it ended, and the places of the entries that it made in the history
@@ -31,6 +35,17 @@ pub record ServedView : Type 0 where
   pub peer : Peer
   pub ending : Ending
   pub places : List ℕ
+
+-- a session: the client as it came, and as it was taken back, what is reported, and what came of it in the mail store
+pub record Sitting : Type 0 where
+  pub fresh : Visit
+  pub back : Visit
+  pub served : ServedView
+  pub mailed : Mailed
+
+-- what the two passes of a worker know, that of the book and that of the pool
+abbrev pub Both : Type 0
+Both = Passes (Known Entry BookOrigin) PassView
 
 -- ---- one session
 
@@ -46,12 +61,12 @@ visit_with service peer from to logs dialer clock dice = record {
   dice = dice;
 }
 
--- the devices of its session, which has no mail store
-abbrev pub devices_of : Visit → Port SharedOrigin → Devices SharedOrigin
-devices_of visit port = devices_with port visit.from visit.to visit.logs visit.dialer visit.clock visit.dice
+-- the devices of its session
+abbrev pub devices_of : Visit → Port SharedOrigin → StoreView → Devices SharedOrigin
+devices_of visit port store = mail_devices_with port visit.from visit.to visit.logs visit.dialer visit.clock visit.dice store
 
 -- what `conn` says of a session: its acts and its ending; why it ended so, what was taken and for how long it was waited, whom
--- the dialer was asked for, what was passed on, and what stays
+-- the dialer was asked for, what was passed on, what the mail store was given, and what stays
 pub record GoesAs (service : Service) (rules : RuleBook) (peer : Peer) (ending : Ending) (old new : Devices SharedOrigin) : Type 0 where
   pub conn : Conn service rules peer old new ending
   pub caused : Causes (kind_of service (verdict_of rules peer)) (verdict_of rules peer) ending old new
@@ -71,45 +86,61 @@ pub record GoesAs (service : Service) (rules : RuleBook) (peer : Peer) (ending :
 abbrev pub port_at : Lock BookOrigin → Known Entry BookOrigin → Port SharedOrigin
 port_at lock pass = shared_port (record { lock = lock; first = pass }) pass.seen [] false 0
 
--- A session by these rules, whose port is that of a pass, which knew this at first and knows that afterwards. What is reported
--- are the client, the ending and the places of the port's own entries. The port is full exactly where as many entries were seen
--- as fit; it never failed, nor answered what doesn't fit; what was seen at first is a front of what is seen afterwards, which is
--- legal, if that was.
-pub record Held (rules : RuleBook) (lock : Lock BookOrigin) (first last : Known Entry BookOrigin) (fresh taken : Visit) (served : ServedView) : Type 0 where
+-- the store of a pass at a seat of its pool, with no slot out
+abbrev pub store_at : PassView → StoreView
+store_at pass = record {
+  queues = None;
+  handed = Some pass.handed;
+  out = [];
+  no_free = pass.no_free;
+  no_full = pass.no_full;
+  broken = pass.broken;
+}
+
+-- A session by these rules, whose port and whose mail store are those of two passes, which knew this at first and know that
+-- afterwards. What is reported are the client, the ending and the places of the port's own entries. The port is full exactly
+-- where as many entries were seen as fit; it never failed, nor answered what doesn't fit; what was seen at first is a front of
+-- what is seen afterwards, which is legal, if that was. What was put into the mail store are the slots of the messages that were
+-- kept, in order, and nothing else; each message for which no slot was free was counted, and each at which a disk failed.
+pub record Held (rules : RuleBook) (lock : Lock BookOrigin) (first last : Both) (sitting : Sitting) : Type 0 where
   pub port : Port SharedOrigin
-  pub goes : GoesAs fresh.guest.service rules fresh.guest.peer served.ending (devices_of fresh (port_at lock first)) (devices_of taken port)
-  pub guest : taken.guest ≡ fresh.guest
-  pub service : served.service ≡ fresh.guest.service
-  pub peer : served.peer ≡ fresh.guest.peer
-  pub places : served.places ≡ port.mine
+  pub goes : GoesAs sitting.fresh.guest.service rules sitting.fresh.guest.peer sitting.served.ending
+      (devices_of sitting.fresh (port_at lock first.book) (store_at first.mail)) (devices_of sitting.back port (store_at last.mail))
+  pub guest : sitting.back.guest ≡ sitting.fresh.guest
+  pub service : sitting.served.service ≡ sitting.fresh.guest.service
+  pub peer : sitting.served.peer ≡ sitting.fresh.guest.peer
+  pub places : sitting.served.places ≡ port.mine
   pub full : port.full ≡ full_at lock.limit port.seen
   pub calm : (port.faults ≡ 0) × (port.odd ≡ 0)
-  pub origin : port.origin ≡ record { lock = lock; first = first }
-  pub pass : last ≡ pass_of port
-  pub begins : IsPrefix first.seen last.seen
-  pub legal : IsLegal lock.origin.origin first.seen → IsLegal lock.origin.origin last.seen
+  pub origin : port.origin ≡ record { lock = lock; first = first.book }
+  pub pass : last.book ≡ pass_of port
+  pub begins : IsPrefix first.book.seen last.book.seen
+  pub legal : IsLegal lock.origin.origin first.book.seen → IsLegal lock.origin.origin last.book.seen
+  pub mailed : sitting.mailed ≡ mailed_by sitting.fresh.guest.service (verdict_of rules sitting.fresh.guest.peer) rules sitting.fresh.guest.peer sitting.served.ending
+      (devices_of sitting.fresh (port_at lock first.book) (store_at first.mail)) (devices_of sitting.back port (store_at last.mail)) goes.kept
+  pub put : last.mail.handed ≡ with_put sitting.mailed.put first.mail.handed
+  pub no_free : min (first.mail.no_free + sitting.mailed.unslotted) (2 ^ 64 - 1) ≤ last.mail.no_free
+  pub no_full : last.mail.no_full ≡ first.mail.no_full
+  pub broken : min (first.mail.broken + sitting.mailed.faulted) (2 ^ 64 - 1) ≤ last.mail.broken
 
 -- a client that was new, by the rules of its service among these
-pub record WasServed (rules : List (Service × RuleBook)) (lock : Lock BookOrigin) (first last : Known Entry BookOrigin) (fresh taken : Visit) (served : ServedView) : Type 0 where
-  pub is_fresh : IsFresh fresh
-  pub held : Held (rules_for fresh.guest.service rules) lock first last fresh taken served
+pub record WasServed (rules : List (Service × RuleBook)) (lock : Lock BookOrigin) (first last : Both) (sitting : Sitting) : Type 0 where
+  pub is_fresh : IsFresh sitting.fresh
+  pub held : Held (rules_for sitting.fresh.guest.service rules) lock first last sitting
 
 -- ---- one session after the other
 
--- a session, and those after it, each over the pass as the one before it left it
-pub record ServedFirst (First : Known Entry BookOrigin → Type 0) (More : Known Entry BookOrigin → Type 0) : Type 0 where
-  pub middle : Known Entry BookOrigin
+-- a session, and those after it, each over the passes as the one before it left them
+pub record ServedFirst (First : Both → Type 0) (More : Both → Type 0) : Type 0 where
+  pub middle : Both
   pub first : First middle
   pub more : More middle
 
--- clients as they came and as they were taken back, and what is reported of each
-abbrev pub WereServed : List (Service × RuleBook) → Lock BookOrigin → Known Entry BookOrigin → Known Entry BookOrigin → List Visit → List Visit → List ServedView → Type 0
-WereServed rules lock first last [] [] [] = last ≡ first
-WereServed rules lock first last (fresh ∷ came) (back ∷ taken) (served ∷ sessions) =
-    ServedFirst (λ middle. WasServed rules lock first middle fresh back served) (λ middle. WereServed rules lock middle last came taken sessions)
-WereServed rules lock first last _ _ _ = ⊥
+abbrev pub WereServed : List (Service × RuleBook) → Lock BookOrigin → Both → Both → List Sitting → Type 0
+WereServed rules lock first last [] = last ≡ first
+WereServed rules lock first last (sitting ∷ more) =
+    ServedFirst (λ middle. WasServed rules lock first middle sitting) (λ middle. WereServed rules lock middle last more)
 
 -- the places of the entries of all these sessions
-abbrev pub places_of : List ServedView → List ℕ
-places_of [] = []
-places_of (served ∷ more) = served.places ++ places_of more
+abbrev pub places_of : List Sitting → List ℕ
+places_of sittings = flat_map (λ sitting. sitting.served.places) sittings

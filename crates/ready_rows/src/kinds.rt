@@ -1,6 +1,8 @@
 //! The kinds of row.
 
-use crate::telling::{tell_deaf, tell_lost, tell_record, tell_table, tell_words};
+use crate::telling::{
+    tell_broken, tell_deaf, tell_lost, tell_record, tell_slots, tell_table, tell_unkept, tell_words,
+};
 use fw_types::NoMemory;
 use lines_of_rows::{Rows, Told, add};
 use std::alloc::Global;
@@ -23,6 +25,9 @@ impl Rows for Kinds {
             "record" => tell_record(alloc, asked, out)?,
             "lost" => tell_lost(alloc, asked, out)?,
             "deaf" => tell_deaf(alloc, asked, out)?,
+            "slots" => tell_slots(alloc, asked, out)?,
+            "broken" => tell_broken(alloc, asked, out)?,
+            "unkept" => tell_unkept(alloc, asked, out)?,
             _ => add(out, b"no such kind"),
         }
         Ok(())

@@ -1,13 +1,16 @@
 //! A server that is made ready over devices in memory.
 
 use bastion::{Kit, World};
-use bastion_ready::{Ready, ready};
+use bastion_ready::{Door, Ready, ready};
 use fw_memory::{
     Calls, MemClock, MemDialer, MemDice, MemDisk, MemFiles, MemKeeper, MemLauncher, MemSink,
     MemSource,
 };
 use fw_types::{Name, NoMemory, Octets};
+use gate_rules::{Rules, Service};
+use lines_of_rows::from_hex;
 use std::alloc::Global;
+use std::str;
 
 /// The kinds of device in memory.
 #[derive(Drop)]
@@ -35,12 +38,35 @@ impl Kit for Memory {
     type Disk = MemDisk;
 }
 
-/// What came of it, what was logged, and whether the keeper is in the world.
+/// What a server begins with, and the disks of its slots.
+#[derive(Drop)]
+pub(crate) struct Server {
+    pub(crate) doors: Vec<Door>,
+    pub(crate) rules: Vec<(Service, Rules)>,
+    pub(crate) slots: Vec<MemDisk>,
+}
+
+/// What came of it, what was logged, whether the keeper is in the world, and the disks that are.
 #[derive(Drop)]
 pub(crate) struct Came {
-    pub(crate) ready: Result<Ready<MemKeeper>, u8>,
+    pub(crate) server: Result<Server, u8>,
     pub(crate) logs: MemSink,
     pub(crate) kept: bool,
+    pub(crate) disks: Vec<MemDisk>,
+}
+
+fn server_of(ready: Ready<MemKeeper, MemDisk>) -> Server {
+    let Ready {
+        doors,
+        rules,
+        book: _,
+        rack,
+    } = ready;
+    Server {
+        doors,
+        rules,
+        slots: rack.close(),
+    }
 }
 
 // The words of a command line.
@@ -61,12 +87,13 @@ fn files_of(alloc: Global, table: &[u8]) -> Result<MemFiles, NoMemory> {
     Ok(MemFiles::new(alloc, files, 64, Calls::none(), Calls::none()))
 }
 
-// Nobody speaks, and there is no server and no slot.
+// Nobody speaks, and there is no server.
 fn world_of(
     alloc: Global,
     table: &[u8],
     keeper: MemKeeper,
     logs: MemSink,
+    disks: Vec<MemDisk>,
 ) -> Result<World<Memory>, NoMemory> {
     let none = Octets::copy(alloc, b"")?;
     Ok(World {
@@ -79,30 +106,43 @@ fn world_of(
         keeper: Some(keeper),
         dialer: MemDialer::new(alloc, Vec::new(alloc), Vec::new(alloc), 1, Calls::none())?,
         launcher: MemLauncher::new(alloc, Vec::new(alloc), Calls::none()),
-        disks: Vec::new(alloc),
+        disks,
     })
 }
 
-/// What the words come to over this table, keeper and log.
+/// What the words come to over this table, keeper, log and disks.
 pub(crate) fn ready_over(
     alloc: Global,
     line: &[u8],
     table: &[u8],
     keeper: MemKeeper,
     logs: MemSink,
+    disks: Vec<MemDisk>,
 ) -> Result<Came, NoMemory> {
     let words = words_of(alloc, line)?;
-    let mut world = world_of(alloc, table, keeper, logs)?;
-    // `ready` asks for a keeper.
+    let mut world = world_of(alloc, table, keeper, logs, disks)?;
+    // `ready` asks for a keeper, and for at most 64 disks.
     if world.keeper.is_none() {
         return Err(NoMemory);
     }
-    let ready = ready(alloc, &words, &mut world);
-    let World { logs, keeper, .. } = world;
+    if world.disks.len() > 64 {
+        return Err(NoMemory);
+    }
+    let server = match ready(alloc, &words, &mut world) {
+        Ok(ready) => Ok(server_of(ready)),
+        Err(status) => Err(status),
+    };
+    let World {
+        logs,
+        keeper,
+        disks,
+        ..
+    } = world;
     Ok(Came {
-        ready,
+        server,
         logs,
         kept: keeper.is_some(),
+        disks,
     })
 }
 
@@ -118,4 +158,31 @@ pub(crate) fn keeper_of(
         records.push((name, Octets::of(bytes)))?;
     }
     Ok(MemKeeper::new(alloc, records, fails))
+}
+
+// Of this number, the disk that fails at each call.
+fn calls_for(number: u64, broken: Option<u64>) -> Calls {
+    match broken {
+        Some(one) if one == number => Calls::onward(0),
+        _ => Calls::none(),
+    }
+}
+
+/// Disks with these bytes, of which the one with the number that is broken fails. `-` is none.
+pub(crate) fn disks_of(
+    alloc: Global,
+    slots: &[u8],
+    broken: Option<u64>,
+) -> Result<Vec<MemDisk>, NoMemory> {
+    let mut disks = Vec::new(alloc);
+    if slots == b"-".as_slice() {
+        return Ok(disks);
+    }
+    let mut number = 0u64;
+    for digits in slots.split(|byte| *byte == b',') {
+        let bytes = Octets::of(from_hex(alloc, str::from_utf8(digits).unwrap_or(""))?);
+        disks.push(MemDisk::new(alloc, bytes, calls_for(number, broken)))?;
+        number = number.saturating_add(1);
+    }
+    Ok(disks)
 }

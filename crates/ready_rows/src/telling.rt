@@ -1,12 +1,11 @@
 //! What is told of a server that is made ready.
 
-use crate::readying::{Came, keeper_of, ready_over};
+use crate::readying::{Came, Server, disks_of, keeper_of, ready_over};
 use arrayvec::ArrayVec;
-use bastion_ready::Ready;
-use fw_memory::{Calls, MemKeeper, MemSink};
+use fw_memory::{Calls, MemDisk, MemKeeper, MemSink};
 use fw_types::NoMemory;
 use gate_rules::Service;
-use lines_of_rows::{Told, add, add_number, add_word, cut, cut_word, from_hex};
+use lines_of_rows::{Told, add, add_hex, add_number, add_word, cut, cut_word, from_hex, number_of};
 use std::alloc::Global;
 use std::str;
 
@@ -24,20 +23,33 @@ fn tell_door(service: &Service, port: u16, out: &mut Told) {
     add(out, digits.as_slice());
 }
 
-// The doors, and then the services that have rules.
-fn tell_ready(ready: &Ready<MemKeeper>, out: &mut Told) {
-    for (service, port) in ready.doors.as_slice() {
-        tell_door(service, *port, out);
+// The first two bytes of each disk, behind a word for where they are.
+fn tell_disks(place: &[u8], disks: &[MemDisk], out: &mut Told) {
+    if disks.is_empty() {
+        return;
     }
-    add_word(out, b"rules");
-    for (service, _) in ready.rules.as_slice() {
-        tell_service(service, out);
+    add_word(out, place);
+    for disk in disks {
+        let bytes = disk.bytes();
+        add_hex(out, &bytes[..bytes.len().min(2)]);
     }
 }
 
+// The doors, then the services that have rules, and then the slots.
+fn tell_server(server: &Server, out: &mut Told) {
+    for (service, port) in server.doors.as_slice() {
+        tell_door(service, *port, out);
+    }
+    add_word(out, b"rules");
+    for (service, _) in server.rules.as_slice() {
+        tell_service(service, out);
+    }
+    tell_disks(b"slots", server.slots.as_slice(), out);
+}
+
 fn tell_came(came: &Came, out: &mut Told) {
-    match &came.ready {
-        Ok(ready) => tell_ready(ready, out),
+    match &came.server {
+        Ok(server) => tell_server(server, out),
         Err(status) => {
             add_number(out, u64::from(*status));
             add_word(out, came.logs.bytes());
@@ -46,6 +58,20 @@ fn tell_came(came: &Came, out: &mut Told) {
     if came.kept {
         add_word(out, b"kept");
     }
+    tell_disks(b"disks", came.disks.as_slice(), out);
+}
+
+fn tell_over(
+    alloc: Global,
+    words: &[u8],
+    table: &[u8],
+    keeper: MemKeeper,
+    disks: Vec<MemDisk>,
+    out: &mut Told,
+) -> Result<(), NoMemory> {
+    let logs = MemSink::new(alloc, 1024, Calls::none())?;
+    tell_came(&ready_over(alloc, words, table, keeper, logs, disks)?, out);
+    Ok(())
 }
 
 fn tell_with(
@@ -55,9 +81,7 @@ fn tell_with(
     keeper: MemKeeper,
     out: &mut Told,
 ) -> Result<(), NoMemory> {
-    let logs = MemSink::new(alloc, 1024, Calls::none())?;
-    tell_came(&ready_over(alloc, words, table, keeper, logs)?, out);
-    Ok(())
+    tell_over(alloc, words, table, keeper, Vec::new(alloc), out)
 }
 
 fn no_records(alloc: Global, fails: Calls) -> MemKeeper {
@@ -94,6 +118,36 @@ pub(crate) fn tell_lost(alloc: Global, asked: &[u8], out: &mut Told) -> Result<(
 pub(crate) fn tell_deaf(alloc: Global, asked: &[u8], out: &mut Told) -> Result<(), NoMemory> {
     let logs = MemSink::new(alloc, 0, Calls::onward(0))?;
     let keeper = no_records(alloc, Calls::none());
-    tell_came(&ready_over(alloc, asked, b"", keeper, logs)?, out);
+    tell_came(
+        &ready_over(alloc, asked, b"", keeper, logs, Vec::new(alloc))?,
+        out,
+    );
     Ok(())
+}
+
+/// `slots SLOT,SLOT.. WORDS => .. slots SLOT ..` or `=> STATUS LOG kept disks SLOT ..`: over an empty table, no records, and disks
+/// with these bytes in hexadecimal digits. Of each disk its first two bytes are told, behind `slots` where it is in the rack, and
+/// behind `disks` where it is in the world.
+pub(crate) fn tell_slots(alloc: Global, asked: &[u8], out: &mut Told) -> Result<(), NoMemory> {
+    let (slots, words) = cut_word(asked);
+    let disks = disks_of(alloc, slots, None)?;
+    let keeper = no_records(alloc, Calls::none());
+    tell_over(alloc, words, b"", keeper, disks, out)
+}
+
+/// `broken N SLOT,SLOT.. WORDS => ..`: the same, and each call of the disk with number N fails.
+pub(crate) fn tell_broken(alloc: Global, asked: &[u8], out: &mut Told) -> Result<(), NoMemory> {
+    let (number, more) = cut_word(asked);
+    let (slots, words) = cut_word(more);
+    let disks = disks_of(alloc, slots, Some(number_of(number)))?;
+    let keeper = no_records(alloc, Calls::none());
+    tell_over(alloc, words, b"", keeper, disks, out)
+}
+
+/// `unkept SLOT,SLOT.. WORDS => ..`: the same over a keeper that fails, and disks that don't.
+pub(crate) fn tell_unkept(alloc: Global, asked: &[u8], out: &mut Told) -> Result<(), NoMemory> {
+    let (slots, words) = cut_word(asked);
+    let disks = disks_of(alloc, slots, None)?;
+    let keeper = no_records(alloc, Calls::onward(0));
+    tell_over(alloc, words, b"", keeper, disks, out)
 }

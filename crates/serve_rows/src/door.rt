@@ -19,6 +19,14 @@ use std::alloc::Global;
 use std::sync::Wait;
 use std::sync::atomic::AtomicU64;
 
+/// Which service a client asks.
+#[derive(Clone, Copy)]
+pub(crate) enum Asked {
+    Telnet,
+    Auth,
+    Mail,
+}
+
 type Client<'a, H> = Caller<Scripted<'a, H>, Marked<'a>, MemSink, MemDialer, MemClock, MemDice>;
 
 /// Hands out one client, and keeps it afterwards. It doesn't tell of it.
@@ -27,7 +35,7 @@ pub(crate) struct Door<'a, H> {
     rt: &'a H,
     alloc: Global,
     told: &'a AtomicU64,
-    is_telnet: bool,
+    asked: Asked,
     script: Script,
     marks: Marks,
     waits: bool,
@@ -46,14 +54,14 @@ fn one_more(count: u64) -> u64
     count.saturating_add(1)
 }
 
-// `tn-gw`, or else `authsrv`.
-fn service(is_telnet: bool) -> Service
+fn service(asked: Asked) -> Service
     ensures { HasSessions result }
 {
-    if is_telnet {
-        return Service::TnGw;
+    match asked {
+        Asked::Telnet => Service::TnGw,
+        Asked::Auth => Service::Authsrv,
+        Asked::Mail => Service::Smap,
     }
-    Service::Authsrv
 }
 
 // A client of this service who says this, and to whom these are marks among all that are told.
@@ -110,13 +118,12 @@ fn one_fault(count: u64) -> u64
     count.saturating_add(1)
 }
 
-/// A door at which a client of `tn-gw` or else of `authsrv` comes who says this, and to whom these are marks among all that are
-/// told.
+/// A door at which a client of this service comes who says this, and to whom these are marks among all that are told.
 pub(crate) fn new_door<'a, H: Wait>(
     rt: &'a H,
     alloc: Global,
     told: &'a AtomicU64,
-    is_telnet: bool,
+    asked: Asked,
     script: Script,
     marks: Marks,
 ) -> Door<'a, H> {
@@ -124,7 +131,7 @@ pub(crate) fn new_door<'a, H: Wait>(
         rt,
         alloc,
         told,
-        is_telnet,
+        asked,
         script,
         marks,
         waits: true,
@@ -178,7 +185,7 @@ impl<'a, H: Wait + Sync> Acceptor for Door<'a, H> {
             match client(
                 self.rt,
                 self.alloc,
-                service(self.is_telnet),
+                service(self.asked),
                 self.told,
                 self.script,
                 self.marks,

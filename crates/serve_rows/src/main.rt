@@ -1,5 +1,5 @@
 //! A server over clients in memory: a client whose service has no rules; two, each of whom goes once both were greeted; a user who
-//! is attacked while he logs in; and one password that eight say at once.
+//! is attacked while he logs in; one password that eight say at once; and two who hand in a message each.
 #![tactic(auto)]
 
 mod devices;
@@ -7,10 +7,11 @@ mod door;
 mod parts;
 mod records;
 mod scenes;
+mod spool;
 mod telling;
 
 use lines_of_rows::{Told, add, add_word};
-use scenes::{tell_attack, tell_one_word, tell_side_by_side, tell_without_rules};
+use scenes::{tell_attack, tell_one_word, tell_side_by_side, tell_two_letters, tell_without_rules};
 use std::alloc::Global;
 use std::sync::Wait;
 use std::thread::Threads;
@@ -25,6 +26,8 @@ fn tell<H: Threads + Wait + Sync>(rt: &H, alloc: Global, out: &mut Told) {
     tell_attack(rt, alloc, out);
     add(out, b"\none word, said eight times:");
     tell_one_word(rt, alloc, out);
+    add(out, b"\ntwo messages:");
+    tell_two_letters(rt, alloc, out);
 }
 
 fn main(rt: HostRuntime) -> io::Result<()> {

@@ -1,9 +1,11 @@
 //! What the clients of the scenes say, and what is a mark to them.
 use crate::devices::{Marks, Script};
+use crate::door::Asked;
 
-/// What a client says, and what is a mark to him.
+/// Which service a client asks, what he says, and what is a mark to him.
 #[derive(Clone, Copy)]
 pub(crate) struct Part {
+    pub(crate) asked: Asked,
     pub(crate) script: Script,
     pub(crate) marks: Marks,
 }
@@ -14,6 +16,7 @@ const READY: &[u8] = b"authsrv ready";
 pub(crate) const BOTH_GREETED: [Part; 2] = [GREETED; 2];
 
 const GREETED: Part = Part {
+    asked: Asked::Auth,
     script: &[(2, b"quit\r\n")],
     marks: &[READY],
 };
@@ -25,6 +28,7 @@ pub(crate) const ATTACK: [Part; 9] = [
 ];
 
 const USER: Part = Part {
+    asked: Asked::Auth,
     script: &[
         (9, b"authenticate mjr\r\n"),
         (18, b"response secret\r\nquit\r\n"),
@@ -35,6 +39,7 @@ const USER: Part = Part {
 const WRONG: &[u8] = b"authenticate mjr\r\nresponse x\r\n";
 
 const ATTACKER: Part = Part {
+    asked: Asked::Auth,
     script: &[
         (10, WRONG),
         (0, WRONG),
@@ -51,9 +56,25 @@ const ATTACKER: Part = Part {
 pub(crate) const ONE_WORD: [Part; 8] = [SPENDER; 8];
 
 const SPENDER: Part = Part {
+    asked: Asked::Auth,
     script: &[(
         8,
         b"authenticate otp1\r\nresponse 9E87 6134 D904 99DD\r\nquit\r\n",
     )],
     marks: &[READY],
+};
+
+/// Each of two hands in one message, once both were greeted. Four marks are told.
+pub(crate) const TWO_LETTERS: [Part; 2] = [SENDER; 2];
+
+const SENDER: Part = Part {
+    asked: Asked::Mail,
+    script: &[
+        (
+            2,
+            b"HELO relay.tis.com\r\nMAIL FROM:<mjr@tis.com>\r\nRCPT TO:<avolio@example.org>\r\n",
+        ),
+        (0, b"DATA\r\nSubject: x\r\n\r\nHello.\r\n.\r\nQUIT\r\n"),
+    ],
+    marks: &[b"220 ", b"221 "],
 };

@@ -1,5 +1,5 @@
-//! A book of two users, and rules that let every client of `authsrv` in.
-ghost use Rattle.std.specs.Prelude.{◌≡◌, IfSome};
+//! A book of two users, and rules that let every client of `authsrv` or of `smap` in.
+ghost use Rattle.std.specs.Prelude.{IfSome};
 ghost use Rattle.fwtk_serve.specs.RulesFor.{MayServe};
 
 use auth_machine::{Book, Policy};
@@ -51,11 +51,20 @@ pub(crate) fn book(alloc: Global) -> Option<Book<MemKeeper>> {
     }
 }
 
-/// The rules.
+/// The rules of `authsrv`.
 pub(crate) fn rules(alloc: Global) -> Option<(Service, Rules)>
     ensures { IfSome result MayServe }
 {
     let table = read_table(alloc).ok()?;
     let rules = Rules::of(alloc, &table, &Service::Authsrv).ok()?;
     Some((Service::Authsrv, rules))
+}
+
+/// The rules of `smap`.
+pub(crate) fn mail_rules(alloc: Global) -> Option<(Service, Rules)>
+    ensures { IfSome result MayServe }
+{
+    let table = read_table(alloc).ok()?;
+    let rules = Rules::of(alloc, &table, &Service::Smap).ok()?;
+    Some((Service::Smap, rules))
 }

@@ -2,12 +2,14 @@
 ghost use Rattle.std.specs.Prelude.{All};
 ghost use Rattle.fwtk_serve.specs.RulesFor.{MayServe};
 
-use crate::door::{Door, new_door};
-use crate::parts::{ATTACK, BOTH_GREETED, ONE_WORD, Part};
-use crate::records::{book, rules};
-use crate::telling::{tell_report, tell_told};
+use crate::door::{Asked, Door, new_door};
+use crate::parts::{ATTACK, BOTH_GREETED, ONE_WORD, Part, TWO_LETTERS};
+use crate::records::{book, mail_rules, rules};
+use crate::spool::{Resting, rack, took};
+use crate::telling::{tell_mail, tell_report, tell_told};
 use acceptors::Acceptor;
-use fw_memory::MemKeeper;
+use fw_mail::Mailer;
+use fw_memory::{Calls, MemDisk, MemKeeper, MemMailer, MemSink};
 use fw_outside::Dialer;
 use fw_types::NoMemory;
 use fwtk_serve::{Report, serve};
@@ -16,11 +18,24 @@ use lines_of_rows::{Told, add_word};
 use std::alloc::Global;
 use std::sync::Wait;
 use std::sync::atomic::AtomicU64;
-use std::thread::Threads;
+use std::thread::{Parker, Threads};
 
-type Answer<A> = Result<Report<MemKeeper, A>, NoMemory>;
+/// What a server answered, and how many messages its mailer took.
+type Answer<A> = Result<(Report<MemKeeper, A, MemDisk>, u64), NoMemory>;
 
-fn serve_by<H, A>(rt: &H, alloc: Global, rules: &[(Service, Rules)], doors: Vec<A>) -> Answer<A>
+// The server's own log has room for so many bytes.
+const LOG_ROOM: usize = 1000;
+
+// Serves over so many slots, with a mailer that accepts all, and a rest between rounds until so many marks were told.
+fn serve_by<H, A>(
+    rt: &H,
+    alloc: Global,
+    told: &AtomicU64,
+    rules: &[(Service, Rules)],
+    doors: Vec<A>,
+    slots: u32,
+    marks: u64,
+) -> Answer<A>
 where
     H: Threads + Wait + Sync,
     A: Acceptor + Send,
@@ -34,7 +49,29 @@ where
     let Some(book) = book(alloc) else {
         return Err(NoMemory);
     };
-    serve(rt, alloc, rules, book, doors)
+    let rack = rack(alloc, slots)?;
+    let mut mailers: Vec<Box<dyn Mailer>> = Vec::new(alloc);
+    mailers.push(Box::new(alloc, MemMailer::new(alloc, Vec::new(alloc)))?)?;
+    let mut logs = MemSink::new(alloc, LOG_ROOM, Calls::none())?;
+    let mut pacer = Resting {
+        rt,
+        parker: Parker::new(),
+        told,
+        marks,
+    };
+    let report = serve(
+        rt,
+        alloc,
+        rules,
+        book,
+        doors,
+        rack,
+        &mut mailers,
+        &mut logs,
+        &mut pacer,
+    )?;
+    let taken = took(&mailers);
+    Ok((report, taken))
 }
 
 fn without_rules<'a, H: Threads + Wait + Sync>(
@@ -42,9 +79,9 @@ fn without_rules<'a, H: Threads + Wait + Sync>(
     alloc: Global,
     told: &'a AtomicU64,
 ) -> Answer<Door<'a, H>> {
-    let one = new_door(rt, alloc, told, true, &[], &[]);
+    let one = new_door(rt, alloc, told, Asked::Telnet, &[], &[]);
     let doors = Vec::from_array(alloc, [one])?;
-    serve_by(rt, alloc, &[], doors)
+    serve_by(rt, alloc, told, &[], doors, 0, 0)
 }
 
 // A door for each of the parts.
@@ -56,7 +93,7 @@ fn doors_of<'a, H: Threads + Wait + Sync>(
 ) -> Result<Vec<Door<'a, H>>, NoMemory> {
     let mut doors = Vec::new(alloc);
     for part in parts {
-        doors.push(new_door(rt, alloc, told, false, part.script, part.marks))?;
+        doors.push(new_door(rt, alloc, told, part.asked, part.script, part.marks))?;
     }
     Ok(doors)
 }
@@ -71,14 +108,14 @@ fn side_by_side<'a, H: Threads + Wait + Sync>(
         return Err(NoMemory);
     };
     let doors = doors_of(rt, alloc, told, parts)?;
-    serve_by(rt, alloc, &[ruled], doors)
+    serve_by(rt, alloc, told, &[ruled], doors, 0, 0)
 }
 
 /// One door, a client of `tn-gw`, and no rules.
 pub(crate) fn tell_without_rules<H: Threads + Wait + Sync>(rt: &H, alloc: Global, out: &mut Told) {
     let told = AtomicU64::new(0);
     match without_rules(rt, alloc, &told) {
-        Ok(report) => tell_report(out, &report),
+        Ok((report, _)) => tell_report(out, &report),
         Err(NoMemory) => add_word(out, b"no memory"),
     }
 }
@@ -86,7 +123,7 @@ pub(crate) fn tell_without_rules<H: Threads + Wait + Sync>(rt: &H, alloc: Global
 fn tell_parts<H: Threads + Wait + Sync>(rt: &H, alloc: Global, parts: &[Part], out: &mut Told) {
     let told = AtomicU64::new(0);
     match side_by_side(rt, alloc, &told, parts) {
-        Ok(report) => tell_told(out, &report),
+        Ok((report, _)) => tell_told(out, &report),
         Err(NoMemory) => add_word(out, b"no memory"),
     }
 }
@@ -104,4 +141,27 @@ pub(crate) fn tell_attack<H: Threads + Wait + Sync>(rt: &H, alloc: Global, out: 
 /// Eight doors, with a client each who says the one password that is left.
 pub(crate) fn tell_one_word<H: Threads + Wait + Sync>(rt: &H, alloc: Global, out: &mut Told) {
     tell_parts(rt, alloc, &ONE_WORD, out);
+}
+
+fn hand_in<'a, H: Threads + Wait + Sync>(
+    rt: &'a H,
+    alloc: Global,
+    told: &'a AtomicU64,
+    parts: &[Part],
+) -> Answer<Door<'a, H>> {
+    let Some(ruled) = mail_rules(alloc) else {
+        return Err(NoMemory);
+    };
+    let doors = doors_of(rt, alloc, told, parts)?;
+    serve_by(rt, alloc, told, &[ruled], doors, 2, 4)
+}
+
+/// Two doors, with a client each who hands in one message, two slots, and a mailer that accepts. The rounds rest until both clients
+/// have gone, so the last one hands the messages on.
+pub(crate) fn tell_two_letters<H: Threads + Wait + Sync>(rt: &H, alloc: Global, out: &mut Told) {
+    let told = AtomicU64::new(0);
+    match hand_in(rt, alloc, &told, &TWO_LETTERS) {
+        Ok((report, taken)) => tell_mail(out, report, taken),
+        Err(NoMemory) => add_word(out, b"no memory"),
+    }
 }

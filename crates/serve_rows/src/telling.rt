@@ -2,7 +2,7 @@
 use crate::door::Door;
 use acceptors::Acceptor;
 use auth_events::Entry;
-use fw_memory::MemKeeper;
+use fw_memory::{MemDisk, MemKeeper};
 use fw_types::Ending;
 use fwtk_serve::{Report, Served};
 use lines_of_rows::{Told, add_number, add_word};
@@ -63,7 +63,7 @@ fn tell_sessions(out: &mut Told, sessions: &[Served], history: &[Entry]) {
 }
 
 /// The sessions of each door, with how many entries each has; how many entries there are, and how many workers wanted memory.
-pub(crate) fn tell_report<A: Acceptor>(out: &mut Told, report: &Report<MemKeeper, A>) {
+pub(crate) fn tell_report<A: Acceptor>(out: &mut Told, report: &Report<MemKeeper, A, MemDisk>) {
     for sessions in &report.sessions {
         tell_sessions(out, sessions, &report.history);
     }
@@ -95,10 +95,69 @@ fn tell_lines<H>(out: &mut Told, doors: &[Door<'_, H>], front: &[u8]) {
 }
 
 /// Also how many lines of a kind all clients were told.
-pub(crate) fn tell_told<H: Wait + Sync>(out: &mut Told, report: &Report<MemKeeper, Door<'_, H>>) {
+pub(crate) fn tell_told<H: Wait + Sync>(
+    out: &mut Told,
+    report: &Report<MemKeeper, Door<'_, H>, MemDisk>,
+) {
     tell_report(out, report);
     add_word(out, b"| told");
     tell_lines(out, &report.doors, b"ok");
     tell_lines(out, &report.doors, b"denied wrong response");
     tell_lines(out, &report.doors, b"denied sleeping");
+}
+
+// How many lines that begin so stand behind the first that begins so.
+fn lines_behind(text: &[u8], first: &[u8], front: &[u8]) -> u64 {
+    let mut count = 0u64;
+    let mut is_behind = false;
+    for line in text.split(|byte| *byte == b'\n') {
+        if is_behind && line.starts_with(front) {
+            count = count.saturating_add(1);
+        }
+        if line.starts_with(first) {
+            is_behind = true;
+        }
+    }
+    count
+}
+
+// Of how many disks the first byte is 0, as of a free slot.
+fn free_slots(disks: &[MemDisk]) -> u64 {
+    let mut count = 0u64;
+    for disk in disks {
+        if disk.bytes().starts_with(b"\0") {
+            count = count.saturating_add(1);
+        }
+    }
+    count
+}
+
+/// How often each client was told 250 for the data of its message; what the rounds came to; how many messages the mailer took, and
+/// how many slots are free then.
+pub(crate) fn tell_mail<H: Wait + Sync>(
+    out: &mut Told,
+    report: Report<MemKeeper, Door<'_, H>, MemDisk>,
+    taken: u64,
+) {
+    tell_report(out, &report);
+    add_word(out, b"| for the data");
+    for door in &report.doors {
+        add_number(out, lines_behind(door.given(), b"354", b"250"));
+    }
+    add_word(out, b"| accepted");
+    add_number(out, u64::from(report.round.accepted));
+    add_word(out, b"refused");
+    add_number(out, u64::from(report.round.refused));
+    add_word(out, b"failed");
+    add_number(out, u64::from(report.round.failed));
+    add_word(out, b"broken");
+    add_number(out, u64::from(report.round.broken));
+    add_word(out, b"starved");
+    add_number(out, u64::from(report.starved));
+    add_word(out, b"| taken");
+    add_number(out, taken);
+    let Report { rack, .. } = report;
+    let disks = rack.close();
+    add_word(out, b"free");
+    add_number(out, free_slots(&disks));
 }

@@ -66,7 +66,7 @@ impl<T: Drop> SharedQueue<T> {
         put_in(rt, &self.ring, &mut pass.pass, item);
     }
 
-    /// Takes the item at the front. None only if the queue was empty at one moment of the call.
+    /// Takes the item at the front. A pass with all parts gets none only if all that the queue began with, and all that was put, was taken.
     pub fn take<R: Wait>(&self, rt: &R, pass: &mut QueuePass<T>) -> Option<T>
         requires home { pass.old.home ≡ self.now.home }
         requires part { 0 < pass.old.parts }

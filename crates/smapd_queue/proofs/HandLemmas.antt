@@ -1,6 +1,7 @@
 -- Handing a message on: what became of it by what was answered.
 use Rattle.std.proofs.Common.{◌≡◌, refl, sym, ap, subst, ◌∙◌, ℕ, Bool, List, Option, Some, None, Result}
 use Rattle.fw_disk.specs.DiskView.{Tape}
+use Rattle.fw_disk.specs.Moments.{Now}
 use Rattle.fw_mail.specs.MailerView.{HandsFirst, MailerView}
 use Rattle.fw_mail.specs.declared.handed.Handed.TheVariants as answers
 use Rattle.fw_outside.specs.SinkView.{Cut, SinkView}
@@ -8,6 +9,7 @@ use Rattle.fw_outside.specs.ToldList.{grown}
 use Rattle.fw_types.specs.declared.message.Message.{Message}
 use Rattle.fw_types.specs.declared.no_memory.NoMemory.{NoMemory}
 use Rattle.spool_rack.specs.Store.{HasTakenFull, Loan, PutsBroken, StoreView, put_full}
+use Rattle.spool_slots.specs.Media.{IsFull}
 use Rattle.spool_slots.specs.Messages.{Leaves}
 use Rattle.spool_slots.specs.States.{FullView}
 use Rattle.spool_slots.specs.declared.read_back.ReadBack.{ReadBack}
@@ -78,13 +80,13 @@ read_on result message slot full store now mailers after same its so =
     subst (λ (f : FullView). HandsOnSo result f store now mailers after) same (so (subst (IsItsMessage message) (sym same) its))
 
 -- its disk failed
-pub unread_on : (word : Word) (fault : ReadBack) (slot full : FullView) (store now : StoreView) (mailers : List MailerView) → fault ≡ reads.DiskFault → full.number ≡ slot.number → full.disk.told ≡ slot.disk.told → Leaves fault slot full
+pub unread_on : (word : Word) (fault : ReadBack) (slot full : FullView) (store now : StoreView) (mailers : List MailerView) → fault ≡ reads.DiskFault → full.number ≡ slot.number → full.disk.told ≡ slot.disk.told → Leaves fault slot full → Now IsFull slot.disk
     → word ≡ words.Broken → PutsBroken (as_broken full) store now → HandedOn word slot store now mailers mailers
-unread_on word fault slot full store now mailers one number told leaves is puts =
+unread_on word fault slot full store now mailers one number told leaves has is puts =
     let l : Leaves reads.DiskFault slot full = subst (λ (f : ReadBack). Leaves f slot full) one leaves in
     record {
       fate = Unread (as_broken full);
-      so = record { broke = unread_broke slot full number l.0; told = told; message = unread_behind slot full.disk told l.0 };
+      so = record { full = has; broke = unread_broke slot full number l.0; told = told; message = unread_behind slot full.disk told l.0 };
       meets = refl;
       puts = puts;
       word_is = is;

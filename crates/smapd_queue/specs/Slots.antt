@@ -8,15 +8,16 @@ use Rattle.slot_bytes.specs.SlotView.{mail_view}
 use Rattle.spool_law.specs.Runs.{Known, Runs}
 use Rattle.spool_law.specs.World.{OfLetter, letters}
 use Rattle.spool_slots.specs.Images.{HasMessageBehind, IsFreeImage, IsFreeOrWhole, IsWholeOrAside}
+use Rattle.spool_slots.specs.Media.{IsFull}
 use Rattle.spool_slots.specs.States.{BrokenView, FullView, IsBrokenFull, IsOnward, Keeps, KeepsAside, SlotView}
 use Rattle.smapd_queue.specs.Turns.{Fate, Turn}
 use Rattle.smapd_queue.specs.Turns.Fate.{Freed, NotFreed, PutAside, NotAside, PutBack, Unread}
 
 -- ---- the message
 
--- it is the one that the slot has, where its disk tells
+-- the slot has a message, and it is this one, where its disk tells
 abbrev pub IsItsMessage : Message → FullView → Type 0
-IsItsMessage message slot = (m : Mail) → Keeps m slot → IfSome slot.disk.told (λ _. mail_view message ≡ m)
+IsItsMessage message slot = Now IsFull slot.disk × ((m : Mail) → Keeps m slot → IfSome slot.disk.told (λ _. mail_view message ≡ m))
 
 -- ---- events of the spool
 
@@ -75,8 +76,9 @@ pub record IsNotAside (slot : FullView) (broken : BrokenView) : Type 0 where
   pub message : StandsBehind slot broken.disk
   pub events : RunsUnaccepted slot broken.disk
 
--- its disk failed when it was read, and nothing was done to it
+-- it has a message, but its disk failed when it was read, and nothing was done to it
 pub record IsUnread (slot : FullView) (broken : BrokenView) : Type 0 where
+  pub full : Now IsFull slot.disk
   pub broke : IsBrokenFull slot.number slot.disk broken
   pub told : broken.disk.told ≡ slot.disk.told
   pub message : StandsBehind slot broken.disk

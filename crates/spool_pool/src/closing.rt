@@ -31,7 +31,7 @@ fn bring<D: Disk, R: Wait>(rt: &R, spare: Spare<D>, room: usize) -> Stock<D>
 }
 
 impl<D: Disk> Pool<D> {
-    /// A rack of all slots that stand in the pool, and the pass, which is of no pool any more. It waits.
+    /// A rack of slots that stand in the pool, of all if the pass has all parts, and the pass, which is of no pool any more. It waits.
     #[tactic(auto, using(crate::proofs::Passes::opened, crate::proofs::Passes::closed_pass, crate::proofs::Settles::emptied))]
     pub fn close<R: Wait>(self, rt: &R, pass: PoolPass<D>) -> (Rack<D>, PoolPass<D>)
         requires { IsPassOf self pass }

@@ -1,5 +1,5 @@
 //! Making a pool of a rack.
-ghost use Rattle.std.specs.Prelude.{◌≡◌, ◌^◌, ◌<◌, map, IfErr, IfOk, IfSome};
+ghost use Rattle.std.specs.Prelude.{◌≡◌, ◌^◌, ◌<◌, Some, map, IfErr, IfOk};
 ghost use Rattle.shared_queue.specs.Moves.{HasAll};
 ghost use Rattle.spool_pool.specs.Known.{bare};
 ghost use Rattle.spool_pool.specs.Opening.{IsBegun, IsFresh, begun_all};
@@ -140,7 +140,7 @@ impl<D: Disk> Pool<D> {
         alloc: Global,
         rack: Rack<D>,
     ) -> Result<(Pool<D>, PoolPass<D>), (Rack<D>, NoMemory)>
-        ensures pass { IfOk result (λ made. IfSome rack.queues (λ q. made.1 ≡ bare made.0.home (2 ^ 64) q)) }
+        ensures pass { IfOk result (λ made. rack.queues ≡ Some made.1.handed.began) }
         ensures whole { IfOk result (λ made. made.1 ≡ bare made.0.home (2 ^ 64) made.1.handed.began) }
         ensures back { IfErr result (λ fault. fault.0 ≡ rack) }
     {

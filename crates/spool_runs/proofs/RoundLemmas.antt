@@ -107,7 +107,7 @@ module _ (count : ℕ) (slot : FullView) (old lent : StoreView) (takes : HasTake
 
   here_mail : (message : Message) → IsItsMessage message slot → here_letter.letter.mail ≡ mail_view message
   here_mail message its =
-      sym (subst (λ (o : Option Tape). IfSome o (λ (t : Tape). mail_view message ≡ here_letter.letter.mail)) here_letter.told (its here_letter.letter.mail here_letter.keeps))
+      sym (subst (λ (o : Option Tape). IfSome o (λ (t : Tape). mail_view message ≡ here_letter.letter.mail)) here_letter.told (its.1 here_letter.letter.mail here_letter.keeps))
 
   here_accepted : (accepted_in here_known).accepted ≡ w.accepted ++ here_letter.letter ∷ []
   here_accepted = ap (λ (u : Use). w.accepted ++ letters u) here_letter.is

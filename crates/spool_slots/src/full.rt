@@ -66,6 +66,7 @@ impl<D: Disk> Full<D> {
         ensures told { self.new.disk.told ≡ self.old.disk.told }
         ensures ok { OnOk result (self.new.disk.faults ≡ self.old.disk.faults) }
         ensures read { OnOk result (self.new.unread ≡ self.old.unread) }
+        ensures full { Now IsFull self.old.disk }
         ensures err { IfErr result (λ fault. Leaves fault self.old self.new) }
     {
         match read_message(alloc, &mut self.disk) {

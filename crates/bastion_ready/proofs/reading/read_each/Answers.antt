@@ -1,5 +1,5 @@
 use Rattle.std.proofs.Common.{◌∙◌, ◌-◌, drop, length, take}
-use Rattle.bastion_ready.proofs.SiteLemmas.{adds_so_far, next_services, stops_so}
+use Rattle.bastion_ready.proofs.SiteLemmas.{adds_so_far, next_services}
 use Rattle.bastion_ready.proofs.reading.read_each.Goals as goal
 
 pub loop-services-preserved : goal.loop-services-preserved

@@ -1,20 +1,19 @@
 use Rattle.bastion_ready.specs.Words.{server_of}
-use Rattle.bastion_ready.proofs.ReadyLemmas.{ready_left, refused_left, refused_so, refused_status}
+use Rattle.bastion_ready.proofs.ReadyLemmas.{ready_out, refused_left, refused_so, refused_status}
 use Rattle.bastion_ready.proofs.readying.ready.Goals as goal
 
 pub returns-in-Ok : goal.returns-in-Ok
 returns-in-Ok g c =
     let line = server_of c.args.words.now in
     let ready = c.in-Ok.ready in
-    let left = ready_left line ready.doors.items ready.rules.items ready.book c.args.world.now c.prepare.new.world c.in-Ok.ensures.ready in
     record {
       ready = c.in-Ok.ensures.ready;
       may = c.in-Ok.ensures.may;
       refused = tt;
       status = tt;
-      returned = left.0;
-      disks = left.1;
+      returned = ready_out line ready.doors.items ready.rules.items ready.book ready.rack c.args.world.now c.prepare.new.world c.in-Ok.ensures.ready;
       kept = tt;
+      disks = tt;
     }
 
 pub returns-in-Err : goal.returns-in-Err
@@ -30,6 +29,6 @@ returns-in-Err g c =
       refused = refused;
       status = refused_status line c.refuse.result old new refused;
       returned = left.out;
-      disks = left.disks;
       kept = left.keeper c.requires.keeper;
+      disks = left.disks;
     }

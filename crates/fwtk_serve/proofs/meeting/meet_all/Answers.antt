@@ -1,8 +1,7 @@
 use Rattle.std.proofs.Common.{arith, List, ap, subst, sym, ◌∙◌, length, map}
 use Rattle.fwtk_serve.specs.Meeting.{WorkerView, passes_of}
-use Rattle.fwtk_serve.specs.Passes.{MetAll}
-use Rattle.fwtk_serve.specs.Stepping.{gathered_with}
-use Rattle.fwtk_serve.specs.Working.{short_count}
+use Rattle.fwtk_serve.specs.Passes.{MeetAll}
+use Rattle.fwtk_serve.specs.Stepping.{gathered_with, workers_short}
 use Rattle.fwtk_serve.proofs.GatheringLemmas.{gather_all, gather_more, gather_none, next_has}
 use Rattle.fwtk_serve.proofs.meeting.meet_all.Goals as goal
 
@@ -14,27 +13,27 @@ loop-worker-init g c =
     let sized = left.ensures.len ∙ c.args.workers.ok.0 in
     let fits_doors = c.requires.doors in
     let fits_sessions = c.requires.sessions in
-    gather_none _ _ _ _ _ _ _ _ _ _ _ c.requires.pass c.requires.apart c.requires.workers left.ensures.items
+    gather_none _ _ _ _ _ _ _ _ _ _ _ _ c.requires.passes c.requires.apart c.requires.workers left.ensures.items
     (λ i. gathered_with (map g.A.Acceptor.acceptor_view (none.0 i)) (map (λ s. s.items) (none.1 i)) (none.2 i))
     (room.doors.ok.0 ∙ ap (λ l. length l) none.0) (room.sessions.ok.0 ∙ ap (λ l. length l) none.1)
     (sized ∙ ap (λ l. length l) (sym left.ensures.items)) (omega (arith, sized, fits_doors)) (omega (arith, sized, fits_sessions))
 
 pub gather_one-requires-clause-worker : goal.gather_one-requires-clause-worker
-gather_one-requires-clause-worker g c lifetimes outlive = next_has _ _ _ _ _ _ _ _ _ _ _ _ _ _ c.loop-worker.invariant c.in-Some.ensures.items
+gather_one-requires-clause-worker g c lifetimes outlive = next_has _ _ _ _ _ _ _ _ _ _ _ _ _ _ _ c.loop-worker.invariant c.in-Some.ensures.items
 
 pub loop-worker-preserved : goal.loop-worker-preserved
 loop-worker-preserved g c =
     let one = c.gather_one.ensures in
-    gather_more _ _ _ _ _ _ _ _ _ _ _ _ _ _ _ _ _ _ _ _ _ c.loop-worker.invariant c.in-Some.ensures.items one.met one.own one.gathered one.door_len one.session_len c.in-Some.ensures.cases one.door_room one.session_room
+    gather_more _ _ _ _ _ _ _ _ _ _ _ _ _ _ _ _ _ _ _ _ _ _ c.loop-worker.invariant c.in-Some.ensures.items one.met one.own one.gathered one.door_len one.session_len c.in-Some.ensures.cases one.door_room one.session_room
 
 pub returns : goal.returns
 returns g c =
     let h = c.loop-worker.invariant in
-    let all = gather_all _ _ _ _ _ _ _ _ _ _ _ _ h c.in_default.ensures.cases.0 in
+    let all = gather_all _ _ _ _ _ _ _ _ _ _ _ _ _ h c.in_default.ensures.cases.0 in
     record {
-      met = subst (λ (done : List WorkerView). MetAll c.args.turns.now (passes_of done) c.args.pass.now c.loop-worker.pass) all h.met;
+      met = subst (λ (done : List WorkerView). MeetAll c.args.turns.now (passes_of done) c.args.passes.now c.loop-worker.passes) all h.met;
       own = h.own;
-      doors = h.doors_are ∙ ap (λ (done : List WorkerView). map (λ (w : WorkerView). w.at.door) done) all;
-      sessions = h.sessions_are ∙ ap (λ (done : List WorkerView). map (λ (w : WorkerView). w.at.sessions) done) all;
-      short = h.short_is ∙ ap (λ (done : List WorkerView). short_count (map (λ (w : WorkerView). w.at) done)) all;
+      doors = h.doors_are ∙ ap (λ (done : List WorkerView). map (λ (w : WorkerView). w.door) done) all;
+      sessions = h.sessions_are ∙ ap (λ (done : List WorkerView). map (λ (w : WorkerView). w.sessions) done) all;
+      short = h.short_is ∙ ap (λ (done : List WorkerView). workers_short done) all;
     }

@@ -1,5 +1,11 @@
-use Rattle.fwtk_serve.proofs.PassLemmas.{met_one}
+use Rattle.std.proofs.Common.{ap, ◌∙◌}
+use Rattle.spool_pool.specs.Known.{PassView}
 use Rattle.fwtk_serve.proofs.meeting.meet_one.Goals as goal
 
-pub returns-clause-met : goal.returns-clause-met
-returns-clause-met g c = met_one c.args.turns.now c.args.pass.now c.args.other c.meet.new.pass c.meet.ensures.met_places c.meet.ensures.met
+pub returns : goal.returns
+returns g c =
+    let book = c.meet_book.ensures in
+    record {
+      met = record { books = book.met; mail = c.meet.ensures };
+      own = record { book = book.own; mail = ap (λ (p : PassView). p.handed.home) c.meet.ensures ∙ c.requires.passes.mail };
+    }
