@@ -156,6 +156,10 @@ where
     H: Threads + Sync,
     D: Dice,
 {
+    let mut mailers: Vec<Box<dyn Mailer>> = Vec::new(rt.alloc());
+    mailers.push(Box::new(rt.alloc(), mailer_of(rt, &needs.places)?)?)?;
+    let keeper = Records::new(rt, needs.places.db)?;
+    let disks = disks_of(rt, &needs.places, needs.slots)?;
     let mut world: World<Process<D>> = World {
         files: Paths::new(rt),
         input: Reading::new(StandardInput::of(rt.stdin())),
@@ -163,13 +167,11 @@ where
         logs: Writing::new(rt.stderr()),
         clock: SystemClock::new(rt),
         dice,
-        keeper: Some(Records::new(rt, needs.places.db)?),
+        keeper: Some(keeper),
         dialer: TcpDialer::new(rt, rt.alloc(), hosts),
         launcher: Programs::new(rt, rt.alloc()),
-        disks: disks_of(rt, &needs.places, needs.slots)?,
+        disks,
     };
-    let mut mailers: Vec<Box<dyn Mailer>> = Vec::new(rt.alloc());
-    mailers.push(Box::new(rt.alloc(), mailer_of(rt, &needs.places)?)?)?;
     Ok(run(threads, rt.alloc(), words, &mut mailers, &mut world))
 }
 

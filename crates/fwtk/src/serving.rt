@@ -83,6 +83,18 @@ fn end_with_input<H: Threads>(
     }
 }
 
+// Opens a door for each of these; all end once standard input does.
+fn open_until_end<H: Threads>(
+    threads: &H,
+    rt: HostRuntime,
+    posts: &[(Service, u16)],
+) -> Result<Vec<TcpAcceptor>, NoMemory> {
+    let Doors { doors, closer } = open_doors(rt, posts, host_names(&rt)?)?;
+    tell_closed(&rt, &doors);
+    end_with_input(threads, rt, closer)?;
+    Ok(doors)
+}
+
 fn serve_doors<H: Threads + Wait + Sync>(
     threads: &H,
     rt: HostRuntime,
@@ -92,15 +104,13 @@ fn serve_doors<H: Threads + Wait + Sync>(
     requires may { All MayServe ready.rules.items }
     requires some { 0 < length mailers.old.items }
 {
+    let doors = open_until_end(threads, rt, &ready.doors)?;
     let Ready {
-        doors,
+        doors: _,
         rules,
         book,
         rack,
     } = ready;
-    let Doors { doors, closer } = open_doors(rt, &doors, host_names(&rt)?)?;
-    tell_closed(&rt, &doors);
-    end_with_input(threads, rt, closer)?;
     let mut logs = Writing::new(rt.stderr());
     let mut pacer = SystemPacer::new(rt, REST);
     serve(
@@ -145,6 +155,8 @@ pub fn serve_words<H: Threads + Wait + Sync>(
     let slots = slots_for(rt.alloc(), words)?;
     let mut mailers: Vec<Box<dyn Mailer>> = Vec::new(rt.alloc());
     mailers.push(Box::new(rt.alloc(), mailer_of(rt, &places)?)?)?;
+    let keeper = Records::new(rt, places.db)?;
+    let disks = disks_of(rt, &places, slots)?;
     let stdout = StandardOutput::of(rt.stdout());
     let hosts = stdout.hosts();
     let mut world: World<Process<MemDice>> = World {
@@ -154,10 +166,10 @@ pub fn serve_words<H: Threads + Wait + Sync>(
         logs: Writing::new(rt.stderr()),
         clock: SystemClock::new(rt),
         dice: MemDice::new(0),
-        keeper: Some(Records::new(rt, places.db)?),
+        keeper: Some(keeper),
         dialer: TcpDialer::new(rt, rt.alloc(), hosts),
         launcher: Programs::new(rt, rt.alloc()),
-        disks: disks_of(rt, &places, slots)?,
+        disks,
     };
     match ready(rt.alloc(), words, &mut world) {
         Ok(ready) => Ok(serve_doors(threads, rt, ready, &mut mailers)?),

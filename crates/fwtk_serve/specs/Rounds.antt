@@ -98,7 +98,7 @@ pub record WasAccepted (accepted : List Message) (slot : FullView) : Type 0 wher
   pub its : IsItsMessage message slot
 
 -- A slot broke in one of these turns, behind which its message had been accepted; or else every image of it is whole, or set
--- aside, with the message that it had when it was taken.
+-- aside, with a message that it had.
 pub record BrokeSafely (turns : List Turn) (broken : BrokenView) : Type 0 where
   pub turn : Turn
   pub among : Contains turns turn
@@ -130,7 +130,7 @@ pub record HandsOnAll (most : ℕ) (round : Round) (starved : ℕ) (mail : PassV
   pub starved_is : starved ≡ starved_count rounds
   pub ends : (0 < mail.no_full) ⊎ (most ≤ round.accepted + round.refused + round.failed + round.broken) ⊎ Rose logs.faults log_after.faults ⊎ (0 < starved)
 
--- the same by the slots that the rack had: a round might take a turn of each
+-- the same by the slots that the rack had: a round might take a turn of each (or 2^32 - 1)
 pub record HandsOnSlots (queues : Option Queues) (round : Round) (starved : ℕ) (mail : PassView) (mailers after : List MailerView) (logs log_after : SinkView) : Type 0 where
   pub slots : Queues
   pub told : queues ≡ Some slots

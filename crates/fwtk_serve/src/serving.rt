@@ -252,16 +252,32 @@ fn turns_for(slots: usize) -> u32
     u32::try_from(slots).unwrap_or(u32::MAX)
 }
 
-// Room for what is gathered of so many workers.
-fn room_for<A: Acceptor>(alloc: Global, count: usize) -> Result<Gathered<A>, NoMemory>
-    ensures empty { IfOk result (λ g. (g.doors.items ≡ []) × (g.sessions.items ≡ []) × (g.short ≡ 0)) }
-    ensures doors { IfOk result (λ g. count ≤ vec_capacity g.doors) }
-    ensures sessions { IfOk result (λ g. count ≤ vec_capacity g.sessions) }
+// What takes memory before any client is served: the rules of a service that has none, and room for workers and for what is
+// gathered of them.
+#[derive(Drop)]
+struct Room<W, A> {
+    none: Rules,
+    workers: Vec<W>,
+    gathered: Gathered<A>,
+}
+
+// Room for so many workers.
+fn room_for<W: Drop, A: Acceptor>(alloc: Global, count: usize) -> Result<Room<W, A>, NoMemory>
+    ensures none { IfOk result (λ room. room.none ≡ no_rules) }
+    ensures workers { IfOk result (λ room. (room.workers.items ≡ []) × (count ≤ vec_capacity room.workers)) }
+    ensures empty { IfOk result (λ room. (room.gathered.doors.items ≡ []) × (room.gathered.sessions.items ≡ [])
+        × (room.gathered.short ≡ 0)) }
+    ensures doors { IfOk result (λ room. count ≤ vec_capacity room.gathered.doors) }
+    ensures sessions { IfOk result (λ room. count ≤ vec_capacity room.gathered.sessions) }
 {
-    Ok(Gathered {
-        doors: Vec::with_capacity(alloc, count)?,
-        sessions: Vec::with_capacity(alloc, count)?,
-        short: 0,
+    Ok(Room {
+        none: no_rules(alloc)?,
+        workers: Vec::with_capacity(alloc, count)?,
+        gathered: Gathered {
+            doors: Vec::with_capacity(alloc, count)?,
+            sessions: Vec::with_capacity(alloc, count)?,
+            short: 0,
+        },
     })
 }
 
@@ -406,7 +422,7 @@ where
 /// workers have ended, and once more. A round that fails adds the numbers that it came to, and the next one follows.
 ///
 /// It waits for the clients, so that it returns isn't promised. Want of memory is answered before any client is served, and what
-/// was handed in by value is dropped then: so it is in the code, and no clause says it, but that neither mailers nor log were used.
+/// was handed in by value is dropped then: so it is in the code, and no clause says it, but that mailers and log are as they were.
 pub fn serve<H, K, A, D, G, P>(
     rt: &H,
     alloc: Global,
@@ -447,7 +463,7 @@ where
     ensures doors { IfOk result (λ report. ServedAll rules.now book.history report.history.items book.limit (book_origin book)
         (map A.acceptor_view doors.items) (map A.acceptor_view report.doors.items)
         (map (λ s. s.items) report.sessions.items) report.short report.mail) }
-    // The mail was handed on in rounds as `smapd_round` says, each of which might take a turn of each slot: what was released, set
+    // The mail was handed on in rounds as `smapd_round` says, each of which might take a turn of each slot (or 2^32 - 1): what was released, set
     // aside and broke, what the mailers took, by which lines the log grew, and what the rounds add up to.
     ensures hands { IfOk result (λ report. HandsOnSlots rack.queues report.round report.starved report.mail
         (map (λ m. mailer_view m) mailers.old.items) (map (λ m. mailer_view m) mailers.new.items)
@@ -455,13 +471,15 @@ where
     // No message is lost, and none stands twice: those that were in the rack, and those that were put, are those that were
     // released or set aside, and those that are in the rack now.
     ensures settles { IfOk result (λ report. SettlesSlots rack.queues report.mail report.rack) }
-    // For want of memory nothing was handed on.
+    // For want of memory mailers and log are as they were.
     ensures unused { IfErr result (λ lack. (mailers.new ≡ mailers.old) × (logs.new ≡ logs.old)) }
 {
-    let none = no_rules(alloc)?;
-    let room = Vec::with_capacity(alloc, doors.len())?;
-    let gathered = room_for(alloc, doors.len())?;
+    let Room {
+        none,
+        workers,
+        gathered,
+    } = room_for(alloc, doors.len())?;
     serve_rack(
-        rt, alloc, rules, &none, book, rack, doors, room, gathered, mailers, logs, pacer,
+        rt, alloc, rules, &none, book, rack, doors, workers, gathered, mailers, logs, pacer,
     )
 }

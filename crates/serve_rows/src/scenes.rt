@@ -8,6 +8,7 @@ use crate::records::{book, mail_rules, rules};
 use crate::spool::{Resting, rack, took};
 use crate::telling::{tell_mail, tell_report, tell_told};
 use acceptors::Acceptor;
+use auth_machine::Book;
 use fw_mail::Mailer;
 use fw_memory::{Calls, MemDisk, MemKeeper, MemMailer, MemSink};
 use fw_outside::Dialer;
@@ -15,6 +16,7 @@ use fw_types::NoMemory;
 use fwtk_serve::{Report, serve};
 use gate_rules::{Rules, Service};
 use lines_of_rows::{Told, add_word};
+use spool_rack::Rack;
 use std::alloc::Global;
 use std::sync::Wait;
 use std::sync::atomic::AtomicU64;
@@ -25,6 +27,25 @@ type Answer<A> = Result<(Report<MemKeeper, A, MemDisk>, u64), NoMemory>;
 
 // The server's own log has room for so many bytes.
 const LOG_ROOM: usize = 1000;
+
+// What a server has besides its doors and mailers.
+#[derive(Drop)]
+struct Devices {
+    book: Book<MemKeeper>,
+    rack: Rack<MemDisk>,
+    logs: MemSink,
+}
+
+fn devices_for(alloc: Global, slots: u32) -> Result<Devices, NoMemory> {
+    let Some(book) = book(alloc) else {
+        return Err(NoMemory);
+    };
+    Ok(Devices {
+        book,
+        rack: rack(alloc, slots)?,
+        logs: MemSink::new(alloc, LOG_ROOM, Calls::none())?,
+    })
+}
 
 // Serves over so many slots, with a mailer that accepts all, and a rest between rounds until so many marks were told.
 fn serve_by<H, A>(
@@ -46,13 +67,13 @@ where
     <A::Dial as Dialer>::Door: Send,
     requires { All MayServe rules.now }
 {
-    let Some(book) = book(alloc) else {
-        return Err(NoMemory);
-    };
-    let rack = rack(alloc, slots)?;
     let mut mailers: Vec<Box<dyn Mailer>> = Vec::new(alloc);
     mailers.push(Box::new(alloc, MemMailer::new(alloc, Vec::new(alloc)))?)?;
-    let mut logs = MemSink::new(alloc, LOG_ROOM, Calls::none())?;
+    let Devices {
+        book,
+        rack,
+        mut logs,
+    } = devices_for(alloc, slots)?;
     let mut pacer = Resting {
         rt,
         parker: Parker::new(),
