@@ -10,11 +10,12 @@ abbrev pub home_of : TableId → List ℕ
 home_of z = z.words ∷ z.slots ∷ z.views_name ∷ z.atom ∷ z.block ∷ z.offset ∷ z.slot_names
 
 module _ {T : Type 0} where
-  abbrev pub moves_of : Pass T (Log T) → Moves T
-  moves_of pass = record {
+  abbrev pub moves_of : Pass T (Log T) → ℕ → Moves T
+  moves_of pass misses = record {
     home = home_of pass.table_id;
     parts = (view pass).parts;
     began = (view pass).began;
     put = (view pass).put;
     taken = (view pass).taken;
+    misses = misses;
   }

@@ -1,5 +1,5 @@
 ghost use Rattle.std.specs.Prelude.{◌≡◌, ◌<◌, ◌≤◌, ◌^◌, List, [], length, IfOk, IfNone, MatchOption};
-ghost use Rattle.shared_queue.specs.Moves.{HasAll, StandIn, begun_with, less_one, met, put_more, split_off, taken_out};
+ghost use Rattle.shared_queue.specs.Moves.{HasAll, StandIn, begun_with, less_one, met, missed, put_more, split_off, taken_out};
 
 use crate::pass::QueuePass;
 use crate::rule::{Cut, Meeting, Takes};
@@ -40,10 +40,11 @@ impl<T: Drop> SharedQueue<T> {
           began = [];
           put = [];
           taken = [];
+          misses = 0;
         }) }
     {
         match RuledArrayQueue::ruled(alloc, room) {
-            Ok((ring, pass)) => Ok((SharedQueue { ring }, QueuePass { pass })),
+            Ok((ring, pass)) => Ok((SharedQueue { ring }, QueuePass { pass, misses: 0 })),
             Err(_) => Err(NoMemory),
         }
     }
@@ -76,6 +77,23 @@ impl<T: Drop> SharedQueue<T> {
         self.ring.pop_as::<Takes, R>(rt, &mut pass.pass)
     }
 
+    /// As `take`; where none comes out the pass's count is one more, up to 2^64 - 1.
+    pub fn take_counted<R: Wait>(&self, rt: &R, pass: &mut QueuePass<T>) -> Option<T>
+        requires home { pass.old.home ≡ self.now.home }
+        requires part { 0 < pass.old.parts }
+        ensures taken { MatchOption result (pass.new ≡ missed pass.old) (λ item. pass.new ≡ taken_out item pass.old) }
+        ensures count { pass.old.misses ≤ pass.new.misses }
+        ensures none { IfNone result (HasAll pass.old → StandIn pass.old []) }
+    {
+        match self.take(rt, pass) {
+            Some(item) => Some(item),
+            None => {
+                pass.misses = pass.misses.saturating_add(1);
+                None
+            }
+        }
+    }
+
     /// Gives one part away, to a new pass.
     #[tactic(auto, using(crate::proofs::Keeps::splits))]
     pub fn split(&self, pass: &mut QueuePass<T>) -> QueuePass<T>
@@ -85,7 +103,10 @@ impl<T: Drop> SharedQueue<T> {
         ensures new { result ≡ split_off pass.old }
     {
         let other = self.ring.another::<Cut>(&mut pass.pass);
-        QueuePass { pass: other }
+        QueuePass {
+            pass: other,
+            misses: 0,
+        }
     }
 
     /// The pass takes in what another knows.
@@ -96,8 +117,9 @@ impl<T: Drop> SharedQueue<T> {
         requires part { 0 < pass.old.parts }
         ensures { pass.new ≡ met pass.old other }
     {
-        let seat = other.into_pass();
+        let (seat, misses) = other.into_parts();
         self.ring.absorb::<Meeting>(&mut pass.pass, seat);
+        pass.misses = pass.misses.saturating_add(misses);
     }
 
     /// What the pass knows of the items that stand in the queue, if it has all parts: no more than there is room for.

@@ -27,14 +27,14 @@ module _ {T : Type 0} where
 
   pub begin_next : (all : List T) (first m new : Moves T) (item : T) (left less : List T) → Beginning all first left m → left ≡ item ∷ less → new ≡ begun_with item m → Beginning all first less new
   begin_next all first m new item left less b e is = record {
-    whole = ap (begun_all less) is ∙ (λ i. record { home = m.home; parts = m.parts; began = append_assoc m.began (item ∷ []) less i; put = m.put; taken = m.taken }) ∙ ap (λ l. begun_all l m) (sym e) ∙ b.whole;
+    whole = ap (begun_all less) is ∙ (λ i. record { home = m.home; parts = m.parts; began = append_assoc m.began (item ∷ []) less i; put = m.put; taken = m.taken; misses = m.misses }) ∙ ap (λ l. begun_all l m) (sym e) ∙ b.whole;
     home = ap (λ (k : Moves T). k.home) is ∙ b.home;
     parts = ap (λ (k : Moves T). k.parts) is ∙ b.parts;
   }
 
   pub begin_last : (all : List T) (first m : Moves T) (left : List T) → Beginning all first left m → left ≡ [] → m ≡ begun_all all first
   begin_last all first m left b e =
-      (λ i. record { home = m.home; parts = m.parts; began = sym (append-nil m.began) i; put = m.put; taken = m.taken }) ∙ ap (λ l. begun_all l m) (sym e) ∙ b.whole
+      (λ i. record { home = m.home; parts = m.parts; began = sym (append-nil m.began) i; put = m.put; taken = m.taken; misses = m.misses }) ∙ ap (λ l. begun_all l m) (sym e) ∙ b.whole
 
 -- other queues stay
 pub rest_free : (first old new : Queues) → old ≡ record first { free = old.free } → new ≡ record old { free = new.free } → new ≡ record first { free = new.free }
@@ -96,18 +96,21 @@ begun_sound home s l b =
 pub begun_kept : {D : Type 0} (home : List (List ℕ)) (s : Queues) (l : Lanes D) (t : TallyView) → IsBegun home s l → t ≡ record { events = []; out = []; steps = 0 } → IsSoundUnless false l t × (t.out ≡ [])
 begun_kept home s l t b e = (subst (IsSound l) (sym e) (begun_sound home s l b), ap (λ (u : TallyView). u.out) e)
 
-pub begun_pass : {D : Type 0} (home : List (List ℕ)) (s : Queues) (l : Lanes D) (t : TallyView) → IsBegun home s l → t ≡ record { events = []; out = []; steps = 0 } → pass_of false l t 0 0 0 ≡ bare home (2 ^ 64) s
+pub begun_pass : {D : Type 0} (home : List (List ℕ)) (s : Queues) (l : Lanes D) (t : TallyView) → IsBegun home s l → t ≡ record { events = []; out = []; steps = 0 } → pass_of false l t 0 ≡ bare home (2 ^ 64) s
 begun_pass home s l t b e =
     let parts : l.full.parts ≡ 2 ^ 64 = ap (λ (m : Moves FullView). m.parts) b.full_is in
     let free : l.free.began ≡ s.free = ap (λ (m : Moves SlotView). m.began) b.free_is in
     let full : l.full.began ≡ s.full = ap (λ (m : Moves FullView). m.began) b.full_is in
     let aside : flat_map aside_of l.shelf.began ≡ s.aside = ap (λ (m : Moves ShelvedView). flat_map aside_of m.began) b.shelf_is ∙ asides_back s.aside s.broken in
     let broken : flat_map broken_of l.shelf.began ≡ s.broken = ap (λ (m : Moves ShelvedView). flat_map broken_of m.began) b.shelf_is ∙ brokens_back s.aside s.broken in
-    ap (λ u. pass_of false l u 0 0 0) e ∙ (λ i. bare (b.homes i) (parts i) (record { free = free i; full = full i; aside = aside i; broken = broken i }))
+    let no_free : l.free.misses ≡ 0 = ap (λ (m : Moves SlotView). m.misses) b.free_is in
+    let no_full : l.full.misses ≡ 0 = ap (λ (m : Moves FullView). m.misses) b.full_is in
+    ap (λ u. pass_of false l u 0) e
+    ∙ (λ i. record { handed = (bare (b.homes i) (parts i) (record { free = free i; full = full i; aside = aside i; broken = broken i })).handed; no_free = no_free i; no_full = no_full i; broken = 0 })
 
 -- the same, whatever the slots are
 pub begun_whole : {D : Type 0} (home : List (List ℕ)) (s : Queues) (l : Lanes D) (t : TallyView) → IsBegun home s l → t ≡ record { events = []; out = []; steps = 0 }
-    → pass_of false l t 0 0 0 ≡ bare home (2 ^ 64) (pass_of false l t 0 0 0).handed.began
+    → pass_of false l t 0 ≡ bare home (2 ^ 64) (pass_of false l t 0).handed.began
 begun_whole home s l t b e =
     let is = begun_pass home s l t b e in
     is ∙ ap (bare home (2 ^ 64)) (sym (ap (λ (q : PassView). q.handed.began) is))

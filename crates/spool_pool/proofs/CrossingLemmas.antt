@@ -20,8 +20,8 @@ tally_send D g =
 pub pass_send : (D : RattleType) (g : Ghosts D.Denot) → IsSend D → IsSend (PoolPass.the_row D g)
 pass_send D g s =
     view_send (Pass.the_row D g) _ _ _ _ (recorded_send (Pass.the_field D g).row _ _ (Pass.the_type D g).to_one (struct_send (shape (Pass.the_type D g)) (
-      search (Lanes.the_field_send, Lanes.the_send, sendable) depth 20,
-      (search (tally_send, sendable) depth 20, (search sendable depth 20, (search sendable depth 20, (search sendable depth 20, (search sendable depth 20, tt))))),
+      search (Lanes.the_field_send, sendable) depth 20,
+      (search (tally_send, sendable) depth 20, (search sendable depth 20, (search sendable depth 20, tt))),
     )))
 
 pub pool_sync : (D : RattleType) (g : Ghosts D.Denot) → IsSend D → IsSync (Pool.the_row D g)

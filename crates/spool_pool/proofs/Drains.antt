@@ -12,7 +12,7 @@ module _ {T : Type 0} (homed : T → Queues → Queues) where
   pub record Draining (room left : ℕ) (first m : Moves T) (old stock : StockView) : Type 0 where
     pub slots : List T
     pub rest : length slots + left ≡ room
-    pub moves : m ≡ record { home = first.home; parts = first.parts; began = first.began; put = first.put; taken = first.taken ++ slots }
+    pub moves : m ≡ record { home = first.home; parts = first.parts; began = first.began; put = first.put; taken = first.taken ++ slots; misses = first.misses }
     pub is : stock ≡ record { queues = with_all homed slots old.queues; room = old.room }
     pub counted : count_of stock.queues ≡ count_of old.queues + length slots
     pub space : count_of stock.queues + left ≤ stock.room
@@ -25,7 +25,7 @@ module _ {T : Type 0} (homed : T → Queues → Queues) where
   drain_first room m old space = record {
     slots = [];
     rest = omega arith;
-    moves = λ i. record { home = m.home; parts = m.parts; began = m.began; put = m.put; taken = sym (append-nil' m.taken) i };
+    moves = λ i. record { home = m.home; parts = m.parts; began = m.began; put = m.put; taken = sym (append-nil' m.taken) i; misses = m.misses };
     is = refl;
     counted = omega arith;
     space = space;
@@ -40,7 +40,7 @@ module _ {T : Type 0} (homed : T → Queues → Queues) where
   drain_next room left first m new old stock more slot some_left d takes puts one less e = record {
     slots = d.slots ++ slot ∷ [];
     rest = omega (arith, d.rest, e, length-append d.slots (slot ∷ []));
-    moves = takes ∙ ap (taken_out slot) d.moves ∙ (λ i. record { home = first.home; parts = first.parts; began = first.began; put = first.put; taken = append_assoc first.taken d.slots (slot ∷ []) i });
+    moves = takes ∙ ap (taken_out slot) d.moves ∙ (λ i. record { home = first.home; parts = first.parts; began = first.began; put = first.put; taken = append_assoc first.taken d.slots (slot ∷ []) i; misses = first.misses });
     is = puts ∙ ap (λ (s : StockView). let r : StockView = record { queues = homed slot s.queues; room = s.room } in r) d.is ∙ (λ i. record { queues = sym (snoc d.slots slot old.queues) i; room = old.room });
     counted = omega (arith, one, d.counted, length-append d.slots (slot ∷ []));
     space = omega (arith, one, d.space, e, ap (λ (s : StockView). s.room) puts);
@@ -54,6 +54,9 @@ module _ {T : Type 0} (homed : T → Queues → Queues) where
 
   pub drain_part : (room left : ℕ) (first m : Moves T) (old stock : StockView) → Draining room left first m old stock → 0 < first.parts → 0 < m.parts
   drain_part room left first m old stock d some_part = subst (λ n. 0 < n) (sym (ap (λ (k : Moves T). k.parts) d.moves)) some_part
+
+  pub drain_misses : (room left : ℕ) (first m : Moves T) (old stock : StockView) → Draining room left first m old stock → m.misses ≡ first.misses
+  drain_misses room left first m old stock d = ap (λ (k : Moves T). k.misses) d.moves
 
   -- nothing stands in the queue any more
   pub drain_none : (room left : ℕ) (first m : Moves T) (old stock : StockView) → Draining room left first m old stock → (HasAll m → StandIn m []) → Drains homed room first old stock

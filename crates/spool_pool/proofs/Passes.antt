@@ -5,12 +5,13 @@ use Rattle.std.specs.List.{flat_map}
 use Rattle.std.proofs.lemmas.List.{append-nil}
 use Rattle.std.proofs.lemmas.Grind.{flat_map-append}
 use Rattle.spool_slots.specs.States.{SlotView, BrokenView}
+use Rattle.shared_queue.specs.Moves.{counted}
 use Rattle.spool_pool.specs.declared.lanes.Lanes.{Lanes}
 use Rattle.spool_pool.specs.Shelf.{is_aside, is_broken, aside_of, broken_of}
 use Rattle.spool_pool.specs.Events.{Event, TallyView, joined}
 use Rattle.spool_pool.specs.Account.{IsSound, IsSoundUnless, all_met, handed_by, handed_in, homes_of, one_less, one_off, pass_of}
 use Rattle.spool_pool.specs.Numbers.{AreKept}
-use Rattle.spool_pool.specs.Known.{IsPassOf, PassView, PoolView, both_counted, closed, less_one, met, split_off}
+use Rattle.spool_pool.specs.Known.{IsPassOf, PassView, PoolView, closed, less_one, met, split_off}
 use Rattle.spool_pool.proofs.Accounts.{meets, none_yet}
 use Rattle.spool_pool.proofs.Numbers.{kept_meet, kept_none}
 use Rattle.spool_pool.proofs.Tallies.{met_lists}
@@ -92,13 +93,12 @@ sound_met l k t u none none' s r = record {
   kept = kept_meet l.free k.free l.full k.full l.shelf k.shelf t.out s.kept (subst (AreKept k.free k.full k.shelf) none' r.kept);
 }
 
-pub view_met : {D : Type 0} (l k : Lanes D) (t u : TallyView) (a b c a' b' c' : ℕ)
-    → pass_of false (all_met l k) (joined t u) (both_counted a a') (both_counted b b') (both_counted c c') ≡ met (pass_of false l t a b c) (pass_of false k u a' b' c')
-view_met l k t u a b c a' b' c' = λ i. record {
+pub view_met : {D : Type 0} (l k : Lanes D) (t u : TallyView) (c c' : ℕ) → pass_of false (all_met l k) (joined t u) (counted c c') ≡ met (pass_of false l t c) (pass_of false k u c')
+view_met l k t u c c' = λ i. record {
   handed = met_lists (homes_of l) (l.full.parts + k.full.parts) (handed_in l t.events).began t.events u.events i;
-  no_free = both_counted a a';
-  no_full = both_counted b b';
-  broken = both_counted c c';
+  no_free = counted l.free.misses k.free.misses;
+  no_full = counted l.full.misses k.full.misses;
+  broken = counted c c';
 }
 
 -- ---- passes that are handed in
@@ -117,7 +117,7 @@ open_homes c l t x y z pool w o = homes_each l x y z (o.homes ∙ sym (ap (λ (q
 pub open_parts : {D : Type 0} (c : Bool) (l : Lanes D) (t : TallyView) (home : List (List ℕ)) → Open c l t home → (0 < l.free.parts) × (0 < l.full.parts) × (0 < l.shelf.parts)
 open_parts c l t home o = let e = o.sound_so.even in (omega (arith, e.some_part, e.free), e.some_part, omega (arith, e.some_part, e.shelf))
 
-module _ {D : Type 0} (c : Bool) (l : Lanes D) (t : TallyView) (a b n : ℕ) (p : PassView) (v : pass_of c l t a b n ≡ p) where
+module _ {D : Type 0} (c : Bool) (l : Lanes D) (t : TallyView) (n : ℕ) (p : PassView) (v : pass_of c l t n ≡ p) where
   pub opened : (x y z : List ℕ) (pool : PoolView) → record { home = x ∷ y ∷ z ∷ [] } ≡ pool → IsPassOf pool p → IsSoundUnless c l t × (t.out ≡ []) → Open c l t pool.home
   opened x y z pool w of inv =
       let home : (x ∷ y ∷ z ∷ []) ≡ pool.home = ap (λ (q : PoolView). q.home) w in
@@ -126,32 +126,31 @@ module _ {D : Type 0} (c : Bool) (l : Lanes D) (t : TallyView) (a b n : ℕ) (p 
       record { is_so = o; homes = homes_are c l t.events x (y ∷ z ∷ []) e ∙ home; sound_so = sound c l t o inv.0; none = inv.1 }
 
   -- a seat and its pass know the same
-  pub same_pass : c ≡ false → pass_of false l t a b n ≡ p
-  same_pass o = ap (λ k. pass_of k l t a b n) (sym o) ∙ v
+  pub same_pass : c ≡ false → pass_of false l t n ≡ p
+  same_pass o = ap (λ k. pass_of k l t n) (sym o) ∙ v
 
   pub parts_are : c ≡ false → l.full.parts ≡ p.handed.parts
   parts_are o = ap (λ (q : PassView). q.handed.parts) (same_pass o)
 
-  pub less_pass : (new : Lanes D) → c ≡ false → new ≡ one_less l → pass_of c new t a b n ≡ less_one p
-  less_pass new o e = ap (λ k. pass_of c k t a b n) e ∙ ap (λ k. pass_of k (one_less l) t a b n) o ∙ ap less_one (same_pass o)
+  pub less_pass : (new : Lanes D) → c ≡ false → new ≡ one_less l → pass_of c new t n ≡ less_one p
+  less_pass new o e = ap (λ k. pass_of c k t n) e ∙ ap (λ k. pass_of k (one_less l) t n) o ∙ ap less_one (same_pass o)
 
-  pub off_pass : (new : Lanes D) (u : TallyView) → c ≡ false → new ≡ one_off l → u ≡ record { events = []; out = []; steps = 0 } → pass_of false new u 0 0 0 ≡ split_off p
-  off_pass new u o e f = ap (λ k. pass_of false k u 0 0 0) e ∙ ap (λ k. pass_of false (one_off l) k 0 0 0) f ∙ ap split_off (same_pass o)
+  pub off_pass : (new : Lanes D) (u : TallyView) → c ≡ false → new ≡ one_off l → u ≡ record { events = []; out = []; steps = 0 } → pass_of false new u 0 ≡ split_off p
+  off_pass new u o e f = ap (λ k. pass_of false k u 0) e ∙ ap (λ k. pass_of false (one_off l) k 0) f ∙ ap split_off (same_pass o)
 
-  pub closed_pass : (new : Lanes D) → pass_of true new t a b n ≡ closed p
-  closed_pass new = lists c ∙ ap closed v
+  pub closed_pass : (new : Lanes D) → new.free.misses ≡ l.free.misses → new.full.misses ≡ l.full.misses → pass_of true new t n ≡ closed p
+  closed_pass new e f = (λ i. record { handed = handed_by true l t.events; no_free = e i; no_full = f i; broken = n }) ∙ lists c ∙ ap closed v
     where
-      lists : (k : Bool) → pass_of true new t a b n ≡ closed (pass_of k l t a b n)
+      lists : (k : Bool) → pass_of true l t n ≡ closed (pass_of k l t n)
       lists true = refl
       lists false = refl
 
-  pub met_pass : (k new : Lanes D) (u m : TallyView) (a' b' n' : ℕ) (q : PassView) → c ≡ false → pass_of false k u a' b' n' ≡ q → new ≡ all_met l k → m ≡ joined t u
-      → pass_of c new m (both_counted a a') (both_counted b b') (both_counted n n') ≡ met p q
-  met_pass k new u m a' b' n' q o w e f =
-      ap (λ h. pass_of h new m (both_counted a a') (both_counted b b') (both_counted n n')) o
-      ∙ ap (λ h. pass_of false h m (both_counted a a') (both_counted b b') (both_counted n n')) e
-      ∙ ap (λ h. pass_of false (all_met l k) h (both_counted a a') (both_counted b b') (both_counted n n')) f
-      ∙ view_met l k t u a b n a' b' n'
+  pub met_pass : (k new : Lanes D) (u m : TallyView) (n' : ℕ) (q : PassView) → c ≡ false → pass_of false k u n' ≡ q → new ≡ all_met l k → m ≡ joined t u → pass_of c new m (counted n n') ≡ met p q
+  met_pass k new u m n' q o w e f =
+      ap (λ h. pass_of h new m (counted n n')) o
+      ∙ ap (λ h. pass_of false h m (counted n n')) e
+      ∙ ap (λ h. pass_of false (all_met l k) h (counted n n')) f
+      ∙ view_met l k t u n n'
       ∙ (λ i. met (same_pass o i) (w i))
 
 -- what is kept where a pass changes

@@ -147,8 +147,8 @@ emptied l t room first second third last s none bare a b c all =
     subst (IsSettled (handed_in l t.events)) (sym (q ∙ three)) (settles l t a.slots b.slots c.slots s.account s.kept none (a.all (s.even.free ∙ all)) (b.all all) (c.all (s.even.shelf ∙ all)))
 
 -- the same of a pass that is handed in
-pub settled : {D : Type 0} (c : Bool) (l : Lanes D) (t : TallyView) (a b n : ℕ) (p : PassView) (v : pass_of c l t a b n ≡ p) (home : List (List ℕ)) (room : ℕ) (first second third last : StockView) → Open c l t home → first.queues ≡ no_slots
+pub settled : {D : Type 0} (c : Bool) (l : Lanes D) (t : TallyView) (n : ℕ) (p : PassView) (v : pass_of c l t n ≡ p) (home : List (List ℕ)) (room : ℕ) (first second third last : StockView) → Open c l t home → first.queues ≡ no_slots
     → Drains with_free room l.free first second → Drains with_full room l.full second third → Drains with_shelved room l.shelf third last → p.handed.parts ≡ 2 ^ 64 → IsSettled p.handed last.queues
-settled c l t a b n p v home room first second third last o bare one two three all =
-    subst (λ (q : PassView). IsSettled q.handed last.queues) (same_pass c l t a b n p v o.is_so)
-    (emptied l t room first second third last o.sound_so o.none bare one two three (parts_are c l t a b n p v o.is_so ∙ all))
+settled c l t n p v home room first second third last o bare one two three all =
+    subst (λ (q : PassView). IsSettled q.handed last.queues) (same_pass c l t n p v o.is_so)
+    (emptied l t room first second third last o.sound_so o.none bare one two three (parts_are c l t n p v o.is_so ∙ all))

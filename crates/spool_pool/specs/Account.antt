@@ -109,12 +109,13 @@ abbrev pub IsSoundUnless : {D : Type 0} → Bool → Lanes D → TallyView → T
 IsSoundUnless true l t = Unit {0}
 IsSoundUnless false l t = IsSound l t
 
-abbrev pub pass_of : {D : Type 0} → Bool → Lanes D → TallyView → ℕ → ℕ → ℕ → PassView
-pass_of is_closed l t no_free no_full broken = record { handed = handed_by is_closed l t.events; no_free = no_free; no_full = no_full; broken = broken }
+-- how often no slot was free, and none was full, is what its queues counted
+abbrev pub pass_of : {D : Type 0} → Bool → Lanes D → TallyView → ℕ → PassView
+pass_of is_closed l t broken = record { handed = handed_by is_closed l t.events; no_free = l.free.misses; no_full = l.full.misses; broken = broken }
 
-abbrev pub seat_of : {D : Type 0} → Lanes D → TallyView → ℕ → ℕ → ℕ → SeatView
-seat_of l t no_free no_full broken = record {
-  pass = pass_of false l t no_free no_full broken;
+abbrev pub seat_of : {D : Type 0} → Lanes D → TallyView → ℕ → SeatView
+seat_of l t broken = record {
+  pass = pass_of false l t broken;
   out = t.out;
   free = l.free;
   full = l.full;

@@ -1,8 +1,8 @@
 -- What a pass of a pool knows, and what the calls of a pool do to that.
-use Rattle.std.specs.Prelude.{◌≡◌, ℕ, ◌+◌, ◌-◌, ◌^◌, min, List, [], ◌++◌, None, Some}
+use Rattle.std.specs.Prelude.{◌≡◌, ℕ, ◌+◌, ◌-◌, List, [], ◌++◌, None, Some}
 use Rattle.spool_slots.specs.States.{SlotView, FullView}
 use Rattle.spool_rack.specs.Store.{Handed, Loan, Queues, StoreView}
-use Rattle.shared_queue.specs.Moves.{Moves}
+use Rattle.shared_queue.specs.Moves.{Moves, counted}
 
 -- which pool it is
 pub record PoolView : Type 0 where
@@ -43,9 +43,6 @@ less_one p = record p { handed = record p.handed { parts = p.handed.parts - 1 } 
 abbrev pub split_off : PassView → PassView
 split_off p = bare p.handed.home 1 p.handed.began
 
-abbrev pub both_counted : ℕ → ℕ → ℕ
-both_counted a b = min (a + b) (2 ^ 64 - 1)
-
 abbrev pub met : PassView → PassView → PassView
 met p other = record {
   handed = record {
@@ -57,9 +54,9 @@ met p other = record {
     aside = p.handed.aside ++ other.handed.aside;
     broken = p.handed.broken ++ other.handed.broken;
   };
-  no_free = both_counted p.no_free other.no_free;
-  no_full = both_counted p.no_full other.no_full;
-  broken = both_counted p.broken other.broken;
+  no_free = counted p.no_free other.no_free;
+  no_full = counted p.no_full other.no_full;
+  broken = counted p.broken other.broken;
 }
 
 -- the pass as it is given back when the pool is closed: its lists and counts

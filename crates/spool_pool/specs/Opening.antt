@@ -8,10 +8,10 @@ use Rattle.spool_pool.specs.Account.{homes_of}
 
 -- a pass with all parts of a queue that began with these
 abbrev pub fresh : {T : Type 0} → List ℕ → List T → Moves T
-fresh home began = record { home = home; parts = 2 ^ 64; began = began; put = []; taken = [] }
+fresh home began = record { home = home; parts = 2 ^ 64; began = began; put = []; taken = []; misses = 0 }
 
 abbrev pub begun_all : {T : Type 0} → List T → Moves T → Moves T
-begun_all items m = record { home = m.home; parts = m.parts; began = m.began ++ items; put = m.put; taken = m.taken }
+begun_all items m = record { home = m.home; parts = m.parts; began = m.began ++ items; put = m.put; taken = m.taken; misses = m.misses }
 
 -- queues of this pool that began with nothing
 pub record IsFresh {D : Type 0} (home : List (List ℕ)) (l : Lanes D) : Type 0 where

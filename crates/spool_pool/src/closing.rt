@@ -49,8 +49,6 @@ impl<D: Disk> Pool<D> {
         let PoolPass {
             lanes,
             tally,
-            no_free,
-            no_full,
             breaks,
             is_closed: _,
         } = pass;
@@ -70,8 +68,6 @@ impl<D: Disk> Pool<D> {
                 shelf: shelf_pass,
             },
             tally,
-            no_free,
-            no_full,
             breaks,
             is_closed: true,
         };

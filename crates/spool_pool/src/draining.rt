@@ -66,7 +66,8 @@ fn drain_known<D: Disk, T: Homing<D>, R: Wait>(
     requires room { queue.now.room ≡ room }
     requires space { count_of stock.old.queues + room ≤ stock.old.room }
     requires stand { HasAll pass.old → (items : List T) × (length items ≤ room) × StandIn pass.old items }
-    ensures { Drains T.homed room pass.old stock.old stock.new }
+    ensures drains { Drains T.homed room pass.old stock.old stock.new }
+    ensures misses { pass.new.misses ≡ pass.old.misses }
 {
     let mut left = room;
     while left > 0 {
@@ -91,7 +92,8 @@ pub(crate) fn drain<D: Disk, T: Homing<D>, R: Wait>(
     requires part { 0 < pass.old.parts }
     requires room { queue.now.room ≡ room }
     requires space { count_of stock.old.queues + room ≤ stock.old.room }
-    ensures { Drains T.homed room pass.old stock.old stock.new }
+    ensures drains { Drains T.homed room pass.old stock.old stock.new }
+    ensures misses { pass.new.misses ≡ pass.old.misses }
 {
     queue.look(rt, pass);
     drain_known(rt, queue, pass, room, stock);

@@ -151,8 +151,6 @@ impl<D: Disk> Pool<D> {
                 let pass = PoolPass {
                     lanes,
                     tally: Tally::none(),
-                    no_free: 0,
-                    no_full: 0,
                     breaks: 0,
                     is_closed: false,
                 };

@@ -10,8 +10,6 @@ use std::marker::Model;
 pub struct PoolPass<D: Disk> {
     pub(crate) lanes: Lanes<D>,
     pub(crate) tally: Tally<D>,
-    pub(crate) no_free: u64,
-    pub(crate) no_full: u64,
     pub(crate) breaks: u64,
     // Whether a pool was closed with it.
     pub(crate) is_closed: bool,
@@ -25,7 +23,7 @@ impl<D: Disk> Model for PoolPass<D> {
 
     ghost use Rattle.spool_pool.specs.Account.{IsSoundUnless, pass_of};
 
-    ghost view = { λ p. pass_of p.is_closed p.lanes p.tally p.no_free p.no_full p.breaks };
+    ghost view = { λ p. pass_of p.is_closed p.lanes p.tally p.breaks };
 
     ghost invariant = { λ p. IsSoundUnless p.is_closed p.lanes p.tally × (p.tally.out ≡ []) };
 }

@@ -51,8 +51,6 @@ impl<D: Disk> Pool<D> {
         Ok(PoolPass {
             lanes,
             tally: Tally::none(),
-            no_free: 0,
-            no_full: 0,
             breaks: 0,
             is_closed: false,
         })
@@ -68,16 +66,12 @@ impl<D: Disk> Pool<D> {
         let PoolPass {
             lanes,
             tally,
-            no_free,
-            no_full,
             breaks,
             is_closed: _,
         } = other;
         let _ = &self.room;
         self.meet_lanes(&mut pass.lanes, lanes);
         pass.tally = pass.tally.met(&tally);
-        pass.no_free = pass.no_free.saturating_add(no_free);
-        pass.no_full = pass.no_full.saturating_add(no_full);
         pass.breaks = pass.breaks.saturating_add(breaks);
     }
 

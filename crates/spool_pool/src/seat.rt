@@ -1,7 +1,7 @@
-ghost use Rattle.std.specs.Prelude.{◌≡◌, ◌^◌, [], IfNone, refl};
+ghost use Rattle.std.specs.Prelude.{◌≡◌, ◌^◌, [], option_map, IfNone, MatchOption, refl};
 ghost use Rattle.spool_rack.specs.Store.{IsOut, MayPutAside, MayPutBroken, MayPutFull, PutsBroken};
 ghost use Rattle.spool_rack.specs.Store.{TakesFree, TakesFull, put_aside, put_free, put_full};
-ghost use Rattle.shared_queue.specs.Moves.{StandIn};
+ghost use Rattle.shared_queue.specs.Moves.{StandIn, missed, taken_out};
 ghost use Rattle.spool_pool.specs.Known.{IsPassOf, store_of};
 
 use crate::lanes::Lanes;
@@ -22,8 +22,6 @@ pub struct PoolSeat<'a, H, D: Disk> {
     pool: &'a Pool<D>,
     lanes: Lanes<D>,
     tally: Tally<D>,
-    no_free: u64,
-    no_full: u64,
     breaks: u64,
 }
 
@@ -35,7 +33,7 @@ impl<'a, H, D: Disk> Model for PoolSeat<'a, H, D> {
 
     ghost use Rattle.spool_pool.specs.Account.{IsSound, homes_of, seat_of};
 
-    ghost view = { λ s. seat_of s.lanes s.tally s.no_free s.no_full s.breaks };
+    ghost view = { λ s. seat_of s.lanes s.tally s.breaks };
 
     ghost invariant = { λ s. IsSound s.lanes s.tally × (homes_of s.lanes ≡ s.pool.now.home) };
 }
@@ -52,8 +50,6 @@ impl<'a, H: Wait, D: Disk> PoolSeat<'a, H, D> {
         let PoolPass {
             lanes,
             tally,
-            no_free,
-            no_full,
             breaks,
             is_closed: _,
         } = pass;
@@ -62,8 +58,6 @@ impl<'a, H: Wait, D: Disk> PoolSeat<'a, H, D> {
             pool,
             lanes,
             tally,
-            no_free,
-            no_full,
             breaks,
         }
     }
@@ -78,15 +72,11 @@ impl<'a, H: Wait, D: Disk> PoolSeat<'a, H, D> {
             pool: _,
             lanes,
             tally,
-            no_free,
-            no_full,
             breaks,
         } = self;
         PoolPass {
             lanes,
             tally,
-            no_free,
-            no_full,
             breaks,
             is_closed: false,
         }
@@ -94,42 +84,44 @@ impl<'a, H: Wait, D: Disk> PoolSeat<'a, H, D> {
 }
 
 impl<'a, H: Wait, D: Disk> PoolSeat<'a, H, D> {
-    /// A free slot. A pass with all parts gets none only if each slot that the queue of free slots had was taken.
-    #[tactic(auto, using(crate::proofs::Seats::after_take_free, crate::proofs::Seats::none_free))]
+    /// A free slot. It gives none only where a take of the queue of free slots gave none, which is counted; to a pass with all parts only if each slot
+    /// that the queue had was taken.
+    #[tactic(auto, using(crate::proofs::Seats::after_take_free, crate::proofs::Seats::after_no_free, crate::proofs::Seats::none_free))]
     pub fn take_free(&mut self) -> Option<Free<D>>
         ensures takes { TakesFree result (store_of self.old) (store_of self.new) }
+        ensures looked { MatchOption result (self.new.free ≡ missed self.old.free) (λ slot. self.new.free ≡ taken_out slot self.old.free) }
+        ensures other { self.new.full ≡ self.old.full }
+        ensures count { self.new.pass.no_free ≡ self.new.free.misses }
         ensures none { IfNone result (self.old.pass.handed.parts ≡ 2 ^ 64 → StandIn self.old.free []) }
     {
         let pool = self.pool;
-        match pool.free.take(self.rt, &mut self.lanes.free) {
+        match pool.free.take_counted(self.rt, &mut self.lanes.free) {
             Some(slot) => {
                 self.tally = self.tally.took_free(&slot);
                 Some(slot)
             }
-            None => {
-                self.no_free = self.no_free.saturating_add(1);
-                None
-            }
+            None => None,
         }
     }
 
-    /// A slot with a message. A pass with all parts gets none only if each slot that the queue of full slots had was taken.
-    #[tactic(auto, using(crate::proofs::Seats::after_take_full))]
+    /// A slot with a message. It gives none only where a take of the queue of full slots gave none, which is counted; to a pass with all parts only if
+    /// each slot that the queue had was taken.
+    #[tactic(auto, using(crate::proofs::Seats::after_take_full, crate::proofs::Seats::after_no_full))]
     pub fn take_full(&mut self) -> Option<Full<D>>
         ensures takes { TakesFull result (store_of self.old) (store_of self.new) }
+        ensures looked { MatchOption result (self.new.full ≡ missed self.old.full) (λ slot. self.new.full ≡ taken_out slot self.old.full) }
+        ensures other { self.new.free ≡ self.old.free }
+        ensures count { self.new.pass.no_full ≡ self.new.full.misses }
         ensures none { IfNone result (self.old.pass.handed.parts ≡ 2 ^ 64 → StandIn self.old.full []) }
     {
         let pool = self.pool;
-        match pool.full.take(self.rt, &mut self.lanes.full) {
+        match pool.full.take_counted(self.rt, &mut self.lanes.full) {
             Some(letter) => {
                 let slot = letter.into_slot();
                 self.tally = self.tally.took_full(&slot);
                 Some(slot)
             }
-            None => {
-                self.no_full = self.no_full.saturating_add(1);
-                None
-            }
+            None => None,
         }
     }
 
@@ -201,14 +193,22 @@ impl<'a, H: Wait, D: Disk> SlotStore for PoolSeat<'a, H, D> {
 
     ghost broken_view = { λ slot. slot };
 
-    fn take_free(&mut self) -> Option<Free<D>> {
+    fn take_free(&mut self) -> Option<Free<D>>
+        ensures takes { TakesFree (option_map (λ slot. slot) result) (store_of self.old) (store_of self.new) }
+        ensures looked { MatchOption result (self.new.free ≡ missed self.old.free) (λ slot. self.new.free ≡ taken_out slot self.old.free) }
+        ensures other { self.new.full ≡ self.old.full }
+    {
         match PoolSeat::take_free(self) {
             Some(slot) => Some(slot),
             None => None,
         }
     }
 
-    fn take_full(&mut self) -> Option<Full<D>> {
+    fn take_full(&mut self) -> Option<Full<D>>
+        ensures takes { TakesFull (option_map (λ slot. slot) result) (store_of self.old) (store_of self.new) }
+        ensures looked { MatchOption result (self.new.full ≡ missed self.old.full) (λ slot. self.new.full ≡ taken_out slot self.old.full) }
+        ensures other { self.new.free ≡ self.old.free }
+    {
         match PoolSeat::take_full(self) {
             Some(slot) => Some(slot),
             None => None,

@@ -13,5 +13,5 @@ pub put-requires-clause-part : goal.put-requires-clause-part
 put-requires-clause-part g c = subst (λ n. 0 < n) (sym c.self.invariant.0.even.shelf) c.self.invariant.0.even.some_part
 
 pub invariant_of-self : goal.invariant_of-self
-invariant_of-self g c = (after_put_aside {D = g.row.D.Denot} c.self.inside.lanes.free c.self.inside.lanes.full c.self.inside.lanes.shelf c.self.inside.tally c.self.inside.pool.now.home c.self.inside.no_free c.self.inside.no_full c.self.inside.breaks c.self.invariant
+invariant_of-self g c = (after_put_aside {D = g.row.D.Denot} c.self.inside.lanes.free c.self.inside.lanes.full c.self.inside.lanes.shelf c.self.inside.tally c.self.inside.pool.now.home c.self.inside.breaks c.self.invariant
     c.args.slot c.put.new.pass c.put_aside.result (subst (λ (s : SeatView). MayPutAside c.args.slot s.out) (sym c.self.view_is) c.requires) (c.put.ensures ∙ ap (λ x. put_more x c.self.inside.lanes.shelf) c.aside-slot.ensures) c.put_aside.ensures).0

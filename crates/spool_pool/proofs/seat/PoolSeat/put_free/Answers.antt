@@ -12,5 +12,5 @@ pub put-requires-clause-part : goal.put-requires-clause-part
 put-requires-clause-part g c = subst (λ n. 0 < n) (sym c.self.invariant.0.even.free) c.self.invariant.0.even.some_part
 
 pub invariant_of-self : goal.invariant_of-self
-invariant_of-self g c = (after_put_free {D = g.row.D.Denot} c.self.inside.lanes.free c.self.inside.lanes.full c.self.inside.lanes.shelf c.self.inside.tally c.self.inside.pool.now.home c.self.inside.no_free c.self.inside.no_full c.self.inside.breaks c.self.invariant
+invariant_of-self g c = (after_put_free {D = g.row.D.Denot} c.self.inside.lanes.free c.self.inside.lanes.full c.self.inside.lanes.shelf c.self.inside.tally c.self.inside.pool.now.home c.self.inside.breaks c.self.invariant
     c.args.slot c.put.new.pass c.put_free.result (subst (λ (s : SeatView). IsOut c.args.slot.number s.out) (sym c.self.view_is) c.requires) c.put.ensures c.put_free.ensures).0

@@ -16,5 +16,5 @@ pub put-requires-clause-part : goal.put-requires-clause-part
 put-requires-clause-part g c = c.self.invariant.0.even.some_part
 
 pub invariant_of-self : goal.invariant_of-self
-invariant_of-self g c = (after_put_full {D = g.row.D.Denot} c.self.inside.lanes.free c.self.inside.lanes.full c.self.inside.lanes.shelf c.self.inside.tally c.self.inside.pool.now.home c.self.inside.no_free c.self.inside.no_full c.self.inside.breaks c.self.invariant
+invariant_of-self g c = (after_put_full {D = g.row.D.Denot} c.self.inside.lanes.free c.self.inside.lanes.full c.self.inside.lanes.shelf c.self.inside.tally c.self.inside.pool.now.home c.self.inside.breaks c.self.invariant
     c.args.slot c.put.new.pass c.put_full.result (subst (λ (s : SeatView). MayPutFull c.args.slot s.out) (sym c.self.view_is) c.requires) (c.put.ensures ∙ ap (λ x. put_more x c.self.inside.lanes.full) c.of.ensures) c.put_full.ensures).0
