@@ -9,7 +9,7 @@ use std::time::{Clock, Duration, Instant};
 use std::{io, thread};
 
 // How many milliseconds go by between two looks at a program.
-const REST: u64 = 5;
+const REST: u64 = 1;
 
 // Ends a program, and waits for its end.
 fn end<P: OpenProcess>(child: &mut Child<P>) {
