@@ -28,6 +28,7 @@ use Rattle.fwtk_serve.proofs.EachLemmas.{all_ready}
 use Rattle.fwtk_serve.proofs.MailLemmas.{Takes, sittings_of, takes_all}
 use Rattle.fwtk_serve.proofs.ReportLemmas.{as_many_worked, have_passes, served_all}
 use Rattle.fwtk_serve.proofs.RoundLemmas.{Grows, grows_all, hands_all, has_first, rounds_more}
+use Rattle.turn_lock.proofs.Fronts.{front_trans}
 use mathlib.Core.List.{IsPrefix}
 
 -- ---- the first passes
@@ -264,3 +265,14 @@ module _ (lock : Lock BookOrigin) (first mid : Both) (count most : ℕ) (seat af
       let all = took.parts in
       let rest = ap (λ (p : PassView). p.handed.parts) is ∙ still.parts_are in
       settles_all first.mail.handed.began last mail rack closes.0 (took.began ∙ ap (λ (p : PassView). p.handed.began) is ∙ still.began_is) (omega (arith, all, rest, few)) closed_is closes.1 closes.2
+
+-- ---- the history that is left
+
+-- what the book's first pass had seen is a front of it
+pub begins_with : (lock : Lock BookOrigin) (n : ℕ) (both mid new : Both) (others : List Both) (history : List Entry) → mid.book ≡ (less lock n both).book → MeetAll lock others mid new → IsPrefix new.book.seen history → IsPrefix both.book.seen history
+begins_with lock n both mid new others history e m front =
+    let seen : mid.book.seen ≡ both.book.seen = ap (λ (p : Pass). p.seen) e in
+    let now : new.book.seen ≡ m.books.seen = ap (λ (p : Pass). p.seen) m.books.is in
+    let first : IsPrefix both.book.seen m.books.seen = subst (λ (s : List Entry). IsPrefix s m.books.seen) seen m.books.begins in
+    let last : IsPrefix m.books.seen history = subst (λ (s : List Entry). IsPrefix s history) now front in
+    front_trans both.book.seen m.books.seen history first last

@@ -1,8 +1,9 @@
-use Rattle.std.proofs.Common.{arith, ◌≡◌, ◌^◌, ◌++◌, List, length, refl, sym, subst}
+use Rattle.std.proofs.Common.{arith, ◌≡◌, ◌^◌, ◌++◌, List, length, refl, ap, sym, subst}
 use mathlib.Core.List.{IsPrefix}
 use Rattle.auth_events.specs.declared.entry.Entry.{Entry}
 use Rattle.turn_lock.specs.Places.{AreWithin, Fill}
-use Rattle.fwtk_serve.proofs.ServingLemmas.{all_begin, all_have, all_served, all_taken, all_there, apart_left, hands_done, none_out, own_after, settles_done, some_views, unput_after}
+use Rattle.fwtk_serve.specs.Sessions.{Both}
+use Rattle.fwtk_serve.proofs.ServingLemmas.{all_begin, all_have, all_served, all_taken, all_there, apart_left, begins_with, hands_done, none_out, own_after, settles_done, some_views, unput_after}
 use Rattle.fwtk_serve.proofs.serving.serve_over.Goals as goal
 
 pub serve_all-workers-requires-clause-ready : goal.serve_all-workers-requires-clause-ready
@@ -36,6 +37,12 @@ pub meet_all-doors-requires-clause-sessions : goal.meet_all-doors-requires-claus
 meet_all-doors-requires-clause-sessions g c κs within =
     let many = all_there g.A.Acceptor.acceptor_view _ c.args.turns c.args.pool c.args.rules.now c.workers_of-workers.result.items c.serve_all-workers.result.items c.serve_all-workers.ensures.workers in
     omega (arith, many, c.workers_of-workers.ensures.len, c.requires.sessions)
+
+pub returns-clause-begins : goal.returns-clause-begins
+returns-clause-begins g c =
+    let front : IsPrefix c.meet_all-doors.new.passes.book.seen c.close-keeper.result.1.items = subst (λ (s : List Entry). IsPrefix c.meet_all-doors.new.passes.book.seen s) (sym c.close-keeper.ensures.history) c.close.ensures.begins in
+    begins_with c.args.turns (length c.args.doors.items) c.args.passes (record { book = c.workers_of-workers.new.passes.book; mail = c.into_pass-mail.result }) c.meet_all-doors.new.passes _ c.close-keeper.result.1.items
+        (ap (λ (both : Both). both.book) c.workers_of-workers.ensures.less) c.meet_all-doors.ensures.met front
 
 pub returns-clause-doors : goal.returns-clause-doors
 returns-clause-doors g c =
