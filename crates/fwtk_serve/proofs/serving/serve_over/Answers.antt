@@ -42,7 +42,7 @@ pub returns-clause-begins : goal.returns-clause-begins
 returns-clause-begins g c =
     let front : IsPrefix c.meet_all-doors.new.passes.book.seen c.close-keeper.result.1.items = subst (λ (s : List Entry). IsPrefix c.meet_all-doors.new.passes.book.seen s) (sym c.close-keeper.ensures.history) c.close.ensures.begins in
     begins_with c.args.turns (length c.args.doors.items) c.args.passes (record { book = c.workers_of-workers.new.passes.book; mail = c.into_pass-mail.result }) c.meet_all-doors.new.passes _ c.close-keeper.result.1.items
-        (ap (λ (both : Both). both.book) c.workers_of-workers.ensures.less) c.meet_all-doors.ensures.met front
+    (ap (λ (both : Both). both.book) c.workers_of-workers.ensures.less) c.meet_all-doors.ensures.met front
 
 pub returns-clause-doors : goal.returns-clause-doors
 returns-clause-doors g c =
