@@ -109,7 +109,7 @@ abbrev pub IsSoundUnless : {D : Type 0} → Bool → Lanes D → TallyView → T
 IsSoundUnless true l t = Unit {0}
 IsSoundUnless false l t = IsSound l t
 
--- how often no slot was free, and none was full, is what its queues counted
+-- how often a take gave no free slot, and how often none that is full, is what the passes of its queues counted
 abbrev pub pass_of : {D : Type 0} → Bool → Lanes D → TallyView → ℕ → PassView
 pass_of is_closed l t broken = record { handed = handed_by is_closed l t.events; no_free = l.free.misses; no_full = l.full.misses; broken = broken }
 

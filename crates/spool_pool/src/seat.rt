@@ -84,8 +84,8 @@ impl<'a, H: Wait, D: Disk> PoolSeat<'a, H, D> {
 }
 
 impl<'a, H: Wait, D: Disk> PoolSeat<'a, H, D> {
-    /// A free slot. It gives none only where a take of the queue of free slots gave none, which is counted; to a pass with all parts only if each slot
-    /// that the queue had was taken.
+    /// A free slot. Where it gives none, a take of the queue of free slots gave none, and the count of such takes is one more, up to 2^64 - 1. A pass
+    /// with all parts gets none only if each slot that the queue had was taken.
     #[tactic(auto, using(crate::proofs::Seats::after_take_free, crate::proofs::Seats::after_no_free, crate::proofs::Seats::none_free))]
     pub fn take_free(&mut self) -> Option<Free<D>>
         ensures takes { TakesFree result (store_of self.old) (store_of self.new) }
@@ -104,8 +104,8 @@ impl<'a, H: Wait, D: Disk> PoolSeat<'a, H, D> {
         }
     }
 
-    /// A slot with a message. It gives none only where a take of the queue of full slots gave none, which is counted; to a pass with all parts only if
-    /// each slot that the queue had was taken.
+    /// A slot with a message. Where it gives none, a take of the queue of full slots gave none, and the count of such takes is one more, up to 2^64 - 1. A
+    /// pass with all parts gets none only if each slot that the queue had was taken.
     #[tactic(auto, using(crate::proofs::Seats::after_take_full, crate::proofs::Seats::after_no_full))]
     pub fn take_full(&mut self) -> Option<Full<D>>
         ensures takes { TakesFull result (store_of self.old) (store_of self.new) }
