@@ -1,10 +1,10 @@
 //! Files of rows, compared with what is told.
 
-use crate::{Told, unescape};
+use crate::sums::{print_difference, print_file};
+use crate::{Count, Sums, Told, unescape};
 use fw_types::NoMemory;
 use std::alloc::Global;
-use std::process::ExitCode;
-use std::{env, fs, io, str};
+use std::{fs, io};
 
 /// Whoever tells what comes of what is asked.
 pub trait Rows {
@@ -16,13 +16,6 @@ pub trait Rows {
         asked: &[u8],
         out: &mut Told,
     ) -> Result<(), NoMemory>;
-}
-
-// How many rows there are, and how many of them are told otherwise.
-#[derive(Clone, Copy)]
-struct Count {
-    rows: u64,
-    differ: u64,
 }
 
 // What is told of the row with this left side.
@@ -45,13 +38,6 @@ fn difference<R: Rows>(alloc: Global, rows: &mut R, line: &str) -> Result<Option
     Ok(Some(told))
 }
 
-fn print_difference(rt: &HostRuntime, line: &str, told: &[u8]) -> io::Result<()> {
-    match str::from_utf8(told) {
-        Ok(text) => println!(rt; "differs: {line}\n   told: {text}"),
-        Err(_) => println!(rt; "differs: {line}\n   told: {told:?}"),
-    }
-}
-
 // Whether the row is told as it says. Else what is told is printed.
 fn is_told<R: Rows>(rt: &HostRuntime, rows: &mut R, line: &str) -> io::Result<bool> {
     match difference(rt.alloc(), rows, line) {
@@ -62,7 +48,8 @@ fn is_told<R: Rows>(rt: &HostRuntime, rows: &mut R, line: &str) -> io::Result<bo
     Ok(false)
 }
 
-fn is_row(line: &str) -> bool {
+/// Whether a line of a file is a row.
+pub fn is_row(line: &str) -> bool {
     !line.trim().is_empty() && !line.starts_with("#")
 }
 
@@ -70,10 +57,7 @@ fn compare_text<R: Rows>(rt: &HostRuntime, rows: &mut R, text: &str) -> io::Resu
     let mut count = Count::none();
     for line in text.lines() {
         if is_row(line) {
-            count.rows = count.rows.saturating_add(1);
-            if !is_told(rt, rows, line)? {
-                count.differ = count.differ.saturating_add(1);
-            }
+            count.add_one(is_told(rt, rows, line)?);
         }
     }
     Ok(count)
@@ -82,57 +66,23 @@ fn compare_text<R: Rows>(rt: &HostRuntime, rows: &mut R, text: &str) -> io::Resu
 fn compare_file<R: Rows>(rt: &HostRuntime, rows: &mut R, name: &str) -> io::Result<Count> {
     let text = fs::read_to_string(rt, name)?;
     let count = compare_text(rt, rows, text.as_str())?;
-    let Count { rows, differ } = count;
-    if differ == 0 {
-        println!(rt; "ok {name}: {rows} rows")?;
-    }
+    print_file(rt, name, count)?;
     Ok(count)
 }
 
-impl Count {
-    fn none() -> Count {
-        Count { rows: 0, differ: 0 }
-    }
-
-    fn add(&mut self, other: Count) {
-        self.rows = self.rows.saturating_add(other.rows);
-        self.differ = self.differ.saturating_add(other.differ);
-    }
-}
-
-// Prints what came of all rows, and whether all is as it is to be.
-fn sum_up(rt: &HostRuntime, right: Count, wrong: Count) -> io::Result<ExitCode> {
-    let Count { rows, differ } = right;
-    println!(rt; "{rows} rows, {differ} differ")?;
-    let is_right = rows > 0 && differ == 0;
-    let Count { rows, differ } = wrong;
-    if rows > 0 {
-        println!(rt; "{rows} wrong rows, {differ} differ")?;
-    }
-    if is_right && rows == differ {
-        return Ok(ExitCode::from(0));
-    }
-    Ok(ExitCode::from(1))
-}
-
-/// Compares the rows of the files that the command line names, and prints what comes of it. Behind a word
-/// `-differ` stand files of wrong rows, each of which is to differ. The status is 1 where a row is told
+/// Compares the rows of the files of these names, prints what comes of it, and tells whether all is as it is to be. Behind a
+/// name `-differ` stand files of wrong rows, each of which is to differ. All isn't as it is to be where a row is told
 /// otherwise, where a wrong row isn't, and where there is no row.
-pub fn compare<R: Rows>(rt: HostRuntime, rows: &mut R) -> io::Result<ExitCode> {
-    let mut right = Count::none();
-    let mut wrong = Count::none();
-    let mut is_right = true;
-    for name in env::args(&rt)?.skip(1) {
-        if name.as_str() == "-differ" {
-            is_right = false;
-            continue;
-        }
-        let count = compare_file(&rt, rows, name.as_str())?;
-        if is_right {
-            right.add(count);
-        } else {
-            wrong.add(count);
+///
+/// # Errors
+///
+/// What standard output answers, or a file that can't be read.
+pub fn compare<R: Rows>(rt: HostRuntime, rows: &mut R, names: &[String]) -> io::Result<bool> {
+    let mut sums = Sums::none();
+    for name in names {
+        if !sums.turns(name.as_str()) {
+            sums.add(compare_file(&rt, rows, name.as_str())?);
         }
     }
-    sum_up(&rt, right, wrong)
+    sums.print(&rt, "rows")
 }

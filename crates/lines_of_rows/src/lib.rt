@@ -1,22 +1,27 @@
 //! Rows of text files, each of which says what is told of what is asked.
 //!
-//! A row is a line `KIND ASKED => TOLD`. A program knows some kinds and tells, by [`Rows::tell`], what comes of
-//! what is asked; [`compare`] reads the files that the command line names, and prints for each how many rows it
+//! A row is a line `KIND ASKED => TOLD`. A crate knows some kinds and tells, by [`Rows::tell`], what comes of
+//! what is asked; [`compare`] reads files, and prints for each how many rows it
 //! has, which of them are told otherwise and as what, and last how many there are of both. Blank lines and
-//! lines that begin with `#` are skipped. Nothing of a row is ever made by the program. Files of wrong rows,
-//! behind the word `-differ`, show that each comparison bites.
+//! lines that begin with `#` are skipped. Nothing of a row is ever made by the crate. Files of wrong rows,
+//! behind the word `-differ`, show that each comparison bites. One program has many crates try their rows: [`try_crates`]
+//! takes from its command line their names, each with a colon, and behind each the names of its files.
 //!
 //! What is asked and what is told are texts with escapes: `\n`, `\r`, `\t` and `\0` are the bytes of those
 //! names, `\s` is a space, `\xHH` the byte with these hexadecimal digits, `\(N:TEXT)` the text N times, and `\`
 //! before another byte is that byte.
 #![tactic(auto)]
 
+mod crates;
 mod escapes;
 mod files;
 mod parts;
+mod sums;
 mod telling;
 
+pub use crates::{Crates, try_crates};
 pub use escapes::{from_hex, unescape};
-pub use files::{Rows, compare};
+pub use files::{Rows, compare, is_row};
 pub use parts::{cut, cut_word, number_of, numbers_of};
+pub use sums::{Count, Sums, print_difference, print_file};
 pub use telling::{Told, add, add_hex, add_number, add_word};

@@ -1,7 +1,7 @@
 //! Files of rows, written as `lines_of_rows` says, of runs that may start threads.
 //!
-//! A program says by [`Runs::tell`] what comes of what a row asks; [`compare_runs`] prints the same as
-//! `lines_of_rows::compare` does, and answers the same status.
+//! A crate says by [`Runs::tell`] what comes of what a row asks; [`compare_runs`] prints the same as
+//! `lines_of_rows::compare` does, and tells the same.
 #![tactic(auto)]
 
 mod files;

@@ -6,11 +6,6 @@ use lines_of_rows::{Told, unescape};
 use std::alloc::Global;
 use std::thread::Threads;
 
-/// Whether a line of a file is a row.
-pub(crate) fn is_row(line: &str) -> bool {
-    !line.trim().is_empty() && !line.starts_with("#")
-}
-
 // What is told of the row with this left side.
 fn told_of<H: Threads + Sync, R: Runs>(
     threads: &H,
