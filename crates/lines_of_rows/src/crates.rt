@@ -8,7 +8,7 @@ use std::{env, io};
 
 /// Crates that try rows, each by its name.
 pub trait Crates {
-    /// Has the crate of this name do what the words ask for, as to try the rows of files, and tells whether all is as it is to be;
+    /// Has the crate of this name do what the words ask for, such as try the rows of files, and tells whether all is as it is to be;
     /// `None` where no crate has the name.
     ///
     /// # Errors
@@ -47,7 +47,7 @@ fn crate_of(word: &str) -> Option<&str> {
 }
 
 /// Has each crate that the command line names, by a word `NAME:`, do what the words behind its name ask for. The status is 1 where
-/// one of them isn't as it is to be, and where the first word names none.
+/// one of them isn't as it is to be, where no crate has a name, and where the first word names none, or there is no word.
 ///
 /// # Errors
 ///
@@ -85,7 +85,7 @@ fn try_named<H: Threads + Wait + Sync, C: Crates>(
     match name.as_deref().and_then(crate_of) {
         Some(name) => try_one(threads, rt, crates, name, words),
         None => {
-            println!(&rt; "usage: CRATE: WORD.. CRATE: ..")?;
+            println!(&rt; "usage: CRATE: WORD.. [CRATE: WORD.. ..]")?;
             Ok(false)
         }
     }

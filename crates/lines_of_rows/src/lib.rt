@@ -1,8 +1,8 @@
 //! Rows of text files, each of which says what is told of what is asked.
 //!
 //! A row is a line `KIND ASKED => TOLD`. A crate knows some kinds and tells, by [`Rows::tell`], what comes of
-//! what is asked; [`compare`] reads files, and prints for each how many rows it
-//! has, which of them are told otherwise and as what, and last how many there are of both. Blank lines and
+//! what is asked; [`compare`] reads files, and prints for each the rows that are told otherwise, and as what, or, where
+//! there is none, how many it has, and last how many there are of both. Blank lines and
 //! lines that begin with `#` are skipped. Nothing of a row is ever made by the crate. Files of wrong rows,
 //! behind the word `-differ`, show that each comparison bites. One program has many crates try their rows: [`try_crates`]
 //! takes from its command line their names, each with a colon, and behind each the names of its files.

@@ -20,7 +20,7 @@ use relaying::relay;
 use std::io;
 use std::thread::Threads;
 
-// Does what the words ask for, if they name no files: whether they don't.
+// Does what `-relay ..` or `-door ..` asks for: whether the words are one of these.
 fn link_by_words<H: Threads + Sync>(
     threads: &H,
     rt: HostRuntime,

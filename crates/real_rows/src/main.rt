@@ -2,8 +2,8 @@
 //! knows. `lines_of_rows` says how a row is written, and how the command line names crates and files. The kinds of this crate, over
 //! real files, the real clock and a real database, are those of [`kinds`].
 //!
-//! Three crates also do what words ask for that name no files of rows: `links_rows: -relay PORT PORT SECONDS` and `links_rows: -door
-//! ADDRESS SECONDS`; `spool_killed: FOLDER FIRST COUNT`; and `table_speed: WAY TABLE LABEL ADDRESSES ROUNDS`.
+//! Behind `links_rows:` may also stand `-relay PORT PORT SECONDS` or `-door ADDRESS SECONDS`. `spool_killed: FOLDER FIRST COUNT` and
+//! `table_speed: WAY TABLE LABEL ADDRESSES ROUNDS` read no rows, nor does `doors_rows:`, whose words are passed over.
 #![tactic(auto)]
 
 mod clocks;

@@ -1,10 +1,10 @@
-//! The crates of what goes on beside each other, which read no rows: what they print has to be as it stands in `stdout`.
+//! The crates that read no rows: what they print has to be as it stands in `stdout`.
 
 use std::io;
 use std::sync::Wait;
 use std::thread::Threads;
 
-/// Has the crate of this name print what comes of its threads and passes; `None` where it is none of these.
+/// Has the crate of this name print what comes of what it tries; `None` where it is none of these.
 pub(crate) fn print_crate<H: Threads + Wait + Sync>(
     threads: &H,
     rt: HostRuntime,

@@ -1,8 +1,8 @@
 //! The rows of the crates that need no device of a process: each crate that the command line names tries the rows, or plays the
 //! scenes, of the files that stand behind its name. Whole runs are the rows of `fwtk_rows`.
 //!
-//! `rows CRATE: FILE.. [-differ FILE..] CRATE: ..` prints what comes of the rows of each crate, as `lines_of_rows` says. Behind
-//! the four crates that read no rows there is no file.
+//! `rows CRATE: FILE.. [-differ FILE..] [CRATE: ..]` prints what comes of the rows of each crate, as `lines_of_rows` says. Words
+//! behind the four crates that read no rows are passed over.
 #![tactic(auto)]
 
 mod above;
