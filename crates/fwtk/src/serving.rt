@@ -1,5 +1,5 @@
 //! The command `serve`: the devices of a server, and its doors.
-ghost use Rattle.std.specs.Prelude.{◌<◌, All, length};
+ghost use Rattle.std.specs.Prelude.{◌<◌, ◌≤◌, All, IfOk, length};
 ghost use Rattle.fwtk_serve.specs.RulesFor.{MayServe};
 
 use crate::process::{Process, SlotDisk};
@@ -144,19 +144,16 @@ fn slots_for(alloc: Global, words: &[Octets]) -> Result<Slots, NoMemory> {
     }
 }
 
-/// Serves the clients of these words, until standard input ends or no door is left: the exit status. The files of the slots are
-/// opened only for a server of mail.
-pub fn serve_words<H: Threads + Wait + Sync>(
-    threads: &H,
+// Makes a server ready by the devices of this process.
+fn make_ready(
     rt: HostRuntime,
     words: &[Octets],
-) -> Result<u8, Outcome> {
-    let places = places_in(words);
-    let slots = slots_for(rt.alloc(), words)?;
-    let mut mailers: Vec<Box<dyn Mailer>> = Vec::new(rt.alloc());
-    mailers.push(Box::new(rt.alloc(), mailer_of(rt, &places)?)?)?;
-    let keeper = Records::new(rt, places.db)?;
-    let disks = disks_of(rt, &places, slots)?;
+    keeper: Records,
+    disks: Vec<SlotDisk>,
+) -> Result<Ready<Records, SlotDisk>, u8>
+    requires few { length disks.items ≤ 64 }
+    ensures may { IfOk result (λ ready. All MayServe ready.rules.items) }
+{
     let stdout = StandardOutput::of(rt.stdout());
     let hosts = stdout.hosts();
     let mut world: World<Process<MemDice>> = World {
@@ -171,7 +168,23 @@ pub fn serve_words<H: Threads + Wait + Sync>(
         launcher: Programs::new(rt, rt.alloc()),
         disks,
     };
-    match ready(rt.alloc(), words, &mut world) {
+    ready(rt.alloc(), words, &mut world)
+}
+
+/// Serves the clients of these words, until standard input ends or no door is left: the exit status. The files of the slots are
+/// opened only for a server of mail.
+pub fn serve_words<H: Threads + Wait + Sync>(
+    threads: &H,
+    rt: HostRuntime,
+    words: &[Octets],
+) -> Result<u8, Outcome> {
+    let places = places_in(words);
+    let slots = slots_for(rt.alloc(), words)?;
+    let mut mailers: Vec<Box<dyn Mailer>> = Vec::new(rt.alloc());
+    mailers.push(Box::new(rt.alloc(), mailer_of(rt, &places)?)?)?;
+    let keeper = Records::new(rt, places.db)?;
+    let disks = disks_of(rt, &places, slots)?;
+    match make_ready(rt, words, keeper, disks) {
         Ok(ready) => Ok(serve_doors(threads, rt, ready, &mut mailers)?),
         Err(status) => Ok(status),
     }

@@ -79,6 +79,18 @@ pub(crate) fn run_over<H: Threads + Sync>(
     devices: Devices,
     keeper: MemKeeper,
 ) -> Ended {
+    let mut mailers: Vec<Box<dyn Mailer>> = Vec::new(alloc);
+    let is_made = match Box::new(alloc, MemMailer::new(alloc, Vec::new(alloc))) {
+        Ok(mailer) => mailers.push(mailer).is_ok(),
+        Err(_) => false,
+    };
+    if !is_made || mailers.is_empty() {
+        return Ended {
+            status: WANTS_MEMORY,
+            devices,
+            keeper: Some(keeper),
+        };
+    }
     let Devices {
         talk,
         place,
@@ -104,13 +116,6 @@ pub(crate) fn run_over<H: Threads + Sync>(
         launcher,
         disks: Vec::new(alloc),
     };
-    let mut mailers: Vec<Box<dyn Mailer>> = Vec::new(alloc);
-    let Ok(mailer) = Box::new(alloc, MemMailer::new(alloc, Vec::new(alloc))) else {
-        return ended_of(WANTS_MEMORY, world);
-    };
-    if mailers.push(mailer).is_err() {
-        return ended_of(WANTS_MEMORY, world);
-    }
     let status = run(rt, alloc, words, &mut mailers, &mut world);
     ended_of(status, world)
 }

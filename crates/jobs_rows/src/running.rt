@@ -1,5 +1,5 @@
 //! A run over devices in memory.
-ghost use Rattle.std.specs.Prelude.{◌≤◌, length};
+ghost use Rattle.std.specs.Prelude.{◌<◌, ◌≤◌, length};
 
 use bastion::{Kit, World, run};
 use fw_mail::Mailer;
@@ -100,11 +100,23 @@ fn devices_of(alloc: Global, refuses: Calls) -> Result<Devices, NoMemory> {
 
 fn ended_of(status: u8, world: World<Memory>) -> Ended {
     let World {
+        files,
+        input,
         output,
         logs,
+        clock,
+        dice: _,
+        keeper,
+        dialer,
+        launcher,
         disks,
-        ..
     } = world;
+    drop(files);
+    drop(input);
+    drop(clock);
+    drop(keeper);
+    drop(dialer);
+    drop(launcher);
     Ended {
         status,
         output,
@@ -113,18 +125,18 @@ fn ended_of(status: u8, world: World<Memory>) -> Ended {
     }
 }
 
-// The one call of `run`.
+// The one call of `run`: its status, and what it left in the world.
 fn run_with<H: Threads + Sync>(
     threads: &H,
     alloc: Global,
     words: &[Octets],
     devices: Devices,
     disks: Vec<MemDisk>,
-) -> Result<Ended, NoMemory>
+    mailers: &mut Vec<Box<dyn Mailer>>,
+) -> (u8, World<Memory>)
     requires few { length disks.items ≤ 64 }
+    requires some { 0 < length mailers.old.items }
 {
-    let mut mailers: Vec<Box<dyn Mailer>> = Vec::new(alloc);
-    mailers.push(Box::new(alloc, MemMailer::new(alloc, Vec::new(alloc)))?)?;
     let Devices {
         files,
         input,
@@ -144,8 +156,8 @@ fn run_with<H: Threads + Sync>(
         launcher: MemLauncher::new(alloc, Vec::new(alloc), Calls::none()),
         disks,
     };
-    let status = run(threads, alloc, words, &mut mailers, &mut world);
-    Ok(ended_of(status, world))
+    let status = run(threads, alloc, words, mailers, &mut world);
+    (status, world)
 }
 
 /// Runs a command line over these disks. The output refuses these calls.
@@ -161,6 +173,9 @@ pub(crate) fn run_over<H: Threads + Sync>(
         return Err(NoMemory);
     }
     let words = words_of(alloc, line)?;
+    let mut mailers: Vec<Box<dyn Mailer>> = Vec::new(alloc);
+    mailers.push(Box::new(alloc, MemMailer::new(alloc, Vec::new(alloc)))?)?;
     let devices = devices_of(alloc, refuses)?;
-    run_with(threads, alloc, &words, devices, disks)
+    let (status, world) = run_with(threads, alloc, &words, devices, disks, &mut mailers);
+    Ok(ended_of(status, world))
 }

@@ -87,30 +87,25 @@ fn files_of(alloc: Global, table: &[u8]) -> Result<MemFiles, NoMemory> {
     Ok(MemFiles::new(alloc, files, 64, Calls::none(), Calls::none()))
 }
 
-// Nobody speaks, and there is no server.
-fn world_of(
-    alloc: Global,
-    table: &[u8],
-    keeper: MemKeeper,
-    logs: MemSink,
-    disks: Vec<MemDisk>,
-) -> Result<World<Memory>, NoMemory> {
+// The devices that stand still: a table, nobody who speaks, an output without room, and no server.
+struct Still {
+    files: MemFiles,
+    input: MemSource,
+    output: MemSink,
+    dialer: MemDialer,
+}
+
+fn still_of(alloc: Global, table: &[u8]) -> Result<Still, NoMemory> {
     let none = Octets::copy(alloc, b"")?;
-    Ok(World {
+    Ok(Still {
         files: files_of(alloc, table)?,
         input: MemSource::new(none, 1, Calls::none(), Calls::none()),
         output: MemSink::new(alloc, 0, Calls::none())?,
-        logs,
-        clock: MemClock::new(Vec::new(alloc)),
-        dice: MemDice::new(0),
-        keeper: Some(keeper),
         dialer: MemDialer::new(alloc, Vec::new(alloc), Vec::new(alloc), 1, Calls::none())?,
-        launcher: MemLauncher::new(alloc, Vec::new(alloc), Calls::none()),
-        disks,
     })
 }
 
-/// What the words come to over this table, keeper, log and disks.
+/// What the words come to over this table, keeper, log and disks, of which there are at most 64.
 pub(crate) fn ready_over(
     alloc: Global,
     line: &[u8],
@@ -119,20 +114,33 @@ pub(crate) fn ready_over(
     logs: MemSink,
     disks: Vec<MemDisk>,
 ) -> Result<Came, NoMemory> {
+    if disks.len() > 64 {
+        return Err(NoMemory);
+    }
     let words = words_of(alloc, line)?;
-    let mut world = world_of(alloc, table, keeper, logs, disks)?;
-    // `ready` asks for a keeper, and for at most 64 disks.
-    if world.keeper.is_none() {
-        return Err(NoMemory);
-    }
-    if world.disks.len() > 64 {
-        return Err(NoMemory);
-    }
+    let Still {
+        files,
+        input,
+        output,
+        dialer,
+    } = still_of(alloc, table)?;
+    let mut world = World {
+        files,
+        input,
+        output,
+        logs,
+        clock: MemClock::new(Vec::new(alloc)),
+        dice: MemDice::new(0),
+        keeper: Some(keeper),
+        dialer,
+        launcher: MemLauncher::new(alloc, Vec::new(alloc), Calls::none()),
+        disks,
+    };
     let server = match ready(alloc, &words, &mut world) {
         Ok(ready) => Ok(server_of(ready)),
         Err(status) => Err(status),
     };
-    let World {
+    let World::<Memory> {
         logs,
         keeper,
         disks,

@@ -90,9 +90,9 @@ where
         &mut mailers,
         &mut logs,
         &mut pacer,
-    )?;
+    );
     let taken = took(&mailers);
-    Ok((report, taken))
+    report.map(|report| (report, taken))
 }
 
 fn without_rules<'a, H: Threads + Wait + Sync>(
