@@ -1,23 +1,27 @@
-//! Rows of the devices of a process: each row of `data/` says what is told of what is asked, by the kinds that its crate
-//! knows. `lines_of_rows` says how a row is written, and how the command line names crates and files. The kinds of this crate, over
-//! real files, the real clock and a real database, are those of [`kinds`].
+//! Rows of the devices of a process: each row of `data/` says what is told of what is asked, by the kinds that its subject
+//! knows. `lines_of_rows` says how a row is written, and how the command line names subjects and files. The kinds of the subject
+//! `real`, over real files, the real clock and a real database, are those of [`kinds`].
 //!
-//! Behind `links_rows:` may also stand `-relay PORT PORT SECONDS` or `-door ADDRESS SECONDS`. `spool_killed: FOLDER FIRST COUNT` and
-//! `table_speed: WAY TABLE LABEL ADDRESSES ROUNDS` read no rows, nor does `doors_rows:`, whose words are passed over.
+//! Behind `links:` may also stand `-relay PORT PORT SECONDS` or `-door ADDRESS SECONDS`. `killed: FOLDER FIRST COUNT` and
+//! `speed: WAY TABLE LABEL ADDRESSES ROUNDS` read no rows, nor does `doors:`, whose words are passed over.
 #![tactic(auto)]
 
 mod clocks;
 mod disks;
+mod doors;
 mod halting;
+mod killed;
 mod kinds;
+mod links;
 mod records;
+mod speed;
 mod streams;
 mod system;
 mod telling;
 mod uneven;
 
 use kinds::Kinds;
-use lines_of_rows::{Crates, compare, try_crates};
+use lines_of_rows::{Subjects, compare, try_subjects};
 use std::io;
 use std::process::ExitCode;
 use std::sync::Wait;
@@ -25,8 +29,8 @@ use std::thread::Threads;
 
 struct Real;
 
-impl Crates for Real {
-    fn try_crate<H: Threads + Wait + Sync>(
+impl Subjects for Real {
+    fn try_subject<H: Threads + Wait + Sync>(
         &self,
         threads: &H,
         rt: HostRuntime,
@@ -34,16 +38,16 @@ impl Crates for Real {
         words: &[String],
     ) -> io::Result<Option<bool>> {
         Ok(Some(match name {
-            "real_rows" => compare(rt, &mut Kinds { rt }, words)?,
-            "links_rows" => links_rows::try_rows(threads, rt, words)?,
-            "doors_rows" => doors_rows::print_all(threads, rt).map(|()| true)?,
-            "spool_killed" => spool_killed::keep_by_words(rt, words).map(|()| true)?,
-            "table_speed" => table_speed::ask_by_words(&rt, words).map(|()| true)?,
+            "real" => compare(rt, &mut Kinds { rt }, words)?,
+            "links" => links::try_rows(threads, rt, words)?,
+            "doors" => doors::print_all(threads, rt).map(|()| true)?,
+            "killed" => killed::keep_by_words(rt, words).map(|()| true)?,
+            "speed" => speed::ask_by_words(&rt, words).map(|()| true)?,
             _ => return Ok(None),
         }))
     }
 }
 
 fn main(rt: HostRuntime) -> io::Result<ExitCode> {
-    try_crates(&rt, rt, &Real)
+    try_subjects(&rt, rt, &Real)
 }

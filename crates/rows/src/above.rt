@@ -1,23 +1,24 @@
-//! The crates whose rows are of sessions and of runs.
+//! The subjects whose rows are of sessions and of runs.
 
+use bastion_rows::{jobs, mail, ready, texts};
 use std::io;
 use std::thread::Threads;
 
-/// Has the crate of this name try the rows of the files of these names; `None` where it is none of these.
-pub(crate) fn try_crate<H: Threads + Sync>(
+/// Tries the rows of the files of these names, of the subject of this name; `None` where it is none of these.
+pub(crate) fn try_subject<H: Threads + Sync>(
     threads: &H,
     rt: HostRuntime,
     name: &str,
     words: &[String],
 ) -> io::Result<Option<bool>> {
     Ok(Some(match name {
-        "session_rows" => session_rows::try_rows(threads, rt, words)?,
-        "smap_rows" => smap_rows::try_rows(rt, words)?,
-        "auth_rows" => auth_rows::play_files(threads, rt, words)?,
-        "bastion_rows" => bastion_rows::try_rows(rt, words)?,
-        "jobs_rows" => jobs_rows::try_rows(threads, rt, words)?,
-        "mail_rows" => mail_rows::try_rows(threads, rt, words)?,
-        "ready_rows" => ready_rows::try_rows(rt, words)?,
+        "session" => session_rows::try_rows(threads, rt, words)?,
+        "smap" => smap_rows::try_rows(rt, words)?,
+        "auth" => auth_rows::play_files(threads, rt, words)?,
+        "bastion" => texts::try_rows(rt, words)?,
+        "jobs" => jobs::try_rows(threads, rt, words)?,
+        "mail" => mail::try_rows(threads, rt, words)?,
+        "ready" => ready::try_rows(rt, words)?,
         _ => return Ok(None),
     }))
 }

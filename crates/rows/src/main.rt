@@ -1,15 +1,15 @@
-//! The rows of the crates that need no device of a process: each crate that the command line names tries the rows, or plays the
-//! scenes, of the files that stand behind its name. Whole runs are the rows of `fwtk_rows`.
+//! The rows of all subjects that need no device of a process: of each subject that the command line names the rows are tried, or
+//! the scenes played, of the files that stand behind its name. Whole runs are the rows of `fwtk_rows`.
 //!
-//! `rows CRATE: FILE.. [-differ FILE..] [CRATE: ..]` prints what comes of the rows of each crate, as `lines_of_rows` says. Words
-//! behind the four crates that read no rows are passed over.
+//! `rows SUBJECT: FILE.. [-differ FILE..] [SUBJECT: ..]` prints what comes of the rows of each subject, as `lines_of_rows` says. Words
+//! behind the four subjects that have no rows are passed over.
 #![tactic(auto)]
 
 mod above;
 mod below;
 mod beside;
 
-use lines_of_rows::{Crates, try_crates};
+use lines_of_rows::{Subjects, try_subjects};
 use std::io;
 use std::process::ExitCode;
 use std::sync::Wait;
@@ -17,24 +17,24 @@ use std::thread::Threads;
 
 struct All;
 
-impl Crates for All {
-    fn try_crate<H: Threads + Wait + Sync>(
+impl Subjects for All {
+    fn try_subject<H: Threads + Wait + Sync>(
         &self,
         threads: &H,
         rt: HostRuntime,
         name: &str,
         words: &[String],
     ) -> io::Result<Option<bool>> {
-        if let Some(is_right) = below::try_crate(rt, name, words)? {
+        if let Some(is_right) = below::try_subject(rt, name, words)? {
             return Ok(Some(is_right));
         }
-        if let Some(is_right) = above::try_crate(threads, rt, name, words)? {
+        if let Some(is_right) = above::try_subject(threads, rt, name, words)? {
             return Ok(Some(is_right));
         }
-        beside::print_crate(threads, rt, name)
+        beside::print_subject(threads, rt, name)
     }
 }
 
 fn main(rt: HostRuntime) -> io::Result<ExitCode> {
-    try_crates(&rt, rt, &All)
+    try_subjects(&rt, rt, &All)
 }

@@ -1,0 +1,33 @@
+//! Rows of runs of `smap` and `smapd` over devices in memory: each row of a file says what is told of what is asked, by the
+//! kinds that [`kinds`] knows. `lines_of_rows` says how a row is written.
+
+mod asked;
+mod breaking;
+mod handing;
+mod hands;
+mod images;
+mod kept;
+mod kinds;
+mod letters;
+mod rounds;
+mod running;
+mod sweep;
+mod telling;
+
+use kinds::Kinds;
+use lines_of_runs::compare_runs;
+use std::io;
+use std::thread::Threads;
+
+/// Compares the rows of these files, prints what comes of it, and tells whether all is as it is to be.
+///
+/// # Errors
+///
+/// What standard output answers, or a file that can't be read.
+pub fn try_rows<H: Threads + Sync>(
+    threads: &H,
+    rt: HostRuntime,
+    names: &[String],
+) -> io::Result<bool> {
+    compare_runs(threads, rt, &Kinds, names)
+}

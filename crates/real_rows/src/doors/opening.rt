@@ -1,0 +1,30 @@
+//! Doors at a port that is free.
+
+use crate::doors::names::names;
+use gate_rules::Service;
+use real_doors::{Doors, open_doors};
+use std::io::{self, ErrorKind};
+
+const FIRST_PORT: u16 = 20100;
+
+const LAST_PORT: u16 = 20199;
+
+/// Two doors of two services at this port.
+pub(crate) fn doors_at(rt: HostRuntime, port: u16) -> io::Result<Doors> {
+    let places = [(Service::TnGw, port), (Service::Authsrv, port)];
+    match open_doors(rt, &places, names(rt)?) {
+        Ok(doors) => Ok(doors),
+        Err(_) => Err(io::Error::from(ErrorKind::OutOfMemory)),
+    }
+}
+
+/// Two doors at a port that was free, and the port.
+pub(crate) fn free_doors(rt: HostRuntime) -> io::Result<(Doors, u16)> {
+    for port in FIRST_PORT..LAST_PORT {
+        let made = doors_at(rt, port)?;
+        if made.doors.iter().all(|door| door.is_open()) {
+            return Ok((made, port));
+        }
+    }
+    Err(io::Error::from(ErrorKind::AddrInUse))
+}
