@@ -1,6 +1,7 @@
 //! The subjects whose rows are of sessions and of runs.
 
 use bastion_rows::{jobs, mail, ready, texts};
+use spool_rows::{round, smap};
 use std::io;
 use std::thread::Threads;
 
@@ -13,7 +14,8 @@ pub(crate) fn try_subject<H: Threads + Sync>(
 ) -> io::Result<Option<bool>> {
     Ok(Some(match name {
         "session" => session_rows::try_rows(threads, rt, words)?,
-        "smap" => smap_rows::try_rows(rt, words)?,
+        "smap" => smap::try_rows(rt, words)?,
+        "round" => round::try_rows(rt, words)?,
         "auth" => auth_rows::play_files(threads, rt, words)?,
         "bastion" => texts::try_rows(rt, words)?,
         "jobs" => jobs::try_rows(threads, rt, words)?,

@@ -1,5 +1,6 @@
 //! The subjects that have no rows: what is printed of them has to be as it stands in `stdout`.
 
+use shared_rows::{book, pool, serve, turn};
 use std::io;
 use std::sync::Wait;
 use std::thread::Threads;
@@ -11,10 +12,10 @@ pub(crate) fn print_subject<H: Threads + Wait + Sync>(
     name: &str,
 ) -> io::Result<Option<bool>> {
     match name {
-        "turn" => turn_rows::print_all(threads, rt)?,
-        "pool" => pool_rows::print_all(threads, rt)?,
-        "shared" => shared_rows::print_all(threads, rt)?,
-        "serve" => serve_rows::print_all(threads, rt)?,
+        "turn" => turn::print_all(threads, rt)?,
+        "pool" => pool::print_all(threads, rt)?,
+        "book" => book::print_all(threads, rt)?,
+        "serve" => serve::print_all(threads, rt)?,
         _ => return Ok(None),
     }
     Ok(Some(true))

@@ -1,0 +1,77 @@
+//! The kinds of row.
+
+use crate::records::down::tell_port;
+use crate::records::passwords::{tell_challenge, tell_count, tell_fold, tell_hex, tell_passwords};
+use crate::records::policy::{policy_of, tell_operation, tell_settings};
+use crate::records::records::{base_of, tell_base, tell_good, tell_long, tell_record, tell_seed};
+use crate::records::replies::{tell_opened, tell_reply};
+use crate::records::requests::tell_line;
+use auth_machine::Policy;
+use fw_types::NoMemory;
+use lines_of_rows::{Rows, Told, add};
+use std::alloc::Global;
+
+/// Knows the kinds of row.
+#[derive(Drop)]
+pub(crate) struct Kinds {
+    // The record of the last line `base`.
+    base: Vec<u8>,
+    // The policy of the last line `policy`.
+    policy: Option<Policy>,
+}
+
+// Tells of a kind that takes no memory.
+fn tell_plain(kind: &str, asked: &[u8], out: &mut Told) {
+    match kind {
+        "seed" => tell_seed(asked, out),
+        "long" => tell_long(asked, out),
+        "passwords" => tell_passwords(asked, out),
+        "fold" => tell_fold(asked, out),
+        "hex" => tell_hex(asked, out),
+        "challenge" => tell_challenge(asked, out),
+        "count" => tell_count(asked, out),
+        "line" => tell_line(asked, out),
+        "reply" => tell_reply(asked, out),
+        "opened" => tell_opened(asked, out),
+        "port" => tell_port(out),
+        _ => add(out, b"no such kind"),
+    }
+}
+
+impl Kinds {
+    pub(crate) fn new(alloc: Global) -> Kinds {
+        Kinds {
+            base: Vec::new(alloc),
+            policy: None,
+        }
+    }
+
+    fn tell_operation(&self, asked: &[u8], out: &mut Told) {
+        match &self.policy {
+            Some(policy) => tell_operation(policy, asked, out),
+            None => add(out, b"no policy"),
+        }
+    }
+}
+
+impl Rows for Kinds {
+    fn tell(
+        &mut self,
+        alloc: Global,
+        kind: &str,
+        asked: &[u8],
+        out: &mut Told,
+    ) -> Result<(), NoMemory> {
+        match kind {
+            "record" => tell_record(alloc, asked, out)?,
+            "good" => tell_good(alloc, asked, out)?,
+            "base" => self.base = base_of(alloc, asked, out)?,
+            "damage" | "front" | "behind" => tell_base(alloc, &self.base, kind, asked, out)?,
+            "policy" => self.policy = policy_of(alloc, asked, out),
+            "operation" => self.tell_operation(asked, out),
+            "settings" => tell_settings(alloc, asked, out),
+            _ => tell_plain(kind, asked, out),
+        }
+        Ok(())
+    }
+}

@@ -1,0 +1,27 @@
+//! Rows of rounds of handing on messages, over racks of slots on disks in memory and a mailer in memory: each row of a file
+//! says what is told of what is asked, by the kinds that [`kinds`] knows. `lines_of_rows` says how a row is written.
+
+mod asked;
+mod kinds;
+mod play;
+mod stops;
+mod tellings;
+
+use kinds::Kinds;
+use lines_of_rows::compare;
+use std::io;
+
+fn call_laws() {
+    smapd_queue::laws::the_numbers_add_up();
+    smapd_queue::laws::each_slot_was_full();
+}
+
+/// Compares the rows of these files, prints what comes of it, and tells whether all is as it is to be.
+///
+/// # Errors
+///
+/// What standard output answers, or a file that can't be read.
+pub fn try_rows(rt: HostRuntime, names: &[String]) -> io::Result<bool> {
+    call_laws();
+    compare(rt, &mut Kinds, names)
+}
