@@ -1,88 +1,69 @@
-//! Runs the rows of files over devices in memory, and says which come out otherwise.
+//! Rows over devices in memory: runs them, and says which come out otherwise. `docs/tests.md` and `docs/tests-scenes.md` say how rows
+//! are written.
 //!
-//! `fwtk_rows FILE.. [-differ FILE..]` prints `ok NAME` for each row that comes out as its file says, with the count of
-//! further runs where the row has sweeps, and `differs NAME: WHAT` for each other one; last `N rows, M differ`. Each
+//! `fwtk_rows FILE.. [-differ FILE..]` has whole runs. It prints `ok NAME` for each row that comes out as its file says, with the count
+//! of further runs where the row has sweeps, and `differs NAME: WHAT` for each other one; last `N rows, M differ`. Each
 //! row of a file behind `-differ` must come out otherwise than its file says: `ok NAME differs: WHAT` tells in what.
 //! The status is 0 where all is well, 1 where a row isn't, and 2 where there is no file or one can't be read.
-//! `docs/tests.md` says how a row is written.
+//!
+//! `fwtk_rows SUBJECT: FILE.. [-differ FILE..] [SUBJECT: ..]` tries the rows, or plays the scenes, of the files of each subject, as
+//! `lines_of_rows` says. The subject `runs` has whole runs. Words behind the four subjects that have no rows are passed over.
 #![tactic(auto)]
 
-use bastion_runner::BastionRunner;
-use format_of_rows::parse;
-use runs_of_rows::{Counts, Report, try_rows};
-use std::process::ExitCode;
-use std::thread::Threads;
-use std::{env, fs, io};
-
+mod above;
 mod bastion_runner;
+mod below;
+mod beside;
 mod commands;
+mod files;
 mod running;
 mod serving;
 
-// The rows of a file are tried; its text, or what is wrong with it, is printed.
-fn try_file<H: Threads + Sync>(
-    threads: &H,
-    rt: HostRuntime,
-    name: &str,
-    differ: bool,
-    counts: &mut Counts,
-) -> io::Result<u8> {
-    let alloc = rt.alloc();
-    let Ok(bytes) = fs::read(&rt, name) else {
-        eprintln!(rt; "fwtk_rows: {name} can't be read: give the names of row files")?;
-        return Ok(2);
-    };
-    let rows = match parse(alloc, &bytes) {
-        Ok(rows) => rows,
-        Err(fault) => {
-            let (line, why) = (fault.line, fault.why.text());
-            eprintln!(rt; "fwtk_rows: {name} line {line}: {why}")?;
-            return Ok(2);
+use files::run_files;
+use lines_of_rows::{Subjects, try_subjects};
+use std::process::ExitCode;
+use std::sync::Wait;
+use std::thread::Threads;
+use std::{env, io};
+
+struct All;
+
+impl Subjects for All {
+    fn try_subject<H: Threads + Wait + Sync>(
+        &self,
+        threads: &H,
+        rt: HostRuntime,
+        name: &str,
+        words: &[String],
+    ) -> io::Result<Option<bool>> {
+        if name == "runs" {
+            return Ok(Some(run_files(threads, rt, words)? == 0));
         }
-    };
-    let mut report = Report::new(alloc, differ);
-    let tried = try_rows(threads, &BastionRunner, alloc, &rows, &mut report, counts);
-    let mut out = io::writer(&rt);
-    io::Write::write_all(&mut out, report.bytes())?;
-    if tried.is_err() {
-        eprintln!(rt; "fwtk_rows: no memory")?;
-        return Ok(2);
+        if let Some(is_right) = below::try_subject(rt, name, words)? {
+            return Ok(Some(is_right));
+        }
+        if let Some(is_right) = above::try_subject(threads, rt, name, words)? {
+            return Ok(Some(is_right));
+        }
+        beside::print_subject(threads, rt, name)
     }
-    Ok(0)
 }
 
-fn try_files<H: Threads + Sync>(
-    threads: &H,
-    rt: HostRuntime,
-    counts: &mut Counts,
-) -> io::Result<u8> {
-    let mut differ = false;
-    let mut files: u64 = 0;
-    for name in env::args(&rt)?.skip(1) {
-        if name.as_str() == "-differ" {
-            differ = true;
-        } else {
-            files = files.saturating_add(1);
-            let status = try_file(threads, rt, name.as_str(), differ, counts)?;
-            if status != 0 {
-                return Ok(status);
-            }
-        }
+// Whether the first word names a subject.
+fn begins_with_subject(words: &[String]) -> bool {
+    match words.first() {
+        Some(word) => word.as_str().strip_suffix(":").is_some(),
+        None => false,
     }
-    if files == 0 {
-        eprintln!(rt; "usage: fwtk_rows FILE.. [-differ FILE..]")?;
-        return Ok(2);
-    }
-    Ok(0)
 }
 
 fn main(rt: HostRuntime) -> io::Result<ExitCode> {
-    let mut counts = Counts::new();
-    let status = try_files(&rt, rt, &mut counts)?;
-    if status != 0 {
-        return Ok(ExitCode::from(status));
+    let mut words: Vec<String> = Vec::new(rt.alloc());
+    for word in env::args(&rt)?.skip(1) {
+        words.push(word)?;
     }
-    let (rows, differ) = (counts.rows, counts.differ);
-    println!(rt; "{rows} rows, {differ} differ")?;
-    Ok(ExitCode::from(if differ == 0 { 0 } else { 1 }))
+    if begins_with_subject(&words) {
+        return try_subjects(&rt, rt, &All);
+    }
+    Ok(ExitCode::from(run_files(&rt, rt, &words)?))
 }

@@ -1,5 +1,5 @@
 //! What threads share: a lock, a pool of slots, a book of users, and a server. Each module prints what came of it, and `stdout` of
-//! `rows` says what has to be printed.
+//! `fwtk_rows` says what has to be printed.
 #![tactic(auto)]
 
 pub mod book;
