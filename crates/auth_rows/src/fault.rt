@@ -69,6 +69,14 @@ impl<'a> Line<'a> {
         }
     }
 
+    /// What follows the first word, as it stands.
+    pub(crate) fn text_behind(&self) -> &'a str {
+        match self.text.split_once(" ") {
+            Some((_, rest)) => rest,
+            None => "",
+        }
+    }
+
     /// What follows the first word.
     pub(crate) fn rest(&self, alloc: Global) -> Result<Vec<u8>, NoMemory> {
         match self.text.split_once(" ") {

@@ -8,6 +8,7 @@ mod after;
 mod asking;
 mod fault;
 mod gateway;
+mod known;
 mod play;
 mod setup;
 mod stage;
@@ -16,20 +17,18 @@ mod talk;
 
 use auth_events::Entry;
 use fault::{Fault, Line};
-use lines_of_rows::{Count, Sums};
+use lines_of_rows::{Count, Sums, print_behind, read_file};
 use play::play;
+use std::io;
 use std::mem::size_of;
 use std::thread::Threads;
-use std::{fs, io, str};
 
 // What an entry takes, on which the size of a history counts.
 const _: () = prove!(size_of::<Entry>() == 480);
 
 fn print_difference(rt: &HostRuntime, name: &str, number: u64, told: &[u8]) -> io::Result<()> {
-    match str::from_utf8(told) {
-        Ok(text) => println!(rt; "differs {name} at {number}: {text}"),
-        Err(_) => println!(rt; "differs {name} at {number}: {told:?}"),
-    }
+    let first = format!(in rt.alloc(); "differs {name} at {number}: ")?;
+    print_behind(rt, &first, told)
 }
 
 // Plays the scene of these lines, and prints what comes of it.
@@ -56,7 +55,18 @@ fn play_named<H: Threads + Sync>(
     Ok(Count { rows: 1, differ })
 }
 
-// The same, where the first line begins a scene.
+// What stands before the first scene is to say nothing.
+fn pass_over(rt: &HostRuntime, lines: &[Line<'_>]) -> io::Result<Count> {
+    for line in lines {
+        if !line.is_blank() {
+            print_difference(rt, "-", line.number, b"before the first scene")?;
+            return Ok(Count { rows: 1, differ: 1 });
+        }
+    }
+    Ok(Count::none())
+}
+
+// Plays the scene that the first line begins, or passes over what stands before the first scene.
 fn play_scene<H: Threads + Sync>(
     threads: &H,
     rt: &HostRuntime,
@@ -67,7 +77,7 @@ fn play_scene<H: Threads + Sync>(
     };
     match first.text.strip_prefix("scene ") {
         Some(name) => play_named(threads, rt, name, lines),
-        None => Ok(Count::none()),
+        None => pass_over(rt, lines),
     }
 }
 
@@ -111,16 +121,22 @@ fn play_text<H: Threads + Sync>(threads: &H, rt: &HostRuntime, text: &str) -> io
     Ok(count)
 }
 
-fn play_file<H: Threads + Sync>(threads: &H, rt: &HostRuntime, name: &str) -> io::Result<Count> {
-    let text = fs::read_to_string(rt, name)?;
-    play_text(threads, rt, text.as_str())
+fn play_file<H: Threads + Sync>(
+    threads: &H,
+    rt: &HostRuntime,
+    name: &str,
+) -> io::Result<Option<Count>> {
+    match read_file(rt, name)? {
+        Some(text) => Ok(Some(play_text(threads, rt, text.as_str())?)),
+        None => Ok(None),
+    }
 }
 
 /// Plays the scenes of these files, prints what comes of them, and tells whether all is as it is to be.
 ///
 /// # Errors
 ///
-/// What standard output answers, or a file that can't be read.
+/// What standard output answers.
 pub fn play_files<H: Threads + Sync>(
     threads: &H,
     rt: HostRuntime,
@@ -129,7 +145,7 @@ pub fn play_files<H: Threads + Sync>(
     let mut sums = Sums::none();
     for name in names {
         if !sums.turns(name.as_str()) {
-            sums.add(play_file(threads, &rt, name.as_str())?);
+            sums.add_file(play_file(threads, &rt, name.as_str())?);
         }
     }
     sums.print(&rt, "scenes")

@@ -2,8 +2,9 @@
 
 use crate::after::{After, told_fault};
 use crate::asking::ask;
-use crate::fault::{Fault, Line, check};
+use crate::fault::{Fault, Line};
 use crate::gateway::Gateway;
+use crate::known::{know, know_ends};
 use crate::setup::{Fails, Setup, policy_of, rules_of, setup_of};
 use crate::stage::{Stage, keeper_of, load, open};
 use crate::sweeps::sweep;
@@ -185,62 +186,6 @@ fn step<H: Threads + Sync>(
     }
 }
 
-const WORDS: [&str; 31] = [
-    "scene",
-    "table",
-    "user",
-    "record",
-    "limit",
-    "fails",
-    "port-fails",
-    "session",
-    "clock",
-    "client",
-    "given",
-    "source",
-    "idle",
-    "sink",
-    "ends",
-    "asked",
-    "moments",
-    "closed",
-    "response",
-    "password",
-    "keeps",
-    "unopened",
-    "telnet",
-    "says",
-    "told",
-    "log",
-    "server",
-    "passed",
-    "dials",
-    "sink-room",
-    "log-room",
-];
-
-fn is_listed(word: &str) -> bool {
-    for known in WORDS {
-        if known == word {
-            return true;
-        }
-    }
-    false
-}
-
-// Whether the line is one of those that a scene may have.
-fn is_known(line: &Line<'_>) -> bool {
-    let word = line.word();
-    line.is_blank() || line.is_row() || word == "sweep" || is_listed(word)
-}
-
-fn know(lines: &[Line<'_>]) -> Result<(), Fault> {
-    for line in lines {
-        check(line, is_known(line), b"no such line")?;
-    }
-    Ok(())
-}
-
 // What is there after the scene of these lines, over this book.
 fn acted<H: Threads + Sync>(
     rt: &H,
@@ -302,6 +247,7 @@ pub(crate) fn play<H: Threads + Sync>(
     lines: &[Line<'_>],
 ) -> Result<(), Fault> {
     know(lines)?;
+    know_ends(lines)?;
     let setup = setup_of(alloc, lines)?;
     let played = play_swept(rt, alloc, lines, &setup);
     drop(setup);

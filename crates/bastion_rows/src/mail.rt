@@ -23,7 +23,7 @@ use std::thread::Threads;
 ///
 /// # Errors
 ///
-/// What standard output answers, or a file that can't be read.
+/// What standard output answers.
 pub fn try_rows<H: Threads + Sync>(
     threads: &H,
     rt: HostRuntime,

@@ -14,7 +14,7 @@ use std::io;
 ///
 /// # Errors
 ///
-/// What standard output answers, or a file that can't be read.
+/// What standard output answers.
 pub fn try_rows(rt: HostRuntime, names: &[String]) -> io::Result<bool> {
     compare(rt, &mut Kinds, names)
 }

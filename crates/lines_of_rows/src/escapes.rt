@@ -1,5 +1,6 @@
 //! Texts with escapes.
 
+use crate::telling::digit;
 use fw_types::NoMemory;
 use std::alloc::Global;
 
@@ -143,6 +144,24 @@ pub fn from_hex(alloc: Global, digits: &str) -> Result<Vec<u8>, NoMemory> {
         match first.take() {
             None => first = Some(*digit),
             Some(high) => out.push(byte_of(high, *digit))?,
+        }
+    }
+    Ok(out)
+}
+
+/// The text with escapes that stands for these bytes.
+pub fn escape(alloc: Global, bytes: &[u8]) -> Result<Vec<u8>, NoMemory> {
+    let mut out = Vec::new(alloc);
+    for byte in bytes {
+        match *byte {
+            b'\\' => out.extend_from_slice(b"\\\\")?,
+            b'\n' => out.extend_from_slice(b"\\n")?,
+            b'\r' => out.extend_from_slice(b"\\r")?,
+            b' '..=b'~' => out.push(*byte)?,
+            other => {
+                let digits = [b'\\', b'x', digit(other / 16), digit(other % 16)];
+                out.extend_from_slice(&digits)?;
+            }
         }
     }
     Ok(out)

@@ -63,25 +63,42 @@ fn compare_text<R: Rows>(rt: &HostRuntime, rows: &mut R, text: &str) -> io::Resu
     Ok(count)
 }
 
-fn compare_file<R: Rows>(rt: &HostRuntime, rows: &mut R, name: &str) -> io::Result<Count> {
-    let text = fs::read_to_string(rt, name)?;
+/// The text of the file of this name. Where it can't be read, prints that.
+///
+/// # Errors
+///
+/// What standard output answers.
+pub fn read_file(rt: &HostRuntime, name: &str) -> io::Result<Option<String>> {
+    match fs::read_to_string(rt, name) {
+        Ok(text) => Ok(Some(text)),
+        Err(_) => {
+            println!(rt; "{name}: no text that can be read")?;
+            Ok(None)
+        }
+    }
+}
+
+fn compare_file<R: Rows>(rt: &HostRuntime, rows: &mut R, name: &str) -> io::Result<Option<Count>> {
+    let Some(text) = read_file(rt, name)? else {
+        return Ok(None);
+    };
     let count = compare_text(rt, rows, text.as_str())?;
     print_file(rt, name, count)?;
-    Ok(count)
+    Ok(Some(count))
 }
 
 /// Compares the rows of the files of these names, prints what comes of it, and tells whether all is as it is to be. Behind a
 /// name `-differ` stand files of wrong rows, each of which is to differ. All isn't as it is to be where a row is told
-/// otherwise, where a wrong row isn't, and where there is no row.
+/// otherwise, where a wrong row isn't, where there is no row, and where a file can't be read.
 ///
 /// # Errors
 ///
-/// What standard output answers, or a file that can't be read.
+/// What standard output answers.
 pub fn compare<R: Rows>(rt: HostRuntime, rows: &mut R, names: &[String]) -> io::Result<bool> {
     let mut sums = Sums::none();
     for name in names {
         if !sums.turns(name.as_str()) {
-            sums.add(compare_file(&rt, rows, name.as_str())?);
+            sums.add_file(compare_file(&rt, rows, name.as_str())?);
         }
     }
     sums.print(&rt, "rows")

@@ -19,9 +19,9 @@ mod subjects;
 mod sums;
 mod telling;
 
-pub use escapes::{from_hex, unescape};
-pub use files::{Rows, compare, is_row};
+pub use escapes::{escape, from_hex, unescape};
+pub use files::{Rows, compare, is_row, read_file};
 pub use parts::{cut, cut_word, number_of, numbers_of};
 pub use subjects::{Subjects, try_subjects};
-pub use sums::{Count, Sums, print_difference, print_file};
+pub use sums::{Count, Sums, print_behind, print_difference, print_file};
 pub use telling::{Told, add, add_hex, add_number, add_word};

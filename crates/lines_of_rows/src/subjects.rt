@@ -13,7 +13,7 @@ pub trait Subjects {
     ///
     /// # Errors
     ///
-    /// What standard output answers, or a file that can't be read.
+    /// What standard output answers.
     fn try_subject<H: Threads + Wait + Sync>(
         &self,
         threads: &H,
@@ -51,7 +51,7 @@ fn subject_of(word: &str) -> Option<&str> {
 ///
 /// # Errors
 ///
-/// What standard output answers, or a file that can't be read.
+/// What standard output answers.
 pub fn try_subjects<H: Threads + Wait + Sync, S: Subjects>(
     threads: &H,
     rt: HostRuntime,

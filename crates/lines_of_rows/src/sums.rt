@@ -1,5 +1,6 @@
 //! What came of rows, as it is printed.
 
+use crate::escape;
 use std::{io, str};
 
 /// How many rows there are, and how many of them are told otherwise.
@@ -38,6 +39,7 @@ pub struct Sums {
     right: Count,
     wrong: Count,
     are_wrong: bool,
+    is_unread: bool,
 }
 
 impl Sums {
@@ -47,6 +49,7 @@ impl Sums {
             right: Count::none(),
             wrong: Count::none(),
             are_wrong: false,
+            is_unread: false,
         }
     }
 
@@ -59,8 +62,15 @@ impl Sums {
         false
     }
 
-    /// Adds the rows of a file.
-    pub fn add(&mut self, count: Count) {
+    /// Adds the rows of a file, or that it can't be read.
+    pub fn add_file(&mut self, count: Option<Count>) {
+        match count {
+            Some(count) => self.add(count),
+            None => self.is_unread = true,
+        }
+    }
+
+    fn add(&mut self, count: Count) {
         if self.are_wrong {
             self.wrong.add(count);
         } else {
@@ -76,12 +86,27 @@ impl Sums {
     pub fn print(&self, rt: &HostRuntime, noun: &str) -> io::Result<bool> {
         let Count { rows, differ } = self.right;
         println!(rt; "{rows} {noun}, {differ} differ")?;
-        let is_right = rows > 0 && differ == 0;
+        let is_right = rows > 0 && differ == 0 && !self.is_unread;
         let Count { rows, differ } = self.wrong;
         if rows > 0 {
             println!(rt; "{rows} wrong {noun}, {differ} differ")?;
         }
         Ok(is_right && rows == differ)
+    }
+}
+
+/// Prints a text behind another: as it stands, or with escapes where its bytes are no text.
+///
+/// # Errors
+///
+/// What standard output answers.
+pub fn print_behind(rt: &HostRuntime, first: &str, told: &[u8]) -> io::Result<()> {
+    if let Ok(text) = str::from_utf8(told) {
+        return println!(rt; "{first}{text}");
+    }
+    match escape(rt.alloc(), told) {
+        Ok(escaped) => println!(rt; "{first}{}", str::from_utf8(&escaped).unwrap_or("")),
+        Err(_) => println!(rt; "{first}no memory"),
     }
 }
 
@@ -91,10 +116,8 @@ impl Sums {
 ///
 /// What standard output answers.
 pub fn print_difference(rt: &HostRuntime, line: &str, told: &[u8]) -> io::Result<()> {
-    match str::from_utf8(told) {
-        Ok(text) => println!(rt; "differs: {line}\n   told: {text}"),
-        Err(_) => println!(rt; "differs: {line}\n   told: {told:?}"),
-    }
+    println!(rt; "differs: {line}")?;
+    print_behind(rt, "   told: ", told)
 }
 
 /// Prints that all rows of a file are told as they say, if they are.

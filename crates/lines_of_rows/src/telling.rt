@@ -25,7 +25,8 @@ pub fn add_number(out: &mut Told, number: u64) {
     add_word(out, buffer.format(number).as_bytes());
 }
 
-fn digit(half: u8) -> u8 {
+/// The hexadecimal digit of four bits.
+pub(crate) fn digit(half: u8) -> u8 {
     match half {
         0..=9 => b'0'.wrapping_add(half),
         _ => b'a'.wrapping_add(half).wrapping_sub(10),

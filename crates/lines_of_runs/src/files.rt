@@ -3,9 +3,9 @@
 use crate::Runs;
 use crate::line::difference;
 use fw_types::NoMemory;
-use lines_of_rows::{Count, Sums, is_row, print_difference, print_file};
+use lines_of_rows::{Count, Sums, is_row, print_difference, print_file, read_file};
+use std::io;
 use std::thread::Threads;
-use std::{fs, io};
 
 // Whether the row is told as it says. Else what is told is printed.
 fn is_told<H: Threads + Sync, R: Runs>(
@@ -42,18 +42,20 @@ fn compare_file<H: Threads + Sync, R: Runs>(
     rt: &HostRuntime,
     runs: &R,
     name: &str,
-) -> io::Result<Count> {
-    let text = fs::read_to_string(rt, name)?;
+) -> io::Result<Option<Count>> {
+    let Some(text) = read_file(rt, name)? else {
+        return Ok(None);
+    };
     let count = compare_text(threads, rt, runs, text.as_str())?;
     print_file(rt, name, count)?;
-    Ok(count)
+    Ok(Some(count))
 }
 
 /// The same as `lines_of_rows::compare`, of runs.
 ///
 /// # Errors
 ///
-/// What standard output answers, or a file that can't be read.
+/// What standard output answers.
 pub fn compare_runs<H: Threads + Sync, R: Runs>(
     threads: &H,
     rt: HostRuntime,
@@ -63,7 +65,7 @@ pub fn compare_runs<H: Threads + Sync, R: Runs>(
     let mut sums = Sums::none();
     for name in names {
         if !sums.turns(name.as_str()) {
-            sums.add(compare_file(threads, &rt, runs, name.as_str())?);
+            sums.add_file(compare_file(threads, &rt, runs, name.as_str())?);
         }
     }
     sums.print(&rt, "rows")

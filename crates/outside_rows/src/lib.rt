@@ -21,7 +21,7 @@ use std::io;
 ///
 /// # Errors
 ///
-/// What standard output answers, or a file that can't be read.
+/// What standard output answers.
 pub fn try_rows(rt: HostRuntime, names: &[String]) -> io::Result<bool> {
     signature::laws_hold();
     compare(rt, &mut Kinds, names)

@@ -45,7 +45,7 @@ fn link_by_words<H: Threads + Sync>(
 ///
 /// # Errors
 ///
-/// What a link or standard output answers, or a file that can't be read.
+/// What a link or standard output answers.
 pub(crate) fn try_rows<H: Threads + Sync>(
     threads: &H,
     rt: HostRuntime,

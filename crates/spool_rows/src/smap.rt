@@ -18,7 +18,7 @@ fn call_laws() {
 ///
 /// # Errors
 ///
-/// What standard output answers, or a file that can't be read.
+/// What standard output answers.
 pub fn try_rows(rt: HostRuntime, names: &[String]) -> io::Result<bool> {
     call_laws();
     compare(rt, &mut Kinds, names)
