@@ -45,15 +45,34 @@ pub(crate) fn tell_take(source: &mut MemSource, out: &mut Told) {
     }
 }
 
+/// A source of this text, of which so many bytes come at once, and which fails and idles at these calls.
+pub(crate) fn source_of(
+    alloc: Global,
+    piece: &[u8],
+    fails: &[u8],
+    idles: &[u8],
+    text: &[u8],
+) -> Result<MemSource, NoMemory> {
+    let piece = number_of(piece).max(1) as usize;
+    let fails = calls_of(alloc, fails)?;
+    let idles = calls_of(alloc, idles)?;
+    let text = Octets::copy(alloc, text)?;
+    Ok(MemSource::new(text, piece, fails, idles))
+}
+
+/// A sink with so much room, which fails at these calls.
+pub(crate) fn sink_of(alloc: Global, room: &[u8], fails: &[u8]) -> Result<MemSink, NoMemory> {
+    let fails = calls_of(alloc, fails)?;
+    MemSink::new(alloc, number_of(room) as usize, fails)
+}
+
 /// `source CALLS PIECE FAILS IDLES TEXT => TAKEN ..`, with a buffer of four bytes.
 pub(crate) fn tell_source(alloc: Global, asked: &[u8], out: &mut Told) -> Result<(), NoMemory> {
     let (calls, rest) = cut_word(asked);
     let (piece, rest) = cut_word(rest);
     let (fails, rest) = cut_word(rest);
     let (idles, text) = cut_word(rest);
-    let (fails, idles) = (calls_of(alloc, fails)?, calls_of(alloc, idles)?);
-    let piece = number_of(piece).max(1) as usize;
-    let mut source = MemSource::new(Octets::copy(alloc, text)?, piece, fails, idles);
+    let mut source = source_of(alloc, piece, fails, idles, text)?;
     source.patience(60);
     for _ in 0..number_of(calls) {
         tell_take(&mut source, out);
@@ -72,8 +91,7 @@ fn tell_answer(answer: Result<(), Failed>, out: &mut Told) {
 pub(crate) fn tell_sink(alloc: Global, asked: &[u8], out: &mut Told) -> Result<(), NoMemory> {
     let (room, rest) = cut_word(asked);
     let (fails, texts) = cut_word(rest);
-    let room = number_of(room) as usize;
-    let mut sink = MemSink::new(alloc, room, calls_of(alloc, fails)?)?;
+    let mut sink = sink_of(alloc, room, fails)?;
     for text in texts.split(|byte| *byte == b' ') {
         let answer = if text == b"-end".as_slice() {
             sink.end()

@@ -1,9 +1,8 @@
 //! What is told of the reader of lines.
 
-use crate::devices::calls_of;
-use fw_memory::MemSource;
+use crate::devices::source_of;
 use fw_outside::{Heard, LineReader, Stop};
-use fw_types::{NoMemory, Octets};
+use fw_types::NoMemory;
 use lines_of_rows::{Told, add, add_word, cut_word, number_of};
 use std::alloc::Global;
 
@@ -29,9 +28,7 @@ pub(crate) fn tell_lines(alloc: Global, asked: &[u8], out: &mut Told) -> Result<
     let (piece, rest) = cut_word(rest);
     let (fails, rest) = cut_word(rest);
     let (idles, text) = cut_word(rest);
-    let (fails, idles) = (calls_of(alloc, fails)?, calls_of(alloc, idles)?);
-    let piece = number_of(piece).max(1) as usize;
-    let mut source = MemSource::new(Octets::copy(alloc, text)?, piece, fails, idles);
+    let mut source = source_of(alloc, piece, fails, idles, text)?;
     let mut reader = LineReader::new(number_of(room));
     for _ in 0..number_of(calls) {
         tell_heard(&reader.next(&mut source), out);

@@ -1,8 +1,8 @@
 //! What is told of a way of a relay.
 
-use crate::devices::{calls_of, tell_take};
+use crate::devices::{sink_of, source_of, tell_take};
 use fw_memory::{MemSink, MemSource};
-use fw_types::{NoMemory, Octets};
+use fw_types::NoMemory;
 use lines_of_rows::{Told, add_number, add_word, cut_word, number_of};
 use relay_ways::{WayEnd, copy_way};
 use std::alloc::Global;
@@ -17,6 +17,15 @@ fn tell_end(end: WayEnd, out: &mut Told) {
     }
 }
 
+// Copies, and tells what came of it.
+fn tell_copy(mut source: MemSource, mut sink: MemSink, limit: u64, out: &mut Told) {
+    tell_end(copy_way(&mut source, &mut sink, limit), out);
+    let given = sink.bytes();
+    add_number(out, given.len() as u64);
+    add_word(out, &given[given.len().saturating_sub(10)..]);
+    tell_take(&mut source, out);
+}
+
 /// `way LIMIT PIECE FAILS IDLES ROOM SINK-FAILS TEXT => END COUNT LAST NEXT`: how the way ended, how many bytes the sink
 /// was given, the last ten of them, and what the source gives next.
 pub(crate) fn tell_way(alloc: Global, asked: &[u8], out: &mut Told) -> Result<(), NoMemory> {
@@ -26,15 +35,8 @@ pub(crate) fn tell_way(alloc: Global, asked: &[u8], out: &mut Told) -> Result<()
     let (idles, rest) = cut_word(rest);
     let (room, rest) = cut_word(rest);
     let (sink_fails, text) = cut_word(rest);
-    let (fails, idles) = (calls_of(alloc, fails)?, calls_of(alloc, idles)?);
-    let piece = number_of(piece).max(1) as usize;
-    let mut source = MemSource::new(Octets::copy(alloc, text)?, piece, fails, idles);
-    let room = number_of(room) as usize;
-    let mut sink = MemSink::new(alloc, room, calls_of(alloc, sink_fails)?)?;
-    tell_end(copy_way(&mut source, &mut sink, number_of(limit)), out);
-    let given = sink.bytes();
-    add_number(out, given.len() as u64);
-    add_word(out, &given[given.len().saturating_sub(10)..]);
-    tell_take(&mut source, out);
+    let source = source_of(alloc, piece, fails, idles, text)?;
+    let sink = sink_of(alloc, room, sink_fails)?;
+    tell_copy(source, sink, number_of(limit), out);
     Ok(())
 }
