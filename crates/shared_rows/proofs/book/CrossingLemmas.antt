@@ -20,7 +20,7 @@ use Rattle.turn_lock.proofs.pass.Pass.TheSendSync as Passing
 use Rattle.turn_lock.proofs.turns.Turns.TheSendSync as Turning
 use Rattle.turn_lock.specs.contracts.pass.Pass as Pass
 use Rattle.turn_lock.specs.contracts.turns.Turns as Turns
-use Rattle.shared_rows.specs.contracts.sharing.Shift as Shift
+use Rattle.shared_rows.specs.contracts.book.sharing.Shift as Shift
 
 book_send : (K : RattleType) (g : Ghosts K.Denot) → IsSend K → IsSend (Book.the_row K g)
 book_send K g s =
