@@ -84,36 +84,6 @@ pub(crate) struct Devices {
     pub(crate) dialer: MemDialer,
 }
 
-/// A world of these devices, in which no program is started.
-pub(crate) fn world_of(
-    alloc: Global,
-    devices: Devices,
-    keeper: MemKeeper,
-    disks: Vec<MemDisk>,
-) -> World<Memory>
-    ensures disks { result.disks.items ≡ disks.items }
-{
-    let Devices {
-        files,
-        input,
-        output,
-        logs,
-        dialer,
-    } = devices;
-    World {
-        files,
-        input,
-        output,
-        logs,
-        clock: MemClock::new(Vec::new(alloc)),
-        dice: MemDice::new(0),
-        keeper: Some(keeper),
-        dialer,
-        launcher: MemLauncher::new(alloc, Vec::new(alloc), Calls::none()),
-        disks,
-    }
-}
-
 /// The status of a run, what was printed or the client was told, what was logged, the disks behind it, and the messages that
 /// the mailer took.
 #[derive(Drop)]
@@ -170,18 +140,37 @@ fn ended_of(status: u8, world: World<Memory>, shown: Vec<u8>) -> Ended {
     }
 }
 
-// The one call of `run`: its status, and what it left in the world.
+// The one call of `run`, with no records and no program that could be started: its status, and what it left in the world.
 fn run_with<H: Threads + Sync>(
     threads: &H,
     alloc: Global,
     words: &[Octets],
-    world: World<Memory>,
+    devices: Devices,
+    disks: Vec<MemDisk>,
     mailers: &mut Vec<Box<dyn Mailer>>,
 ) -> (u8, World<Memory>)
-    requires few { length world.disks.items ≤ 64 }
+    requires few { length disks.items ≤ 64 }
     requires some { 0 < length mailers.old.items }
 {
-    let mut world = world;
+    let Devices {
+        files,
+        input,
+        output,
+        logs,
+        dialer,
+    } = devices;
+    let mut world: World<Memory> = World {
+        files,
+        input,
+        output,
+        logs,
+        clock: MemClock::new(Vec::new(alloc)),
+        dice: MemDice::new(0),
+        keeper: Some(MemKeeper::new(alloc, Vec::new(alloc), Calls::none())),
+        dialer,
+        launcher: MemLauncher::new(alloc, Vec::new(alloc), Calls::none()),
+        disks,
+    };
     let status = run(threads, alloc, words, mailers, &mut world);
     (status, world)
 }
@@ -222,9 +211,7 @@ pub(crate) fn run_over<H: Threads + Sync>(
     let words = words_of(alloc, line)?;
     let mut mailers: Vec<Box<dyn Mailer>> = Vec::new(alloc);
     mailers.push(Box::new(alloc, MemMailer::new(alloc, answers))?)?;
-    let keeper = MemKeeper::new(alloc, Vec::new(alloc), Calls::none());
-    let world = world_of(alloc, devices, keeper, disks);
-    let (status, world) = run_with(threads, alloc, &words, world, &mut mailers);
+    let (status, world) = run_with(threads, alloc, &words, devices, disks, &mut mailers);
     let ended = ended_by(alloc, status, world, &mailers)?;
     Ok(Some(ended))
 }

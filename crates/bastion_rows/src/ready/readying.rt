@@ -1,9 +1,10 @@
 //! A server that is made ready over devices in memory.
+ghost use Rattle.std.specs.Prelude.{◌≤◌, length};
 
-use crate::world::{Devices, Memory, files_of, no_server, nobody, words_of, world_of};
+use crate::world::{Devices, Memory, files_of, no_server, nobody, words_of};
 use bastion::World;
 use bastion_ready::{Door, Ready, ready};
-use fw_memory::{Calls, MemDisk, MemKeeper, MemSink};
+use fw_memory::{Calls, MemClock, MemDice, MemDisk, MemKeeper, MemLauncher, MemSink};
 use fw_types::{Name, NoMemory, Octets};
 use gate_rules::{Rules, Service};
 use lines_of_rows::from_hex;
@@ -53,6 +54,70 @@ fn still_with(alloc: Global, table: &[u8], logs: MemSink) -> Result<Devices, NoM
     })
 }
 
+// The one call of `ready`: what came of it, and what it left in the world.
+fn ready_in(
+    alloc: Global,
+    words: &[Octets],
+    devices: Devices,
+    keeper: MemKeeper,
+    disks: Vec<MemDisk>,
+) -> (Result<Server, u8>, World<Memory>)
+    requires few { length disks.items ≤ 64 }
+{
+    let Devices {
+        files,
+        input,
+        output,
+        logs,
+        dialer,
+    } = devices;
+    let mut world: World<Memory> = World {
+        files,
+        input,
+        output,
+        logs,
+        clock: MemClock::new(Vec::new(alloc)),
+        dice: MemDice::new(0),
+        keeper: Some(keeper),
+        dialer,
+        launcher: MemLauncher::new(alloc, Vec::new(alloc), Calls::none()),
+        disks,
+    };
+    let server = match ready(alloc, words, &mut world) {
+        Ok(ready) => Ok(server_of(ready)),
+        Err(status) => Err(status),
+    };
+    (server, world)
+}
+
+// What is told of a world in which that came.
+fn came_of(server: Result<Server, u8>, world: World<Memory>) -> Came {
+    let World {
+        files,
+        input,
+        output,
+        logs,
+        clock,
+        dice: _,
+        keeper,
+        dialer,
+        launcher,
+        disks,
+    } = world;
+    drop(files);
+    drop(input);
+    drop(output);
+    drop(clock);
+    drop(dialer);
+    drop(launcher);
+    Came {
+        server,
+        logs,
+        kept: keeper.is_some(),
+        disks,
+    }
+}
+
 /// What the words come to over this table, keeper, log and disks, of which there are at most 64.
 pub(crate) fn ready_over(
     alloc: Global,
@@ -67,23 +132,8 @@ pub(crate) fn ready_over(
     }
     let words = words_of(alloc, line)?;
     let devices = still_with(alloc, table, logs)?;
-    let mut world = world_of(alloc, devices, keeper, disks);
-    let server = match ready(alloc, &words, &mut world) {
-        Ok(ready) => Ok(server_of(ready)),
-        Err(status) => Err(status),
-    };
-    let World::<Memory> {
-        logs,
-        keeper,
-        disks,
-        ..
-    } = world;
-    Ok(Came {
-        server,
-        logs,
-        kept: keeper.is_some(),
-        disks,
-    })
+    let (server, world) = ready_in(alloc, &words, devices, keeper, disks);
+    Ok(came_of(server, world))
 }
 
 /// A keeper of this record, whose calls of these numbers fail.
