@@ -56,7 +56,9 @@ pub(crate) fn files_of(
     table: Octets,
     piece: usize,
     fails: Calls,
-) -> Result<MemFiles, NoMemory> {
+) -> Result<MemFiles, NoMemory>
+    requires some { 0 < piece }
+{
     let name = Octets::copy(alloc, b"/usr/local/etc/netperm-table")?;
     let mut files = Vec::new(alloc);
     files.push((name, table))?;
