@@ -1,4 +1,4 @@
-//! Rows over devices in memory: runs them, and says which come out otherwise. `docs/tests.md` and `docs/tests-scenes.md` say how rows
+//! Rows of runs and of the crates below: tries them, and says which come out otherwise. `docs/tests.md` and `docs/tests-scenes.md` say how rows
 //! are written.
 //!
 //! `fwtk_rows FILE.. [-differ FILE..]` has whole runs. It prints `ok NAME` for each row that comes out as its file says, with the count
@@ -45,7 +45,10 @@ impl Subjects for All {
         if let Some(is_right) = above::try_subject(threads, rt, name, words)? {
             return Ok(Some(is_right));
         }
-        beside::print_subject(threads, rt, name)
+        if let Some(is_right) = beside::print_subject(threads, rt, name)? {
+            return Ok(Some(is_right));
+        }
+        real_rows::try_subject(threads, rt, name, words)
     }
 }
 
