@@ -14,9 +14,9 @@ plug-gw: port 119 10.* -plug-to 198.6.73.6
 authsrv: permit-hosts 10.*
 ";
 
-// What a run is given beside its disks: that table, and nobody who says anything. The output refuses these calls.
-fn devices_of(alloc: Global, refuses: Calls) -> Result<Devices, NoMemory> {
-    let table = Octets::copy(alloc, TABLE)?;
+// What a run is given beside its disks: this table, and nobody who says anything. The output refuses these calls.
+fn devices_of(alloc: Global, table: &[u8], refuses: Calls) -> Result<Devices, NoMemory> {
+    let table = Octets::copy(alloc, table)?;
     let files = files_of(alloc, table, 64, Calls::none())?;
     let input = nobody(alloc)?;
     let output = MemSink::new(alloc, 1024, refuses)?;
@@ -39,7 +39,7 @@ pub(crate) fn run_on<H: Threads + Sync>(
     disks: Vec<MemDisk>,
     refuses: Calls,
 ) -> Result<Ended, NoMemory> {
-    let devices = devices_of(alloc, refuses)?;
+    let devices = devices_of(alloc, TABLE, refuses)?;
     match run_over(threads, alloc, line, devices, disks, Vec::new(alloc))? {
         Some(ended) => Ok(ended),
         None => Err(NoMemory),

@@ -17,12 +17,16 @@ const TEXT: &[u8] = b"\
 10.0.0.6 1.2.3.4
 10.0.0.7 last";
 
-/// The names in a text of a hosts file.
-pub(crate) fn names(rt: HostRuntime) -> io::Result<HostNames> {
-    match Octets::copy(rt.alloc(), TEXT) {
+fn names_in(rt: HostRuntime, text: &[u8]) -> io::Result<HostNames> {
+    match Octets::copy(rt.alloc(), text) {
         Ok(text) => Ok(HostNames::of(text)),
         Err(_) => Err(io::Error::from(ErrorKind::OutOfMemory)),
     }
+}
+
+/// The names in a text of a hosts file.
+pub(crate) fn names(rt: HostRuntime) -> io::Result<HostNames> {
+    names_in(rt, TEXT)
 }
 
 fn tell_one(rt: HostRuntime, names: &HostNames, host: [u8; 4]) -> io::Result<()> {

@@ -19,8 +19,8 @@ const PLAIN: &str =
 // The record of `otp1`, who has one one-time password left (RFC 2289, appendix C: the seed `test`).
 const OTP: &str = "01050200000000000000000000046f74703100000000000104746573747965e05436f5029f";
 
-fn read_table(alloc: Global) -> Result<Table, TableFault> {
-    let bytes = Octets::copy(alloc, TABLE)?;
+fn read_table(alloc: Global, text: &[u8]) -> Result<Table, TableFault> {
+    let bytes = Octets::copy(alloc, text)?;
     let mut source = MemSource::new(bytes, 64, Calls::none(), Calls::none());
     Table::read(alloc, &mut source)
 }
@@ -42,7 +42,7 @@ fn keeper(alloc: Global) -> Result<MemKeeper, NoMemory> {
 
 /// The book.
 pub(crate) fn book(alloc: Global) -> Option<Book<MemKeeper>> {
-    let table = read_table(alloc).ok()?;
+    let table = read_table(alloc, TABLE).ok()?;
     let policy = Policy::of(alloc, &table).ok()?;
     let keeper = keeper(alloc).ok()?;
     match Book::open(alloc, keeper, policy, 1000) {
@@ -55,7 +55,7 @@ pub(crate) fn book(alloc: Global) -> Option<Book<MemKeeper>> {
 pub(crate) fn rules(alloc: Global) -> Option<(Service, Rules)>
     ensures { IfSome result MayServe }
 {
-    let table = read_table(alloc).ok()?;
+    let table = read_table(alloc, TABLE).ok()?;
     let rules = Rules::of(alloc, &table, &Service::Authsrv).ok()?;
     Some((Service::Authsrv, rules))
 }
@@ -64,7 +64,7 @@ pub(crate) fn rules(alloc: Global) -> Option<(Service, Rules)>
 pub(crate) fn mail_rules(alloc: Global) -> Option<(Service, Rules)>
     ensures { IfSome result MayServe }
 {
-    let table = read_table(alloc).ok()?;
+    let table = read_table(alloc, TABLE).ok()?;
     let rules = Rules::of(alloc, &table, &Service::Smap).ok()?;
     Some((Service::Smap, rules))
 }
