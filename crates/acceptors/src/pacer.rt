@@ -4,6 +4,9 @@
 pub trait Pacer: Drop {
     /// Rests for a while.
     fn rest(&mut self);
+
+    /// Rests for longer, behind a round in which something failed.
+    fn rest_long(&mut self);
 }
 
 /// A pacer that doesn't rest.
@@ -18,4 +21,6 @@ impl MemPacer {
 
 impl Pacer for MemPacer {
     fn rest(&mut self) {}
+
+    fn rest_long(&mut self) {}
 }

@@ -248,28 +248,28 @@ module _ (Origin : Type 0) (gate : Gate) where
 
     -- ---- destinations
 
-    welcomed : (t : Trail) (deed : Deed) (state : State) (name : List ℕ) (dest : Dest) (well : Bool) → t.k.dialed ≡ Some dest → transfer_by t.k.order ≡ None → Facts state t.k
+    welcomed : (t : Trail) (deed : Deed) (state : State) (name : List ℕ) (dest : Dest) (well : Bool) → state.dest ≡ None → t.k.dialed ≡ Some dest → transfer_by t.k.order ≡ None → Facts state t.k
         → Leads (rows.welcomed_row gate state name dest well) (record { k = with_deed deed t.k.since (greeting_by well t.k); due = welcomed_due well gate })
-    welcomed t deed state name dest true up none f =
+    welcomed t deed state name dest true unlinked up none f =
         pass_user (record { k = with_deed deed t.k.since (greeting_by true t.k); due = welcomed_due true gate }) (rows.with_dest dest state) name none (record { login = f.login; user = f.user; link = up }) refl
-    welcomed t deed state name dest false up none f = (tt, λ done. (record { login = f.login; user = f.user; link = f.link }, refl))
+    welcomed t deed state name dest false unlinked up none f = (tt, λ done. (record { login = f.login; user = f.user; link = sym unlinked }, refl))
 
-    greeted : (t : Trail) (state : State) (name : List ℕ) (dest : Dest) (heard : Replied × List ℕ) → t.k.dialed ≡ Some dest → transfer_by t.k.order ≡ None → Facts state t.k → Leads (rows.greeted_row gate state name dest heard.0) (trace gate t (TakeReply Greeting) (Ok heard))
-    greeted t state name dest (Whole code six, text) up none f = welcomed t (deed_of (TakeReply Greeting) (Ok (Whole code six, text))) state name dest (is_well code) up none f
-    greeted t state name dest (Ended, text) up none f = closed (trace gate t (TakeReply Greeting) (Ok (Ended, text))) refl
+    greeted : (t : Trail) (state : State) (name : List ℕ) (dest : Dest) (heard : Replied × List ℕ) → state.dest ≡ None → t.k.dialed ≡ Some dest → transfer_by t.k.order ≡ None → Facts state t.k → Leads (rows.greeted_row gate state name dest heard.0) (trace gate t (TakeReply Greeting) (Ok heard))
+    greeted t state name dest (Whole code six, text) unlinked up none f = welcomed t (deed_of (TakeReply Greeting) (Ok (Whole code six, text))) state name dest (is_well code) unlinked up none f
+    greeted t state name dest (Ended, text) unlinked up none f = closed (trace gate t (TakeReply Greeting) (Ok (Ended, text))) refl
 
-    dialed : (t : Trail) (state : State) (name : List ℕ) (dest : Dest) (up : Bool) → transfer_by t.k.order ≡ None → Facts state t.k → Leads (rows.dialed_row gate state name dest up) (trace gate t (Dial dest) (Ok up))
-    dialed t state name dest true none f =
-        (refl, λ heard. greeted (trace gate t (Dial dest) (Ok true)) state name dest heard refl none (record { login = f.login; user = f.user; link = f.link }))
-    dialed t state name dest false none f = tell (trace gate t (Dial dest) (Ok false)) texts.no_route state (record { login = f.login; user = f.user; link = f.link }) refl
+    dialed : (t : Trail) (state : State) (name : List ℕ) (dest : Dest) (up : Bool) → state.dest ≡ None → transfer_by t.k.order ≡ None → Facts state t.k → Leads (rows.dialed_row gate state name dest up) (trace gate t (Dial dest) (Ok up))
+    dialed t state name dest true unlinked none f =
+        (refl, λ heard. greeted (trace gate t (Dial dest) (Ok true)) state name dest heard unlinked refl none (record { login = f.login; user = f.user; link = sym unlinked }))
+    dialed t state name dest false unlinked none f = tell (trace gate t (Dial dest) (Ok false)) texts.no_route state (record { login = f.login; user = f.user; link = sym unlinked }) refl
 
-    connect : (t : Trail) (state : State) (name : List ℕ) (dest : Dest) → dial_due true t.k.order ≡ Some (Dial dest) → transfer_by t.k.order ≡ None → Facts state t.k → t.due ≡ Some (Log (connect_line gate dest)) → Leads (rows.connect_row gate state name dest) t
-    connect t state name dest wants none f due = (
+    connect : (t : Trail) (state : State) (name : List ℕ) (dest : Dest) → state.dest ≡ None → dial_due true t.k.order ≡ Some (Dial dest) → transfer_by t.k.order ≡ None → Facts state t.k → t.due ≡ Some (Log (connect_line gate dest)) → Leads (rows.connect_row gate state name dest) t
+    connect t state name dest unlinked wants none f due = (
       fits_due t.due (Log (connect_line gate dest)) due,
-      λ logged. (fits_due (dial_due true t.k.order) (Dial dest) wants, λ up. dialed (trace gate t (Log (connect_line gate dest)) (Ok logged)) state name dest up none (record { login = f.login; user = f.user; link = f.link })),
+      λ logged. (fits_due (dial_due true t.k.order) (Dial dest) wants, λ up. dialed (trace gate t (Log (connect_line gate dest)) (Ok logged)) state name dest up unlinked none (record { login = f.login; user = f.user; link = f.link })),
     )
 
-    module _ (state : State) (name : List ℕ) (dest : Dest) (names : user_of order.arg ≡ Some (name, dest)) (stays : way_of (kind_of order.verb) ≡ None) where
+    module _ (state : State) (name : List ℕ) (dest : Dest) (names : user_of order.arg ≡ Some (name, dest)) (stays : way_of (kind_of order.verb) ≡ None) (unlinked : state.dest ≡ None) where
       abbrev operation : Request
       operation = requests.Operation services.Ftp dest.host
 
@@ -295,7 +295,7 @@ module _ (Origin : Type 0) (gate : Gate) where
           log_tell (trace gate t (Ask operation) (Ok reply)) (refuse_line gate dest (refusing_line gate.line reply)) (texts.dest_denied (refusing_line gate.line reply)) state refl (operated_facts t reply f) (due_operation t reply heard ∙ is)
 
       operated : (t : Trail) (reply : Reply) → t.k.order ≡ Some order → Facts state t.k → Leads (rows.operated_row gate state name dest reply) (trace gate t (Ask operation) (Ok reply))
-      operated t replies.Ok heard f = connect (trace gate t (Ask operation) (Ok replies.Ok)) state name dest (wants_dial t.k heard) (no_way t.k heard stays) (operated_facts t replies.Ok f) (due_operation t replies.Ok heard)
+      operated t replies.Ok heard f = connect (trace gate t (Ask operation) (Ok replies.Ok)) state name dest unlinked (wants_dial t.k heard) (no_way t.k heard stays) (operated_facts t replies.Ok f) (due_operation t replies.Ok heard)
       operated t replies.Password heard f = refused t replies.Password refl heard f
       operated t (replies.Challenge number word_seed) heard f = refused t (replies.Challenge number word_seed) refl heard f
       operated t (replies.Opened sid) heard f = refused t (replies.Opened sid) refl heard f
@@ -304,23 +304,23 @@ module _ (Origin : Type 0) (gate : Gate) where
 
       permitted : (t : Trail) (extnd : Bool) → t.due ≡ connect_due extnd gate dest → t.k.order ≡ Some order → Facts state t.k → Leads (rows.permitted_row extnd gate state name dest) t
       permitted t true due heard f = (fits_due t.due (Ask operation) due, λ reply. operated t reply heard f)
-      permitted t false due heard f = connect t state name dest (wants_dial t.k heard) (no_way t.k heard stays) f due
+      permitted t false due heard f = connect t state name dest unlinked (wants_dial t.k heard) (no_way t.k heard stays) f due
 
       dest_so : (t : Trail) (allowed : Bool) → t.due ≡ dest_due allowed gate dest → t.k.order ≡ Some order → Facts state t.k → Leads (rows.dest_row allowed gate state name dest) t
       dest_so t true due heard f = permitted t gate.options.extnd due heard f
       dest_so t false due heard f = log_tell t (refuse_line gate dest gate.line) (texts.dest_denied gate.line) state refl f due
 
-    wanted : (t : Trail) (state : State) (user : Option (List ℕ × Dest)) → user_of order.arg ≡ user → way_of (kind_of order.verb) ≡ None → t.due ≡ wanted_due gate user → t.k.order ≡ Some order → Facts state t.k → Leads (rows.wanted_row gate state user) t
-    wanted t state None is stays due heard f = tell t texts.no_destination state f due
-    wanted t state (Some (name, dest)) is stays due heard f = dest_so state name dest is stays t (allows gate.options dest) due heard f
+    wanted : (t : Trail) (state : State) (user : Option (List ℕ × Dest)) → user_of order.arg ≡ user → way_of (kind_of order.verb) ≡ None → state.dest ≡ None → t.due ≡ wanted_due gate user → t.k.order ≡ Some order → Facts state t.k → Leads (rows.wanted_row gate state user) t
+    wanted t state None is stays unlinked due heard f = tell t texts.no_destination state f due
+    wanted t state (Some (name, dest)) is stays unlinked due heard f = dest_so state name dest is stays unlinked t (allows gate.options dest) due heard f
 
     again : (t : Trail) (state : State) (name : Option (List ℕ)) → transfer_by t.k.order ≡ None → t.due ≡ named_due gate name → Facts state t.k → Leads (rows.again_row gate state name) t
     again t state None none due f = tell t texts.already_connected state f due
     again t state (Some name) none due f = pass_user t state name none f due
 
-    user_so : (t : Trail) (state : State) (dest : Option Dest) → way_of (kind_of order.verb) ≡ None → t.due ≡ user_due gate dest order.arg → t.k.order ≡ Some order → Facts state t.k → Leads (rows.user_row gate state dest order.arg) t
-    user_so t state None stays due heard f = wanted t state (user_of order.arg) refl stays due heard f
-    user_so t state (Some dest) stays due heard f = again t state (name_there dest order.arg) (no_way t.k heard stays) due f
+    user_so : (t : Trail) (state : State) (dest : Option Dest) → state.dest ≡ dest → way_of (kind_of order.verb) ≡ None → t.due ≡ user_due gate dest order.arg → t.k.order ≡ Some order → Facts state t.k → Leads (rows.user_row gate state dest order.arg) t
+    user_so t state None is stays due heard f = wanted t state (user_of order.arg) refl stays is due heard f
+    user_so t state (Some dest) is stays due heard f = again t state (name_there dest order.arg) (no_way t.k heard stays) due f
 
     -- ---- data links
 
@@ -429,7 +429,7 @@ module _ (Origin : Type 0) (gate : Gate) where
       served_so (Some dest) asked kind due = linked dest asked kind due
 
       allowed : (asked : Outward) → kind_of order.verb ≡ kinds.Outward asked → t.due ≡ allowed_due gate state.dest order asked → Leads (rows.allowed_row gate state order asked) t
-      allowed User kind due = user_so t state state.dest (ap way_of kind) due heard f
+      allowed User kind due = user_so t state state.dest refl (ap way_of kind) due heard f
       allowed (Served asked) kind due = served_so state.dest asked kind due
 
       login : (asked : Outward) (lacks : Bool) → kind_of order.verb ≡ kinds.Outward asked → t.due ≡ unless_due lacks gate state.dest order asked → Leads (rows.login_row gate state order asked lacks) t

@@ -164,7 +164,7 @@ module _ (Origin : Type 0) (gate : Gate) where
       }
 
   heard_knows : (n : Noted) (heard : Heard) (state : State) → Knows gate state n.k → Knows gate state (note gate n (Hear heard_form) (Ok heard)).k
-  heard_knows n heard state knows = record { login = knows.login; user = knows.user; link = knows.link; setting = knows.setting; own = knows.own }
+  heard_knows n heard state knows = record { login = knows.login; user = knows.user; link = knows.link; up = knows.up; setting = knows.setting; own = knows.own }
 
   command_leaves : (n : Noted) (heard : Heard) (state : State) (order : Option Order) → order_in heard ≡ order → Holds gate n state → Leaves watch (rows.command_row gate state order) (note gate n (Hear heard_form) (Ok heard))
   command_leaves n heard state None is holds =
@@ -197,7 +197,7 @@ module _ (Origin : Type 0) (gate : Gate) where
 
   reply_holds : (n : Noted) (deed : Deed) (state : State) → Holds gate n state → Holds gate (behind_reply n deed) state
   reply_holds n deed state holds = (
-    record { login = holds.0.login; user = holds.0.user; link = holds.0.link; setting = holds.0.setting; own = holds.0.own },
+    record { login = holds.0.login; user = holds.0.user; link = holds.0.link; up = holds.0.up; setting = holds.0.setting; own = holds.0.own },
     record { is = holds.1.is ∙ sym (append-nil n.passed); asks = holds.1.asks ∙ sym (append-nil n.calls) },
   )
 
@@ -262,4 +262,4 @@ module _ (Origin : Type 0) (gate : Gate) where
   pub first_keeps : Leaves (ftp_watch Origin gate) rows.ftp_row at_first
   first_keeps =
       tell_leaves Origin gate at_first texts.ready (record { account = Unopened; dest = None; setting = None }) (record { other = refl; verb = refl; login = refl; dest = refl; failed = refl }) (calm refl refl refl refl refl refl)
-      (record { login = refl; user = tt; link = refl; setting = refl; own = tt }, record { is = refl; asks = refl })
+      (record { login = refl; user = tt; link = refl; up = refl; setting = refl; own = tt }, record { is = refl; asks = refl })

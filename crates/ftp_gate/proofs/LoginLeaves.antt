@@ -104,12 +104,12 @@ module _ (Origin : Type 0) (gate : Gate) (order : Order) (silent : Silent gate o
   named_leaves n state name stands (replies.Shown summary) base knows earlier since =
       failed_leaves n name NotIn (with_account (Opened name stands) state) base knows (record { request = requests.Authenticate name; reply = replies.Shown summary; failed = refl; about = refl; earlier = earlier; since = since; reason = refl })
 
-  authenticate_leaves : (n : Noted) (state : State) (name : List ℕ) (stood : Bool) → Names name order → (n.k.since ≡ []) ⊎ WasOpened n.k.since → Base order n → n.k.login ≡ stood → n.k.link ≡ state.dest → n.k.setting ≡ state.setting → IsOwnSetting gate state.setting
+  authenticate_leaves : (n : Noted) (state : State) (name : List ℕ) (stood : Bool) → Names name order → (n.k.since ≡ []) ⊎ WasOpened n.k.since → Base order n → n.k.login ≡ stood → n.k.link ≡ state.dest → n.k.dialed ≡ state.dest → n.k.setting ≡ state.setting → IsOwnSetting gate state.setting
       → Leaves watch (rows.authenticate_row gate state name stood) n
-  authenticate_leaves n state name stood names may base login link setting own = (
+  authenticate_leaves n state name stood names may base login link up setting own = (
     (record { order = order; heard = base.heard; asks = (names, may) }, behind gate n (even_of gate order n base silent)),
     λ reply. named_leaves (note gate n (Ask (requests.Authenticate name)) (Ok reply)) state name (stood && is_full reply) reply (asked_base gate order n (requests.Authenticate name) reply base)
-        (record { login = ap (λ (b : Bool). login_then b (requests.Authenticate name, reply)) login ∙ named_login stood name reply; user = refl; link = link; setting = setting; own = own }) n.k.since refl,
+        (record { login = ap (λ (b : Bool). login_then b (requests.Authenticate name, reply)) login ∙ named_login stood name reply; user = refl; link = link; up = up; setting = setting; own = own }) n.k.since refl,
   )
 
   module _ (state : State) (name : List ℕ) (names : Names name order) (unopened : state.account ≡ Unopened) where
@@ -122,6 +122,7 @@ module _ (Origin : Type 0) (gate : Gate) (order : Order) (silent : Silent gate o
       login = none_stands n.k reply knows.login ∙ sym (ap is_in unopened);
       user = knows.user;
       link = knows.link;
+      up = knows.up;
       setting = knows.setting;
       own = knows.own;
     }
@@ -135,7 +136,7 @@ module _ (Origin : Type 0) (gate : Gate) (order : Order) (silent : Silent gate o
     opened_leaves : (n : Noted) (reply : Reply) → n.k.since ≡ [] → Base order n → Knows gate state n.k → Leaves watch (rows.opened_row gate state name reply) (note gate n (Ask (requests.Open false)) (Ok reply))
     opened_leaves n (replies.Opened sid) since base knows =
         authenticate_leaves (note gate n (Ask (requests.Open false)) (Ok (replies.Opened sid))) state name false names (inr (record { sid = sid; is = ap (λ (d : List Deed). d ++ asked_so (requests.Open false) (replies.Opened sid) ∷ []) since })) (asked_base gate order n (requests.Open false) (replies.Opened sid) base)
-        (none_stands n.k (replies.Opened sid) knows.login) knows.link knows.setting knows.own
+        (none_stands n.k (replies.Opened sid) knows.login) knows.link knows.up knows.setting knows.own
     opened_leaves n (replies.Denied denial) since base knows = not_opened n (replies.Denied denial) denial refl refl base knows
     opened_leaves n replies.Password since base knows = not_opened n replies.Password NotIn refl refl base knows
     opened_leaves n (replies.Challenge number word_seed) since base knows = not_opened n (replies.Challenge number word_seed) NotIn refl refl base knows
@@ -148,7 +149,7 @@ module _ (Origin : Type 0) (gate : Gate) (order : Order) (silent : Silent gate o
     λ reply. opened_leaves state name names is n reply since base knows,
   )
   name_leaves n state (Opened other stood) name is names since base knows =
-      authenticate_leaves n state name stood names (inl since) base (knows.login ∙ ap is_in is) knows.link knows.setting knows.own
+      authenticate_leaves n state name stood names (inl since) base (knows.login ∙ ap is_in is) knows.link knows.up knows.setting knows.own
 
   pub authorize_leaves : (n : Noted) (state : State) (name : Option (List ℕ)) → kind_of order.verb ≡ kinds.Authorize → name_of order.arg ≡ name → n.k.since ≡ [] → Base order n → Knows gate state n.k
       → Leaves watch (rows.authorize_row gate state name) n
@@ -172,7 +173,7 @@ module _ (Origin : Type 0) (gate : Gate) (order : Order) (silent : Silent gate o
         → Leaves watch (rows.failed_row gate name denial state) (note gate n (Ask response) (Ok reply))
     wrong_leaves n reply denial bad failed reason user base knows =
         failed_leaves (note gate n (Ask response) (Ok reply)) name denial state (asked_base gate order n response reply base)
-        (record { login = wrong_stands n.k.login reply bad ∙ knows.login; user = knows.user; link = knows.link; setting = knows.setting; own = knows.own })
+        (record { login = wrong_stands n.k.login reply bad ∙ knows.login; user = knows.user; link = knows.link; up = knows.up; setting = knows.setting; own = knows.own })
         (record { request = response; reply = reply; failed = failed; about = user; earlier = n.k.since; since = refl; reason = reason })
 
     answered_leaves : (n : Noted) (reply : Reply) → n.k.user ≡ Some name → Base order n → Knows gate state n.k → Leaves watch (rows.answered_row gate state name reply) (note gate n (Ask response) (Ok reply))
@@ -180,7 +181,7 @@ module _ (Origin : Type 0) (gate : Gate) (order : Order) (silent : Silent gate o
         let asked = note gate n (Ask response) (Ok replies.Ok) in
         let after = with_account (Opened name true) state in
         let even = even_of gate order asked (asked_base gate order n response replies.Ok base) silent in
-        let knows_now : Knows gate after asked.k = record { login = refl; user = user; link = knows.link; setting = knows.setting; own = knows.own } in (
+        let knows_now : Knows gate after asked.k = record { login = refl; user = user; link = knows.link; up = knows.up; setting = knows.setting; own = knows.own } in (
           behind gate asked even,
           λ logged. tell_leaves Origin gate (note gate asked (Log (login_line gate name)) (Ok tt)) texts.login_ok after (record { other = refl; verb = refl; login = refl; dest = refl; failed = refl }) (calm refl refl refl refl refl refl)
               (logged_holds Origin gate asked (login_line gate name) after (knows_now, even)),

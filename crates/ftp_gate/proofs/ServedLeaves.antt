@@ -134,7 +134,7 @@ module _ (Origin : Type 0) (gate : Gate) (state : State) (order : Order) (main :
       ap (λ (o : Option Order). set_by (port_set gate) o n.k.setting) start.base.heard ∙ ap (λ (kind : Kind). port_set gate order kind n.k.setting) free.kind ∙ is in (
         ((first, calm refl refl refl refl refl refl), behind gate n even),
         λ done. (
-          record { login = start.knows.login; user = start.knows.user; link = start.knows.link; setting = sets; own = own_of gate (six_of order.arg) target is },
+          record { login = start.knows.login; user = start.knows.user; link = start.knows.link; up = start.knows.up; setting = sets; own = own_of gate (six_of order.arg) target is },
           record { is = even.is ∙ sym (append-nil n.passed); asks = even.asks ∙ sym (append-nil n.calls) },
         ),
       )
@@ -143,10 +143,10 @@ module _ (Origin : Type 0) (gate : Gate) (state : State) (order : Order) (main :
   opened_leaves n None knows even =
       tell_leaves Origin gate (note gate n OpenDoor (Ok None)) texts.no_door state (record { other = refl; verb = refl; login = refl; dest = refl; failed = refl })
       (record { route = λ is. clash is; door = λ is. (n.k.since, refl); pair = λ is. clash is; port = λ is. clash is; closed = λ is. clash is; early = λ is. clash is })
-      (record { login = knows.login; user = knows.user; link = knows.link; setting = knows.setting; own = knows.own }, record { is = even.is ∙ sym (append-nil n.passed); asks = even.asks ∙ sym (append-nil n.calls) })
+      (record { login = knows.login; user = knows.user; link = knows.link; up = knows.up; setting = knows.setting; own = knows.own }, record { is = even.is ∙ sym (append-nil n.passed); asks = even.asks ∙ sym (append-nil n.calls) })
   opened_leaves n (Some place) knows even =
       tell_leaves Origin gate (note gate n OpenDoor (Ok (Some place))) (texts.passive_mode place.0 place.1) (rows.with_setting (Some AtDoor) state) (record { other = refl; verb = refl; login = refl; dest = refl; failed = refl }) (calm refl refl refl refl refl refl)
-      (record { login = knows.login; user = knows.user; link = knows.link; setting = refl; own = tt }, record { is = even.is ∙ sym (append-nil n.passed); asks = even.asks ∙ sym (append-nil n.calls) })
+      (record { login = knows.login; user = knows.user; link = knows.link; up = knows.up; setting = refl; own = tt }, record { is = even.is ∙ sym (append-nil n.passed); asks = even.asks ∙ sym (append-nil n.calls) })
 
   door_leaves : FreeFor Pasv → (n : Noted) → Start gate state order n → Leaves watch (Do OpenDoor (rows.door_row state)) n
   door_leaves free n start =
@@ -214,14 +214,14 @@ module _ (Origin : Type 0) (gate : Gate) (state : State) (order : Order) (main :
       (may refl, behind gate n even),
       λ carried. copied_leaves (rows.is_done (option_map (λ way. way.end) carried)) (note gate n (Copy toward) (Ok carried))
           (λ lacks. record { toward = toward; carried = carried; lacks = lacks; earlier = n.k.since; drops = []; are_drops = tt; is = refl }) (
-            record { login = knows.login; user = knows.user; link = knows.link; setting = knows.setting; own = knows.own },
+            record { login = knows.login; user = knows.user; link = knows.link; up = knows.up; setting = knows.setting; own = knows.own },
             record { is = even.is ∙ sym (append-nil n.passed); asks = even.asks ∙ sym (append-nil n.calls) },
           ),
     )
     started_leaves n false may knows even = (
       behind gate n even,
       λ done. (
-        record { login = knows.login; user = knows.user; link = knows.link; setting = knows.setting; own = knows.own },
+        record { login = knows.login; user = knows.user; link = knows.link; up = knows.up; setting = knows.setting; own = knows.own },
         record { is = even.is ∙ sym (append-nil n.passed); asks = even.asks ∙ sym (append-nil n.calls) },
       ),
     )
@@ -234,7 +234,7 @@ module _ (Origin : Type 0) (gate : Gate) (state : State) (order : Order) (main :
       even : Even gate n
 
     answered_knows : (n : Noted) (deed : Deed) → Given n → Knows gate bare (passed_by n deed).k
-    answered_knows n deed given = record { login = given.knows.login; user = given.knows.user; link = given.knows.link; setting = given.knows.setting; own = given.knows.own }
+    answered_knows n deed given = record { login = given.knows.login; user = given.knows.user; link = given.knows.link; up = given.knows.up; setting = given.knows.setting; own = given.knows.own }
 
     answered_even : (n : Noted) (deed : Deed) → Given n → Even gate (passed_by n deed)
     answered_even n deed given = record { is = given.even.is ∙ sym (append-nil n.passed); asks = given.even.asks ∙ sym (append-nil n.calls) }
@@ -285,7 +285,7 @@ module _ (Origin : Type 0) (gate : Gate) (state : State) (order : Order) (main :
     asked_still : (n : Noted) (deed : Deed) → Asked gate state order n → Asked gate state order (passed_by n deed)
     asked_still n deed a = record {
       order_is = a.order_is;
-      knows = record { login = a.knows.login; user = a.knows.user; link = a.knows.link; setting = a.knows.setting; own = a.knows.own };
+      knows = record { login = a.knows.login; user = a.knows.user; link = a.knows.link; up = a.knows.up; setting = a.knows.setting; own = a.knows.own };
       login = a.login;
       passed = append-nil n.passed ∙ a.passed;
       calls = append-nil n.calls ∙ a.calls;
@@ -322,7 +322,7 @@ module _ (Origin : Type 0) (gate : Gate) (state : State) (order : Order) (main :
             link = a.knows.link ∙ linked;
           } in
           command_leaves (has_verb gate.options.log order.verb) after due may (used after.k a.order_is ∙ sym a.knows.setting) a.order_is refl
-          (record { login = a.knows.login; user = a.knows.user; link = a.knows.link; setting = a.knows.setting; own = tt })
+          (record { login = a.knows.login; user = a.knows.user; link = a.knows.link; up = a.knows.up; setting = a.knows.setting; own = tt })
       joined_leaves n side joins.NoSide a = unjoined n side joins.NoSide refl a
       joined_leaves n side joins.NoNear a = unjoined n side joins.NoNear refl a
       joined_leaves n side joins.Unready a = unjoined n side joins.Unready refl a
@@ -371,7 +371,7 @@ module _ (Origin : Type 0) (gate : Gate) (state : State) (order : Order) (main :
     asked_first : (n : Noted) (target : Target) → state.setting ≡ Some target → Start gate state order n → Asked gate state order (note gate n (Pass texts.pasv_text) (Ok tt))
     asked_first n target set start = record {
       order_is = start.base.heard;
-      knows = record { login = start.knows.login; user = start.knows.user; link = start.knows.link; setting = used n.k start.base.heard; own = tt };
+      knows = record { login = start.knows.login; user = start.knows.user; link = start.knows.link; up = start.knows.up; setting = used n.k start.base.heard; own = tt };
       login = start.login;
       passed = ap (λ (z : List ℕ). z ++ texts.pasv_text) start.base.passed;
       calls = append-nil n.calls ∙ start.base.calls;

@@ -127,7 +127,7 @@ module _ (Origin : Type 0) (gate : Gate) where
 
   -- what is known behind a text that was passed, where it leaves what is set
   pub given_knows : (state : State) (text : List ℕ) (n : Noted) → set_by (λ o kind s. used_up kind s) n.k.order n.k.setting ≡ n.k.setting → Knows gate state n.k → Knows gate state (note gate n (Pass text) (Ok tt)).k
-  given_knows state text n kept knows = record { login = knows.login; user = knows.user; link = knows.link; setting = kept ∙ knows.setting; own = knows.own }
+  given_knows state text n kept knows = record { login = knows.login; user = knows.user; link = knows.link; up = knows.up; setting = kept ∙ knows.setting; own = knows.own }
 
   give_leaves : (state : State) (text : List ℕ) (quits : Bool) (n : Noted) → Due gate text n → IsPassable gate n.k → set_by (λ o kind s. used_up kind s) n.k.order n.k.setting ≡ n.k.setting → Knows gate state n.k
       → Leaves watch (Do (Pass text) (λ done. At (Answering state quits))) n

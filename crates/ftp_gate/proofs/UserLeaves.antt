@@ -78,10 +78,17 @@ record Wanting (gate : Gate) (state : State) (order : Order) (since : List Deed)
   link : n.k.standing.link ≡ None
   greeted : n.k.standing.greeted ≡ false
 
+-- what a place knows but of links
+record Aware (gate : Gate) (state : State) (k : Known) : Type 0 where
+  login : k.login ≡ is_in state.account
+  user : IsUser state.account k.user
+  setting : k.setting ≡ state.setting
+  own : IsOwnSetting gate state.setting
+
 -- the link came up or not, and nothing more was said
 record Dialed (gate : Gate) (state : State) (order : Order) (n : Noted) : Type 0 where
   order_is : n.k.order ≡ Some order
-  knows : Knows gate state n.k
+  knows : Aware gate state n.k
   passed : n.passed ≡ n.k.earlier
   asks : dests_in gate n.k ≡ n.calls
   login : n.k.standing.login ≡ is_in state.account
@@ -155,7 +162,7 @@ module _ (Origin : Type 0) (gate : Gate) (state : State) (order : Order) (free :
             asks = ap (λ (o : Option Order). n.k.before ++ asked_by gate after.k.standing o) d.order_is ∙ ap (λ (z : List Dest). n.k.before ++ z) asks_same ∙ ap (λ (o : Option Order). n.k.before ++ asked_by gate n.k.standing o) (sym d.order_is) ∙ d.asks ∙ sym (append-nil n.calls);
           } in
           let may : IsPassable gate after.k = record { order = order; unblocked = unblocked gate state order User free after.k d.order_is d.knows.login; main = dest; link = up } in
-          let knows : Knows gate (rows.with_dest dest state) after.k = record { login = d.knows.login; user = d.knows.user; link = up; setting = d.knows.setting; own = d.knows.own } in
+          let knows : Knows gate (rows.with_dest dest state) after.k = record { login = d.knows.login; user = d.knows.user; link = up; up = up; setting = d.knows.setting; own = d.knows.own } in
           pass_leaves Origin gate (rows.with_dest dest state) (codes "USER") (texts.user_text name) false (has_verb gate.options.log (codes "USER")) after due may
           (keeps_set gate state order User free after.k d.order_is (λ s. refl)) knows
       welcomed_leaves n deed false up d =
@@ -164,7 +171,7 @@ module _ (Origin : Type 0) (gate : Gate) (state : State) (order : Order) (free :
           let here : Even gate now = record { is = even.is ∙ sym (append-nil n.passed); asks = even.asks ∙ sym (append-nil n.calls) } in (
             behind gate now here,
             λ done. (
-              record { login = d.knows.login; user = d.knows.user; link = d.knows.link; setting = d.knows.setting; own = d.knows.own },
+              record { login = d.knows.login; user = d.knows.user; link = sym unlinked; up = sym unlinked; setting = d.knows.setting; own = d.knows.own },
               record { is = here.is ∙ sym (append-nil now.passed); asks = here.asks ∙ sym (append-nil now.calls) },
             ),
           )
@@ -181,7 +188,7 @@ module _ (Origin : Type 0) (gate : Gate) (state : State) (order : Order) (free :
           let after = note gate n (Dial dest) (Ok true) in
           let d : Dialed gate state order after = record {
             order_is = order_is;
-            knows = record { login = knows.login; user = knows.user; link = knows.link; setting = knows.setting; own = knows.own };
+            knows = record { login = knows.login; user = knows.user; setting = knows.setting; own = knows.own };
             passed = append-nil n.passed ∙ passed;
             asks = asks;
             login = login;
@@ -193,7 +200,7 @@ module _ (Origin : Type 0) (gate : Gate) (state : State) (order : Order) (free :
           let after = note gate n (Dial dest) (Ok false) in
           let d : Dialed gate state order after = record {
             order_is = order_is;
-            knows = record { login = knows.login; user = knows.user; link = knows.link; setting = knows.setting; own = knows.own };
+            knows = record { login = knows.login; user = knows.user; setting = knows.setting; own = knows.own };
             passed = append-nil n.passed ∙ passed;
             asks = asks;
             login = login;
@@ -201,7 +208,7 @@ module _ (Origin : Type 0) (gate : Gate) (state : State) (order : Order) (free :
             greeted = greeted;
           } in
           tell_leaves Origin gate after texts.no_route state (record { other = refl; verb = refl; login = refl; dest = refl; failed = refl })
-          (record { route = λ is. (dest, (n.k.since, refl)); door = λ is. clash is; pair = λ is. clash is; port = λ is. clash is; closed = λ is. clash is; early = λ is. clash is }) (d.knows, dialed_even after d)
+          (record { route = λ is. (dest, (n.k.since, refl)); door = λ is. clash is; pair = λ is. clash is; port = λ is. clash is; closed = λ is. clash is; early = λ is. clash is }) (record { login = knows.login; user = knows.user; link = sym unlinked; up = sym unlinked; setting = knows.setting; own = knows.own }, dialed_even after d)
 
       connect_leaves : (since : List Deed) (n : Noted) → allows gate.options dest ≡ true → (not gate.options.extnd || n.k.standing.permitted) ≡ true → since ≡ granted_if gate.options.extnd dest.host → Wanting gate state order since n
           → Leaves watch (rows.connect_row gate state name dest) n
@@ -218,7 +225,7 @@ module _ (Origin : Type 0) (gate : Gate) (state : State) (order : Order) (free :
             order = order;
             unblocked = unblocked gate state order User free logged.k w.base.heard w.knows.login;
             wants = wants;
-            unlinked = w.knows.link ∙ unlinked;
+            unlinked = w.knows.up ∙ unlinked;
             allowed = allowed;
             since = ap (λ (d : List Deed). d ++ line_logged line ∷ []) (w.done ∙ is);
           } in
@@ -242,7 +249,7 @@ module _ (Origin : Type 0) (gate : Gate) (state : State) (order : Order) (free :
       operated : (n : Noted) (reply : Reply) → Start gate state order n → Wanting gate state order (asked_so operation reply ∷ []) (note gate n (Ask operation) (Ok reply))
       operated n reply start = record {
         base = asked_base gate order n operation reply start.base;
-        knows = record { login = and_true n.k.login ∙ start.knows.login; user = start.knows.user; link = start.knows.link; setting = start.knows.setting; own = start.knows.own };
+        knows = record { login = and_true n.k.login ∙ start.knows.login; user = start.knows.user; link = start.knows.link; up = start.knows.up; setting = start.knows.setting; own = start.knows.own };
         done = ap (λ (d : List Deed). d ++ asked_so operation reply ∷ []) start.since;
         login = start.login;
         link = start.link ∙ unlinked;
@@ -277,7 +284,7 @@ module _ (Origin : Type 0) (gate : Gate) (state : State) (order : Order) (free :
               record {
                 order = order;
                 heard = start.base.heard;
-                asks = (refl, start.since, start.knows.link ∙ unlinked, unblocked gate state order User free n.k start.base.heard start.knows.login, record { dest = dest; wants = record { kind = free.kind; name = name; names = names }; is = refl; allowed = allowed; extnd = extnd });
+                asks = (refl, start.since, start.knows.up ∙ unlinked, unblocked gate state order User free n.k start.base.heard start.knows.login, record { dest = dest; wants = record { kind = free.kind; name = name; names = names }; is = refl; allowed = allowed; extnd = extnd });
               },
               behind gate n even,
             ),

@@ -96,6 +96,7 @@ pub record Knows (gate : Gate) (state : State) (k : Known) : Type 0 where
   pub login : k.login ≡ is_in state.account
   pub user : IsUser state.account k.user
   pub link : k.link ≡ state.dest
+  pub up : k.dialed ≡ state.dest
   pub setting : k.setting ≡ state.setting
   pub own : IsOwnSetting gate state.setting
 
@@ -170,7 +171,7 @@ module _ (Origin : Type 0) (gate : Gate) where
 
   said_knows : (n : Noted) (text : List ℕ) (state : State) → begins text texts.port_ok ≡ false → Knows gate state n.k → Knows gate state (note gate n (Say text) (Ok tt)).k
   said_knows n text state other knows =
-      subst (λ (b : Bool). Knows gate state (said n text b).k) (sym other) (record { login = knows.login; user = knows.user; link = knows.link; setting = knows.setting; own = knows.own })
+      subst (λ (b : Bool). Knows gate state (said n text b).k) (sym other) (record { login = knows.login; user = knows.user; link = knows.link; up = knows.up; setting = knows.setting; own = knows.own })
 
   pub say_leaves : (n : Noted) (words : List ℕ) (state : State) → begins words texts.port_ok ≡ false → IsLoggedFirst gate words n.k → HasCause words n.k.since → Holds gate n state → Leaves watch (rows.tell_row words state) n
   say_leaves n words state other first cause holds =
@@ -190,7 +191,7 @@ module _ (Origin : Type 0) (gate : Gate) where
   logged_even n line even = record { is = even.is ∙ sym (append-nil n.passed); asks = even.asks ∙ sym (append-nil n.calls) }
 
   pub logged_knows : (n : Noted) (line : List ℕ) (state : State) → Knows gate state n.k → Knows gate state (note gate n (Log line) (Ok tt)).k
-  logged_knows n line state knows = record { login = knows.login; user = knows.user; link = knows.link; setting = knows.setting; own = knows.own }
+  logged_knows n line state knows = record { login = knows.login; user = knows.user; link = knows.link; up = knows.up; setting = knows.setting; own = knows.own }
 
   pub logged_holds : (n : Noted) (line : List ℕ) (state : State) → Holds gate n state → Holds gate (note gate n (Log line) (Ok tt)) state
   logged_holds n line state holds = (logged_knows n line state holds.0, logged_even n line holds.1)

@@ -33,9 +33,9 @@ use Rattle.ftp_gate.specs.declared.kind.Outward.TheVariants.{Served}
 use Rattle.ftp_gate.specs.declared.kind.Served.TheVariants.{Port, Transfer}
 
 -- The command that was heard last, if that was one; what was done since; whether a login stands; the user who was asked about
--- last, if one was; to which destination a link came up whose server greeted well; what is set for a transfer; how it stood with
--- the last command when it was heard, and what came of it; whether data were copied since; and what was to be passed of all commands before it, and which
--- destinations they asked for.
+-- last, if one was; to which destination a link is up, and to which one is up whose server greeted well; what is set for a
+-- transfer; how it stood with the last command when it was heard, and what came of it; whether data were copied since; and what
+-- was to be passed of all commands before it, and which destinations they asked for.
 pub record Known : Type 0 where
   pub order : Option Order
   pub since : List Deed
@@ -110,9 +110,13 @@ asking request (Some reply) k = record k {
   standing = permitted_by (is_granted request reply) k.standing;
 }
 
+-- no link is up
+abbrev pub unlinked : Known → Known
+unlinked k = record k { dialed = None; link = None }
+
 abbrev pub dialing : {Never : Type 0} → Dest → Result Bool Never → Known → Known
-dialing dest (Ok true) k = record k { dialed = Some dest }
-dialing dest (Ok false) k = record k { dialed = None }
+dialing dest (Ok true) k = record k { dialed = Some dest; link = None }
+dialing dest (Ok false) k = unlinked k
 dialing dest (Err never) k = k
 
 abbrev pub greeted_with : Standing → Standing
@@ -181,7 +185,7 @@ noting gate k (Pass text) outcome = using k
 noting gate k OpenDoor outcome = opening outcome k
 noting gate k (Join dest target) outcome = joining outcome k
 noting gate k (Copy toward) outcome = record k { copied = true }
-noting gate k HangUp outcome = record k { dialed = None }
+noting gate k HangUp outcome = unlinked k
 noting gate k act outcome = k
 
 abbrev pub known_after : Gate → Known → (act : Act) → Outcome act → Known

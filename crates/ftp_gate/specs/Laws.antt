@@ -78,7 +78,7 @@ pub record IsCleared (gate : Gate) (dest : Dest) (k : Known) : Type 0 where
   pub order : Order
   pub unblocked : IsUnblocked gate order k
   pub wants : Wants dest order
-  pub unlinked : k.link ≡ None
+  pub unlinked : k.dialed ≡ None
   pub allowed : allows gate.options dest ≡ true
   pub since : k.since ≡ clearing gate dest
 
@@ -94,7 +94,7 @@ abbrev pub IsOwnTarget : Peer → Target → Type 0
 IsOwnTarget peer (Addr addr port) = (peer.addr ≡ Some addr) × (1024 ≤ port)
 IsOwnTarget peer AtDoor = Unit {0}
 
--- a door may be opened for a PASV that was heard last and isn't blocked, where a link came up whose server greeted well
+-- a door may be opened for a PASV that was heard last and isn't blocked, where a link is up whose server greeted well
 pub record IsOwnDoor (gate : Gate) (k : Known) : Type 0 where
   pub order : Order
   pub unblocked : IsUnblocked gate order k
@@ -109,7 +109,7 @@ port_asked code six text =
     record { act = Pass pasv_text; outcome = Ok tt } ∷ record { act = TakeReply Dropped; outcome = Ok (Whole code six, text) } ∷ []
 
 -- Data links may be asked for: the command that was heard last is a transfer that isn't blocked. One is to the host of the
--- server to which a link came up, at the port that it told since, and the other is what was set, which is the client's own.
+-- server to which a link is up, at the port that it told since, and the other is what was set, which is the client's own.
 pub record IsOwnPair (gate : Gate) (dest : Dest) (target : Target) (k : Known) : Type 0 where
   pub order : Order
   pub unblocked : IsUnblocked gate order k
@@ -153,7 +153,7 @@ JoinsOwn gate deeds =
 
 -- ---- what the server is given
 
--- of the command that was heard last, which isn't blocked, where a link came up whose server greeted well
+-- of the command that was heard last, which isn't blocked, where a link is up whose server greeted well
 pub record IsPassable (gate : Gate) (k : Known) : Type 0 where
   pub order : Order
   pub unblocked : IsUnblocked gate order k
@@ -396,7 +396,7 @@ abbrev pub IsAskedFor : Gate → Request → Order → Known → Type 0
 IsAskedFor gate (requests.Open console) order k = (console ≡ false) × (k.since ≡ []) × (name : List ℕ) × Names name order
 IsAskedFor gate (requests.Authenticate name) order k = Names name order × ((k.since ≡ []) ⊎ WasOpened k.since)
 IsAskedFor gate (requests.Response hash word) order k = Responds hash word order × (k.since ≡ []) × (name : List ℕ) × (k.user ≡ Some name)
-IsAskedFor gate (requests.Operation service host) order k = (service ≡ services.Ftp) × (k.since ≡ []) × (k.link ≡ None) × IsUnblocked gate order k × Reaches gate host order
+IsAskedFor gate (requests.Operation service host) order k = (service ≡ services.Ftp) × (k.since ≡ []) × (k.dialed ≡ None) × IsUnblocked gate order k × Reaches gate host order
 IsAskedFor gate request order k = ⊥
 
 -- the command that was heard last asks for the request; the session may be closed at any time

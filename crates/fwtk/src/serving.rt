@@ -27,6 +27,9 @@ const HOSTS: &str = "/etc/hosts";
 /// How many milliseconds lie between two rounds in which mail is handed on.
 const REST: u32 = 1;
 
+/// How many lie behind one in which a hand failed.
+const LONG_REST: u32 = 1_000;
+
 /// Whether the words are those of a server, well formed or not.
 pub fn is_server(words: &[Octets]) -> bool {
     match after_options(words) {
@@ -112,7 +115,7 @@ fn serve_doors<H: Threads + Wait + Sync>(
         rack,
     } = ready;
     let mut logs = Writing::new(rt.stderr());
-    let mut pacer = SystemPacer::new(rt, REST);
+    let mut pacer = SystemPacer::new(rt, REST, LONG_REST);
     serve(
         threads,
         rt.alloc(),

@@ -32,6 +32,15 @@ pub(crate) fn hand_on<'a, H: Wait, D: Disk, G: Sink>(
     *sums = sums.with(&answer);
 }
 
+// Rests behind a round, and for longer where a hand failed in it.
+fn rest_behind<P: Pacer>(pacer: &mut P, failed: bool) {
+    if failed {
+        pacer.rest_long();
+    } else {
+        pacer.rest();
+    }
+}
+
 /// Holds rounds, with a rest after each, until all workers have ended.
 pub(crate) fn hand_on_meanwhile<'a, H: Wait, D: Disk, G: Sink, P: Pacer>(
     rt: &H,
@@ -54,8 +63,9 @@ pub(crate) fn hand_on_meanwhile<'a, H: Wait, D: Disk, G: Sink, P: Pacer>(
         if ended.load(Ordering::SeqCst) != 0 {
             return;
         }
+        let failed = sums.round.failed;
         hand_on(alloc, seat, mailers, each, logs, sums);
-        pacer.rest();
+        rest_behind(pacer, sums.round.failed > failed);
     }
     unreachable!()
 }

@@ -8,11 +8,11 @@ ghost use Rattle.spool_pool.specs.Known.{store_of};
 
 use crate::passes::{Passes, PassesOf};
 use crate::report::Served;
-use acceptors::{Acceptor, CallerOf};
+use acceptors::{Acceptor, Caller, CallerOf};
 use auth_port::{Book, SharedBook, Turns};
 use client_service::conn;
 use fw_disk::Disk;
-use fw_outside::Keeper;
+use fw_outside::{Clock, Dialer, Dice, Keeper, Sink, Source};
 use fw_types::Ending;
 use gate_rules::Rules;
 use spool_pool::{Pool, PoolSeat};
@@ -21,27 +21,32 @@ use std::sync::Wait;
 use std::thread::Threads;
 
 // The session of a client, over this port and this seat.
-fn attend<'b, 's, H, K, A, D>(
+fn attend<'b, 's, H, K, D, F, T, L, I, C, R>(
     rt: &H,
     alloc: Global,
     rules: &Rules,
     port: &mut SharedBook<'b, H, K>,
     seat: &mut PoolSeat<'s, H, D>,
-    caller: &mut CallerOf<A>,
+    caller: &mut Caller<F, T, L, I, C, R>,
 ) -> Ending
 where
     H: Threads + Wait + Sync,
     K: Keeper,
-    A: Acceptor,
     D: Disk,
+    F: Source + Send,
+    T: Sink + Send,
+    L: Sink,
+    I: Dialer,
+    C: Clock,
+    R: Dice,
     requires service { IsServed caller.old.service rules.now }
     ensures goes { GoesAs caller.old.service rules.now caller.old.peer result
-        (devices_of (visit_with caller.old.service caller.old.peer (A.From.source_view caller.old.from)
-        (A.To.sink_view caller.old.to) (A.Logs.sink_view caller.old.logs) (A.Dial.dialer_view caller.old.dialer)
-        (A.Tick.clock_view caller.old.clock) (A.Rand.dice_view caller.old.dice)) port.old (store_of seat.old))
-        (devices_of (visit_with caller.new.service caller.new.peer (A.From.source_view caller.new.from)
-        (A.To.sink_view caller.new.to) (A.Logs.sink_view caller.new.logs) (A.Dial.dialer_view caller.new.dialer)
-        (A.Tick.clock_view caller.new.clock) (A.Rand.dice_view caller.new.dice)) port.new (store_of seat.new)) }
+        (devices_of (visit_with caller.old.service caller.old.peer (F.source_view caller.old.from)
+        (T.sink_view caller.old.to) (L.sink_view caller.old.logs) (I.dialer_view caller.old.dialer)
+        (C.clock_view caller.old.clock) (R.dice_view caller.old.dice)) port.old (store_of seat.old))
+        (devices_of (visit_with caller.new.service caller.new.peer (F.source_view caller.new.from)
+        (T.sink_view caller.new.to) (L.sink_view caller.new.logs) (I.dialer_view caller.new.dialer)
+        (C.clock_view caller.new.clock) (R.dice_view caller.new.dice)) port.new (store_of seat.new)) }
     ensures service { caller.new.service ≡ caller.old.service }
     ensures peer { caller.new.peer ≡ caller.old.peer }
     ensures origin { port.new.origin ≡ port.old.origin }
@@ -95,7 +100,7 @@ where
     let Passes { book, mail } = passes;
     let mut port = SharedBook::new(rt, alloc, turns, book);
     let mut seat = PoolSeat::new(rt, pool, mail);
-    let ending = attend::<H, K, A, D>(rt, alloc, rules, &mut port, &mut seat, &mut caller);
+    let ending = attend(rt, alloc, rules, &mut port, &mut seat, &mut caller);
     let (book, places) = port.into_pass();
     let mail = seat.into_pass();
     let served = Served {

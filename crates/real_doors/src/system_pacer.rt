@@ -9,23 +9,35 @@ use std::time::{Clock, Duration};
 pub struct SystemPacer<R> {
     system: R,
     milliseconds: u32,
+    long: u32,
 }
 
 impl<R> SystemPacer<R> {
-    /// Rests so many milliseconds each time.
-    pub fn new(system: R, milliseconds: u32) -> SystemPacer<R> {
+    /// Rests so many milliseconds each time, and so many where it is to rest long.
+    pub fn new(system: R, milliseconds: u32, long: u32) -> SystemPacer<R> {
         SystemPacer {
             system,
             milliseconds,
+            long,
         }
+    }
+}
+
+impl<R: Clock + Drop> SystemPacer<R> {
+    fn sleep(&self, milliseconds: u32) {
+        thread::sleep(
+            &self.system,
+            Duration::from_millis(u64::from(milliseconds)),
+        );
     }
 }
 
 impl<R: Clock + Drop> Pacer for SystemPacer<R> {
     fn rest(&mut self) {
-        thread::sleep(
-            &self.system,
-            Duration::from_millis(u64::from(self.milliseconds)),
-        );
+        self.sleep(self.milliseconds);
+    }
+
+    fn rest_long(&mut self) {
+        self.sleep(self.long);
     }
 }

@@ -112,7 +112,7 @@ impl TcpAcceptor {
     }
 
     fn rest(&self) {
-        SystemPacer::new(self.rt, REST).rest();
+        SystemPacer::new(self.rt, REST, REST).rest();
     }
 
     // Waits for the next client.

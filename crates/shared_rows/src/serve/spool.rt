@@ -34,6 +34,10 @@ impl<H: Wait> Pacer for Resting<'_, H> {
         self.parker
             .park_timeout(self.rt, Duration::from_millis(100));
     }
+
+    fn rest_long(&mut self) {
+        self.rest();
+    }
 }
 
 // So many disks, each with a free slot.
