@@ -25,10 +25,7 @@ impl<R> SystemPacer<R> {
 
 impl<R: Clock + Drop> SystemPacer<R> {
     fn sleep(&self, milliseconds: u32) {
-        thread::sleep(
-            &self.system,
-            Duration::from_millis(u64::from(milliseconds)),
-        );
+        thread::sleep(&self.system, Duration::from_millis(u64::from(milliseconds)));
     }
 }
 
