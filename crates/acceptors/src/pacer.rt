@@ -5,7 +5,7 @@ pub trait Pacer: Drop {
     /// Rests for a while.
     fn rest(&mut self);
 
-    /// Rests for longer, behind a round in which something failed.
+    /// Rests for longer, behind a round that had trouble.
     fn rest_long(&mut self);
 }
 

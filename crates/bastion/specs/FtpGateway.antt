@@ -62,8 +62,8 @@ LoginsStand gate deeds history =
 -- a login is asked for before it, one of this session stands in the history. The server was given what the commands are passed as,
 -- in order, and nothing else: all of it in a session that is done, else a front of it; so no command that is blocked. Data links
 -- were asked for at the host of the server that is linked, and at the client's own address or at a door; doors were opened, and
--- data copied, for commands that were passed. What the client was told as a denial, the log was given right before, whole. Behind
--- each deed came what was due, and no line, destination, request, reply or copy that wasn't. Where the client was told of a
+-- data copied, for commands that were passed. What the gateway told as a denial, the log was given right before, whole. Behind
+-- each deed came what was due, and no line, destination, request, reply or copy that wasn't. Where the gateway told of a
 -- failure, that was so. After openings in vain a session was opened at most once, and closed once, as the last.
 pub record IsUpheld (gate : Gate) (history : List Entry) {old new : World BookOrigin} {ending : Ending} (held : Held (ftp_rows gate) ftp_row old new ending) : Type 0 where
   pub lines : TakesHeard (gives heard_in (deeds_of held)) old.client new.client
@@ -105,10 +105,10 @@ pub record IsUpheld (gate : Gate) (history : List Entry) {old new : World BookOr
   pub links : LinksDialer (gives linked (deeds_of held)) old new
   pub over : (new.server.link ≡ None) × (new.server.pair ≡ None)
   pub refusals : CountsRefusals (gives refused (deeds_of held)) old new
-  -- so for each destination that was asked for in vain, and each time that the client is told of no door or no data link
+  -- so for each destination that was asked for in vain, and each time that the gateway tells of no door or no data link
   pub refusals_told : CountsTold (deeds_of held) old new
   pub broken : CountsBroken (gives broken_off (deeds_of held)) old new
-  -- so for each time that the client is told that a transfer ended early which took fewer bytes than may be taken
+  -- so for each time that the gateway tells that a transfer ended early which took fewer bytes than may be taken
   pub breaks_told : CountsBreaks (deeds_of held) old new
   -- where the session stopped, at the log, say, nothing but what was owed was done after
   pub stops : (cause : Cause) → held.dialogue ≡ Err cause → StopsLast cause held

@@ -104,7 +104,7 @@ abbrev pub IsRefused : Verdict → Ending → Type 0
 IsRefused (Deny line) ending = (ending ≡ endings.Denied line) ⊎ (ending ≡ endings.LogFault)
 IsRefused (Permit line) ending = Unit {0}
 
--- as many bytes as may be are taken of a client that is alone exactly where its session is spent; where so many are taken of one
+-- at most as many bytes as may be are taken of a client, of one that is alone so many exactly where its session is spent; where so many are taken of one
 -- of `ftp-gw`, its session is spent, and that of one that may relay is, or has failed or been idle before; for what else these
 -- two are spent, `Causes` says
 abbrev pub TakesBy : {Origin : Type 0} → Kind → Ending → Devices Origin → Devices Origin → Type 0

@@ -42,7 +42,7 @@ pub record Serves {Origin : Type 0} (line : ℕ) (rules : RuleBook) (peer : Peer
 -- order, and for nothing else. The destinations are those that the client's commands ask for, up to where the dialogue stopped;
 -- each comes where it may. The server was given what the commands are passed as, up to where the dialogue stopped, and nothing
 -- else; each is of a command that isn't blocked. Data links are the session's own, and so are doors and copies. As many links
--- were hung up or let go as came up by these deeds, and the dialer counted so many come up. What the client was told as a denial
+-- were hung up or let go as came up by these deeds, and the dialer counted so many come up. What the gateway told as a denial
 -- the log was given right before, whole; a text that is no name is denied without a line. And each request is one that its
 -- command asks for, but a close.
 pub record ServesBehind {Origin : Type 0} (line : List ℕ) (gate : Gate) (ending : Ending) (old new : Devices Origin) : Type 0 where

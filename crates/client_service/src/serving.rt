@@ -187,9 +187,9 @@ where
         (D.dialer_view dialer.old) (C.clock_view clock.old) (R.dice_view dice.old) (M.store_view store.old))
         (mail_devices_with (P.port port.new) (S.source_view from.new) (K.sink_view to.new) (G.sink_view logs.new)
         (D.dialer_view dialer.new) (C.clock_view clock.new) (R.dice_view dice.new) (M.store_view store.new)) }
-    // As many bytes as may be, 2^40, are taken of the client, and never more. A session that reaches no server is `Spent` exactly
-    // where it was so many. One of `ftp-gw` is `Spent` then; one that may be linked is, or has failed or been idle before. For
-    // what else these two are `Spent`, `caused` says.
+    // At most 2^40 bytes are taken of the client. A session that reaches no server is `Spent` exactly where it was so many. One of
+    // `ftp-gw` is `Spent` then; one that may be linked is, or has failed or been idle before. For what else these two are `Spent`,
+    // `caused` says.
     ensures spent { TakesBy (kind_of service.now (verdict_of rules.now peer.now)) result
         (mail_devices_with (P.port port.old) (S.source_view from.old) (K.sink_view to.old) (G.sink_view logs.old)
         (D.dialer_view dialer.old) (C.clock_view clock.old) (R.dice_view dice.old) (M.store_view store.old))

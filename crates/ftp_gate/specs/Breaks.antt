@@ -1,4 +1,4 @@
--- What broke off of a session: data are copied only while data links are up, and each transfer of which the client is told that it ended early is counted.
+-- What broke off of a session: data are copied only while data links are up, and each transfer of which the gateway tells that it ended early is counted.
 use Rattle.std.specs.Prelude.{◌≡◌, ℕ, ◌+◌, ◌-◌, ◌^◌, ◌<◌, ◌≤◌, ◌&&◌, nat_lt, is_some, Bool, true, false, List, [], ◌∷◌, ◌++◌, codes, length, Option, Some, None, Result, Ok, Err, if◌then◌else◌}
 use Rattle.relay_ways.specs.Carried.{Way}
 use Rattle.session_acts.specs.Acts.{Act, Outcome}
@@ -25,7 +25,7 @@ taken_then (Hear form) outcome taken = 0
 taken_then (Copy toward) outcome taken = copied outcome
 taken_then act outcome taken = taken
 
--- the client is told that a transfer ended early
+-- the gateway tells that a transfer ended early
 abbrev pub tells_break : Act → Bool
 tells_break (Say text) = begins text (codes "426")
 tells_break act = false

@@ -62,7 +62,7 @@ abbrev pub wanted_due : Gate → Option (List ℕ × Dest) → Option Act
 wanted_due gate None = None
 wanted_due gate (Some user) = dest_due (allows gate.options user.1) gate user.1
 
--- a user is named to the server to which a link is up
+-- a user is named to the server to which a link is up, and which greeted well
 abbrev pub named_due : Gate → Option (List ℕ) → Option Act
 named_due gate None = None
 named_due gate (Some name) = command_due gate (codes "USER")
@@ -112,7 +112,7 @@ abbrev pub response_due : Option (List ℕ) → List ℕ → Option Act
 response_due None text = None
 response_due (Some name) text = Some (Ask (requests.Response (md5 text) (read_of text)))
 
--- whether a login stands, the user who was asked about last, and the destination to which a link is up
+-- whether a login stands, the user who was asked about last, and the destination to which a link is up whose server greeted well
 abbrev pub kind_due : Gate → Bool → Option (List ℕ) → Option Dest → Order → Kind → Option Act
 kind_due gate login user link order kinds.Authorize = authorize_due (name_of order.arg) user
 kind_due gate login user link order kinds.Response = response_due user order.arg

@@ -33,9 +33,9 @@ use Rattle.ftp_gate.specs.declared.kind.Outward.TheVariants.{Served}
 use Rattle.ftp_gate.specs.declared.kind.Served.TheVariants.{Port, Transfer}
 
 -- The command that was heard last, if that was one; what was done since; whether a login stands; the user who was asked about
--- last, if one was; to which destination a link is up, and to which one is up whose server greeted well; what is set for a
--- transfer; how it stood with the last command when it was heard, and what came of it; whether data were copied since; and what
--- was to be passed of all commands before it, and which destinations they asked for.
+-- last, if one was; of the links that came up by these deeds, to which destination one is up, and to which one is up whose server
+-- greeted well; what is set for a transfer; how it stood with the last command when it was heard, and what came of it; whether data
+-- were copied since; and what was to be passed of all commands before it, and which destinations they asked for.
 pub record Known : Type 0 where
   pub order : Option Order
   pub since : List Deed

@@ -1,4 +1,4 @@
--- What was refused of a session: data links are wanted only where they can be asked for, and what the client is told of is counted.
+-- What was refused of a session: data links are wanted only where they can be asked for, and what the gateway tells of is counted.
 use Rattle.std.specs.Prelude.{◌≡◌, ℕ, ◌+◌, ◌-◌, ◌^◌, ◌≤◌, ◌||◌, Bool, false, List, [], ◌∷◌, ◌++◌, codes, length, min, Ok, if◌then◌else◌}
 use Rattle.fw_types.specs.declared.dest.Dest.{Dest}
 use Rattle.session_acts.specs.Acts.{Act, Outcome}
@@ -16,7 +16,7 @@ abbrev pub JoinsAsked : List Deed → Type 0
 JoinsAsked deeds =
     (before after : List Deed) (dest : Dest) (target : Target) (joined : Joined) → deeds ≡ before ++ record { act = Join dest target; outcome = Ok joined } ∷ after → is_unasked joined ≡ false
 
--- the client is told that there is no door, or no data link
+-- the gateway tells that there is no door, or no data link
 abbrev pub tells_refusal : Act → Bool
 tells_refusal (Say text) = begins text (codes "425 No door") || begins text (codes "425 No data")
 tells_refusal act = false

@@ -37,8 +37,8 @@ pub fn the_destinations_are_those_asked_for<Origin>()
         AsksExactly gate held }
 {}
 
-/// Where the client is told that a verb is denied, that a login is asked for, that a destination is denied or a login, the log
-/// was given the line of that denial right before, whole. A text that is no name is denied without a line.
+/// Where the gateway tells the client that a verb is denied, that a login is asked for, that a destination is denied or a login,
+/// the log was given the line of that denial right before, whole. A text that is no name is denied without a line.
 pub fn each_denial_is_logged<Origin>()
     ensures { (gate : Gate) (old new : World Origin) (ending : Ending) (held : Held (ftp_rows gate) ftp_row old new ending) →
         DenialsLogged gate (deeds_of held) }
@@ -46,7 +46,7 @@ pub fn each_denial_is_logged<Origin>()
 
 /// The server is given what the commands are passed as, in order, and nothing else: all of it, unless the dialogue stopped;
 /// then a front of it (`passage`). Whatever it is given is of a command whose verb isn't denied, and for which a login stands,
-/// if one is asked for; and a link came up whose server greeted well (`unblocked`).
+/// if one is asked for; and a link is up whose server greeted well (`unblocked`).
 pub fn what_the_server_is_given<Origin>()
     ensures passage { (gate : Gate) (old new : World Origin) (ending : Ending) (held : Held (ftp_rows gate) ftp_row old new ending) →
         GivesPassage gate held }
@@ -55,10 +55,10 @@ pub fn what_the_server_is_given<Origin>()
 {}
 
 /// Data links are wanted by a transfer that was heard last and isn't blocked: one at the host of the server to which a link
-/// came up, and at the port that the server told since in a reply of 227 to PASV; and the other as it was set, which is at the
+/// is up, and at the port that the server told since in a reply of 227 to PASV; and the other as it was set, which is at the
 /// client's own address, at a port from 1,024 on, or at a door (`joins`). They are wanted only while that link is up and, if
 /// at a door, one stands: so the one to the server, at least, is asked for (`asked`). A door is opened for a PASV that was heard
-/// last and isn't blocked, where a link came up (`doors`). Data are copied the way of a transfer that was heard last and isn't
+/// last and isn't blocked, where a link is up whose server greeted well (`doors`). Data are copied the way of a transfer that was heard last and isn't
 /// blocked, where both data links came up, and the server's last reply to it says that it transfers (`copies`). At each
 /// copy both are still up (`carries`).
 pub fn data_links_are_the_sessions_own<Origin>()
@@ -94,11 +94,11 @@ pub fn what_is_due_is_done<Origin>()
         DoesWhatIsDue gate (deeds_of held) }
 {}
 
-/// Where the client is told that there is no route, no door, no data link or no data port, that the server closed, or that a
-/// transfer ended early, that was so (`causes`): right before, the dial, the door or the data links were refused, the server told
+/// Where the gateway tells the client that there is no route, no door, no data link or no data port, that the server closed, or
+/// that a transfer ended early, that was so (`causes`): right before, the dial, the door or the data links were refused, the server told
 /// no data port, or came to its end; or a copy wasn't done to its end, and behind it the server's replies were dropped, up to its
-/// last. For each destination that was asked for in vain, and each time that the client is told that there is no door or no data
-/// link, the dialer counted a refusal, unless its count stands at the last value (`told`). For each time that the client is told
+/// last. For each destination that was asked for in vain, and each time that the gateway tells that there is no door or no data
+/// link, the dialer counted a refusal, unless its count stands at the last value (`told`). For each time that the gateway tells
 /// that a transfer ended early which took fewer than 2^40 bytes, the dialer counted a failure or an idleness of a data link, unless
 /// one of these counts stands at its last value (`broken`).
 pub fn each_failure_has_its_cause<Origin>()
@@ -166,8 +166,8 @@ pub fn the_dialogue_ends<Origin>()
         IsDone held.dialogue → HasEnd gate (deeds_ran held.ran) }
 {}
 
-/// Where no line that was heard is AUTHORIZE with a name, nothing is asked of the port (`unasked`), and so no session ends for
-/// want of memory (`ample`) or by the port (`unfailed`). None ends since a destination couldn't be reached (`routed`).
+/// Where no session was open before, and no line that was heard is AUTHORIZE with a name, nothing is asked of the port
+/// (`unasked`), and so no session ends for want of memory (`ample`) or by the port (`unfailed`). None ends since a destination couldn't be reached (`routed`).
 pub fn what_ends_no_session<Origin>()
     ensures unasked { (gate : Gate) (old new : World Origin) (ending : Ending) (held : Held (ftp_rows gate) ftp_row old new ending) →
         old.office.opened ≡ None → gives names (deeds_of held) ≡ [] → gives asked (deeds_of held) ≡ [] }

@@ -27,7 +27,7 @@ const HOSTS: &str = "/etc/hosts";
 /// How many milliseconds lie between two rounds in which mail is handed on.
 const REST: u32 = 1;
 
-/// How many lie behind one in which a hand failed.
+/// How many lie behind one in which a hand failed, or which didn't go to its end.
 const LONG_REST: u32 = 1_000;
 
 /// Whether the words are those of a server, well formed or not.

@@ -7,13 +7,21 @@ use crate::sums::Sums;
 use acceptors::Pacer;
 use fw_disk::Disk;
 use fw_outside::Sink;
-use smapd_queue::{Mailer, smapd_round};
+use smapd_queue::{Mailer, Round, RoundFault, smapd_round};
 use spool_pool::PoolSeat;
 use std::alloc::Global;
 use std::sync::Wait;
 use std::sync::atomic::{AtomicU64, Ordering};
 
-/// Holds a round of at most so many turns, and adds what it came to.
+// Whether a hand failed in it, or it didn't go to its end.
+fn is_troubled(answer: &Result<Round, RoundFault>) -> bool {
+    match answer {
+        Ok(round) => round.failed > 0,
+        Err(_) => true,
+    }
+}
+
+/// Holds a round of at most so many turns, and adds what it came to. Whether a hand failed in it, or it didn't go to its end.
 pub(crate) fn hand_on<'a, H: Wait, D: Disk, G: Sink>(
     alloc: Global,
     seat: &mut PoolSeat<'a, H, D>,
@@ -21,7 +29,7 @@ pub(crate) fn hand_on<'a, H: Wait, D: Disk, G: Sink>(
     each: u32,
     logs: &mut G,
     sums: &mut Sums,
-)
+) -> bool
     requires { 0 < length mailers.old.items }
     ensures hands { HandsOnce each
         (clerk_with (store_of seat.old) (map (λ m. mailer_view m) mailers.old.items) (G.sink_view logs.old) sums.old)
@@ -30,11 +38,12 @@ pub(crate) fn hand_on<'a, H: Wait, D: Disk, G: Sink>(
 {
     let answer = smapd_round(alloc, seat, mailers, each, logs);
     *sums = sums.with(&answer);
+    is_troubled(&answer)
 }
 
-// Rests behind a round, and for longer where a hand failed in it.
-fn rest_behind<P: Pacer>(pacer: &mut P, failed: bool) {
-    if failed {
+// Rests behind a round, and for longer behind one that had trouble.
+fn rest_behind<P: Pacer>(pacer: &mut P, troubled: bool) {
+    if troubled {
         pacer.rest_long();
     } else {
         pacer.rest();
@@ -63,9 +72,8 @@ pub(crate) fn hand_on_meanwhile<'a, H: Wait, D: Disk, G: Sink, P: Pacer>(
         if ended.load(Ordering::SeqCst) != 0 {
             return;
         }
-        let failed = sums.round.failed;
-        hand_on(alloc, seat, mailers, each, logs, sums);
-        rest_behind(pacer, sums.round.failed > failed);
+        let troubled = hand_on(alloc, seat, mailers, each, logs, sums);
+        rest_behind(pacer, troubled);
     }
     unreachable!()
 }

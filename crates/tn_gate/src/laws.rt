@@ -127,8 +127,8 @@ pub fn fronts_are_relayed<Origin>()
         RelaysFronts (deeds_of session.held) old new ending }
 {}
 
-/// Where the permission line asks for no login, nothing is asked of the port (`unasked`), and so no session ends for want of
-/// memory (`ample`) or by the port (`unfailed`). None ends since a destination couldn't be reached (`routed`).
+/// Where no session was open before, and the permission line asks for no login, nothing is asked of the port (`unasked`), and so
+/// no session ends for want of memory (`ample`) or by the port (`unfailed`). None ends since a destination couldn't be reached (`routed`).
 pub fn what_ends_no_session<Origin>()
     ensures unasked { (gate : Gate) (old new : World Origin) (ending : Ending)
         (held : Held (relayed (tn_rows gate)) (then_relay (tn_row gate)) old new ending) → old.office.opened ≡ None →
