@@ -6,4 +6,4 @@ pub loop-init : goal.loop-init
 loop-init g c = (hands_none _ _, refl)
 
 pub loop-preserved : goal.loop-preserved
-loop-preserved g c = (hands_then _ _ _ _ c.loop.invariant.0 c.hand_on.ensures.hands, c.hand_on.ensures.many ∙ c.loop.invariant.1)
+loop-preserved g c = (hands_then _ _ _ _ c.loop.invariant.0 c.hand_on-troubled.ensures.hands, c.hand_on-troubled.ensures.many ∙ c.loop.invariant.1)
