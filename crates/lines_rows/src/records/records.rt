@@ -88,19 +88,36 @@ fn tell_fields(record: &Record, out: &mut Told) {
     add_number(out, u64::from(record.fails));
     add_word(out, b"since");
     add_number(out, record.since);
+    add_word(out, b"last");
+    add_number(out, record.last);
+    add_word(out, b"expires");
+    add_number(out, record.expires);
     tell_plain(&record.plain, out);
     tell_otp(&record.otp, out);
 }
 
-/// `record DIGITS => FIELDS`, where they are encoded to the same bytes again, or `bad at PLACE`.
+// Tells the bytes that a record is encoded to, where they aren't these.
+fn tell_encoded(
+    alloc: Global,
+    record: &Record,
+    bytes: &[u8],
+    out: &mut Told,
+) -> Result<(), NoMemory> {
+    let encoded = encode(alloc, record)?;
+    if encoded.bytes() != bytes {
+        add_word(out, b"encoded");
+        add_hex(out, encoded.bytes());
+    }
+    Ok(())
+}
+
+/// `record DIGITS => FIELDS`, and `encoded DIGITS` where they are encoded to other bytes, or `bad at PLACE`.
 pub(crate) fn tell_record(alloc: Global, asked: &[u8], out: &mut Told) -> Result<(), NoMemory> {
     let bytes = bytes_of(alloc, asked)?;
     match decode(&bytes) {
         Ok(record) => {
             tell_fields(&record.twin(), out);
-            if encode(alloc, &record)?.bytes() != bytes.as_slice() {
-                add_word(out, b"encoded otherwise");
-            }
+            tell_encoded(alloc, &record, &bytes, out)?;
         }
         Err(fault) => tell_bad(fault.at, out),
     }

@@ -3,7 +3,7 @@
 use crate::records::records::{proto_word, tell_long_name};
 use arrayvec::ArrayVec;
 use auth_events::{OpService, Request};
-use authsrv_lines::{Wire, read_request};
+use authsrv_lines::{Wire, read_request, wire_text};
 use fw_types::{Host, Name};
 use lines_of_rows::{Told, add, add_hex, add_number, add_word};
 
@@ -80,7 +80,30 @@ fn tell_request(request: &Request, out: &mut Told) {
             add_word(out, word_seed.text());
             add_hex(out, &kept.to_be_bytes());
         }
+        Request::Expire { name, until } => {
+            tell_named(b"expire", name, out);
+            add_number(out, *until);
+        }
         _ => tell_short(request, out),
+    }
+}
+
+// Tells the text of a request on a link, or `-`.
+fn tell_wire_text(request: &Request, out: &mut Told) {
+    let mut text = ArrayVec::new();
+    if wire_text(request, &mut text) {
+        add(out, text.as_slice());
+    } else {
+        add(out, b"-");
+    }
+}
+
+/// `wire TEXT => TEXT`: what a port on another host sends for the request of this line. `-` is nothing.
+pub(crate) fn tell_wire(asked: &[u8], out: &mut Told) {
+    match read_request(asked) {
+        Ok(Wire::Ask(request)) => tell_wire_text(&request, out),
+        Ok(Wire::Quit) => tell_wire_text(&Request::Close, out),
+        _ => add(out, b"-"),
     }
 }
 
