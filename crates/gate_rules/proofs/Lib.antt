@@ -1,4 +1,5 @@
 pub mod BucketLemmas
+pub mod HoursExamples
 pub mod HoursLemmas
 pub mod IndexLemmas
 pub mod LawLemmas
