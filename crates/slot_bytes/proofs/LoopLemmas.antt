@@ -1,9 +1,9 @@
 -- Steps of loops over recipients.
-use Rattle.std.proofs.Common.{◌≡◌, ℕ, zero, suc, ◌+◌, ◌-◌, ◌<◌, List, [], ◌∷◌, ◌++◌, drop, length, get_or, Ok, Err, refl, sym, ap, ◌∙◌, append_assoc, arith}
+use Rattle.std.proofs.Common.{◌≡◌, ℕ, zero, suc, ◌+◌, ◌-◌, ◌<◌, true, false, nat_eq, List, [], ◌∷◌, ◌++◌, drop, length, get_or, Ok, Err, refl, sym, ap, ◌∙◌, append_assoc, arith}
 use Rattle.std.specs.List.{AllByRecursion}
 use Rattle.std.proofs.lemmas.List.{drop_more, append-nil}
 use Rattle.byte_reader.specs.Reading.{Read, ◌>>=◌}
-use Rattle.slot_bytes.specs.Layout.{IsTextFrom, counted, each_counted}
+use Rattle.slot_bytes.specs.Layout.{IsTextFrom, all_waiting, counted, each_counted, places_from}
 use Rattle.slot_bytes.specs.Reading.{long_text_at, rcpts_at}
 use Rattle.slot_bytes.specs.Views.{behind}
 
@@ -47,3 +47,30 @@ put_step out texts i all lt e =
 
 pub fits_at : (texts : Texts) (i : ℕ) → i < length texts → AllByRecursion (IsTextFrom 1 256) (drop i texts) → IsTextFrom 1 256 (get_or texts i []) × AllByRecursion (IsTextFrom 1 256) (drop (i + 1) texts)
 fits_at texts i lt all = let h = rw (drop_more texts i [] lt) at all in (h.0, h.1)
+
+pub waiting_step : (out : List ℕ) (texts : Texts) (i : ℕ) (all : List ℕ) → i < length texts → out ++ all_waiting (drop i texts) ≡ all
+    → (out ++ 0 ∷ []) ++ all_waiting (drop (i + 1) texts) ≡ all
+waiting_step out texts i all lt e =
+    append_assoc out (0 ∷ []) (all_waiting (drop (i + 1) texts))
+    ∙ ap (λ (l : Texts). out ++ all_waiting l) (sym (drop_more texts i [] lt)) ∙ e
+
+-- ---- places
+
+taken : (place mark : ℕ) (marks : List ℕ) → nat_eq mark 0 ≡ false → places_from place (mark ∷ marks) ≡ place ∷ places_from (place + 1) marks
+unfolding places_from
+taken place mark marks is = rw is refl
+
+left_out : (place mark : ℕ) (marks : List ℕ) → nat_eq mark 0 ≡ true → places_from place (mark ∷ marks) ≡ places_from (place + 1) marks
+unfolding places_from
+left_out place mark marks is = rw is refl
+
+pub places_next : (done marks : List ℕ) (i : ℕ) (all : List ℕ) → i < length marks → nat_eq (get_or marks i 0) 0 ≡ false → done ++ places_from i (drop i marks) ≡ all
+    → (done ++ i ∷ []) ++ places_from (i + 1) (drop (i + 1) marks) ≡ all
+places_next done marks i all lt is e =
+    append_assoc done (i ∷ []) (places_from (i + 1) (drop (i + 1) marks))
+    ∙ ap (λ (l : List ℕ). done ++ l) (sym (ap (places_from i) (drop_more marks i 0 lt) ∙ taken i (get_or marks i 0) (drop (i + 1) marks) is)) ∙ e
+
+pub places_same : (done marks : List ℕ) (i : ℕ) (all : List ℕ) → i < length marks → nat_eq (get_or marks i 0) 0 ≡ true → done ++ places_from i (drop i marks) ≡ all
+    → done ++ places_from (i + 1) (drop (i + 1) marks) ≡ all
+places_same done marks i all lt is e =
+    ap (λ (l : List ℕ). done ++ l) (sym (ap (places_from i) (drop_more marks i 0 lt) ∙ left_out i (get_or marks i 0) (drop (i + 1) marks) is)) ∙ e

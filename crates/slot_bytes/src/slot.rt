@@ -1,20 +1,23 @@
 //! Reading a whole slot file.
-ghost use Rattle.std.specs.Prelude.{◌≡◌, length, IfErr};
-ghost use Rattle.slot_bytes.specs.Reading.{free_or_short, kept_or_bad, reads, whole_at};
+ghost use Rattle.std.specs.Prelude.{◌≡◌, ◌<◌, ◌^◌, ℕ, List, length, Ok, IfErr, IfOk};
+ghost use Rattle.slot_bytes.specs.HeadView.{head_view};
+ghost use Rattle.slot_bytes.specs.Layout.{done_of};
+ghost use Rattle.slot_bytes.specs.Reading.{free_or_short, kept_or_bad, mail_of, reads, whole_at};
 ghost use Rattle.slot_bytes.specs.Views.{IsReadIfMemory};
-ghost use Rattle.slot_bytes.specs.SlotView.{IsSlotRead, FirstBad, kept_view};
+ghost use Rattle.slot_bytes.specs.SlotView.{IsSlotRead, FirstBad, kept_view, mail_view};
 
-use crate::{Head, HeadFault, SlotFault, read_head};
+use crate::kept::done_of;
+use crate::{Head, HeadFault, Kept, SlotFault, read_head};
 use byte_reader::bytes_of;
-use fw_types::{Message, Octets};
+use fw_types::{Message, NoMemory, Octets};
 use std::alloc::Global;
 
 /// What a slot file is read as.
 #[derive(Drop)]
 pub enum Slot {
     Free,
-    Whole(Message),
-    Aside(Message),
+    Whole(Kept),
+    Aside(Kept),
 }
 
 // The head, and the body behind it.
@@ -28,23 +31,50 @@ fn read_whole(alloc: Global, bytes: &[u8]) -> Result<((Head, Octets), &[u8]), He
     Ok(((head, body), rest))
 }
 
-// What stands behind an open gate.
+// The message with this head and this body.
+fn kept_of(alloc: Global, head: Head, body: Octets) -> Result<Kept, NoMemory>
+    requires { length head.marks < 2 ^ 32 }
+    ensures message { IfOk result (λ kept. mail_view kept.message ≡ mail_of (head_view head, body)) }
+    ensures done { IfOk result (λ kept. kept.done ≡ done_of head.marks) }
+{
+    let done = done_of(alloc, head.marks.bytes())?;
+    let version = if head.version == b'1' { 1 } else { 2 };
+    let message = Message {
+        from: head.from,
+        rcpts: head.rcpts,
+        body,
+    };
+    Ok(Kept {
+        message,
+        version,
+        done,
+    })
+}
+
+// What this head and this body are read as.
+fn slot_of(alloc: Global, head: Head, body: Octets) -> Result<Slot, SlotFault>
+    requires { length head.marks < 2 ^ 32 }
+    ensures { (len : ℕ) (rest : List ℕ) → IsSlotRead result (kept_or_bad len (Ok ((head_view head, body), rest))) }
+{
+    let aside = head.aside;
+    match kept_of(alloc, head, body) {
+        Ok(kept) => {
+            if aside == 0 {
+                Ok(Slot::Whole(kept))
+            } else {
+                Ok(Slot::Aside(kept))
+            }
+        }
+        Err(NoMemory) => Err(SlotFault::NoMemory),
+    }
+}
+
+// What an open gate leads to.
 fn read_kept(alloc: Global, bytes: &[u8]) -> Result<Slot, SlotFault>
     ensures { IsSlotRead result (kept_or_bad (length bytes.now) (whole_at bytes.now)) }
 {
     match read_whole(alloc, bytes) {
-        Ok(((head, body), _)) => {
-            let message = Message {
-                from: head.from,
-                rcpts: head.rcpts,
-                body,
-            };
-            if head.aside == 0 {
-                Ok(Slot::Whole(message))
-            } else {
-                Ok(Slot::Aside(message))
-            }
-        }
+        Ok(((head, body), _)) => slot_of(alloc, head, body),
         Err(HeadFault::Bad(stop)) => Err(SlotFault::Bad {
             at: bytes.len() - stop.left,
         }),
@@ -52,7 +82,7 @@ fn read_kept(alloc: Global, bytes: &[u8]) -> Result<Slot, SlotFault>
     }
 }
 
-// What stands behind a closed gate, from byte 1 on.
+// What a closed gate leads to, from byte 1 on.
 fn read_closed(rest: &[u8]) -> Result<Slot, SlotFault>
     ensures { IsSlotRead result (free_or_short rest.now) }
 {
