@@ -1,9 +1,9 @@
 -- Steps of loops over recipients.
-use Rattle.std.proofs.Common.{◌≡◌, ℕ, zero, suc, ◌+◌, ◌-◌, ◌<◌, true, false, nat_eq, List, [], ◌∷◌, ◌++◌, drop, length, get_or, Ok, Err, refl, sym, ap, ◌∙◌, append_assoc, arith}
+use Rattle.std.proofs.Common.{◌≡◌, ℕ, zero, suc, ◌+◌, ◌-◌, ◌<◌, List, [], ◌∷◌, ◌++◌, drop, length, get_or, Ok, Err, refl, sym, ap, ◌∙◌, append_assoc, arith}
 use Rattle.std.specs.List.{AllByRecursion}
 use Rattle.std.proofs.lemmas.List.{drop_more, append-nil}
 use Rattle.byte_reader.specs.Reading.{Read, ◌>>=◌}
-use Rattle.slot_bytes.specs.Layout.{IsTextFrom, all_waiting, counted, each_counted, places_from}
+use Rattle.slot_bytes.specs.Layout.{IsTextFrom, all_waiting, counted, each_counted, place_at, places_from}
 use Rattle.slot_bytes.specs.Reading.{long_text_at, rcpts_at}
 use Rattle.slot_bytes.specs.Views.{behind}
 
@@ -56,21 +56,8 @@ waiting_step out texts i all lt e =
 
 -- ---- places
 
-taken : (place mark : ℕ) (marks : List ℕ) → nat_eq mark 0 ≡ false → places_from place (mark ∷ marks) ≡ place ∷ places_from (place + 1) marks
-unfolding places_from
-taken place mark marks is = rw is refl
-
-left_out : (place mark : ℕ) (marks : List ℕ) → nat_eq mark 0 ≡ true → places_from place (mark ∷ marks) ≡ places_from (place + 1) marks
-unfolding places_from
-left_out place mark marks is = rw is refl
-
-pub places_next : (done marks : List ℕ) (i : ℕ) (all : List ℕ) → i < length marks → nat_eq (get_or marks i 0) 0 ≡ false → done ++ places_from i (drop i marks) ≡ all
-    → (done ++ i ∷ []) ++ places_from (i + 1) (drop (i + 1) marks) ≡ all
-places_next done marks i all lt is e =
-    append_assoc done (i ∷ []) (places_from (i + 1) (drop (i + 1) marks))
-    ∙ ap (λ (l : List ℕ). done ++ l) (sym (ap (places_from i) (drop_more marks i 0 lt) ∙ taken i (get_or marks i 0) (drop (i + 1) marks) is)) ∙ e
-
-pub places_same : (done marks : List ℕ) (i : ℕ) (all : List ℕ) → i < length marks → nat_eq (get_or marks i 0) 0 ≡ true → done ++ places_from i (drop i marks) ≡ all
-    → done ++ places_from (i + 1) (drop (i + 1) marks) ≡ all
-places_same done marks i all lt is e =
-    ap (λ (l : List ℕ). done ++ l) (sym (ap (places_from i) (drop_more marks i 0 lt) ∙ left_out i (get_or marks i 0) (drop (i + 1) marks) is)) ∙ e
+pub places_step : (done marks : List ℕ) (i : ℕ) (all : List ℕ) → i < length marks → done ++ places_from i (drop i marks) ≡ all
+    → (done ++ place_at i (get_or marks i 0)) ++ places_from (i + 1) (drop (i + 1) marks) ≡ all
+places_step done marks i all lt e =
+    append_assoc done (place_at i (get_or marks i 0)) (places_from (i + 1) (drop (i + 1) marks))
+    ∙ ap (λ (l : List ℕ). done ++ places_from i l) (sym (drop_more marks i 0 lt)) ∙ e

@@ -7,7 +7,7 @@ use Rattle.byte_reader.specs.Exact.{StopsAtFirstBad, Begins, InRange}
 use Rattle.byte_reader.proofs.ReaderLemmas.{cut_either}
 use Rattle.byte_reader.proofs.FieldLemmas.{chosen}
 use Rattle.slot_bytes.specs.Layout.{Mail, IsMail, AreMarks, done_of, mark_count, tagged_head, slot_bytes}
-use Rattle.slot_bytes.specs.Reading.{Head, Reading, whole_at, mail_of, kept_or_bad, free_or_short, reads}
+use Rattle.slot_bytes.specs.Reading.{Head, Reading, head_at, whole_at, mail_of, kept_or_bad, free_or_short, reads}
 use Rattle.slot_bytes.specs.Reading.Reading.{Free, Whole, Aside, Bad}
 use Rattle.slot_bytes.specs.Files.{IsFreeFile, IsKeptFile, IsSlotFile, BeginsSlot, IsLongestBeginning}
 use Rattle.std.specs.Prelude.{IfErr}
@@ -15,7 +15,7 @@ use Rattle.slot_bytes.specs.declared.slot.Slot.{Slot}
 use Rattle.slot_bytes.specs.declared.fault.SlotFault.{SlotFault}
 use Rattle.slot_bytes.specs.declared.fault.SlotFault.TheVariants as faults
 use Rattle.slot_bytes.specs.SlotView.{IsSlotRead, FirstBad}
-use Rattle.slot_bytes.proofs.HeadLemmas.{FitsWhole, spell_whole, reads_whole}
+use Rattle.slot_bytes.proofs.HeadLemmas.{FitsWhole, spell_whole, reads_head, reads_whole}
 
 -- ---- messages and what is read
 
@@ -222,9 +222,7 @@ slot_first_bad bytes (Err faults.NoMemory) fits e = tt
 few_of : (version n k : ℕ) → k ≡ mark_count version n → n ≤ 1000 → k ≤ 1000
 few_of version n k e few = grind (arith, nat_tests)
 
-pub marks_few : (bytes : List ℕ) (x : Kept) (rest : List ℕ) → IsBytes bytes → whole_at bytes ≡ Ok (x, rest) → length x.0.marks ≤ 1000
-marks_few bytes x rest fits e =
-    let s = reads_whole.sound bytes (x, rest) fits e in
-    let head = s.0.0 in
-    let len : length x.0.marks ≡ mark_count x.0.version (length x.0.rcpts) = head.marks.len in
-    few_of x.0.version (length x.0.rcpts) (length x.0.marks) len head.envelope.few
+pub head_few : (bytes : List ℕ) (x : Head) (rest : List ℕ) → IsBytes bytes → head_at bytes ≡ Ok (x, rest) → length x.marks ≤ 1000
+head_few bytes x rest fits e =
+    let s = reads_head.sound bytes (x, rest) fits e in
+    few_of x.version (length x.rcpts) (length x.marks) s.0.marks.len s.0.envelope.few

@@ -52,10 +52,14 @@ pub record AreMarks (version n : ℕ) (marks : List ℕ) : Type 0 where
 abbrev pub all_waiting : List (List ℕ) → List ℕ
 all_waiting rcpts = map (λ rcpt. 0) rcpts
 
+-- the place of a mark, if it isn't 0
+abbrev pub place_at : ℕ → ℕ → List ℕ
+place_at place mark = if mark == 0 then [] else place ∷ []
+
 -- the places of the marks that aren't 0, where the first mark has this place
-unfoldable pub places_from : ℕ → List ℕ → List ℕ
+abbrev pub places_from : ℕ → List ℕ → List ℕ
 places_from place [] = []
-places_from place (mark ∷ marks) = if mark == 0 then places_from (place + 1) marks else place ∷ places_from (place + 1) marks
+places_from place (mark ∷ marks) = place_at place mark ++ places_from (place + 1) marks
 
 -- the places, from 0 and rising, of the recipients that are done
 abbrev pub done_of : List ℕ → List ℕ

@@ -94,13 +94,16 @@ pub data Reading : Type 0 where
 abbrev pub mail_of : Head × List ℕ → Mail
 mail_of x = record { from = x.0.from; rcpts = x.0.rcpts; body = x.1 }
 
--- behind an open gate, in a file of this length
+-- a head and a body as a reading
+abbrev pub slot_in : Head × List ℕ → Reading
+slot_in x = if x.0.aside == 0 then Whole (mail_of x) (done_of x.0.marks) else Aside (mail_of x) (done_of x.0.marks)
+
+-- with an open gate, in a file of this length
 abbrev pub kept_or_bad : ℕ → Read (Head × List ℕ) → Reading
-kept_or_bad len (Ok x) =
-    if x.0.0.aside == 0 then Whole (mail_of x.0) (done_of x.0.0.marks) else Aside (mail_of x.0) (done_of x.0.0.marks)
+kept_or_bad len (Ok x) = slot_in x.0
 kept_or_bad len (Err left) = Bad (len - left)
 
--- behind a closed gate
+-- with a closed gate
 abbrev pub free_or_short : List ℕ → Reading
 free_or_short [] = Bad 1
 free_or_short (aside ∷ rest) = Free

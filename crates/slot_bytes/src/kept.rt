@@ -1,6 +1,6 @@
 //! A message as a slot keeps it, and which of its recipients are done.
-ghost use Rattle.std.specs.Prelude.{◌≡◌, ◌<◌, ◌^◌, length, IfOk};
-ghost use Rattle.slot_bytes.specs.Layout.{done_of};
+ghost use Rattle.std.specs.Prelude.{◌≡◌, ◌<◌, ◌^◌, ◌++◌, length, IfOk, OnOk};
+ghost use Rattle.slot_bytes.specs.Layout.{done_of, place_at};
 
 use fw_types::{Message, NoMemory};
 use std::alloc::Global;
@@ -53,6 +53,16 @@ pub struct Kept {
     pub done: Places,
 }
 
+// Adds the place of a mark that isn't 0.
+fn add_place(items: &mut Vec<u32>, place: u32, mark: u8) -> Result<(), NoMemory>
+    ensures { OnOk result (items.new.items ≡ items.old.items ++ place_at place mark) }
+{
+    if mark != 0 {
+        items.push(place)?;
+    }
+    Ok(())
+}
+
 /// The places of the marks that aren't 0.
 pub fn done_of(alloc: Global, marks: &[u8]) -> Result<Places, NoMemory>
     requires { length marks.now < 2 ^ 32 }
@@ -61,9 +71,7 @@ pub fn done_of(alloc: Global, marks: &[u8]) -> Result<Places, NoMemory>
     let mut items = Vec::new(alloc);
     let mut place = 0u32;
     for mark in marks {
-        if *mark != 0 {
-            items.push(place)?;
-        }
+        add_place(&mut items, place, *mark)?;
         place += 1;
     }
     Ok(Places { items })

@@ -1,8 +1,8 @@
 //! Reading a whole slot file.
-ghost use Rattle.std.specs.Prelude.{◌≡◌, ◌<◌, ◌^◌, ℕ, List, length, Ok, IfErr, IfOk};
+ghost use Rattle.std.specs.Prelude.{◌≡◌, ◌<◌, ◌≤◌, ◌^◌, length, IfErr, IfOk};
 ghost use Rattle.slot_bytes.specs.HeadView.{head_view};
 ghost use Rattle.slot_bytes.specs.Layout.{done_of};
-ghost use Rattle.slot_bytes.specs.Reading.{free_or_short, kept_or_bad, mail_of, reads, whole_at};
+ghost use Rattle.slot_bytes.specs.Reading.{free_or_short, kept_or_bad, mail_of, reads, slot_in, whole_at};
 ghost use Rattle.slot_bytes.specs.Views.{IsReadIfMemory};
 ghost use Rattle.slot_bytes.specs.SlotView.{IsSlotRead, FirstBad, kept_view, mail_view};
 
@@ -23,7 +23,8 @@ pub enum Slot {
 // The head, and the body behind it.
 #[tactic(auto, unfolding(crate::specs::Reading::whole_at))]
 fn read_whole(alloc: Global, bytes: &[u8]) -> Result<((Head, Octets), &[u8]), HeadFault>
-    ensures { IsReadIfMemory (λ x. (kept_view x.0, x.1.now)) result (whole_at bytes.now) }
+    ensures read { IsReadIfMemory (λ x. (kept_view x.0, x.1.now)) result (whole_at bytes.now) }
+    ensures few { IfOk result (λ x. length x.0.0.marks ≤ 1000) }
 {
     let (head, rest) = read_head(alloc, bytes)?;
     let (body, rest) = bytes_of(head.len as usize, rest)?;
@@ -54,7 +55,7 @@ fn kept_of(alloc: Global, head: Head, body: Octets) -> Result<Kept, NoMemory>
 // What this head and this body are read as.
 fn slot_of(alloc: Global, head: Head, body: Octets) -> Result<Slot, SlotFault>
     requires { length head.marks < 2 ^ 32 }
-    ensures { (len : ℕ) (rest : List ℕ) → IsSlotRead result (kept_or_bad len (Ok ((head_view head, body), rest))) }
+    ensures { IsSlotRead result (slot_in (head_view head, body)) }
 {
     let aside = head.aside;
     match kept_of(alloc, head, body) {
