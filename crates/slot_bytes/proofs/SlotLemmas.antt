@@ -7,7 +7,7 @@ use Rattle.byte_reader.specs.Exact.{StopsAtFirstBad, Begins, InRange}
 use Rattle.byte_reader.proofs.ReaderLemmas.{cut_either}
 use Rattle.byte_reader.proofs.FieldLemmas.{chosen}
 use Rattle.slot_bytes.specs.Layout.{Mail, IsMail, AreMarks, done_of, mark_count, tagged_head, slot_bytes}
-use Rattle.slot_bytes.specs.Reading.{Head, Reading, head_at, whole_at, mail_of, kept_or_bad, free_or_short, reads}
+use Rattle.slot_bytes.specs.Reading.{Head, Reading, done_in, done_or_none, head_at, whole_at, mail_of, kept_or_bad, free_or_short, reads}
 use Rattle.slot_bytes.specs.Reading.Reading.{Free, Whole, Aside, Bad}
 use Rattle.slot_bytes.specs.Files.{IsFreeFile, IsKeptFile, IsSlotFile, BeginsSlot, IsLongestBeginning}
 use Rattle.std.specs.Prelude.{IfErr}
@@ -61,10 +61,14 @@ unfolding reads
 reads_open gate rest is = rw is refl
 
 pub reads_again : (version gate aside : ℕ) (marks : List ℕ) (m : Mail) (rest : List ℕ) → InRange 1 255 gate → InRange 0 255 aside → AreMarks version (length m.rcpts) marks → IsMail m
-    → reads (slot_bytes version gate aside marks m ++ rest) ≡ cond (nat_eq aside 0) (Whole m (done_of marks)) (Aside m (done_of marks))
+    → reads (slot_bytes version gate aside marks m ++ rest) ≡ cond (nat_eq aside 0) (Whole m) (Aside m)
 reads_again version gate aside marks m rest open_gate mark are fits =
     let more : List ℕ = ((aside ∷ tagged_head version (length m.body) marks m.from m.rcpts) ++ m.body) ++ rest in
     reads_open gate more (shut gate open_gate.0) ∙ ap (kept_or_bad (length (gate ∷ more))) (whole_again version gate aside marks m rest open_gate mark are fits)
+
+pub done_again : (version gate aside : ℕ) (marks : List ℕ) (m : Mail) (rest : List ℕ) → InRange 1 255 gate → InRange 0 255 aside → AreMarks version (length m.rcpts) marks → IsMail m
+    → done_in (slot_bytes version gate aside marks m ++ rest) ≡ done_of marks
+done_again version gate aside marks m rest open_gate mark are fits = ap done_or_none (whole_again version gate aside marks m rest open_gate mark are fits)
 
 pub reads_free : (bytes : List ℕ) → IsFreeFile bytes → reads bytes ≡ Free
 unfolding reads
@@ -79,7 +83,7 @@ bad_is m n e = cc
 
 kept_left : (len at : ℕ) (read : Read Kept) → kept_or_bad len read ≡ Bad at → (left : ℕ) × (read ≡ Err left) × (len - left ≡ at)
 kept_left len at (Ok x) e =
-    elim (chosen Reading (nat_eq x.0.0.aside 0) (Whole (mail_of x.0) (done_of x.0.0.marks)) (Aside (mail_of x.0) (done_of x.0.0.marks)) (Bad at) e) [
+    elim (chosen Reading (nat_eq x.0.0.aside 0) (Whole (mail_of x.0)) (Aside (mail_of x.0)) (Bad at) e) [
       | inl h ↦ absurd (cc (h.1))
       | inr h ↦ absurd (cc (h.1))
     ]
@@ -160,15 +164,15 @@ bad_longest (gate ∷ tail) at fits e =
 
 -- ---- bad bytes are no slot file
 
-not_bad : (b : Bool) (m : Mail) (done : List ℕ) (at : ℕ) → cond b (Whole m done) (Aside m done) ≡ Bad at → ⊥
-not_bad true m done at e = absurd cc
-not_bad false m done at e = absurd cc
+not_bad : (b : Bool) (m : Mail) (at : ℕ) → cond b (Whole m) (Aside m) ≡ Bad at → ⊥
+not_bad true m at e = absurd cc
+not_bad false m at e = absurd cc
 
 pub bad_none : (bytes : List ℕ) (at : ℕ) → reads bytes ≡ Bad at → IsSlotFile bytes → ⊥
 bad_none bytes at e (inl free) = let good = reads_free bytes free in absurd (cc (good, e))
 bad_none bytes at e (inr kept) =
-    let good : reads bytes ≡ cond (nat_eq kept.aside 0) (Whole kept.m (done_of kept.marks)) (Aside kept.m (done_of kept.marks)) = ap reads kept.parts ∙ reads_again kept.version kept.gate kept.aside kept.marks kept.m kept.rest kept.open_gate kept.mark kept.are_marks kept.mail in
-    not_bad (nat_eq kept.aside 0) kept.m (done_of kept.marks) at (sym good ∙ e)
+    let good : reads bytes ≡ cond (nat_eq kept.aside 0) (Whole kept.m) (Aside kept.m) = ap reads kept.parts ∙ reads_again kept.version kept.gate kept.aside kept.marks kept.m kept.rest kept.open_gate kept.mark kept.are_marks kept.mail in
+    not_bad (nat_eq kept.aside 0) kept.m at (sym good ∙ e)
 
 -- ---- bytes that are no slot file are bad
 

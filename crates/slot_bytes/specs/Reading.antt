@@ -84,11 +84,11 @@ whole_at bytes = do
 
 -- ---- the file
 
--- what a slot file is read as: a message comes with the places of the recipients that are done
+-- what a slot file is read as, whatever the marks of its recipients
 pub data Reading : Type 0 where
   Free : Reading
-  Whole : Mail → List ℕ → Reading
-  Aside : Mail → List ℕ → Reading
+  Whole : Mail → Reading
+  Aside : Mail → Reading
   Bad : ℕ → Reading
 
 abbrev pub mail_of : Head × List ℕ → Mail
@@ -96,7 +96,7 @@ mail_of x = record { from = x.0.from; rcpts = x.0.rcpts; body = x.1 }
 
 -- a head and a body as a reading
 abbrev pub slot_in : Head × List ℕ → Reading
-slot_in x = if x.0.aside == 0 then Whole (mail_of x) (done_of x.0.marks) else Aside (mail_of x) (done_of x.0.marks)
+slot_in x = if x.0.aside == 0 then Whole (mail_of x) else Aside (mail_of x)
 
 -- with an open gate, in a file of this length
 abbrev pub kept_or_bad : ℕ → Read (Head × List ℕ) → Reading
@@ -112,3 +112,14 @@ free_or_short (aside ∷ rest) = Free
 unfoldable pub reads : List ℕ → Reading
 reads [] = Bad 0
 reads (gate ∷ rest) = if gate == 0 then free_or_short rest else kept_or_bad (length (gate ∷ rest)) (whole_at (gate ∷ rest))
+
+-- ---- the marks
+
+-- the places of the recipients that are done, of what was read: none where nothing was
+abbrev pub done_or_none : Read (Head × List ℕ) → List ℕ
+done_or_none (Ok x) = done_of x.0.0.marks
+done_or_none (Err left) = []
+
+-- the places of the recipients that are done, in a file that is read as a message
+abbrev pub done_in : List ℕ → List ℕ
+done_in bytes = done_or_none (whole_at bytes)

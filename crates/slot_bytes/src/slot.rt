@@ -1,10 +1,10 @@
 //! Reading a whole slot file.
-ghost use Rattle.std.specs.Prelude.{◌≡◌, ◌<◌, ◌≤◌, ◌^◌, length, IfErr, IfOk};
+ghost use Rattle.std.specs.Prelude.{◌≡◌, ◌<◌, ◌≤◌, ◌^◌, ℕ, List, length, IfErr, IfOk};
 ghost use Rattle.slot_bytes.specs.HeadView.{head_view};
 ghost use Rattle.slot_bytes.specs.Layout.{done_of};
-ghost use Rattle.slot_bytes.specs.Reading.{free_or_short, kept_or_bad, mail_of, reads, slot_in, whole_at};
+ghost use Rattle.slot_bytes.specs.Reading.{done_in, free_or_short, kept_or_bad, mail_of, reads, slot_in, whole_at};
 ghost use Rattle.slot_bytes.specs.Views.{IsReadIfMemory};
-ghost use Rattle.slot_bytes.specs.SlotView.{IsSlotRead, FirstBad, kept_view, mail_view};
+ghost use Rattle.slot_bytes.specs.SlotView.{HasDone, IsSlotRead, FirstBad, kept_view, mail_view};
 
 use crate::kept::done_of;
 use crate::{Head, HeadFault, Kept, SlotFault, read_head};
@@ -55,7 +55,8 @@ fn kept_of(alloc: Global, head: Head, body: Octets) -> Result<Kept, NoMemory>
 // What this head and this body are read as.
 fn slot_of(alloc: Global, head: Head, body: Octets) -> Result<Slot, SlotFault>
     requires { length head.marks < 2 ^ 32 }
-    ensures { IsSlotRead result (slot_in (head_view head, body)) }
+    ensures read { IsSlotRead result (slot_in (head_view head, body)) }
+    ensures done { IfOk result (λ slot. HasDone slot (done_of head.marks)) }
 {
     let aside = head.aside;
     match kept_of(alloc, head, body) {
@@ -72,7 +73,8 @@ fn slot_of(alloc: Global, head: Head, body: Octets) -> Result<Slot, SlotFault>
 
 // What an open gate leads to.
 fn read_kept(alloc: Global, bytes: &[u8]) -> Result<Slot, SlotFault>
-    ensures { IsSlotRead result (kept_or_bad (length bytes.now) (whole_at bytes.now)) }
+    ensures read { IsSlotRead result (kept_or_bad (length bytes.now) (whole_at bytes.now)) }
+    ensures done { IfOk result (λ slot. HasDone slot (done_in bytes.now)) }
 {
     match read_whole(alloc, bytes) {
         Ok(((head, body), _)) => slot_of(alloc, head, body),
@@ -85,7 +87,8 @@ fn read_kept(alloc: Global, bytes: &[u8]) -> Result<Slot, SlotFault>
 
 // What a closed gate leads to, from byte 1 on.
 fn read_closed(rest: &[u8]) -> Result<Slot, SlotFault>
-    ensures { IsSlotRead result (free_or_short rest.now) }
+    ensures read { IsSlotRead result (free_or_short rest.now) }
+    ensures done { (done : List ℕ) → IfOk result (λ slot. HasDone slot done) }
 {
     match rest {
         [] => Err(SlotFault::Bad { at: 1 }),
@@ -95,7 +98,8 @@ fn read_closed(rest: &[u8]) -> Result<Slot, SlotFault>
 
 #[tactic(auto, unfolding(crate::specs::Reading::reads))]
 fn read_any(alloc: Global, bytes: &[u8]) -> Result<Slot, SlotFault>
-    ensures { IsSlotRead result (reads bytes.now) }
+    ensures read { IsSlotRead result (reads bytes.now) }
+    ensures done { IfOk result (λ slot. HasDone slot (done_in bytes.now)) }
 {
     match bytes {
         [] => Err(SlotFault::Bad { at: 0 }),
@@ -112,6 +116,7 @@ fn read_any(alloc: Global, bytes: &[u8]) -> Result<Slot, SlotFault>
 /// Reads a whole slot file.
 pub fn read_slot(alloc: Global, bytes: &[u8]) -> Result<Slot, SlotFault>
     ensures reads { IsSlotRead result (reads bytes.now) }
+    ensures done { IfOk result (λ slot. HasDone slot (done_in bytes.now)) }
     ensures at { IfErr result (FirstBad bytes.now) }
 {
     read_any(alloc, bytes)
