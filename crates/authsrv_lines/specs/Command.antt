@@ -29,6 +29,7 @@ named_of word =
 unfoldable pub other_of : List ℕ → Option Command
 other_of word =
     if is word (codes "response") then Some commands.Response
+    else if is word (codes "digest") then Some commands.Digest
     else if is word (codes "operation") then Some commands.Operation
     else if is word (codes "adduser") then Some commands.Adduser
     else if is word (codes "group") then Some commands.Group

@@ -23,6 +23,7 @@ pub(crate) enum Named {
 pub(crate) enum Command {
     Named(Named),
     Response,
+    Digest,
     Operation,
     Adduser,
     Group,
@@ -89,6 +90,8 @@ fn other_of(word: &[u8]) -> Option<Command>
 {
     if is(word, b"response") {
         Some(Command::Response)
+    } else if is(word, b"digest") {
+        Some(Command::Digest)
     } else if is(word, b"operation") {
         Some(Command::Operation)
     } else if is(word, b"adduser") {
