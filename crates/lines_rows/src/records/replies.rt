@@ -1,6 +1,6 @@
 //! What is told of the lines of replies.
 
-use crate::records::records::{tell_group, tell_long_name, tell_standing};
+use crate::records::records::{tell_dates, tell_group, tell_long_name, tell_standing};
 use arrayvec::ArrayVec;
 use auth_events::{Denial, Reply, Summary};
 use authsrv_lines::{denial_text, read_reply, reply_text};
@@ -69,10 +69,7 @@ fn tell_summary(summary: &Summary, out: &mut Told) {
     add_number(out, u64::from(summary.fails));
     add_word(out, b"number");
     add_number(out, u64::from(summary.number));
-    add_word(out, b"last");
-    add_number(out, summary.last);
-    add_word(out, b"expires");
-    add_number(out, summary.expires);
+    tell_dates(summary.last, summary.expires, out);
 }
 
 fn tell_fields(reply: &Reply, text: &[u8], out: &mut Told) {

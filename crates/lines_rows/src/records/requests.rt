@@ -69,6 +69,10 @@ fn tell_request(request: &Request, out: &mut Told) {
             tell_named(b"proto", name, out);
             add_word(out, proto_word(*proto));
         }
+        Request::Expire { name, until } => {
+            tell_named(b"expire", name, out);
+            add_number(out, *until);
+        }
         Request::Otp {
             name,
             number,
@@ -80,30 +84,7 @@ fn tell_request(request: &Request, out: &mut Told) {
             add_word(out, word_seed.text());
             add_hex(out, &kept.to_be_bytes());
         }
-        Request::Expire { name, until } => {
-            tell_named(b"expire", name, out);
-            add_number(out, *until);
-        }
         _ => tell_short(request, out),
-    }
-}
-
-// Tells the text of a request on a link, or `-`.
-fn tell_wire_text(request: &Request, out: &mut Told) {
-    let mut text = ArrayVec::new();
-    if wire_text(request, &mut text) {
-        add(out, text.as_slice());
-    } else {
-        add(out, b"-");
-    }
-}
-
-/// `wire TEXT => TEXT`: what a port on another host sends for the request of this line. `-` is nothing.
-pub(crate) fn tell_wire(asked: &[u8], out: &mut Told) {
-    match read_request(asked) {
-        Ok(Wire::Ask(request)) => tell_wire_text(&request, out),
-        Ok(Wire::Quit) => tell_wire_text(&Request::Close, out),
-        _ => add(out, b"-"),
     }
 }
 
@@ -119,4 +100,26 @@ pub(crate) fn tell_line(asked: &[u8], out: &mut Told) {
         Ok(Wire::Quit) => add(out, b"quit"),
         Err(fault) => add(out, fault.text()),
     }
+}
+
+// What a line asks for, if it is a request: for the end of the session `Close`.
+fn request_of(line: &[u8]) -> Option<Request> {
+    match read_request(line) {
+        Ok(Wire::Ask(request)) => Some(request),
+        Ok(Wire::Quit) => Some(Request::Close),
+        Ok(_) | Err(_) => None,
+    }
+}
+
+/// `wire LINE => LINE`: the line that a gateway asks for what a line asks for. `-` where it has none, with what is then in the
+/// buffer.
+pub(crate) fn tell_wire(asked: &[u8], out: &mut Told) {
+    let Some(request) = request_of(asked) else {
+        return add(out, b"no request");
+    };
+    let mut line = ArrayVec::new();
+    if !wire_text(&request, &mut line) {
+        add(out, b"-");
+    }
+    add(out, line.as_slice());
 }
