@@ -4,7 +4,8 @@
 //! line that can't be read with the cause of its leftmost bad word. [`Rules::verdict`] is decided by the first line
 //! whose host list matches the peer. [`Rules::options`] gives the options of a permit line, [`destination`] whether
 //! they let a client go to a destination, and [`Rules::setting`] the value and the line of the first line that sets a
-//! setting.
+//! setting. Of a line about operations [`hosts_of_operation`] gives the hosts, and [`hours_of_operation`] the hours in
+//! which it is open.
 #![tactic(auto)]
 
 mod attribute;

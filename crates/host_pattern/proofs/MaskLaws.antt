@@ -1,15 +1,17 @@
 -- Bodies that are an address and a mask: how they are written, and whom they match.
-use Rattle.std.proofs.Common.{◌≡◌, ◌≢◌, ℕ, ◌+◌, ◌<◌, true, false, ◌||◌, List, [], ◌∷◌, ◌++◌, get_or, take, drop, refl, sym, ◌∙◌, ap, arith}
-use Rattle.std.specs.Prelude.{IsTrue, ◌==◌, Option, Some, None, bit_and}
+use Rattle.std.proofs.Common.{◌≡◌, ◌≢◌, ℕ, ◌+◌, ◌<◌, true, false, ◌||◌, List, [], ◌∷◌, ◌++◌, get_or, take, drop, min, refl, sym, ◌∙◌, ap, arith, inl, inr}
+use Rattle.std.specs.Prelude.{IsTrue, ◌↔◌, ◌==◌, Option, Some, None, bit_and}
+use Rattle.std.specs.Int.{bit_at}
 use Rattle.std.specs.Char.{to_ascii_lowercase}
 use Rattle.std.specs.List.{position}
 use Rattle.std.specs.Str.{str_to_ascii_lowercase}
 use Rattle.std.specs.Net.Grammar.{IsDotted}
-use Rattle.std.proofs.lemmas.Bool.{and_parts, both_ways, eqb-true, false_from_ne_true, ne_eqb, or_right}
+use Rattle.std.proofs.lemmas.Bool.{and_parts, both_ways, cases_eq, eq-eqb, eqb-true, false_from_ne_true, ne_eqb, or_right}
 use Rattle.std.proofs.lemmas.Bool.Decides.{nat_tests}
 use Rattle.std.proofs.lemmas.List.{drop_more, take-append-drop}
 use Rattle.std.proofs.lemmas.List.Quantifiers.{position-Some}
 use Rattle.std.proofs.lemmas.Nat.{and_mask}
+use Rattle.std.proofs.lemmas.Nat.Bits.{bit_at-lt, bit_at_and, same_from_bits}
 use Rattle.std.proofs.lemmas.Slice.Eq.{bytes_eq-Decides}
 use Rattle.std.specs.Prelude.{codes}
 use Rattle.fw_types.specs.HostName.{is_address_byte}
@@ -120,6 +122,29 @@ pub mask_compares : (body : List ℕ) (masked : Masked) (party : Peer) (addr : L
     → body_matches body party ≡ agree masked.mask masked.address addr
 mask_compares body masked party addr h there =
     by_mask body party (masked_has_colon body masked h) ∙ ap (fits_masked (masked_of body)) there ∙ ap (λ m. fits_masked m (Some addr)) h
+
+-- octets are equal in the bits of a mask exactly if they are so bit by bit
+
+bits_agree : (mask one other : ℕ) → octets_agree mask one other ≡ true → (i : ℕ) → bit_at mask i ≡ 1 → bit_at one i ≡ bit_at other i
+bits_agree mask one other h i set =
+    let same : bit_and one mask ≡ bit_and other mask = eqb-true _ _ h in
+    let bits : min (bit_at one i) (bit_at mask i) ≡ min (bit_at other i) (bit_at mask i) = sym (bit_at_and one mask i) ∙ ap (λ n. bit_at n i) same ∙ bit_at_and other mask i in
+    let few : bit_at one i < 2 = bit_at-lt one i in
+    let others : bit_at other i < 2 = bit_at-lt other i in
+    omega arith
+
+masked_bit : (mask one other i : ℕ) → (bit_at mask i ≡ 1 → bit_at one i ≡ bit_at other i) → min (bit_at one i) (bit_at mask i) ≡ min (bit_at other i) (bit_at mask i)
+masked_bit mask one other i h = elim (cases_eq (bit_at mask i) 1) [
+  | inl set ↦ ap (λ n. min n (bit_at mask i)) (h set)
+  | inr clear ↦ (let few : bit_at mask i < 2 = bit_at-lt mask i in omega arith)
+]
+
+agree_by_bits : (mask one other : ℕ) → ((i : ℕ) → bit_at mask i ≡ 1 → bit_at one i ≡ bit_at other i) → octets_agree mask one other ≡ true
+agree_by_bits mask one other h =
+    eq-eqb (bit_and one mask) (bit_and other mask) (same_from_bits (bit_and one mask) (bit_and other mask) (λ i. bit_at_and one mask i ∙ masked_bit mask one other i (h i) ∙ sym (bit_at_and other mask i)))
+
+pub bit_by_bit : (mask one other : ℕ) → IsTrue (octets_agree mask one other) ↔ ((i : ℕ) → bit_at mask i ≡ 1 → bit_at one i ≡ bit_at other i)
+bit_by_bit mask one other = (bits_agree mask one other, agree_by_bits mask one other)
 
 -- a mask's octet 255 has every bit
 

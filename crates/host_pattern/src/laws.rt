@@ -1,6 +1,7 @@
 //! What the definitions of `specs/` come to. Each function states one law and does nothing.
-ghost use Rattle.std.specs.Prelude.{◌≡◌, ◌≢◌, ◌<◌, ℕ, List, [], ◌∷◌, ◌++◌, Bool, true, false, not, ◌||◌, ◌==◌, nat_eq, slice_index, IsTrue, Ok, Some, None, is_ok, is_some};
+ghost use Rattle.std.specs.Prelude.{◌≡◌, ◌≢◌, ◌↔◌, ◌<◌, ℕ, List, [], ◌∷◌, ◌++◌, Bool, true, false, not, ◌||◌, ◌==◌, nat_eq, slice_index, IsTrue, Ok, Some, None, is_ok, is_some};
 ghost use Rattle.std.specs.Fmt.{decimal};
+ghost use Rattle.std.specs.Int.{bit_at};
 ghost use Rattle.std.specs.List.{list_all, starts_with, ends_with};
 ghost use Rattle.std.specs.Str.{bytes_eq};
 ghost use Rattle.fw_types.specs.Quad.{dotted};
@@ -9,7 +10,7 @@ ghost use Rattle.host_pattern.specs.declared.bucket.Bucket.TheVariants.{Octet};
 ghost use Rattle.host_pattern.specs.declared.mask.Masked.{Masked};
 ghost use Rattle.host_pattern.specs.Bucket.{bucket_of, list_reaches, octet_masked};
 ghost use Rattle.host_pattern.specs.Glob.{glob, is_plain};
-ghost use Rattle.host_pattern.specs.Mask.{agree, has_colon, masked_of};
+ghost use Rattle.host_pattern.specs.Mask.{agree, has_colon, masked_of, octets_agree};
 ghost use Rattle.host_pattern.specs.Party.{is_unknown, is_stars, is_for_addresses, body_matches};
 ghost use Rattle.host_pattern.specs.Pattern.{Written, is_body, body_of, parsed, written};
 ghost use Rattle.host_pattern.specs.PatternList.{list_matches};
@@ -50,6 +51,12 @@ pub fn masks_need_an_address()
 pub fn masks_compare_their_bits()
     ensures { (body : List ℕ) (masked : Masked) (party : Peer) (addr : List ℕ) → masked_of body ≡ Some masked →
         party.addr ≡ Some addr → body_matches body party ≡ agree masked.mask masked.address addr }
+{}
+
+/// Two octets agree under a mask's octet exactly if each bit that is set in the mask is the same in both.
+pub fn octets_agree_bit_by_bit()
+    ensures { (mask one other : ℕ) → IsTrue (octets_agree mask one other)
+        ↔ ((i : ℕ) → bit_at mask i ≡ 1 → bit_at one i ≡ bit_at other i) }
 {}
 
 /// They are written as two dotted quads joined by a colon.
