@@ -5,6 +5,8 @@ pub mod BookLemmas
 mod Corners
 pub mod CountLemmas
 pub mod EntriesLemmas
+pub mod ExpiryLemmas
+mod ExpiryRows
 pub mod FitLemmas
 pub mod GroupLemmas
 pub mod HistoryLemmas

@@ -38,19 +38,21 @@ fn failed(moment: u64, user: &UserRecord) -> UserRecord
     UserRecord { record }
 }
 
-fn logged_in(user: &UserRecord) -> UserRecord
-    ensures { result ≡ logged_in user.now }
+fn logged_in(moment: u64, user: &UserRecord) -> UserRecord
+    ensures { result ≡ logged_in moment user.now }
 {
     let mut record = user.record.twin();
     record.fails = 0;
+    record.last = moment;
     UserRecord { record }
 }
 
-fn used(user: &UserRecord, otp: &Otp, word: u64) -> UserRecord
-    ensures { result ≡ used user.now (otp_fields otp.now) word }
+fn used(moment: u64, user: &UserRecord, otp: &Otp, word: u64) -> UserRecord
+    ensures { result ≡ used moment user.now (otp_fields otp.now) word }
 {
     let mut record = user.record.twin();
     record.fails = 0;
+    record.last = moment;
     record.otp = Some(Otp {
         number: otp.number.saturating_sub(1),
         word_seed: otp.word_seed.twin(),
@@ -101,7 +103,7 @@ fn checks_plain(
         None => Change::drops(session, Reply::Denied(Denial::Disabled), Phase::Idle),
         Some(plain) => {
             if is_password(hash, plain) {
-                return right(session, name, logged_in(user));
+                return right(session, name, logged_in(machine.moment, user));
             }
             wrong(machine, session, user)
         }
@@ -122,7 +124,7 @@ fn checks_word(
         None => wrong(machine, session, user),
         Some(word) => {
             if next(word) == otp.kept {
-                return right(session, name, used(user, otp, word));
+                return right(session, name, used(machine.moment, user, otp, word));
             }
             wrong(machine, session, user)
         }

@@ -26,6 +26,8 @@ fn new_user(name: &Name, long: &LongName, group: Option<Name>) -> Record
         wiz: Wiz::None,
         fails: 0,
         since: 0,
+        last: 0,
+        expires: 0,
         plain: None,
         otp: None,
     }
