@@ -1,6 +1,5 @@
 pub mod ActLemmas
 pub mod AnswerLemmas
-mod ApplyLemmas
 pub mod BookLemmas
 mod Corners
 pub mod CountLemmas
@@ -26,6 +25,7 @@ pub mod RecordLemmas
 mod Rows
 mod Runs
 pub mod SaidLemmas
+pub mod SearchLemmas
 pub mod SessionLemmas
 pub mod StepLemmas
 pub mod TableLemmas

@@ -7,8 +7,9 @@ ghost use Rattle.auth_machine.specs.Login.{asks, asks_word, asleep, authenticate
 ghost use Rattle.auth_machine.specs.State.{record_at};
 
 use crate::change::{Change, in_phase};
-use crate::machine_ref::{MachineRef, challenge_at, record_at};
+use crate::machine_ref::{MachineRef, challenge_at};
 use crate::record_change::{ChallengeChange, RecordChange, SessionChange};
+use crate::search::record_at;
 use crate::user_record::UserRecord;
 use crate::{Challenge, Phase, Policy, Session};
 use auth_events::{Denial, Reply};

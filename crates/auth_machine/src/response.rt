@@ -9,7 +9,8 @@ ghost use Rattle.auth_machine.specs.Login.{checks, checks_otp, checks_plain, che
 
 use crate::change::Change;
 use crate::login::refusal;
-use crate::machine_ref::{MachineRef, challenge_at, record_at};
+use crate::machine_ref::{MachineRef, challenge_at};
+use crate::search::record_at;
 use crate::user_record::UserRecord;
 use crate::{Challenge, Phase, Policy, Session};
 use auth_events::{Denial, Reply};
