@@ -1,5 +1,5 @@
 #!/bin/sh
-# Installs fwtk, its manual pages and an example table under a prefix. The program is built if it isn't yet or a source is
+# Installs fwtk, its manual pages, an example table and the words of one-time passwords under a prefix. The program is built if it isn't yet or a source is
 # newer, or is the one that FWTK_PROGRAM names. DESTDIR, if it is set, stands before the prefix. No permission table is
 # written or changed.
 set -eu
@@ -45,10 +45,12 @@ put() {
 
 umask 022
 put 755 "$program" "$under/sbin/fwtk"
+put 644 "$top/docs/man/otp-calc.1" "$under/share/man/man1/otp-calc.1"
 for page in netperm-table spool; do
   put 644 "$top/docs/man/$page.5" "$under/share/man/man5/$page.5"
 done
 for page in authsrv ftp-gw fwtk netacl plug-gw serve smap smapd tn-gw; do
   put 644 "$top/docs/man/$page.8" "$under/share/man/man8/$page.8"
 done
+put 644 "$top/contrib/otp-words" "$under/share/fwtk/otp-words"
 put 644 "$crate/data/site-table" "$under/etc/netperm-table.example"

@@ -1,8 +1,9 @@
 -- Bytes of a file that are read and written in parts.
 use Rattle.std.proofs.Common.{◌≡◌, ℕ, ◌+◌, ◌-◌, ◌<◌, ◌≤◌, Bool, true, false, ◌||◌, List, [], ◌∷◌, ◌++◌, length, take, drop, Option, Some, None, Result, Ok, Err, refl, sym, ap, subst, ◌∙◌, arith, length-append, length-drop}
-use Rattle.std.specs.Prelude.{IfOk}
+use Rattle.std.specs.Prelude.{IfOk, IfSome}
 use Rattle.std.proofs.Math.Seq.{take-append-add, take-append_seam, drop-append-add}
 use Rattle.std.proofs.lemmas.List.{append_assoc, drop-drop, length-take-le, take-append-drop, take-append-le, take_rest}
+use Rattle.fw_disk.specs.DiskView.{IsFront}
 use Rattle.fw_disk.specs.Medium.{laid_over}
 use Rattle.fw_disk.proofs.MediumLemmas.{length_laid}
 use Rattle.fw_real.specs.FileView.{FileView, EndsBy, IsDone, IsKept, IsReadTo, IsSomeOf, Lays, ReadsAll, ReadsSome, ReadsTo}
@@ -123,6 +124,27 @@ reads_full done at room buf (Some f) le more h = record { count = omega (arith, 
 pub reads_end : (done at room : ℕ) (buf : List ℕ) (file : Option FileView) → done ≤ room → ReadsTo done at buf file → EndsBy (at + done) file → ReadsAll done at room buf file
 reads_end done at room buf None le h end = tt
 reads_end done at room buf (Some f) le h end = record { count = omega (arith, h.within, le, end); bytes = h.bytes }
+
+-- ---- a first byte that is written back as read
+
+take_none : (l : List ℕ) → take 0 l ≡ []
+take_none [] = refl
+take_none (x ∷ l) = refl
+
+-- what was read at the front is laid there again
+laid_again : (n room : ℕ) (buf seen : List ℕ) → n ≤ length buf → IsFront n 0 room buf seen → laid_over 0 (take n buf) seen ≡ seen
+laid_again n room buf seen le h =
+    let len : 0 + length (take n buf) ≡ n = omega (arith, length-take-le n buf le) in
+    ap (λ (l : List ℕ). l ++ (take n buf ++ drop (0 + length (take n buf)) seen)) (take_none seen)
+    ∙ ap (λ (k : ℕ). take n buf ++ drop k seen) len
+    ∙ ap (λ (l : List ℕ). l ++ drop n seen) h.bytes
+    ∙ take-append-drop n seen
+
+pub written_back : (n room : ℕ) (buf : List ℕ) (old new : Option FileView) → n ≤ length buf → ReadsAll n 0 room buf old → Lays 0 (take n buf) old new
+    → IfSome old (λ f. new ≡ Some f)
+written_back n room buf None new le h laid = tt
+written_back n room buf (Some f) new le h laid =
+    laid (omega arith) ∙ ap (λ (seen : List ℕ). Some (record { seen = seen; synced = f.synced })) (laid_again n room buf f.seen le h)
 
 -- ---- a file that is opened when it is first called
 

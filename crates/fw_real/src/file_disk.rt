@@ -1,4 +1,4 @@
-ghost use Rattle.std.specs.Prelude.{◌≡◌, ◌≤◌, false, true, length, option_map, IfOk, IsErr, OnOk};
+ghost use Rattle.std.specs.Prelude.{◌≡◌, ◌≤◌, false, true, length, option_map, Some, IfOk, IfSome, IsErr, OnOk};
 ghost use Rattle.fw_outside.specs.Counts.{Rose, counted};
 ghost use Rattle.fw_disk.specs.DiskView.{Changes, Doubts, Reads, Syncs};
 ghost use Rattle.fw_disk.specs.Medium.{cut_at, written_at};
@@ -17,11 +17,36 @@ pub trait Place<F>: Drop {
     fn open(&self) -> io::Result<Option<F>>;
 }
 
+// Writes the first byte of a file back as it is read, where there is one.
+#[tactic(auto, using(crate::proofs::FileLemmas::written_back))]
+fn write_back<F: RawFile>(file: &mut F) -> io::Result<()>
+    ensures { OnOk result (IfSome (F.file_view file.old) (λ f. F.file_view file.new ≡ Some f)) }
+{
+    let mut first = [0];
+    let count = read_through(file, 0, &mut first)?;
+    write_through(file, 0, &first[..count])
+}
+
+// A file that was just opened, its first byte written back.
+fn written_back<F: RawFile>(opened: Option<F>) -> io::Result<Option<F>> {
+    match opened {
+        Some(mut file) => {
+            write_back(&mut file)?;
+            Ok(Some(file))
+        }
+        None => Ok(None),
+    }
+}
+
 /// A file as a disk, which is opened at the first call, and stays open.
 ///
+/// As it is opened its first byte is written back as read. A read may give a byte that an earlier process wrote and
+/// whose sync failed: the system has it, and the disk may still have the old one. The write has the next sync make sure
+/// of it, or fail. Where the byte can't be read or written back, the file isn't open.
+///
 /// A file that is missing is read as an empty one, of which there is nothing to sync; any other call of it fails. After a sync of the open file that failed
-/// each call fails: the system may answer the next one as done though the bytes are lost. Before the file is open nothing
-/// was written to it, so what fails then can be tried again.
+/// each call fails: the system may answer the next one as done though the bytes are lost. Before the file is open no byte
+/// of it was changed, so what fails then can be tried again.
 #[derive(Drop)]
 pub struct FileDisk<P, F> {
     place: P,
@@ -61,7 +86,7 @@ impl<P: Place<F>, F: RawFile> FileDisk<P, F> {
         match &self.file {
             Some(_) => Ok(()),
             None => {
-                self.file = self.place.open()?;
+                self.file = written_back(self.place.open()?)?;
                 Ok(())
             }
         }
