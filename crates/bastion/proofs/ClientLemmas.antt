@@ -119,17 +119,17 @@ module _ (name : List ℕ) (service : Service) (rules : RuleBook) (first : BookV
 
 pub holds_does : (name : List ℕ) (client : Client) (rules : RuleBook) (first : BookView) (out : Outcome) (old mid new : WorldView) → Opens name services.Authsrv rules first old mid → HoldsOver client rules first out mid new → DoesFor name (commands.Authsrv client) out old new
 holds_does name client rules first out old mid new o h =
-    inr (record { inputs = o.inputs; read = o.read (commands.Authsrv client) refl; middle = o.middle; only = o.only; works = holds_attended name services.Authsrv rules first old mid o client out new h })
+    inr (record { reading = o.reading; inputs = o.inputs; read = o.read (commands.Authsrv client) refl; middle = o.middle; only = o.only; works = holds_attended name services.Authsrv rules first old mid o client out new h })
 
 pub telnet_does : (name : List ℕ) (peer : Peer) (rules : RuleBook) (first : BookView) (out : Outcome) (old mid new : WorldView) → Opens name services.TnGw rules first old mid → PassesOver services.TnGw peer rules first out mid new → DoesFor name (commands.TnGw peer) out old new
 telnet_does name peer rules first out old mid new o h =
     let gated = passes_gated name services.TnGw rules first old mid o services.TnGw peer (telnet_untouched name services.TnGw rules first old mid o) out new h in
-    inr (record { inputs = o.inputs; read = o.read (commands.TnGw peer) refl; middle = o.middle; only = o.only; works = gated })
+    inr (record { reading = o.reading; inputs = o.inputs; read = o.read (commands.TnGw peer) refl; middle = o.middle; only = o.only; works = gated })
 
 pub ftp_does : (name : List ℕ) (peer : Peer) (rules : RuleBook) (first : BookView) (out : Outcome) (old mid new : WorldView) → Opens name services.FtpGw rules first old mid → PassesOver services.FtpGw peer rules first out mid new → DoesFor name (commands.FtpGw peer) out old new
 ftp_does name peer rules first out old mid new o h =
     let gated = passes_gated name services.FtpGw rules first old mid o services.FtpGw peer (ftp_untouched name services.FtpGw rules first old mid o) out new h in
-    inr (record { inputs = o.inputs; read = o.read (commands.FtpGw peer) refl; middle = o.middle; only = o.only; works = gated })
+    inr (record { reading = o.reading; inputs = o.inputs; read = o.read (commands.FtpGw peer) refl; middle = o.middle; only = o.only; works = gated })
 
 -- ---- the dialer
 

@@ -1,5 +1,7 @@
+pub mod Account
 pub mod Asking
 pub mod AtGateway
+pub mod Basis
 pub mod Complete
 pub mod Deciding
 pub mod FtpGateway
