@@ -1,11 +1,14 @@
 -- From what a run did to all that is said of it, by one reading and one session.
 use Rattle.std.proofs.Common.{◌≡◌, ℕ, List, refl, sym, ◌∙◌, ap, subst, inl, inr, ◌⊎◌}
 use Rattle.std.specs.Prelude.{Option, Some, None}
+use Rattle.fw_types.specs.declared.peer.Peer.{Peer}
 use Rattle.gate_rules.specs.Verdict.{verdict_of}
 use Rattle.bastion.specs.Account.{Account}
 use Rattle.bastion.specs.Basis.{Basis, Course, no_course}
 use Rattle.bastion.specs.Complete.{IsAllDone, IsComplete, IsOrderComplete}
-use Rattle.bastion.specs.Headline.{HandsStand, Headline, HeadlineBy, HeadlineOf, Headlines, IsBasis, IsLineBasis, IsOrderBasis}
+use Rattle.bastion.specs.Headline.{HandsStand, Headline, HeadlineBy, HeadlineOf, Headlines, IsBasis, IsLineBasis, IsOrderBasis, LogsDenial, OfGateKind}
+use Rattle.bastion.specs.Gateways.{denial_words, gateway_service}
+use Rattle.bastion.specs.Gating.{Gated}
 use Rattle.bastion.specs.Inputs.{Inputs}
 use Rattle.bastion.specs.Jobs.{DoesJob}
 use Rattle.bastion.specs.Outcome.{fault_line_of, status_of}
@@ -16,12 +19,15 @@ use Rattle.bastion.specs.WorldView.{Post, SessionInputs, WorldView}
 use Rattle.bastion.specs.declared.outcome.Outcome.{Outcome}
 use Rattle.bastion.specs.declared.outcome.Outcome.TheVariants.{Usage, Unread, Failed, NoMemory, Done, Decided, Ended}
 use Rattle.bastion.specs.declared.words.Command.{Command}
-use Rattle.bastion.specs.declared.words.Command.TheVariants.{Netacl, NetaclRun, Table, Authsrv, PlugGw, TnGw, FtpGw, Smap}
+use Rattle.bastion.specs.declared.words.Command.TheVariants.{Netacl, NetaclRun, Table, Authsrv, PlugGw, Gateway, Smap}
+use Rattle.bastion.specs.declared.words.GatewayKind.{GatewayKind}
+use Rattle.bastion.specs.declared.words.GatewayKind.TheVariants as kinds
 use Rattle.bastion.specs.declared.words.Job.{Job}
 use Rattle.bastion.specs.declared.words.Job.TheVariants as jobs
 use Rattle.bastion.specs.declared.words.Order.{Order}
 use Rattle.bastion.specs.declared.words.Order.TheVariants.{ByTable, Alone}
-use Rattle.bastion.proofs.CompleteLemmas.{ftp_complete, job_complete, linked_complete, mailed_complete, netacl_complete, netacl_run_complete, served_complete, stops_complete, table_complete, telnet_complete, usage_complete}
+use Rattle.bastion.proofs.AtGatewayLemmas.{CameAs}
+use Rattle.bastion.proofs.CompleteLemmas.{gateway_complete, job_complete, linked_complete, mailed_complete, netacl_complete, netacl_run_complete, served_complete, stops_complete, table_complete, usage_complete}
 use Rattle.bastion.proofs.FtpGatewayLemmas.{ftp_headline}
 use Rattle.bastion.proofs.GatewayLemmas.{telnet_headline}
 use Rattle.bastion.proofs.HandedLemmas.{handed_on}
@@ -33,6 +39,11 @@ use Rattle.bastion.proofs.MailKeptLemmas.{mail_course, mail_headline}
 use Rattle.bastion.proofs.RunLemmas.{run_status, worked_unasked}
 
 -- ---- a command whose inputs were read
+
+gateway_headline : (kind : GatewayKind) (peer : Peer) (inputs : Inputs) (out : Outcome) (old mid new : WorldView) → Gated (gateway_service kind) peer inputs out old mid → TellsIf (fault_line_of out) mid new
+    → CameAs (Gateway kind peer) (gateway_service kind) peer (denial_words kind) (OfGateKind kind peer) inputs (status_of out) old new × LogsDenial (Gateway kind peer) (gateway_service kind) peer inputs (status_of out) old new
+gateway_headline kinds.Telnet peer inputs out old mid new h tells = telnet_headline peer inputs out old mid new h tells
+gateway_headline kinds.Ftp peer inputs out old mid new h tells = ftp_headline peer inputs out old mid new h tells
 
 record Accounts (command : Command) (inputs : Inputs) (status : ℕ) (old ready new : WorldView) : Type 0 where
   course : Course
@@ -85,19 +96,12 @@ worked_accounts name (PlugGw caller) outcome old mid new h tells =
       headline = record { replies_legal = tt; asks_permitted = so.asks; denials_logged = (so.denials, so.untold); answered_stands = tt };
       complete = λ none. linked_complete name caller outcome course old mid new none h tells so;
     }
-worked_accounts name (TnGw peer) outcome old mid new h tells =
-    let so = telnet_headline peer h.inputs outcome h.middle mid new h.works tells in
+worked_accounts name (Gateway kind peer) outcome old mid new h tells =
+    let so = gateway_headline kind peer h.inputs outcome h.middle mid new h.works tells in
     record {
       course = so.0.course;
       headline = record { replies_legal = so.0.comes; asks_permitted = so.0.comes; denials_logged = so.1; answered_stands = tt };
-      complete = λ none. telnet_complete name peer outcome old mid new none h tells so.0;
-    }
-worked_accounts name (FtpGw peer) outcome old mid new h tells =
-    let so = ftp_headline peer h.inputs outcome h.middle mid new h.works tells in
-    record {
-      course = so.0.course;
-      headline = record { replies_legal = so.0.comes; asks_permitted = so.0.comes; denials_logged = so.1; answered_stands = tt };
-      complete = λ none. ftp_complete name peer outcome old mid new none h tells so.0;
+      complete = λ none. gateway_complete name kind peer outcome old mid new none h tells so.0;
     }
 worked_accounts name (Smap peer) outcome old mid new h tells =
     let so = mail_headline peer h.inputs outcome h.middle mid new h.works tells in

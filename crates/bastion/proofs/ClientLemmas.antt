@@ -24,6 +24,9 @@ use Rattle.bastion.specs.WorldView.{WorldView}
 use Rattle.bastion.specs.declared.outcome.Outcome.{Outcome}
 use Rattle.bastion.specs.declared.words.Client.{Client}
 use Rattle.bastion.specs.declared.words.Command.TheVariants as commands
+use Rattle.bastion.specs.declared.words.GatewayKind.{GatewayKind}
+use Rattle.bastion.specs.declared.words.GatewayKind.TheVariants as kinds
+use Rattle.bastion.specs.Gateways.{gateway_service}
 
 -- ---- what the history stands on stays
 
@@ -121,15 +124,21 @@ pub holds_does : (name : List ℕ) (client : Client) (rules : RuleBook) (first :
 holds_does name client rules first out old mid new o h =
     inr (record { reading = o.reading; inputs = o.inputs; read = o.read (commands.Authsrv client) refl; middle = o.middle; only = o.only; works = holds_attended name services.Authsrv rules first old mid o client out new h })
 
-pub telnet_does : (name : List ℕ) (peer : Peer) (rules : RuleBook) (first : BookView) (out : Outcome) (old mid new : WorldView) → Opens name services.TnGw rules first old mid → PassesOver services.TnGw peer rules first out mid new → DoesFor name (commands.TnGw peer) out old new
-telnet_does name peer rules first out old mid new o h =
-    let gated = passes_gated name services.TnGw rules first old mid o services.TnGw peer (telnet_untouched name services.TnGw rules first old mid o) out new h in
-    inr (record { reading = o.reading; inputs = o.inputs; read = o.read (commands.TnGw peer) refl; middle = o.middle; only = o.only; works = gated })
+gateway_untouched : (name : List ℕ) (kind : GatewayKind) (rules : RuleBook) (first : BookView) (old mid : WorldView) (o : Opens name (gateway_service kind) rules first old mid) (verdict : Verdict) (book : BookView) → Untouched (gateway_service kind) verdict first book
+    → Untouched (gateway_service kind) verdict o.before book.keeper
+gateway_untouched name kinds.Telnet rules first old mid o verdict book h = telnet_untouched name services.TnGw rules first old mid o verdict book h
+gateway_untouched name kinds.Ftp rules first old mid o verdict book h = ftp_untouched name services.FtpGw rules first old mid o verdict book h
 
-pub ftp_does : (name : List ℕ) (peer : Peer) (rules : RuleBook) (first : BookView) (out : Outcome) (old mid new : WorldView) → Opens name services.FtpGw rules first old mid → PassesOver services.FtpGw peer rules first out mid new → DoesFor name (commands.FtpGw peer) out old new
-ftp_does name peer rules first out old mid new o h =
-    let gated = passes_gated name services.FtpGw rules first old mid o services.FtpGw peer (ftp_untouched name services.FtpGw rules first old mid o) out new h in
-    inr (record { reading = o.reading; inputs = o.inputs; read = o.read (commands.FtpGw peer) refl; middle = o.middle; only = o.only; works = gated })
+pub gateway_does : (name : List ℕ) (kind : GatewayKind) (peer : Peer) (rules : RuleBook) (first : BookView) (out : Outcome) (old mid new : WorldView) → Opens name (gateway_service kind) rules first old mid → PassesOver (gateway_service kind) peer rules first out mid new
+    → DoesFor name (commands.Gateway kind peer) out old new
+gateway_does name kind peer rules first out old mid new o h =
+    let gated = passes_gated name (gateway_service kind) rules first old mid o (gateway_service kind) peer (gateway_untouched name kind rules first old mid o) out new h in
+    inr (record { reading = o.reading; inputs = o.inputs; read = o.read (commands.Gateway kind peer) refl; middle = o.middle; only = o.only; works = gated })
+
+-- neither is the plug
+pub gateway_ruled : (kind : GatewayKind) (rules : RuleBook) → IsServed (gateway_service kind) rules
+gateway_ruled kinds.Telnet rules = tt
+gateway_ruled kinds.Ftp rules = tt
 
 -- ---- the dialer
 

@@ -21,14 +21,14 @@ use Rattle.spool_slots.specs.declared.slot_why.SlotWhy.{SlotWhy}
 use Rattle.spool_slots.specs.declared.slot_why.SlotWhy.TheVariants as whys
 use Rattle.bastion.specs.Complete.{AllDone, IsAllDone, IsDrilledWhole, IsFormattedWhole, IsJobComplete, IsLaunchedWhole, IsRoundWhole, IsStartedWhole, IsTakenWhole, IsWhole}
 use Rattle.bastion.specs.Basis.{Course, no_course}
-use Rattle.bastion.specs.FtpGateway.{OfFtp}
-use Rattle.bastion.specs.Gateway.{OfTelnet}
-use Rattle.bastion.specs.Headline.{IsReplied}
+use Rattle.bastion.specs.Gateways.{denial_words, gateway_service}
+use Rattle.bastion.specs.Gating.{Gated}
+use Rattle.bastion.specs.Headline.{IsReplied, OfGateKind}
 use Rattle.bastion.specs.Inputs.{Inputs}
 use Rattle.bastion.specs.Jobs.{AreFormatted, DoesJob, DrillsBy, Formats, TellsFormatted, drill_refused, formatted_text, printed}
 use Rattle.bastion.specs.Mailing.{Mailed, slot_fault}
 use Rattle.bastion.specs.Outcome.{DiskRose, fault_line_of, refusal_text, status_of, verdict_status}
-use Rattle.bastion.specs.Run.{Stops, TellsIf, Unused, Worked, stopped_by, verdict_for}
+use Rattle.bastion.specs.Run.{ReadsOnly, Stops, TellsIf, Unused, Worked, stopped_by, verdict_for}
 use Rattle.bastion.specs.Status.{IsPassed, IsServed, RoseBy, RoseInJob, SomeRose}
 use Rattle.client_service.specs.Decision.{decision_text}
 use Rattle.bastion.specs.Texts.{ended_text, print_text, program_of}
@@ -39,7 +39,9 @@ use Rattle.bastion.specs.declared.outcome.Outcome.{Outcome}
 use Rattle.bastion.specs.declared.outcome.Outcome.TheVariants.{Usage, Unread, Failed, NoMemory, Done, Decided, Ended}
 use Rattle.bastion.specs.declared.outcome.Refusal.TheVariants.{Slot}
 use Rattle.bastion.specs.declared.words.Command.{Command}
-use Rattle.bastion.specs.declared.words.Command.TheVariants.{Netacl, NetaclRun, Table, Authsrv, PlugGw, TnGw, FtpGw, Smap}
+use Rattle.bastion.specs.declared.words.Command.TheVariants.{Netacl, NetaclRun, Table, Authsrv, PlugGw, Gateway, Smap}
+use Rattle.bastion.specs.declared.words.GatewayKind.{GatewayKind}
+use Rattle.bastion.specs.declared.words.GatewayKind.TheVariants as kinds
 use Rattle.bastion.specs.declared.words.Job.{Job}
 use Rattle.bastion.specs.declared.words.Job.TheVariants.{Drill, SpoolInit, Smapd}
 use Rattle.bastion.specs.declared.words.Caller.{Caller}
@@ -47,7 +49,7 @@ use Rattle.bastion.specs.declared.words.Client.{Client}
 use Rattle.bastion.specs.declared.words.Query.{Query}
 use Rattle.bastion.proofs.AttendedLemmas.{attended_status}
 use Rattle.bastion.proofs.FtpGatewayLemmas.{ftp_whole}
-use Rattle.bastion.proofs.GateStatusLemmas.{ftp_status, telnet_status}
+use Rattle.bastion.proofs.GateStatusLemmas.{gateway_status}
 use Rattle.bastion.proofs.GatewayLemmas.{telnet_whole}
 use Rattle.bastion.proofs.JobRoseLemmas.{fails_rose}
 use Rattle.bastion.proofs.LaunchLemmas.{Launching, launched}
@@ -76,9 +78,6 @@ use Rattle.bastion.specs.Mailing.{SlotsUnread}
 use Rattle.bastion.proofs.HandedLemmas.{round_now, troubled_now}
 use Rattle.bastion.proofs.HandedRoseLemmas.{IsTroubled, round_log}
 use Rattle.bastion.proofs.MailedLemmas.{served_so, unread_rose}
-use Rattle.client_service.specs.Endings.{refusal_reply}
-use Rattle.gate_rules.specs.declared.service.Service.TheVariants as services
-use Rattle.tn_gate.specs.Texts.{refusal}
 
 grown_from : (text : List ℕ) (a b c : SinkView) → b ≡ a → c ≡ with_given b text → c.given ≡ grown a.given text
 grown_from text a b c same is = ap (λ (s : SinkView). s.given) is ∙ ap (λ (s : SinkView). grown s.given text) same
@@ -265,32 +264,24 @@ pub linked_complete : (name : List ℕ) (caller : Caller) (outcome : Outcome) (c
 linked_complete name caller outcome course old mid new none h tells so =
     linked_whole name caller h.inputs course outcome old h.middle mid new (quiet old new (λ some. none (inl some))) (no_four name (PlugGw caller) outcome old mid new none h tells) h.only h.works so
 
-pub telnet_complete : (name : List ℕ) (peer : Peer) (outcome : Outcome) (old mid new : WorldView) → (RoseBy (TnGw peer) old new → ⊥) → (h : Worked name (TnGw peer) outcome old mid) → TellsIf (fault_line_of outcome) mid new
-    → (came : CameAs (TnGw peer) services.TnGw peer refusal (OfTelnet peer) h.inputs (status_of outcome) h.middle new) → (status_of outcome ≡ 5) ⊎ IsAllDone (TnGw peer) h.inputs came.course (status_of outcome) old h.middle new
-telnet_complete name peer outcome old mid new none h tells came = by (telnet_status peer h.inputs outcome h.middle mid h.works)
-  where
-    by : ((status_of outcome ≡ 4) ⊎ (status_of outcome ≡ 5)) ⊎ IsPassed (verdict_of h.inputs.rules peer) (status_of outcome) h.middle.inputs mid.inputs
-        → (status_of outcome ≡ 5) ⊎ IsAllDone (TnGw peer) h.inputs came.course (status_of outcome) old h.middle new
-    by (inl (inl four)) = absurd (no_four name (TnGw peer) outcome old mid new none h tells four)
-    by (inl (inr five)) = inl five
-    by (inr passed) =
-        let later = tells_later (fault_line_of outcome) mid new tells in
-        let left = only_left name true old h.middle h.only in
-        inr (telnet_whole name peer h.inputs outcome old h.middle mid new (quiet old new (λ some. none (inl some))) h.only h.works tells
-        (passed_then (verdict_of h.inputs.rules peer) (status_of outcome) h.middle.inputs mid.inputs old.inputs new.inputs left.input left.clock later.inputs passed) came)
+gateway_whole : (kind : GatewayKind) (name : List ℕ) (peer : Peer) (inputs : Inputs) (out : Outcome) (old middle mid new : WorldView) → Quiet old new → ReadsOnly name true old middle → Gated (gateway_service kind) peer inputs out middle mid → TellsIf (fault_line_of out) mid new
+    → IsPassed (verdict_of inputs.rules peer) (status_of out) old.inputs new.inputs → (came : CameAs (Gateway kind peer) (gateway_service kind) peer (denial_words kind) (OfGateKind kind peer) inputs (status_of out) middle new)
+    → IsAllDone (Gateway kind peer) inputs came.course (status_of out) old middle new
+gateway_whole kinds.Telnet name peer inputs out old middle mid new q only h tells passed came = telnet_whole name peer inputs out old middle mid new q only h tells passed came
+gateway_whole kinds.Ftp name peer inputs out old middle mid new q only h tells passed came = ftp_whole name peer inputs out old middle mid new q only h tells passed came
 
-pub ftp_complete : (name : List ℕ) (peer : Peer) (outcome : Outcome) (old mid new : WorldView) → (RoseBy (FtpGw peer) old new → ⊥) → (h : Worked name (FtpGw peer) outcome old mid) → TellsIf (fault_line_of outcome) mid new
-    → (came : CameAs (FtpGw peer) services.FtpGw peer refusal_reply (OfFtp peer) h.inputs (status_of outcome) h.middle new) → (status_of outcome ≡ 5) ⊎ IsAllDone (FtpGw peer) h.inputs came.course (status_of outcome) old h.middle new
-ftp_complete name peer outcome old mid new none h tells came = by (ftp_status peer h.inputs outcome h.middle mid h.works)
+pub gateway_complete : (name : List ℕ) (kind : GatewayKind) (peer : Peer) (outcome : Outcome) (old mid new : WorldView) → (RoseBy (Gateway kind peer) old new → ⊥) → (h : Worked name (Gateway kind peer) outcome old mid) → TellsIf (fault_line_of outcome) mid new
+    → (came : CameAs (Gateway kind peer) (gateway_service kind) peer (denial_words kind) (OfGateKind kind peer) h.inputs (status_of outcome) h.middle new) → (status_of outcome ≡ 5) ⊎ IsAllDone (Gateway kind peer) h.inputs came.course (status_of outcome) old h.middle new
+gateway_complete name kind peer outcome old mid new none h tells came = by (gateway_status kind peer h.inputs outcome h.middle mid h.works)
   where
     by : ((status_of outcome ≡ 4) ⊎ (status_of outcome ≡ 5)) ⊎ IsPassed (verdict_of h.inputs.rules peer) (status_of outcome) h.middle.inputs mid.inputs
-        → (status_of outcome ≡ 5) ⊎ IsAllDone (FtpGw peer) h.inputs came.course (status_of outcome) old h.middle new
-    by (inl (inl four)) = absurd (no_four name (FtpGw peer) outcome old mid new none h tells four)
+        → (status_of outcome ≡ 5) ⊎ IsAllDone (Gateway kind peer) h.inputs came.course (status_of outcome) old h.middle new
+    by (inl (inl four)) = absurd (no_four name (Gateway kind peer) outcome old mid new none h tells four)
     by (inl (inr five)) = inl five
     by (inr passed) =
         let later = tells_later (fault_line_of outcome) mid new tells in
         let left = only_left name true old h.middle h.only in
-        inr (ftp_whole name peer h.inputs outcome old h.middle mid new (quiet old new (λ some. none (inl some))) h.only h.works tells
+        inr (gateway_whole kind name peer h.inputs outcome old h.middle mid new (quiet old new (λ some. none (inl some))) h.only h.works tells
         (passed_then (verdict_of h.inputs.rules peer) (status_of outcome) h.middle.inputs mid.inputs old.inputs new.inputs left.input left.clock later.inputs passed) came)
 
 -- a slot has no reading, or there was no memory

@@ -50,14 +50,15 @@ use Rattle.bastion.specs.Run.{ReadsOnly, TellsIf, verdict_for}
 use Rattle.bastion.specs.Status.{IsPassed}
 use Rattle.bastion.specs.WorldView.{WorldView}
 use Rattle.bastion.specs.declared.outcome.Outcome.{Outcome}
-use Rattle.bastion.specs.declared.words.Command.TheVariants.{FtpGw}
+use Rattle.bastion.specs.declared.words.Command.TheVariants.{Gateway}
+use Rattle.bastion.specs.declared.words.GatewayKind.TheVariants as kinds
 use Rattle.bastion.proofs.AtGatewayLemmas.{CameAs, caller_headline, caller_whole, passed_whole}
 use Rattle.bastion.proofs.DenialLemmas.{done_only}
 use Rattle.bastion.proofs.GateStatusLemmas.{ftp_so, ftp_status}
 use Rattle.bastion.proofs.QuietLemmas.{Quiet}
 
 -- by the laws of the gateway and of all sessions
-module _ (peer : Peer) (inputs : Inputs) (course : Course) (status : ℕ) (old new : WorldView) (at : OfGateway false (FtpGw peer) services.FtpGw peer (serving_rows inputs peer) (serving_row inputs peer) inputs course status old new) where
+module _ (peer : Peer) (inputs : Inputs) (course : Course) (status : ℕ) (old new : WorldView) (at : OfGateway false (Gateway kinds.Ftp peer) services.FtpGw peer (serving_rows inputs peer) (serving_row inputs peer) inputs course status old new) where
   abbrev gate : Gate
   gate = gate_at inputs.rules at.line peer
 
@@ -133,21 +134,21 @@ module _ (peer : Peer) (inputs : Inputs) (course : Course) (status : ℕ) (old n
 -- ---- the headline
 
 module _ (peer : Peer) (inputs : Inputs) (out : Outcome) (old mid new : WorldView) (h : Gated services.FtpGw peer inputs out old mid) (tells : TellsIf (fault_line_of out) mid new) where
-  pub ftp_headline : CameAs (FtpGw peer) services.FtpGw peer refusal_reply (OfFtp peer) inputs (status_of out) old new × LogsDenial (FtpGw peer) services.FtpGw peer inputs (status_of out) old new
+  pub ftp_headline : CameAs (Gateway kinds.Ftp peer) services.FtpGw peer refusal_reply (OfFtp peer) inputs (status_of out) old new × LogsDenial (Gateway kinds.Ftp peer) services.FtpGw peer inputs (status_of out) old new
   ftp_headline =
-      caller_headline false (FtpGw peer) services.FtpGw refusal_reply inputs (serving_rows inputs peer) (serving_row inputs peer) out old mid new h tells (OfFtp peer) (λ course at. of_ftp peer inputs course (status_of out) old new at) refl
+      caller_headline false (Gateway kinds.Ftp peer) services.FtpGw refusal_reply inputs (serving_rows inputs peer) (serving_row inputs peer) out old mid new h tells (OfFtp peer) (λ course at. of_ftp peer inputs course (status_of out) old new at) refl
       (λ line one other same. same) (ftp_status peer inputs out old mid h) (ftp_so peer inputs out old mid h)
 
 -- ---- a run in which no count rose
 
 module _ (name : List ℕ) (peer : Peer) (inputs : Inputs) (out : Outcome) (old middle mid new : WorldView) (q : Quiet old new) (only : ReadsOnly name true old middle) (h : Gated services.FtpGw peer inputs out middle mid) (tells : TellsIf (fault_line_of out) mid new) where
-  held_whole : (line : ℕ) → verdict_for (FtpGw peer) inputs ≡ Permit line → IsPassed (Permit line) (status_of out) old.inputs new.inputs → (course : Course) → OfFtp peer inputs course (status_of out) middle new
+  held_whole : (line : ℕ) → verdict_for (Gateway kinds.Ftp peer) inputs ≡ Permit line → IsPassed (Permit line) (status_of out) old.inputs new.inputs → (course : Course) → OfFtp peer inputs course (status_of out) middle new
       → IsPassedWhole services.FtpGw peer line (OfFtp peer inputs course (status_of out) middle new) course (status_of out) old new
   held_whole line permitted passed course x =
-      passed_whole false (FtpGw peer) services.FtpGw peer (serving_rows inputs peer) (serving_row inputs peer) name inputs course (status_of out) old middle new q only (OfFtp peer inputs course (status_of out) middle new) x x.at line (sym permitted ∙ x.at.permitted) passed
+      passed_whole false (Gateway kinds.Ftp peer) services.FtpGw peer (serving_rows inputs peer) (serving_row inputs peer) name inputs course (status_of out) old middle new q only (OfFtp peer inputs course (status_of out) middle new) x x.at line (sym permitted ∙ x.at.permitted) passed
 
-  pub ftp_whole : IsPassed (verdict_for (FtpGw peer) inputs) (status_of out) old.inputs new.inputs → (came : CameAs (FtpGw peer) services.FtpGw peer refusal_reply (OfFtp peer) inputs (status_of out) middle new)
-      → IsServedAtGate (verdict_for (FtpGw peer) inputs) services.FtpGw refusal_reply peer (OfFtp peer inputs came.course (status_of out) middle new) came.course (status_of out) old new
+  pub ftp_whole : IsPassed (verdict_for (Gateway kinds.Ftp peer) inputs) (status_of out) old.inputs new.inputs → (came : CameAs (Gateway kinds.Ftp peer) services.FtpGw peer refusal_reply (OfFtp peer) inputs (status_of out) middle new)
+      → IsServedAtGate (verdict_for (Gateway kinds.Ftp peer) inputs) services.FtpGw refusal_reply peer (OfFtp peer inputs came.course (status_of out) middle new) came.course (status_of out) old new
   ftp_whole passed came =
-      caller_whole false (FtpGw peer) services.FtpGw refusal_reply inputs (serving_rows inputs peer) (serving_row inputs peer) name out old middle mid new q only h tells (OfFtp peer) held_whole (verdict_for (FtpGw peer) inputs) refl passed
+      caller_whole false (Gateway kinds.Ftp peer) services.FtpGw refusal_reply inputs (serving_rows inputs peer) (serving_row inputs peer) name out old middle mid new q only h tells (OfFtp peer) held_whole (verdict_for (Gateway kinds.Ftp peer) inputs) refl passed
       came (ftp_so peer inputs out middle mid h)

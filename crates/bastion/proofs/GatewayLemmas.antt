@@ -46,7 +46,8 @@ use Rattle.bastion.specs.Run.{ReadsOnly, TellsIf, verdict_for}
 use Rattle.bastion.specs.Status.{IsPassed}
 use Rattle.bastion.specs.WorldView.{WorldView}
 use Rattle.bastion.specs.declared.outcome.Outcome.{Outcome}
-use Rattle.bastion.specs.declared.words.Command.TheVariants.{TnGw}
+use Rattle.bastion.specs.declared.words.Command.TheVariants.{Gateway}
+use Rattle.bastion.specs.declared.words.GatewayKind.TheVariants as kinds
 use Rattle.bastion.proofs.AtGatewayLemmas.{CameAs, caller_headline, caller_whole, passed_whole}
 use Rattle.bastion.proofs.DenialLemmas.{done_only}
 use Rattle.bastion.proofs.GateStatusLemmas.{telnet_so, telnet_status}
@@ -63,7 +64,7 @@ all_asked gate old new ending held asks is = by asks.whole
         let clash : Ok tt ≡ Err stops.cause = sym went ∙ stops.is in absurd (cc)
 
 -- by the laws of the gateway
-module _ (peer : Peer) (inputs : Inputs) (course : Course) (status : ℕ) (old new : WorldView) (at : OfGateway true (TnGw peer) services.TnGw peer (telnet_rows inputs peer) (telnet_row inputs peer) inputs course status old new) where
+module _ (peer : Peer) (inputs : Inputs) (course : Course) (status : ℕ) (old new : WorldView) (at : OfGateway true (Gateway kinds.Telnet peer) services.TnGw peer (telnet_rows inputs peer) (telnet_row inputs peer) inputs course status old new) where
   abbrev gate : Gate
   gate = gate_at inputs.rules at.line peer
 
@@ -115,21 +116,21 @@ module _ (peer : Peer) (inputs : Inputs) (course : Course) (status : ℕ) (old n
 -- ---- the headline
 
 module _ (peer : Peer) (inputs : Inputs) (out : Outcome) (old mid new : WorldView) (h : Gated services.TnGw peer inputs out old mid) (tells : TellsIf (fault_line_of out) mid new) where
-  pub telnet_headline : CameAs (TnGw peer) services.TnGw peer refusal (OfTelnet peer) inputs (status_of out) old new × LogsDenial (TnGw peer) services.TnGw peer inputs (status_of out) old new
+  pub telnet_headline : CameAs (Gateway kinds.Telnet peer) services.TnGw peer refusal (OfTelnet peer) inputs (status_of out) old new × LogsDenial (Gateway kinds.Telnet peer) services.TnGw peer inputs (status_of out) old new
   telnet_headline =
-      caller_headline true (TnGw peer) services.TnGw refusal inputs (telnet_rows inputs peer) (telnet_row inputs peer) out old mid new h tells (OfTelnet peer) (λ course at. of_telnet peer inputs course (status_of out) old new at) refl
+      caller_headline true (Gateway kinds.Telnet peer) services.TnGw refusal inputs (telnet_rows inputs peer) (telnet_row inputs peer) out old mid new h tells (OfTelnet peer) (λ course at. of_telnet peer inputs course (status_of out) old new at) refl
       (λ line one other same. same) (telnet_status peer inputs out old mid h) (telnet_so peer inputs out old mid h)
 
 -- ---- a run in which no count rose
 
 module _ (name : List ℕ) (peer : Peer) (inputs : Inputs) (out : Outcome) (old middle mid new : WorldView) (q : Quiet old new) (only : ReadsOnly name true old middle) (h : Gated services.TnGw peer inputs out middle mid) (tells : TellsIf (fault_line_of out) mid new) where
-  held_whole : (line : ℕ) → verdict_for (TnGw peer) inputs ≡ Permit line → IsPassed (Permit line) (status_of out) old.inputs new.inputs → (course : Course) → OfTelnet peer inputs course (status_of out) middle new
+  held_whole : (line : ℕ) → verdict_for (Gateway kinds.Telnet peer) inputs ≡ Permit line → IsPassed (Permit line) (status_of out) old.inputs new.inputs → (course : Course) → OfTelnet peer inputs course (status_of out) middle new
       → IsPassedWhole services.TnGw peer line (OfTelnet peer inputs course (status_of out) middle new) course (status_of out) old new
   held_whole line permitted passed course x =
-      passed_whole true (TnGw peer) services.TnGw peer (telnet_rows inputs peer) (telnet_row inputs peer) name inputs course (status_of out) old middle new q only (OfTelnet peer inputs course (status_of out) middle new) x x.at line (sym permitted ∙ x.at.permitted) passed
+      passed_whole true (Gateway kinds.Telnet peer) services.TnGw peer (telnet_rows inputs peer) (telnet_row inputs peer) name inputs course (status_of out) old middle new q only (OfTelnet peer inputs course (status_of out) middle new) x x.at line (sym permitted ∙ x.at.permitted) passed
 
-  pub telnet_whole : IsPassed (verdict_for (TnGw peer) inputs) (status_of out) old.inputs new.inputs → (came : CameAs (TnGw peer) services.TnGw peer refusal (OfTelnet peer) inputs (status_of out) middle new)
-      → IsServedAtGate (verdict_for (TnGw peer) inputs) services.TnGw refusal peer (OfTelnet peer inputs came.course (status_of out) middle new) came.course (status_of out) old new
+  pub telnet_whole : IsPassed (verdict_for (Gateway kinds.Telnet peer) inputs) (status_of out) old.inputs new.inputs → (came : CameAs (Gateway kinds.Telnet peer) services.TnGw peer refusal (OfTelnet peer) inputs (status_of out) middle new)
+      → IsServedAtGate (verdict_for (Gateway kinds.Telnet peer) inputs) services.TnGw refusal peer (OfTelnet peer inputs came.course (status_of out) middle new) came.course (status_of out) old new
   telnet_whole passed came =
-      caller_whole true (TnGw peer) services.TnGw refusal inputs (telnet_rows inputs peer) (telnet_row inputs peer) name out old middle mid new q only h tells (OfTelnet peer) held_whole (verdict_for (TnGw peer) inputs) refl passed
+      caller_whole true (Gateway kinds.Telnet peer) services.TnGw refusal inputs (telnet_rows inputs peer) (telnet_row inputs peer) name out old middle mid new q only h tells (OfTelnet peer) held_whole (verdict_for (Gateway kinds.Telnet peer) inputs) refl passed
       came (telnet_so peer inputs out middle mid h)

@@ -23,14 +23,15 @@ use Rattle.bastion.specs.WorldView.{Post, SessionInputs, WorldView}
 use Rattle.bastion.specs.declared.outcome.Outcome.{Outcome}
 use Rattle.bastion.specs.declared.outcome.Outcome.TheVariants.{Usage, Unread, Failed, NoMemory, Done, Decided, Ended}
 use Rattle.bastion.specs.declared.words.Command.{Command}
-use Rattle.bastion.specs.declared.words.Command.TheVariants.{Netacl, NetaclRun, Table, Authsrv, PlugGw, TnGw, FtpGw, Smap}
+use Rattle.bastion.specs.declared.words.Command.TheVariants.{Netacl, NetaclRun, Table, Authsrv, PlugGw, Gateway, Smap}
+use Rattle.bastion.specs.declared.words.GatewayKind.TheVariants as kinds
 use Rattle.bastion.specs.declared.words.Order.{Order}
 use Rattle.bastion.specs.declared.words.Order.TheVariants.{ByTable, Alone}
 use Rattle.bastion.proofs.AttendedLemmas.{attended_status, attended_takes, takes_same}
 use Rattle.bastion.proofs.DecidedLemmas.{ByVerdict, after_status, shown_status}
 use Rattle.bastion.proofs.JobLemmas.{job_disks, job_left, job_status}
 use Rattle.bastion.proofs.LaunchLemmas.{run_left, run_status_by}
-use Rattle.bastion.proofs.GateStatusLemmas.{ftp_status, ftp_takes, telnet_status, telnet_takes}
+use Rattle.bastion.proofs.GateStatusLemmas.{gateway_status, gateway_takes}
 use Rattle.bastion.proofs.LinkingLemmas.{linked_status, linked_takes}
 use Rattle.bastion.proofs.MailedLemmas.{mailed_left, mailed_slots, mailed_status, mailed_takes, mailed_unasked}
 use Rattle.bastion.proofs.LeftLemmas.{Later, only_left, some_there, stops_left, tells_later}
@@ -111,18 +112,12 @@ worked_status name (PlugGw caller) outcome old mid new h later =
     served_so (PlugGw caller) outcome old mid new (Linked h.middle.inputs mid.inputs) (Linked old.inputs new.inputs) (worked_rose name (PlugGw caller) outcome old mid h) later
     (λ linked. subst (λ (i : SessionInputs). Linked i new.inputs) h.only.inputs (subst (λ (i : SessionInputs). Linked h.middle.inputs i) (sym later.inputs) linked))
     (linked_status caller h.inputs outcome h.middle mid h.works)
-worked_status name (TnGw peer) outcome old mid new h later =
+worked_status name (Gateway kind peer) outcome old mid new h later =
     let verdict : Verdict = verdict_of h.inputs.rules peer in
     let left = only_left name true old h.middle h.only in
-    served_so (TnGw peer) outcome old mid new (IsPassed verdict (status_of outcome) h.middle.inputs mid.inputs) (IsPassed verdict (status_of outcome) old.inputs new.inputs) (worked_rose name (TnGw peer) outcome old mid h) later
+    served_so (Gateway kind peer) outcome old mid new (IsPassed verdict (status_of outcome) h.middle.inputs mid.inputs) (IsPassed verdict (status_of outcome) old.inputs new.inputs) (worked_rose name (Gateway kind peer) outcome old mid h) later
     (λ passed. passed_then verdict (status_of outcome) h.middle.inputs mid.inputs old.inputs new.inputs left.input left.clock later.inputs passed)
-    (telnet_status peer h.inputs outcome h.middle mid h.works)
-worked_status name (FtpGw peer) outcome old mid new h later =
-    let verdict : Verdict = verdict_of h.inputs.rules peer in
-    let left = only_left name true old h.middle h.only in
-    served_so (FtpGw peer) outcome old mid new (IsPassed verdict (status_of outcome) h.middle.inputs mid.inputs) (IsPassed verdict (status_of outcome) old.inputs new.inputs) (worked_rose name (FtpGw peer) outcome old mid h) later
-    (λ passed. passed_then verdict (status_of outcome) h.middle.inputs mid.inputs old.inputs new.inputs left.input left.clock later.inputs passed)
-    (ftp_status peer h.inputs outcome h.middle mid h.works)
+    (gateway_status kind peer h.inputs outcome h.middle mid h.works)
 worked_status name (Smap peer) outcome old mid new h later =
     let verdict : Verdict = verdict_of h.inputs.rules peer in
     let Mails : SessionInputs → SessionInputs → Type 0 = λ a b. IsMailed verdict (status_of outcome) a b in
@@ -150,16 +145,14 @@ works_left (Netacl query) inputs outcome old new h = (h.files, λ there. subst (
 works_left (NetaclRun query) inputs outcome old new h = let left = run_left query (verdict_of inputs.rules query.peer) _ _ outcome old new h in (left.files, λ there. subst (λ (k : Option KeeperView). IsSome k) (sym left.keeper) there)
 works_left (Table query) inputs outcome old new h = (h.files, λ there. subst (λ (i : SessionInputs). IsSome i.keeper) (sym h.inputs) there)
 works_left (Authsrv client) inputs outcome old new h = (h.over.files, λ there. some_there new.inputs.keeper h.book.keeper h.over.kept)
-works_left (TnGw peer) inputs outcome old new h = (h.over.files, λ there. some_there new.inputs.keeper h.book.keeper h.over.kept)
-works_left (FtpGw peer) inputs outcome old new h = (h.over.files, λ there. some_there new.inputs.keeper h.book.keeper h.over.kept)
+works_left (Gateway kind peer) inputs outcome old new h = (h.over.files, λ there. some_there new.inputs.keeper h.book.keeper h.over.kept)
 works_left (Smap peer) inputs outcome old new h = mailed_left peer inputs outcome old new h
 works_left (PlugGw caller) inputs outcome old new h = (h.files, λ there. subst (λ (k : Option KeeperView). IsSome k) (sym h.keeper) there)
 
 -- a command without a link leaves the dialer as it was
 abbrev pub StaysUnasked : Command → WorldView → WorldView → Type 0
 StaysUnasked (PlugGw caller) old new = Unit {0}
-StaysUnasked (TnGw peer) old new = Unit {0}
-StaysUnasked (FtpGw peer) old new = Unit {0}
+StaysUnasked (Gateway kind peer) old new = Unit {0}
 StaysUnasked command old new = new.inputs.dialer ≡ old.inputs.dialer
 
 works_unasked : (command : Command) (inputs : Inputs) (outcome : Outcome) (old new : WorldView) → Works command inputs outcome old new → StaysUnasked command old new
@@ -169,8 +162,7 @@ works_unasked (Table query) inputs outcome old new h = ap (λ (i : SessionInputs
 works_unasked (Authsrv client) inputs outcome old new h = h.links
 works_unasked (Smap peer) inputs outcome old new h = mailed_unasked peer inputs outcome old new h
 works_unasked (PlugGw caller) inputs outcome old new h = tt
-works_unasked (TnGw peer) inputs outcome old new h = tt
-works_unasked (FtpGw peer) inputs outcome old new h = tt
+works_unasked (Gateway kind peer) inputs outcome old new h = tt
 
 unasked_through : (command : Command) (old middle mid new : WorldView) → middle.inputs.dialer ≡ old.inputs.dialer → new.inputs.dialer ≡ mid.inputs.dialer → StaysUnasked command middle mid → StaysUnasked command old new
 unasked_through (Netacl query) old middle mid new before after h = after ∙ h ∙ before
@@ -179,8 +171,7 @@ unasked_through (Table query) old middle mid new before after h = after ∙ h �
 unasked_through (Authsrv client) old middle mid new before after h = after ∙ h ∙ before
 unasked_through (Smap peer) old middle mid new before after h = after ∙ h ∙ before
 unasked_through (PlugGw caller) old middle mid new before after h = tt
-unasked_through (TnGw peer) old middle mid new before after h = tt
-unasked_through (FtpGw peer) old middle mid new before after h = tt
+unasked_through (Gateway kind peer) old middle mid new before after h = tt
 
 pub worked_unasked : (name : List ℕ) (command : Command) (outcome : Outcome) (old mid new : WorldView) → (h : Worked name command outcome old mid) → Later mid new → StaysUnasked command h.middle new
 worked_unasked name command outcome old mid new h later =
@@ -220,14 +211,13 @@ works_takes (Table query) inputs outcome old new h = takes_same (status_of outco
 works_takes (Authsrv client) inputs outcome old new h = attended_takes client inputs outcome old new h
 works_takes (PlugGw caller) inputs outcome old new h = linked_takes caller inputs outcome old new h
 works_takes (Smap peer) inputs outcome old new h = mailed_takes peer inputs outcome old new h
-works_takes (TnGw peer) inputs outcome old new h = telnet_takes peer inputs outcome old new h
-works_takes (FtpGw peer) inputs outcome old new h = ftp_takes peer inputs outcome old new h
+works_takes (Gateway kind peer) inputs outcome old new h = gateway_takes kind peer inputs outcome old new h
 
 takes_for : (command : Command) (status : ℕ) (old new : SourceView) → TakesIn status old new → TakesFor command status old new
 takes_for (PlugGw caller) status old new h = record { took = h.took; all = λ long. inl (h.all long) }
-takes_for (TnGw peer) status old new h = record { took = h.took; all = λ long. inl (h.all long) }
+takes_for (Gateway kinds.Telnet peer) status old new h = record { took = h.took; all = λ long. inl (h.all long) }
 takes_for (Smap peer) status old new h = h
-takes_for (FtpGw peer) status old new h = h
+takes_for (Gateway kinds.Ftp peer) status old new h = h
 takes_for (Netacl query) status old new h = h
 takes_for (NetaclRun query) status old new h = h
 takes_for (Table query) status old new h = h
@@ -260,8 +250,7 @@ works_disks (Table query) inputs outcome old new h = ap (λ (i : SessionInputs).
 works_disks (Authsrv client) inputs outcome old new h = h.over.disks
 works_disks (Smap peer) inputs outcome old new h = mailed_slots peer inputs outcome old new h
 works_disks (PlugGw caller) inputs outcome old new h = h.disks
-works_disks (TnGw peer) inputs outcome old new h = h.over.disks
-works_disks (FtpGw peer) inputs outcome old new h = h.over.disks
+works_disks (Gateway kind peer) inputs outcome old new h = h.over.disks
 
 disks_same : (command : Command) (old new : List DiskView) → new ≡ old → CommandLeavesDisks command old new
 disks_same (Smap peer) old new is = inl is
@@ -270,8 +259,7 @@ disks_same (NetaclRun query) old new is = is
 disks_same (Table query) old new is = is
 disks_same (Authsrv client) old new is = is
 disks_same (PlugGw caller) old new is = is
-disks_same (TnGw peer) old new is = is
-disks_same (FtpGw peer) old new is = is
+disks_same (Gateway kind peer) old new is = is
 
 order_disks : (post : Post) → (name : List ℕ) (order : Order) (outcome : Outcome) (old new : WorldView) → DoesOrder post name order outcome old new → OrderLeavesDisks order (status_of outcome) old.inputs.disks new.inputs.disks
 order_disks post name (ByTable command) outcome old new (inl h) = disks_same command old.inputs.disks new.inputs.disks (stops_left name command outcome old new h).disks

@@ -10,7 +10,6 @@ use Rattle.fw_outside.specs.declared.started.Started.TheVariants as program
 use Rattle.fw_types.specs.declared.ending.Ending.{Ending}
 use Rattle.fw_types.specs.declared.ending.Ending.TheVariants.{Done, Spent}
 use Rattle.fw_types.specs.declared.peer.Peer.{Peer}
-use Rattle.tn_gate.specs.Texts.{refusal}
 use Rattle.gate_rules.specs.Verdict.{verdict_of}
 use Rattle.gate_rules.specs.declared.service.Service.{Service}
 use Rattle.gate_rules.specs.declared.service.Service.TheVariants as services
@@ -22,9 +21,8 @@ use Rattle.client_service.specs.Endings.{denied_text, ending_line, refusal_reply
 use Rattle.bastion.specs.Asking.{IsAsked, linking_text}
 use Rattle.bastion.specs.Basis.{Basis, Course}
 use Rattle.bastion.specs.Basis.Basis.{Nothing, Refused, Given}
-use Rattle.bastion.specs.FtpGateway.{OfFtp}
-use Rattle.bastion.specs.Gateway.{OfTelnet}
-use Rattle.bastion.specs.Headline.{OfHistory}
+use Rattle.bastion.specs.Gateways.{denial_words, gateway_service}
+use Rattle.bastion.specs.Headline.{OfGateKind, OfHistory}
 use Rattle.bastion.specs.Inputs.{Inputs}
 use Rattle.bastion.specs.MailKept.{OfMail}
 use Rattle.bastion.specs.Spool.{HasBadSlot}
@@ -54,7 +52,7 @@ use Rattle.bastion.specs.declared.words.Job.TheVariants as jobs
 use Rattle.bastion.specs.declared.words.Order.{Order}
 use Rattle.bastion.specs.declared.words.Order.TheVariants.{ByTable, Alone}
 use Rattle.bastion.specs.declared.words.Query.{Query}
-use Rattle.bastion.specs.declared.words.Command.TheVariants.{Netacl, NetaclRun, Table, Authsrv, PlugGw, TnGw, FtpGw, Smap}
+use Rattle.bastion.specs.declared.words.Command.TheVariants.{Netacl, NetaclRun, Table, Authsrv, PlugGw, Gateway, Smap}
 
 -- the log and the output have taken these texts whole, and nothing else; and the status is this
 pub record IsWhole (logged printed : List ℕ) (comes status : ℕ) (old new : WorldView) : Type 0 where
@@ -172,8 +170,8 @@ IsAllDone (Table query) inputs course status old ready new =
 IsAllDone (Authsrv client) inputs course status old ready new = IsServedWhole client.console (verdict_for (Authsrv client) inputs) client inputs course status old ready new
 IsAllDone (PlugGw caller) inputs course status old ready new = IsLinkedWhole (verdict_for (PlugGw caller) inputs) caller inputs course status old ready new
 IsAllDone (Smap peer) inputs course status old ready new = IsBadWhole status old new ⊎ IsTakenWhole (verdict_for (Smap peer) inputs) peer inputs course status old ready new
-IsAllDone (TnGw peer) inputs course status old ready new = IsServedAtGate (verdict_for (TnGw peer) inputs) services.TnGw refusal peer (OfTelnet peer inputs course status ready new) course status old new
-IsAllDone (FtpGw peer) inputs course status old ready new = IsServedAtGate (verdict_for (FtpGw peer) inputs) services.FtpGw refusal_reply peer (OfFtp peer inputs course status ready new) course status old new
+IsAllDone (Gateway kind peer) inputs course status old ready new =
+    IsServedAtGate (verdict_for (Gateway kind peer) inputs) (gateway_service kind) (denial_words kind) peer (OfGateKind kind peer inputs course status ready new) course status old new
 
 -- by the inputs of the command, or by what can't be read, which is told to the log; or there was no memory
 abbrev pub AllDone : Command → Basis → Course → ℕ → WorldView → WorldView → Type 0

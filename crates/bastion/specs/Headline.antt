@@ -28,8 +28,10 @@ use Rattle.session_acts.specs.World.{Devices}
 use Rattle.bastion.specs.Asking.{AsksAtMost, IsUndecided}
 use Rattle.bastion.specs.Basis.{Basis, Course}
 use Rattle.bastion.specs.Basis.Basis.{Nothing, Refused, Given}
-use Rattle.bastion.specs.FtpGateway.{IsServing}
-use Rattle.bastion.specs.Gateway.{IsGated}
+use Rattle.bastion.specs.AtGateway.{Comes}
+use Rattle.bastion.specs.FtpGateway.{OfFtp}
+use Rattle.bastion.specs.Gateway.{OfTelnet}
+use Rattle.bastion.specs.Gateways.{denial_words, gateway_service}
 use Rattle.bastion.specs.HandedOn.{IsHandedOn}
 use Rattle.bastion.specs.Inputs.{HasInputs, Inputs, needs_records}
 use Rattle.bastion.specs.MailKept.{IsTakenIn}
@@ -42,7 +44,9 @@ use Rattle.bastion.specs.Works.{with_given}
 use Rattle.bastion.specs.WorldView.{Post, WorldView}
 use Rattle.bastion.specs.declared.words.Client.{Client}
 use Rattle.bastion.specs.declared.words.Command.{Command}
-use Rattle.bastion.specs.declared.words.Command.TheVariants.{Netacl, NetaclRun, Table, Authsrv, PlugGw, TnGw, FtpGw, Smap}
+use Rattle.bastion.specs.declared.words.Command.TheVariants.{Netacl, NetaclRun, Table, Authsrv, PlugGw, Gateway, Smap}
+use Rattle.bastion.specs.declared.words.GatewayKind.{GatewayKind}
+use Rattle.bastion.specs.declared.words.GatewayKind.TheVariants as kinds
 use Rattle.bastion.specs.declared.words.Job.{Job}
 use Rattle.bastion.specs.declared.words.Job.TheVariants as jobs
 use Rattle.bastion.specs.declared.words.Order.{Order}
@@ -72,8 +76,7 @@ DenialLogged (NetaclRun query) inputs status old new = LogsDenial (NetaclRun que
 DenialLogged (Table query) inputs status old new = Unit {0}
 DenialLogged (Authsrv client) inputs status old new = LogsDenial (Authsrv client) services.Authsrv client.peer inputs status old new
 DenialLogged (PlugGw caller) inputs status old new = LogsDenial (PlugGw caller) (services.PlugGw caller.port) caller.peer inputs status old new × (status ≡ 1 → new.output ≡ old.output)
-DenialLogged (TnGw peer) inputs status old new = LogsDenial (TnGw peer) services.TnGw peer inputs status old new
-DenialLogged (FtpGw peer) inputs status old new = LogsDenial (FtpGw peer) services.FtpGw peer inputs status old new
+DenialLogged (Gateway kind peer) inputs status old new = LogsDenial (Gateway kind peer) (gateway_service kind) peer inputs status old new
 DenialLogged (Smap peer) inputs status old new = LogsDenial (Smap peer) services.Smap peer inputs status old new
 
 -- ---- the replies are those of one legal history
@@ -111,11 +114,19 @@ abbrev pub IsReplied : Client → Inputs → Course → ℕ → WorldView → Wo
 IsReplied client inputs course status old new =
     IsUnserved status old new ⊎ (IsToldOff (Authsrv client) services.Authsrv client.peer denied_text nowhere inputs old new ⊎ OfHistory client inputs course status old new)
 
--- a client of `tn-gw` or `ftp-gw` is one of whom destinations are asked, too: both sentences are of one session
+-- what holds of a session of a gateway that was held
+abbrev pub OfGateKind : GatewayKind → Peer → Inputs → Course → ℕ → WorldView → WorldView → Type 0
+OfGateKind kinds.Telnet peer inputs course status old new = OfTelnet peer inputs course status old new
+OfGateKind kinds.Ftp peer inputs course status old new = OfFtp peer inputs course status old new
+
+-- what came of a client of a gateway
+abbrev pub IsGated : GatewayKind → Peer → Inputs → Course → ℕ → WorldView → WorldView → Type 0
+IsGated kind peer inputs course status old new = Comes (Gateway kind peer) (gateway_service kind) peer (denial_words kind) (OfGateKind kind peer) inputs course status old new
+
+-- a client of a gateway is one of whom destinations are asked, too: both sentences are of one session
 abbrev pub IsReplying : Command → Inputs → Course → ℕ → WorldView → WorldView → Type 0
 IsReplying (Authsrv client) inputs course status old new = IsReplied client inputs course status old new
-IsReplying (TnGw peer) inputs course status old new = IsGated peer inputs course status old new
-IsReplying (FtpGw peer) inputs course status old new = IsServing peer inputs course status old new
+IsReplying (Gateway kind peer) inputs course status old new = IsGated kind peer inputs course status old new
 IsReplying command inputs course status old new = Unit {0}
 
 -- ---- destinations are asked for as the table permits
@@ -123,8 +134,7 @@ IsReplying command inputs course status old new = Unit {0}
 -- a command without a link asks for nothing
 abbrev pub AsksPermitted : Command → Inputs → Course → ℕ → WorldView → WorldView → Type 0
 AsksPermitted (PlugGw caller) inputs course status old new = AsksAtMost caller inputs course.ending status old new
-AsksPermitted (TnGw peer) inputs course status old new = IsGated peer inputs course status old new
-AsksPermitted (FtpGw peer) inputs course status old new = IsServing peer inputs course status old new
+AsksPermitted (Gateway kind peer) inputs course status old new = IsGated kind peer inputs course status old new
 AsksPermitted command inputs course status old new = new.inputs.dialer ≡ old.inputs.dialer
 
 -- ---- each message that is answered as kept stands

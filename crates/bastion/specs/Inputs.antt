@@ -19,6 +19,7 @@ use Rattle.bastion.specs.declared.outcome.Refusal.{Refusal}
 use Rattle.bastion.specs.declared.outcome.Refusal.TheVariants.{Table, Rule, Record, Slot}
 use Rattle.bastion.specs.declared.words.Command.{Command}
 use Rattle.bastion.specs.declared.words.Command.TheVariants as commands
+use Rattle.bastion.specs.Gateways.{gateway_service}
 
 -- ---- what is needed
 
@@ -39,8 +40,7 @@ needs (commands.NetaclRun query) = RulesOf query.service ∷ []
 needs (commands.Table query) = RulesOf query.service ∷ []
 needs (commands.Authsrv client) = book_needs services.Authsrv
 needs (commands.PlugGw caller) = RulesOf (services.PlugGw caller.port) ∷ []
-needs (commands.TnGw peer) = book_needs services.TnGw
-needs (commands.FtpGw peer) = book_needs services.FtpGw
+needs (commands.Gateway kind peer) = book_needs (gateway_service kind)
 needs (commands.Smap peer) = RulesOf services.Smap ∷ []
 
 abbrev pub is_of_records : Need → Bool

@@ -6,6 +6,7 @@ pub mod Complete
 pub mod Deciding
 pub mod FtpGateway
 pub mod Gateway
+pub mod Gateways
 pub mod Gating
 pub mod HandedOn
 pub mod HandingOn

@@ -24,7 +24,7 @@ use Rattle.bastion.specs.declared.outcome.Refusal.{Refusal}
 use Rattle.bastion.specs.declared.outcome.Step.{Step}
 use Rattle.bastion.specs.declared.outcome.Step.TheVariants as steps
 use Rattle.bastion.specs.declared.words.Command.{Command}
-use Rattle.bastion.specs.declared.words.Command.TheVariants.{Netacl, NetaclRun, Table, Authsrv, PlugGw, TnGw, FtpGw, Smap}
+use Rattle.bastion.specs.declared.words.Command.TheVariants.{Netacl, NetaclRun, Table, Authsrv, PlugGw, Gateway, Smap}
 use Rattle.bastion.specs.declared.words.Order.{Order}
 use Rattle.bastion.specs.declared.words.Order.TheVariants.{ByTable, Alone}
 
@@ -100,8 +100,7 @@ peer_of (NetaclRun query) = query.peer
 peer_of (Table query) = query.peer
 peer_of (Authsrv client) = client.peer
 peer_of (PlugGw caller) = caller.peer
-peer_of (TnGw peer) = peer
-peer_of (FtpGw peer) = peer
+peer_of (Gateway kind peer) = peer
 peer_of (Smap peer) = peer
 
 -- whom the rules don't decide of

@@ -21,7 +21,8 @@ use Rattle.bastion.specs.Spool.{AreOpened, HasBadSlot, LeavesAside, LeavesSlots}
 use Rattle.bastion.specs.Words.{LineView}
 use Rattle.bastion.specs.WorldView.{Post, SessionInputs, WorldView}
 use Rattle.bastion.specs.declared.words.Command.{Command}
-use Rattle.bastion.specs.declared.words.Command.TheVariants.{Netacl, NetaclRun, Table, Authsrv, PlugGw, TnGw, FtpGw, Smap}
+use Rattle.bastion.specs.declared.words.Command.TheVariants.{Netacl, NetaclRun, Table, Authsrv, PlugGw, Gateway, Smap}
+use Rattle.bastion.specs.declared.words.GatewayKind.TheVariants as kinds
 use Rattle.bastion.specs.declared.words.Job.{Job}
 use Rattle.bastion.specs.declared.words.Job.TheVariants.{Drill, SpoolInit, Smapd}
 use Rattle.bastion.specs.declared.words.Order.{Order}
@@ -48,11 +49,10 @@ abbrev pub DisksRose : List DiskView → List DiskView → Type 0
 DisksRose old new = (slot : ℕ) × DiskRose slot old new
 
 -- a device's own count rose: the dialer's, too, where the command has a link; but a link that is refused is no failure of a
--- session of `tn-gw` or `ftp-gw`, which goes on; and those of the disks of a command that calls them
+-- session of a gateway, which goes on; and those of the disks of a command that calls them
 abbrev pub RoseBy : Command → WorldView → WorldView → Type 0
 RoseBy (PlugGw caller) old new = SomeRose old new ⊎ LinksRose old.inputs.dialer new.inputs.dialer
-RoseBy (TnGw peer) old new = SomeRose old new ⊎ LinksFailed old.inputs.dialer new.inputs.dialer
-RoseBy (FtpGw peer) old new = SomeRose old new ⊎ LinksFailed old.inputs.dialer new.inputs.dialer
+RoseBy (Gateway kind peer) old new = SomeRose old new ⊎ LinksFailed old.inputs.dialer new.inputs.dialer
 RoseBy (Smap peer) old new = SomeRose old new ⊎ DisksRose old.inputs.disks new.inputs.disks
 RoseBy command old new = SomeRose old new
 
@@ -123,8 +123,7 @@ IsBy (NetaclRun query) inputs status old new = status ≡ verdict_status (verdic
 IsBy (Table query) inputs status old new = status ≡ verdict_status (verdict_for (Table query) inputs)
 IsBy (Authsrv client) inputs status old new = IsServed client.console (verdict_for (Authsrv client) inputs) status old new
 IsBy (PlugGw caller) inputs status old new = IsLinked (verdict_for (PlugGw caller) inputs) status old new
-IsBy (TnGw peer) inputs status old new = IsPassed (verdict_for (TnGw peer) inputs) status old new
-IsBy (FtpGw peer) inputs status old new = IsPassed (verdict_for (FtpGw peer) inputs) status old new
+IsBy (Gateway kind peer) inputs status old new = IsPassed (verdict_for (Gateway kind peer) inputs) status old new
 IsBy (Smap peer) inputs status old new = IsMailed (verdict_for (Smap peer) inputs) status old new
 
 -- a device failed, which its own count shows
@@ -216,7 +215,7 @@ pub record TakesOver (status : ℕ) (old new : SourceView) : Type 0 where
 
 abbrev pub TakesFor : Command → ℕ → SourceView → SourceView → Type 0
 TakesFor (PlugGw caller) status old new = TakesOver status old new
-TakesFor (TnGw peer) status old new = TakesOver status old new
+TakesFor (Gateway kinds.Telnet peer) status old new = TakesOver status old new
 TakesFor command status old new = TakesIn status old new
 
 -- a job without a table takes nothing
