@@ -173,7 +173,7 @@ run_account post line status old new ran =
       ran = ran;
       course = so.course;
       headline = subst (λ (s : ℕ). Headlines post line basis so.course s old new) (sym ran.status_is) so.headline;
-      status_is = run_status post line status old new ran;
+      status = run_status post line status old new ran;
       complete = λ none. subst (λ (s : ℕ). IsComplete post line basis so.course s old new) (sym ran.status_is) (so.complete none);
     }
 

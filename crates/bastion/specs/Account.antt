@@ -13,15 +13,15 @@ use Rattle.bastion.specs.WorldView.{Post, WorldView}
 abbrev pub basis_of : (post : Post) (line : Option LineView) (status : ℕ) (old new : WorldView) → Run post line status old new → Basis
 basis_of post line status old new ran = line_went_by post line ran.outcome old ran.middle ran.does
 
-pub record Account (post : Post) (line : Option LineView) (status : ℕ) (old new : WorldView) : Type 0 where
+pub record Account (post : Post) (line : Option LineView) (answer : ℕ) (old new : WorldView) : Type 0 where
   -- what the run came to and did; a failure that it names was counted; its line in the log, and its status
-  pub ran : Run post line status old new
+  pub ran : Run post line answer old new
   -- what its session did
   pub course : Course
   -- by what the run went by, the replies that a client is told are those of a legal history, destinations are asked for as the
   -- table permits, and so on
-  pub headline : Headlines post line (basis_of post line status old new ran) course status old new
+  pub headline : Headlines post line (basis_of post line answer old new ran) course answer old new
   -- the status is what that says, unless a device failed or there was no memory
-  pub status_is : IsStatus post line (basis_of post line status old new ran) status old new
+  pub status : IsStatus post line (basis_of post line answer old new ran) answer old new
   -- where no count rose, all that it calls for was done whole
-  pub complete : ¬ (RoseOf post line old new) → IsComplete post line (basis_of post line status old new ran) course status old new
+  pub complete : ¬ (RoseOf post line old new) → IsComplete post line (basis_of post line answer old new ran) course answer old new

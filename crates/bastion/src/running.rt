@@ -44,7 +44,7 @@ where
     requires some { 0 < length mailers.old.items }
     // All of this holds at once, by one reading of the table and of the records, and by what one session did: what the run came
     // to and did, with its line in the log and its status (`ran`); the headline; that the status is what the reading says,
-    // unless a device failed or there was no memory (`status_is`; 2 is for words that are no command); and that where no count
+    // unless a device failed or there was no memory (`status`; 2 is for words that are no command); and that where no count
     // rose, all that the reading calls for was logged and printed whole, or there was no memory (`complete`).
     ensures account { Account (post_of (map (λ m. mailer_view m) mailers.old.items) (map (λ m. mailer_view m) mailers.new.items))
         (line_of words.now) result world.old world.new }
