@@ -49,6 +49,6 @@ pub use reading::{read_policy, read_rules, read_table};
 pub use running::run;
 pub use server_rules::ServerRules;
 pub use words::{
-    Caller, Client, Command, CommandLine, GatewayKind, Job, Order, Query, after_options, any_twice, places,
-    places_in, read_order, table_named, word_or,
+    Caller, Client, Command, CommandLine, GatewayKind, Job, Order, Query, after_options, any_twice,
+    places, places_in, read_order, table_named, word_or,
 };

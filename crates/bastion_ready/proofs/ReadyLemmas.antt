@@ -32,7 +32,8 @@ use Rattle.bastion.specs.declared.outcome.Refusal.TheVariants.{Table, Rule, Reco
 use Rattle.bastion.specs.declared.outcome.Step.{Step}
 use Rattle.bastion.specs.declared.outcome.Step.TheVariants as steps
 use Rattle.bastion.specs.declared.words.Command.{Command}
-use Rattle.bastion.specs.declared.words.Command.TheVariants.{TnGw}
+use Rattle.bastion.specs.declared.words.Command.TheVariants.{Gateway}
+use Rattle.bastion.specs.declared.words.GatewayKind.TheVariants as kinds
 use Rattle.bastion.proofs.DoesLemmas.{AskedFiles}
 use Rattle.bastion.proofs.LeftLemmas.{Later, Left, only_left, some_there, stops_left, tells_later}
 use Rattle.bastion.proofs.ReadingLemmas.{of_text}
