@@ -1,10 +1,10 @@
 -- From what a run did to all that is said of it, by one reading and one session.
-use Rattle.std.proofs.Common.{◌≡◌, ℕ, List, refl, sym, ◌∙◌, ap, subst, inl, inr, ◌⊎◌}
+use Rattle.std.proofs.Common.{◌≡◌, ℕ, List, [], refl, sym, ◌∙◌, ap, subst, inl, inr, ◌⊎◌}
 use Rattle.std.specs.Prelude.{Option, Some, None}
 use Rattle.fw_types.specs.declared.peer.Peer.{Peer}
 use Rattle.gate_rules.specs.Verdict.{verdict_of}
 use Rattle.bastion.specs.Account.{Account}
-use Rattle.bastion.specs.Basis.{Basis, Course, no_course}
+use Rattle.bastion.specs.Basis.{Basis, Course, no_course, of_session}
 use Rattle.bastion.specs.Complete.{IsAllDone, IsComplete, IsOrderComplete}
 use Rattle.bastion.specs.Headline.{HandsStand, Headline, HeadlineBy, HeadlineOf, Headlines, IsBasis, IsLineBasis, IsOrderBasis, LogsDenial, OfGateKind}
 use Rattle.bastion.specs.Gateways.{denial_words, gateway_service}
@@ -27,7 +27,7 @@ use Rattle.bastion.specs.declared.words.Job.TheVariants as jobs
 use Rattle.bastion.specs.declared.words.Order.{Order}
 use Rattle.bastion.specs.declared.words.Order.TheVariants.{ByTable, Alone}
 use Rattle.bastion.proofs.AtGatewayLemmas.{CameAs}
-use Rattle.bastion.proofs.CompleteLemmas.{gateway_complete, job_complete, linked_complete, mailed_complete, netacl_complete, netacl_run_complete, served_complete, stops_complete, table_complete, usage_complete}
+use Rattle.bastion.proofs.CompleteLemmas.{gateway_complete, job_complete, job_course, linked_complete, mailed_complete, netacl_complete, netacl_run_complete, served_complete, stops_complete, table_complete, usage_complete}
 use Rattle.bastion.proofs.FtpGatewayLemmas.{ftp_headline}
 use Rattle.bastion.proofs.GatewayLemmas.{telnet_headline}
 use Rattle.bastion.proofs.HandedLemmas.{handed_on}
@@ -90,7 +90,7 @@ worked_accounts name (Authsrv client) outcome old mid new h tells =
     }
 worked_accounts name (PlugGw caller) outcome old mid new h tells =
     let so = linked_headline caller h.inputs outcome h.middle mid new h.works tells in
-    let course : Course = record no_course { ending = h.works.ending } in
+    let course : Course = of_session [] h.works.ending in
     record {
       course = course;
       headline = record { replies_legal = tt; asks_permitted = so.asks; denials_logged = (so.denials, so.untold); answered_stands = tt };
@@ -123,7 +123,7 @@ record OrderAccounts (post : Post) (order : Order) (basis : Basis) (status : ℕ
   headline : HeadlineOf post order basis course status old new
   complete : (RoseInOrder post order old new → ⊥) → IsOrderComplete post order basis course status old new
 
-job_stands : (post : Post) → (job : Job) (outcome : Outcome) (old mid new : WorldView) → DoesJob post job outcome old mid → TellsIf (fault_line_of outcome) mid new → HandsStand post job (status_of outcome) old new
+job_stands : (post : Post) → (job : Job) (outcome : Outcome) (old mid new : WorldView) → (h : DoesJob post job outcome old mid) → TellsIf (fault_line_of outcome) mid new → HandsStand post job (job_course post job outcome old mid h) (status_of outcome) old new
 job_stands post (jobs.Drill drill) outcome old mid new h tells = tt
 job_stands post jobs.SpoolInit outcome old mid new h tells = tt
 job_stands post jobs.Smapd outcome old mid new h tells = handed_on post outcome old mid new h tells
@@ -139,7 +139,7 @@ order_accounts post name (ByTable command) outcome old mid new (inr h) tells =
     let so = worked_accounts name command outcome old mid new h tells in
     record { course = so.course; headline = so.headline; complete = so.complete }
 order_accounts post name (Alone job) outcome old mid new h tells = record {
-  course = no_course;
+  course = job_course post job outcome old mid h;
   headline = record {
     unasked = ap (λ (i : SessionInputs). i.dialer) (tells_later (fault_line_of outcome) mid new tells).inputs ∙ (job_left post job outcome old mid h).dialer;
     answered_stands = job_stands post job outcome old mid new h tells;

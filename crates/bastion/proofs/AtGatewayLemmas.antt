@@ -31,7 +31,7 @@ use Rattle.session_acts.proofs.LinkedLemmas.{called_gains}
 use Rattle.session_acts.proofs.ToldLemmas.{by_both, logged_gains}
 use Rattle.tn_gate.specs.Dummies.{lent}
 use Rattle.bastion.specs.Asking.{FailsWithin}
-use Rattle.bastion.specs.Basis.{Course, no_course}
+use Rattle.bastion.specs.Basis.{Course, no_course, of_session}
 use Rattle.bastion.specs.AtGateway.{Comes, IsCutOff, OfGateway, begins_at, ends_at, gated_devices, let_in}
 use Rattle.bastion.specs.Complete.{IsPassedWhole, IsServedAtGate, closing_text}
 use Rattle.bastion.specs.Gating.{Gated, devices_over}
@@ -161,7 +161,7 @@ module _ {P : Type 0} (relays : Bool) (command : Command) (service : Service) (w
       let here : SessionAs relays (rows line) (first line) start left h.ending =
       subst (λ (o : SinkView). Left new.inputs o) (sym later.output) (subst (λ (i : SessionInputs). Left i mid.output) (sym later.inputs) session) in
       record {
-        course = record { deeds = deeds_of here.held; ending = h.ending };
+        course = of_session (deeds_of here.held) h.ending;
         at = record {
           before = h.before;
           keeper = h.over.keeper;

@@ -20,7 +20,7 @@ use Rattle.spool_rack.specs.Opening.{CameBack, IsRackFault}
 use Rattle.spool_slots.specs.declared.slot_why.SlotWhy.{SlotWhy}
 use Rattle.spool_slots.specs.declared.slot_why.SlotWhy.TheVariants as whys
 use Rattle.bastion.specs.Complete.{AllDone, IsAllDone, IsDrilledWhole, IsFormattedWhole, IsJobComplete, IsLaunchedWhole, IsRoundWhole, IsStartedWhole, IsTakenWhole, IsWhole}
-use Rattle.bastion.specs.Basis.{Course, no_course}
+use Rattle.bastion.specs.Basis.{Course, no_course, of_round}
 use Rattle.bastion.specs.Gateways.{denial_words, gateway_service}
 use Rattle.bastion.specs.Gating.{Gated}
 use Rattle.bastion.specs.Headline.{IsReplied, OfGateKind}
@@ -75,7 +75,7 @@ use Rattle.smapd_queue.specs.declared.round.Trouble.{Trouble}
 use Rattle.smapd_queue.specs.declared.round.Trouble.TheVariants as troubles
 use Rattle.bastion.specs.HandingOn.{RoundHeld, TellsRound, outcome_printed, round_text}
 use Rattle.bastion.specs.Mailing.{SlotsUnread}
-use Rattle.bastion.proofs.HandedLemmas.{round_now, troubled_now}
+use Rattle.bastion.proofs.HandedLemmas.{handed_turns, round_now, troubled_now}
 use Rattle.bastion.proofs.HandedRoseLemmas.{IsTroubled, round_log}
 use Rattle.bastion.proofs.MailedLemmas.{served_so, unread_rose}
 
@@ -370,13 +370,13 @@ init_complete post (Err slot) outcome old mid new none logs formats h tells =
     absurd (none (inr (slot, subst (λ (i : SessionInputs). DiskRose slot old.inputs.disks i.disks) (sym (tells_later (fault_line_of outcome) mid new tells).inputs) (fails_rose slot old.inputs.disks mid.inputs.disks formats))))
 
 -- a slot has no reading, or there was no memory
-unread_complete : (post : Post) → (outcome : Outcome) (old mid new : WorldView) → (RoseInJob post Smapd old new → ⊥) → (u : SlotsUnread outcome old mid) → TellsIf (fault_line_of outcome) mid new → (slot : ℕ) (why : SlotWhy) → IsRackFault (Unit {0}) old.inputs.disks slot why mid.inputs.disks → outcome ≡ slot_fault slot why
-    → IsJobComplete post Smapd (status_of outcome) old new
-unread_complete post outcome old mid new none u tells slot whys.NoMemory fault comes = inl (ap status_of comes)
-unread_complete post outcome old mid new none u tells slot whys.DiskFault fault comes =
+unread_complete : (post : Post) → (outcome : Outcome) (old mid new : WorldView) → (RoseInJob post Smapd old new → ⊥) → (u : SlotsUnread outcome old mid) → TellsIf (fault_line_of outcome) mid new → (course : Course) (slot : ℕ) (why : SlotWhy) → IsRackFault (Unit {0}) old.inputs.disks slot why mid.inputs.disks → outcome ≡ slot_fault slot why
+    → IsJobComplete post Smapd course (status_of outcome) old new
+unread_complete post outcome old mid new none u tells course slot whys.NoMemory fault comes = inl (ap status_of comes)
+unread_complete post outcome old mid new none u tells course slot whys.DiskFault fault comes =
     absurd (none (inr (inl (slot, subst (λ (i : SessionInputs). DiskRose slot old.inputs.disks i.disks) (sym (tells_later (fault_line_of outcome) mid new tells).inputs) (unread_rose slot whys.DiskFault old mid fault)))))
-unread_complete post outcome old mid new none u tells slot (whys.BadSlot at) (inl none_at) comes = let clash : whys.BadSlot at ≡ whys.NoMemory = none_at.1 in absurd (cc)
-unread_complete post outcome old mid new none u tells slot (whys.BadSlot at) (inr came) comes =
+unread_complete post outcome old mid new none u tells course slot (whys.BadSlot at) (inl none_at) comes = let clash : whys.BadSlot at ≡ whys.NoMemory = none_at.1 in absurd (cc)
+unread_complete post outcome old mid new none u tells course slot (whys.BadSlot at) (inr came) comes =
     let told : TellsIf (Some (codes "fault " ++ refusal_text (Slot slot at) ++ codes "\n")) mid new = subst (λ (o : Outcome). TellsIf (fault_line_of o) mid new) comes tells in
     let whole = told_whole (codes "fault " ++ refusal_text (Slot slot at) ++ codes "\n") old mid new (quiet old new (λ some. none (inl some))) (ap (λ (w : WorldView). w.logs) u.is) (ap (λ (w : WorldView). w.output) u.is) told in
     inr (inl (record {
@@ -395,13 +395,13 @@ round_lines (Lacked slot message) turns round old new is goes = absurd (cc)
 
 -- what was printed of it, and no line follows
 round_whole : (post : Post) → (outcome : Outcome) (old mid new : WorldView) → (Rose old.output.faults mid.output.faults → ⊥) → (h : RoundHeld post outcome old mid) → TellsIf (fault_line_of outcome) mid new → (round : Round) → h.answer ≡ Ok round → h.trouble ≡ None → (printing : Result (Unit {0}) sink.Failed)
-    → outcome ≡ outcome_printed printing → Gives printing (round_text round) old.output mid.output → IsRoundWhole post (status_of outcome) old new
+    → outcome ≡ outcome_printed printing → Gives printing (round_text round) old.output mid.output → IsRoundWhole post h.hands.hands.turns (status_of outcome) old new
 round_whole post outcome old mid new never h tells round well untroubled (Err failed) is gives = absurd (never (cut_rose (round_text round) old.output mid.output gives))
 round_whole post outcome old mid new never h tells round well untroubled (Ok done) is gives =
     let P : Outcome → Type 0 = λ o. TellsIf (fault_line_of o) mid new in
     let same : new ≡ mid = subst P is tells in
     let lines = round_lines h.hands.hands.ending h.hands.hands.turns round old.logs mid.logs (sym well ∙ h.hands.hands.answer) h.hands.hands.logs in
-    subst (IsRoundWhole post (status_of outcome) old) (sym same) (record {
+    subst (IsRoundWhole post h.hands.hands.turns (status_of outcome) old) (sym same) (record {
       round = round;
       answer = h.answer;
       trouble = h.trouble;
@@ -417,7 +417,7 @@ round_whole post outcome old mid new never h tells round well untroubled (Ok don
 
 -- without trouble
 round_complete : (post : Post) → (outcome : Outcome) (old mid new : WorldView) → (RoseInJob post Smapd old new → ⊥) → (h : RoundHeld post outcome old mid) → TellsIf (fault_line_of outcome) mid new → (answer : Result Round RoundFault) → h.answer ≡ answer → (trouble : Option Trouble) → h.trouble ≡ trouble
-    → TellsRound answer trouble outcome old.output mid.output → IsJobComplete post Smapd (status_of outcome) old new
+    → TellsRound answer trouble outcome old.output mid.output → IsJobComplete post Smapd (of_round h.hands.hands.turns) (status_of outcome) old new
 round_complete post outcome old mid new none h tells answer is (Some troubles.Mailer) trouble_is told =
     absurd (none (inr (inr (subst (IsTroubled post old new) trouble_is (troubled_now post outcome old mid new (tells_later (fault_line_of outcome) mid new tells) h)))))
 round_complete post outcome old mid new none h tells answer is (Some (troubles.Disk slot)) trouble_is told =
@@ -429,10 +429,16 @@ round_complete post outcome old mid new none h tells (Ok round) is None trouble_
     let later = tells_later (fault_line_of outcome) mid new tells in
     inr (inr (round_whole post outcome old mid new (λ rose. none (inl (some_later old mid new later (inr (inl (inl rose)))))) h tells round is trouble_is told.printing told.is told.gives))
 
-pub job_complete : (post : Post) → (job : Job) (outcome : Outcome) (old mid new : WorldView) → (RoseInJob post job old new → ⊥) → DoesJob post job outcome old mid → TellsIf (fault_line_of outcome) mid new → IsJobComplete post job (status_of outcome) old new
+-- the turns of its round, if there was one
+abbrev pub job_course : (post : Post) → (job : Job) (outcome : Outcome) (old new : WorldView) → DoesJob post job outcome old new → Course
+job_course post (Drill drill) outcome old new h = no_course
+job_course post SpoolInit outcome old new h = no_course
+job_course post Smapd outcome old new h = of_round (handed_turns post outcome old new h)
+
+pub job_complete : (post : Post) → (job : Job) (outcome : Outcome) (old mid new : WorldView) → (RoseInJob post job old new → ⊥) → (h : DoesJob post job outcome old mid) → TellsIf (fault_line_of outcome) mid new → IsJobComplete post job (job_course post job outcome old mid h) (status_of outcome) old new
 job_complete post (Drill drill) outcome old mid new none (inl h) tells = inl (ap status_of h.is)
 job_complete post (Drill drill) outcome old mid new none (inr h) tells = inr (drill_complete drill (drilled drill) outcome old mid new (quiet old new none) h tells)
-job_complete post Smapd outcome old mid new none (inl u) tells = unread_complete post outcome old mid new none u.0 tells u.0.slot u.0.why u.0.fault u.0.comes
+job_complete post Smapd outcome old mid new none (inl u) tells = unread_complete post outcome old mid new none u.0 tells no_course u.0.slot u.0.why u.0.fault u.0.comes
 job_complete post Smapd outcome old mid new none (inr h) tells = round_complete post outcome old mid new none h tells h.answer refl h.trouble refl h.tells
 job_complete post SpoolInit outcome old mid new none h tells = init_complete post h.answer outcome old mid new none h.logs h.formats h.tells tells
 

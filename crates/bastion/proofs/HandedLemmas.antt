@@ -150,8 +150,8 @@ module _ (post : Post) where
       run_over_rack [] (map mail_view (accepted_of (h.hands.hands.turns ++ last_turn h.hands.hands.ending))) old.inputs.disks new.inputs.disks h.opened.slots h.first h.store h.opened.are (first_queues old.inputs.disks h.first h.opened)
       (round_grows count count h.answer (meeting_with h.first post.before old.logs) (meeting_with h.store post.after new.logs) h.hands.hands) h.closed
 
-  abbrev pub round_now : (outcome : Outcome) (old new : WorldView) (h : RoundHeld post outcome old new) → HandsRound post h.answer h.trouble old new
-  round_now outcome old new h = record { first = h.first; opened = h.opened; store = h.store; closed = h.closed; logs = new.logs; hands = h.hands; spool = round_spool outcome old new h }
+  abbrev pub round_now : (outcome : Outcome) (old new : WorldView) (h : RoundHeld post outcome old new) → HandsRound post h.hands.hands.turns h.answer h.trouble old new
+  round_now outcome old new h = record { first = h.first; opened = h.opened; store = h.store; closed = h.closed; logs = new.logs; hands = h.hands; turns_are = refl; spool = round_spool outcome old new h }
 
   round_later : (outcome : Outcome) (old mid new : WorldView) (h : RoundHeld post outcome old mid) → Later mid new → RunsSpool [] (map mail_view (accepted_of (h.hands.hands.turns ++ last_turn h.hands.hands.ending))) old.inputs.disks new.inputs.disks
   round_later outcome old mid new h later =
@@ -167,7 +167,11 @@ module _ (post : Post) where
   unread_some slot whys.DiskFault is = omega (arith, is)
   unread_some slot whys.NoMemory is = omega (arith, is)
 
-  pub handed_on : (outcome : Outcome) (old mid new : WorldView) → HandsMail post outcome old mid → TellsIf (fault_line_of outcome) mid new → IsHandedOn post (status_of outcome) old new
+  abbrev pub handed_turns : (outcome : Outcome) (old new : WorldView) → HandsMail post outcome old new → List Turn
+  handed_turns outcome old new (inl u) = []
+  handed_turns outcome old new (inr h) = h.hands.hands.turns
+
+  pub handed_on : (outcome : Outcome) (old mid new : WorldView) → (h : HandsMail post outcome old mid) → TellsIf (fault_line_of outcome) mid new → IsHandedOn post (handed_turns outcome old mid h) (status_of outcome) old new
   handed_on outcome old mid new (inl u) tells =
       let later = tells_later (fault_line_of outcome) mid new tells in
       let line : LineIf (fault_line_of outcome) old.logs new.logs = subst (λ (s : SinkView). LineIf (fault_line_of outcome) s new.logs) (ap (λ (w : WorldView). w.logs) u.0.is) (line_if (fault_line_of outcome) mid new tells) in
@@ -187,7 +191,7 @@ module _ (post : Post) where
       inr (record {
         answer = h.answer;
         trouble = h.trouble;
-        held = record { first = h.first; opened = h.opened; store = h.store; closed = subst (λ (i : SessionInputs). IfSome h.store.queues (λ q. AreInOrder q i.disks)) (sym later.inputs) h.closed; logs = mid.logs; hands = h.hands; spool = round_later outcome old mid new h later };
+        held = record { first = h.first; opened = h.opened; store = h.store; closed = subst (λ (i : SessionInputs). IfSome h.store.queues (λ q. AreInOrder q i.disks)) (sym later.inputs) h.closed; logs = mid.logs; hands = h.hands; turns_are = refl; spool = round_later outcome old mid new h later };
         outcome = outcome;
         status_is = refl;
         printed = subst (λ (s : SinkView). TellsRound h.answer h.trouble outcome old.output s) (sym later.output) h.tells;

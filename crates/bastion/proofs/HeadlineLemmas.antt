@@ -28,7 +28,7 @@ use Rattle.session_acts.specs.Laws.{told}
 use Rattle.session_acts.specs.Session.{Session, deeds_of}
 use Rattle.session_acts.specs.World.{Devices, devices_with}
 use Rattle.bastion.specs.Asking.{IsUndecided}
-use Rattle.bastion.specs.Basis.{Course, no_course}
+use Rattle.bastion.specs.Basis.{Course, no_course, of_session}
 use Rattle.bastion.specs.Headline.{HeadlineFor, IsDenied, IsPermitted, IsReplied, IsUndone, LogsDenial, OfHistory, begins, lent_to}
 use Rattle.bastion.specs.Inputs.{Inputs}
 use Rattle.bastion.specs.Outcome.{fault_line_of, is_stopped, status_of, verdict_status}
@@ -212,7 +212,7 @@ of_history client inputs out old mid new h tells s =
     subst (λ (o : SinkView). Left new.inputs o) (sym later.output) (subst (λ (i : SessionInputs). Left i mid.output) (sym later.inputs) s.session) in
     let fresh : first.port ≡ begun.port = lent_port client.console inputs.rules begun in
     record {
-      course = record { deeds = deeds_of session.held; ending = h.ending };
+      course = of_session (deeds_of session.held) h.ending;
       so = record {
         before = h.before;
         keeper = h.over.keeper;

@@ -31,7 +31,7 @@ use Rattle.session_acts.specs.Stored.{kept}
 use Rattle.session_acts.specs.World.{Devices, at_first}
 use Rattle.spool_slots.specs.declared.slot_why.SlotWhy.{SlotWhy}
 use Rattle.spool_slots.specs.declared.slot_why.SlotWhy.TheVariants as whys
-use Rattle.bastion.specs.Basis.{Course, no_course}
+use Rattle.bastion.specs.Basis.{Course, no_course, of_session}
 use Rattle.bastion.specs.Complete.{HasEnded, IsMailedWhole, IsTakenWhole, IsWhole, closing_text}
 use Rattle.bastion.specs.Headline.{IsDenied, IsPermitted, LogsDenial}
 use Rattle.bastion.specs.Inputs.{Inputs}
@@ -156,7 +156,7 @@ module _ (peer : Peer) (inputs : Inputs) (out : Outcome) (old mid new : WorldVie
         ap (λ (d : Devices (Unit {0})). d.logs.given) (sym session.leaves) ∙ all_gain logged_gains deeds (at_first (with_line text begun) session.names) session.last (held_deeds session.held) ∙ by_both old.logs.given text (gives logged deeds)
 
     abbrev let_course : Course
-    let_course = record { deeds = deeds; ending = h.ending }
+    let_course = of_session deeds h.ending
 
     -- with what the world had before the last line was told
     abbrev Held : SessionInputs → SinkView → Type 0

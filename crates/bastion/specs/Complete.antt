@@ -26,7 +26,7 @@ use Rattle.bastion.specs.Headline.{OfGateKind, OfHistory}
 use Rattle.bastion.specs.Inputs.{Inputs}
 use Rattle.bastion.specs.MailKept.{OfMail}
 use Rattle.bastion.specs.Spool.{HasBadSlot}
-use Rattle.smapd_queue.specs.Turns.{lines_of}
+use Rattle.smapd_queue.specs.Turns.{Turn, lines_of}
 use Rattle.smapd_queue.specs.declared.round.Round.{Round}
 use Rattle.smapd_queue.specs.declared.round.RoundFault.{RoundFault}
 use Rattle.smapd_queue.specs.declared.round.Trouble.{Trouble}
@@ -191,23 +191,23 @@ pub record IsFormattedWhole (status : ℕ) (old new : WorldView) : Type 0 where
 
 -- One round was held over the slots, in which no hand failed and no slot broke. The log has taken the line of each turn whole,
 -- and the numbers of the round were printed, and nothing else.
-pub record IsRoundWhole (post : Post) (status : ℕ) (old new : WorldView) : Type 0 where
+pub record IsRoundWhole (post : Post) (turns : List Turn) (status : ℕ) (old new : WorldView) : Type 0 where
   pub round : Round
   pub answer : Result Round RoundFault
   pub trouble : Option Trouble
   pub well : answer ≡ Ok round
   pub untroubled : trouble ≡ None
-  pub held : HandsRound post answer trouble old new
-  pub whole : IsWhole (lines_of held.hands.hands.turns) (round_text round) 0 status old new
+  pub held : HandsRound post turns answer trouble old new
+  pub whole : IsWhole (lines_of turns) (round_text round) 0 status old new
 
-abbrev pub IsJobComplete : Post → Job → ℕ → WorldView → WorldView → Type 0
-IsJobComplete post (jobs.Drill drill) status old new = (status ≡ 5) ⊎ IsDrilledWhole drill (drilled drill) status old new
-IsJobComplete post jobs.SpoolInit status old new = IsFormattedWhole status old new
-IsJobComplete post jobs.Smapd status old new = (status ≡ 5) ⊎ (IsBadWhole status old new ⊎ IsRoundWhole post status old new)
+abbrev pub IsJobComplete : Post → Job → Course → ℕ → WorldView → WorldView → Type 0
+IsJobComplete post (jobs.Drill drill) course status old new = (status ≡ 5) ⊎ IsDrilledWhole drill (drilled drill) status old new
+IsJobComplete post jobs.SpoolInit course status old new = IsFormattedWhole status old new
+IsJobComplete post jobs.Smapd course status old new = (status ≡ 5) ⊎ (IsBadWhole status old new ⊎ IsRoundWhole post course.turns status old new)
 
 abbrev pub IsOrderComplete : Post → Order → Basis → Course → ℕ → WorldView → WorldView → Type 0
 IsOrderComplete post (ByTable command) basis course status old new = AllDone command basis course status old new
-IsOrderComplete post (Alone job) basis course status old new = IsJobComplete post job status old new
+IsOrderComplete post (Alone job) basis course status old new = IsJobComplete post job course status old new
 
 abbrev pub IsComplete : Post → Option LineView → Basis → Course → ℕ → WorldView → WorldView → Type 0
 IsComplete post None basis course status old new = IsWhole (codes "fault usage\n") [] 2 status old new

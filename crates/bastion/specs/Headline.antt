@@ -145,9 +145,9 @@ AnswersStand (Smap peer) inputs course status old new = IsTakenIn peer inputs co
 AnswersStand command inputs course status old new = Unit {0}
 
 -- a job but `smapd` hands on no message
-abbrev pub HandsStand : Post → Job → ℕ → WorldView → WorldView → Type 0
-HandsStand post jobs.Smapd status old new = IsHandedOn post status old new
-HandsStand post job status old new = Unit {0}
+abbrev pub HandsStand : Post → Job → Course → ℕ → WorldView → WorldView → Type 0
+HandsStand post jobs.Smapd course status old new = IsHandedOn post course.turns status old new
+HandsStand post job course status old new = Unit {0}
 
 -- ---- the headline
 
@@ -183,13 +183,13 @@ HeadlineFor command (Given reading inputs ready) course status old new = Headlin
 
 -- a job without a table asks for no destination; and what `smapd` did to the spool on the disks are events of its law, by which just
 -- those messages were accepted that the mailer accepted, so each of them is one that was finished
-pub record HeadlineAlone (post : Post) (job : Job) (status : ℕ) (old new : WorldView) : Type 0 where
+pub record HeadlineAlone (post : Post) (job : Job) (course : Course) (status : ℕ) (old new : WorldView) : Type 0 where
   pub unasked : new.inputs.dialer ≡ old.inputs.dialer
-  pub answered_stands : HandsStand post job status old new
+  pub answered_stands : HandsStand post job course status old new
 
 abbrev pub HeadlineOf : Post → Order → Basis → Course → ℕ → WorldView → WorldView → Type 0
 HeadlineOf post (ByTable command) basis course status old new = HeadlineFor command basis course status old new
-HeadlineOf post (Alone job) basis course status old new = HeadlineAlone post job status old new
+HeadlineOf post (Alone job) basis course status old new = HeadlineAlone post job course status old new
 
 -- words that are no command ask for no destination
 abbrev pub Headlines : Post → Option LineView → Basis → Course → ℕ → WorldView → WorldView → Type 0
