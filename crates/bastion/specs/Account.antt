@@ -1,6 +1,6 @@
 -- All that is said of a run by what it read and by its session, at once: one table, as it was read, one list of records, one
 -- session.
-use Rattle.std.specs.Prelude.{ℕ, Option, ¬}
+use Rattle.std.specs.Prelude.{ℕ, Option}
 use Rattle.bastion.specs.Basis.{Basis, Course}
 use Rattle.bastion.specs.Complete.{IsComplete}
 use Rattle.bastion.specs.Headline.{Headlines}
