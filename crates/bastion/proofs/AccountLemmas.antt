@@ -13,7 +13,7 @@ use Rattle.bastion.specs.Inputs.{Inputs}
 use Rattle.bastion.specs.Jobs.{DoesJob}
 use Rattle.bastion.specs.Outcome.{fault_line_of, status_of}
 use Rattle.bastion.specs.Run.{DoesLine, DoesOrder, Run, Stops, TellsIf, Worked, line_went_by, order_went_by, stopped_by}
-use Rattle.bastion.specs.Status.{IsStatus, RoseBy, RoseInOrder, RoseOf}
+use Rattle.bastion.specs.Status.{RoseBy, RoseInOrder, RoseOf}
 use Rattle.bastion.specs.Words.{LineView}
 use Rattle.bastion.specs.WorldView.{Post, SessionInputs, WorldView}
 use Rattle.bastion.specs.declared.outcome.Outcome.{Outcome}

@@ -1,5 +1,5 @@
 -- From what a client of `ftp-gw` did to the headline, and to a run in which no count rose.
-use Rattle.std.proofs.Common.{◌≡◌, ◌∙◌, ℕ, List, length, refl, sym, ap, subst, ◌⊎◌, true, false}
+use Rattle.std.proofs.Common.{◌≡◌, ◌∙◌, ℕ, List, length, refl, sym, ap, subst, true, false}
 use Rattle.std.specs.Prelude.{Result}
 use Rattle.auth_events.specs.Port.{Port, places}
 use Rattle.auth_machine.specs.Port.{BookOrigin, book_port}
@@ -19,7 +19,6 @@ use Rattle.ftp_gate.specs.Laws.{IsDone}
 use Rattle.fw_types.specs.declared.ending.Ending.TheVariants as endings
 use Rattle.fw_types.specs.declared.peer.Peer.{Peer}
 use Rattle.gate_rules.specs.declared.service.Service.TheVariants as services
-use Rattle.gate_rules.specs.declared.verdict.Verdict.{Verdict}
 use Rattle.gate_rules.specs.declared.verdict.Verdict.TheVariants.{Permit}
 use Rattle.session_acts.proofs.BrokenLemmas.{broken_gains}
 use Rattle.session_acts.proofs.DeedLemmas.{all_gain, held_deeds}

@@ -1,26 +1,19 @@
 -- What a run of `smapd` comes to, and what it leaves.
-use Rattle.std.proofs.Common.{arith, ◌≡◌, refl, sym, ap, subst, ◌∙◌, ℕ, List, [], ◌∷◌, ◌++◌, append-nil, length, map, inl, inr, ◌⊎◌, Option, Some, None, Result, Ok, Err}
-use Rattle.std.specs.Prelude.{◌≢◌, IfSome, IsSome, codes}
+use Rattle.std.proofs.Common.{arith, ◌≡◌, refl, sym, ap, subst, ◌∙◌, ℕ, List, [], ◌++◌, length, map, inl, inr, ◌⊎◌, Option, Some, None, Result, Ok, Err}
+use Rattle.std.specs.Prelude.{◌≢◌, IfSome}
 use Rattle.fw_disk.specs.DiskView.{DiskView}
-use Rattle.fw_mail.specs.MailerView.{MailerView}
-use Rattle.fw_outside.specs.Counts.{Rose}
-use Rattle.fw_outside.specs.KeeperView.{KeeperView}
 use Rattle.fw_outside.specs.SinkView.{Gives, SinkView}
-use Rattle.fw_outside.specs.ToldList.{grown}
 use Rattle.fw_outside.specs.declared.failed.Failed as sink
-use Rattle.slot_bytes.specs.Layout.{Mail}
 use Rattle.slot_bytes.specs.SlotView.{mail_view}
-use Rattle.smapd_queue.specs.Meeting.{End, last_turn, meeting_with}
-use Rattle.smapd_queue.specs.Meeting.End.{AllTaken, NoneFull, Unlogged, Lacked}
-use Rattle.smapd_queue.specs.Round.{HandsOn, HandsOnTelling, answer_of, round_of}
-use Rattle.smapd_queue.specs.Sums.{LogGoes}
-use Rattle.smapd_queue.specs.Turns.{Turn, accepted_of, lines_of}
+use Rattle.smapd_queue.specs.Meeting.{last_turn, meeting_with}
+use Rattle.smapd_queue.specs.Round.{HandsOnTelling}
+use Rattle.smapd_queue.specs.Turns.{Turn, accepted_of}
 use Rattle.smapd_queue.specs.declared.round.Round.{Round}
 use Rattle.smapd_queue.specs.declared.round.RoundFault.{RoundFault}
 use Rattle.smapd_queue.specs.declared.round.RoundFault.TheVariants as faults
 use Rattle.smapd_queue.specs.declared.round.Trouble.{Trouble}
 use Rattle.smapd_queue.specs.declared.round.Trouble.TheVariants as troubles
-use Rattle.spool_rack.specs.Opening.{AreInOrder, CameBack, IsRackFault, queues_of}
+use Rattle.spool_rack.specs.Opening.{AreInOrder, CameBack, IsRackFault}
 use Rattle.spool_rack.specs.Store.{StoreView}
 use Rattle.spool_slots.specs.declared.slot_why.SlotWhy.{SlotWhy}
 use Rattle.spool_slots.specs.declared.slot_why.SlotWhy.TheVariants as whys
@@ -29,11 +22,11 @@ use Rattle.spool_runs.proofs.RoundLemmas.{round_grows}
 use Rattle.spool_runs.proofs.StoreLemmas.{run_over_rack}
 use Rattle.bastion.specs.HandedOn.{HandsRound, IsHandedOn, LineIf}
 use Rattle.bastion.specs.HandingOn.{HandsMail, RoundHeld, ServesRound, TellsRound, outcome_after, outcome_faulted, outcome_printed}
-use Rattle.bastion.specs.Mailing.{OpensRack, SlotsUnread, slot_fault, with_disks}
+use Rattle.bastion.specs.Mailing.{OpensRack, slot_fault, with_disks}
 use Rattle.bastion.specs.Outcome.{DiskRose, MailersRose, fault_line_of, status_of}
 use Rattle.bastion.specs.Run.{TellsIf}
 use Rattle.bastion.specs.Spool.{AreOpened, LeavesAside}
-use Rattle.bastion.specs.Status.{IsRoundStatus, IsStatusOfJob, RoseInJob, SomeRose}
+use Rattle.bastion.specs.Status.{IsRoundStatus, IsStatusOfJob, RoseInJob}
 use Rattle.bastion.specs.WorldView.{Post, SessionInputs, WorldView}
 use Rattle.bastion.specs.declared.outcome.Outcome.{Outcome}
 use Rattle.bastion.specs.declared.words.Job.TheVariants.{Smapd}

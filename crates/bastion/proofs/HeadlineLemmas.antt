@@ -1,7 +1,7 @@
 -- From what a run did to the headline.
 use Rattle.std.proofs.Common.{◌≡◌, ◌≢◌, ℕ, List, [], ◌∷◌, refl, sym, ◌∙◌, ap, subst, inl, inr, arith, ◌⊎◌, Bool, true, false}
 use Rattle.std.specs.Option.{option_map}
-use Rattle.std.specs.Prelude.{Option, Some, None, Result, Ok, Err}
+use Rattle.std.specs.Prelude.{Some, Result, Ok, Err}
 use Rattle.auth_machine.specs.Book.{BookView}
 use Rattle.auth_machine.specs.Port.{BookOrigin, book_port}
 use Rattle.authsrv_gate.specs.Dialogue.{rows}
@@ -15,9 +15,7 @@ use Rattle.fw_outside.specs.ToldList.{grown}
 use Rattle.fw_outside.specs.declared.failed.Failed as sink
 use Rattle.fw_types.specs.declared.ending.Ending.{Ending}
 use Rattle.fw_types.specs.declared.ending.Ending.TheVariants as endings
-use Rattle.fw_types.specs.declared.peer.Peer.{Peer}
 use Rattle.gate_rules.specs.Verdict.{verdict_of}
-use Rattle.gate_rules.specs.declared.service.Service.{Service}
 use Rattle.gate_rules.specs.declared.service.Service.TheVariants as services
 use Rattle.gate_rules.specs.declared.verdict.Verdict.{Verdict}
 use Rattle.gate_rules.specs.declared.verdict.Verdict.TheVariants.{Permit, Deny}
@@ -35,7 +33,7 @@ use Rattle.bastion.specs.Outcome.{fault_line_of, is_stopped, status_of, verdict_
 use Rattle.bastion.specs.Run.{Stops, TellsIf, stopped_by, verdict_for}
 use Rattle.bastion.specs.Serving.{Attended, UntouchedAt, book_at_first, devices_at, most_entries, origin_of}
 use Rattle.bastion.specs.Status.{IsHeld, IsServed}
-use Rattle.bastion.specs.Talk.{IsSilent, IsToldOff, IsUnserved, table_kept, was_refused}
+use Rattle.bastion.specs.Talk.{IsSilent, IsUnserved, table_kept, was_refused}
 use Rattle.bastion.specs.Texts.{print_text, program_of}
 use Rattle.bastion.specs.Works.{Announced, AnnouncedRun, PrintsAfter, StaysSo, announced}
 use Rattle.bastion.specs.WorldView.{SessionInputs, WorldView}

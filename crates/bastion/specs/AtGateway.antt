@@ -1,5 +1,5 @@
 -- A client of a gateway, of `tn-gw` or of `ftp-gw`: what is the same of both.
-use Rattle.std.specs.Prelude.{◌≡◌, ℕ, ◌⊎◌, Bool, true, List, [], ◌++◌, Some}
+use Rattle.std.specs.Prelude.{◌≡◌, ℕ, ◌⊎◌, Bool, List, [], ◌++◌, Some}
 use Rattle.auth_machine.specs.Book.{BookView}
 use Rattle.auth_machine.specs.Port.{BookOrigin, book_port}
 use Rattle.client_service.specs.Decision.{decision_text}

@@ -1,5 +1,5 @@
 -- A client of `smap`: what it is told, and what stands in the slots behind that.
-use Rattle.std.specs.Prelude.{◌≡◌, ◌≢◌, ℕ, ◌⊎◌, false, List, [], ◌++◌, map, None, Result}
+use Rattle.std.specs.Prelude.{◌≡◌, ◌≢◌, ℕ, ◌⊎◌, false, [], ◌++◌, map, None, Result}
 use Rattle.client_service.specs.Decision.{decision_text}
 use Rattle.client_service.specs.Endings.{refusal_reply}
 use Rattle.client_service.specs.MailService.{mail_devices, mail_gate_of}

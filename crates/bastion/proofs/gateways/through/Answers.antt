@@ -1,4 +1,4 @@
-use Rattle.bastion.proofs.ClientLemmas.{gateway_does, gateway_served, gateway_stops}
+use Rattle.bastion.proofs.ClientLemmas.{gateway_does, gateway_stops}
 use Rattle.bastion.proofs.gateways.through.Goals as goal
 
 pub returns-in-Ok : goal.returns-in-Ok
