@@ -35,6 +35,7 @@ other_of word =
     else if is word (codes "proto") then Some commands.Proto
     else if is word (codes "password") then Some commands.Password
     else if is word (codes "otp") then Some commands.Otp
+    else if is word (codes "expire") then Some commands.Expire
     else if is word (codes "list") then Some commands.List
     else if is word (codes "quit") then Some commands.Quit
     else None

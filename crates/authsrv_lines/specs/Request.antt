@@ -138,6 +138,16 @@ abbrev pub otp_of : List (List ℕ) → Option (List ℕ) → ReadRequest
 otp_of (name ∷ number ∷ word_seed ∷ _) (Some text) = otp_with name number word_seed text
 otp_of _ _ = Err Words
 
+-- NAME NUMBER
+abbrev pub expire_set : Option (List ℕ) → Option ℕ → ReadRequest
+expire_set name None = Err Words
+expire_set None (Some until) = Err BadName
+expire_set (Some name) (Some until) = Ok (wires.Ask (requests.Expire name until))
+
+abbrev pub expire_request : Option (List ℕ × List ℕ) → ReadRequest
+expire_request None = Err Words
+expire_request (Some texts) = expire_set (name_of texts.0) (number_of texts.1)
+
 -- nothing
 abbrev pub wire_alone : Wire → Bool → ReadRequest
 wire_alone wire true = Ok wire
@@ -154,6 +164,7 @@ asked commands.Group parts rest = group_request (one_or_two parts)
 asked commands.Proto parts rest = proto_request (two_of parts)
 asked commands.Password parts rest = password_of parts (text_after 1 rest)
 asked commands.Otp parts rest = otp_of parts (text_after 3 rest)
+asked commands.Expire parts rest = expire_request (two_of parts)
 asked commands.List parts rest = wire_alone wires.List (has_none parts)
 asked commands.Quit parts rest = wire_alone wires.Quit (has_none parts)
 

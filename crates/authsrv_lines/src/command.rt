@@ -29,6 +29,7 @@ pub(crate) enum Command {
     Proto,
     Password,
     Otp,
+    Expire,
     List,
     Quit,
 }
@@ -100,6 +101,8 @@ fn other_of(word: &[u8]) -> Option<Command>
         Some(Command::Password)
     } else if is(word, b"otp") {
         Some(Command::Otp)
+    } else if is(word, b"expire") {
+        Some(Command::Expire)
     } else if is(word, b"list") {
         Some(Command::List)
     } else if is(word, b"quit") {

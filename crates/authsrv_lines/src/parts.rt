@@ -2,7 +2,7 @@
 ghost use Rattle.std.specs.Prelude.{◌≡◌};
 ghost use Rattle.fw_types.specs.Name.{name_of};
 ghost use Rattle.authsrv_lines.specs.Words.{has_none, one_of, two_of, one_or_two, text_after, words};
-ghost use Rattle.authsrv_lines.specs.Request.{adduser_of, adduser_with, wire_alone, count_of, group_none, group_request, group_some, named_request_of, operation_request_of, otp_of, otp_with, password_of, proto_request, proto_named, response_of, service_named};
+ghost use Rattle.authsrv_lines.specs.Request.{adduser_of, adduser_with, wire_alone, count_of, expire_request, group_none, group_request, group_some, named_request_of, operation_request_of, otp_of, otp_with, password_of, proto_request, proto_named, response_of, service_named};
 
 use crate::command::{Command, Named};
 use crate::words::{behind_blank, has_no_word, next_word, one_or_two_words, one_word, two_words};
@@ -230,6 +230,22 @@ pub(crate) fn read_otp(rest: &[u8]) -> Result<Wire, WireFault>
         return Err(WireFault::Words);
     };
     otp_with(name, number, word_seed, text)
+}
+
+/// The name of a user, and a number of 1 to 10 digits.
+pub(crate) fn read_expire(rest: &[u8]) -> Result<Wire, WireFault>
+    ensures { result ≡ expire_request (two_of (words rest.now)) }
+{
+    let Some((name, until)) = two_words(rest) else {
+        return Err(WireFault::Words);
+    };
+    let Some(until) = read_number(until) else {
+        return Err(WireFault::Words);
+    };
+    let Some(name) = Name::read(name) else {
+        return Err(WireFault::BadName);
+    };
+    Ok(Wire::Ask(Request::Expire { name, until }))
 }
 
 /// Nothing.
