@@ -1,4 +1,5 @@
 pub mod BucketLemmas
+pub mod HoursLemmas
 pub mod IndexLemmas
 pub mod LawLemmas
 pub mod LeftmostLemmas
