@@ -1,11 +1,11 @@
 -- Expiry and hours, computed on runs.
-use Rattle.std.proofs.Common.{◌≡◌, ◌∷◌, [], true, false, Some, refl}
+use Rattle.std.proofs.Common.{◌≡◌, List, ◌++◌, ◌∷◌, [], true, false, Some, None, refl}
 use Rattle.std.specs.Prelude.{codes}
 use Rattle.md5.specs.Md5.{md5, digest_bytes, hash_after, compress, rounds, block_words}
 use Rattle.auth_records.specs.Spelling.{Fields, spelling}
 use Rattle.auth_events.specs.declared.denial.Denial.TheVariants.{Disabled, Expired, NoChallenge, NoRule, NoSuch, NotKept, Sleeping}
 use Rattle.auth_events.specs.declared.request.OpService.TheVariants.{Telnet}
-use Rattle.auth_events.specs.declared.request.Request.TheVariants.{Expire, Operation}
+use Rattle.auth_events.specs.declared.request.Request.TheVariants.{Disable, Enable, Expire, Operation}
 use Rattle.auth_machine.specs.Answer.Answer.{Opened, Password, Ok, Denied}
 use Rattle.auth_machine.specs.Login.{authenticate, respond}
 use Rattle.auth_machine.specs.Operations.{operation_verdict}
@@ -15,6 +15,7 @@ use Rattle.auth_machine.specs.Step.{proposed}
 use Rattle.auth_machine.specs.declared.operation.Holder.TheVariants.{User}
 use Rattle.auth_machine.specs.declared.operation.OperationLine.{OperationLine}
 use Rattle.fw_types.specs.declared.host.Host.TheVariants.{Addr}
+use Rattle.gate_rules.specs.declared.hours.Hours.{Hours}
 use Rattle.host_pattern.specs.Party.{body_matches}
 use Rattle.host_pattern.specs.PatternList.{list_matches}
 use Rattle.auth_machine.proofs.Runs.{answers, ask, bad_sleep, calls, console, failing, left, mjr, names, no_lines, opens, other, says, secret}

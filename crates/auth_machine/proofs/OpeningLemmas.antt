@@ -6,6 +6,7 @@ use Rattle.std.specs.Str.{bytes_eq}
 use Rattle.std.proofs.lemmas.Slice.Eq.{bytes_eq-Decides}
 use Rattle.fw_types.specs.Keyed.{Ascends}
 use Rattle.fw_types.specs.Name.{is_before}
+use Rattle.fw_outside.specs.FilesView.{bytes_under}
 use Rattle.fw_outside.specs.KeeperView.{AreSame, NamedBytes}
 use Rattle.fw_outside.specs.KeeperView as keeper
 use Rattle.auth_records.specs.Reading.{decoded}

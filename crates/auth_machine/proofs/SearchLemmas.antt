@@ -9,7 +9,7 @@ use Rattle.std.specs.Str.{bytes_eq}
 use Rattle.std.proofs.lemmas.List.Sums.{position_or_len_is}
 use Rattle.std.proofs.lemmas.Map.Text.{is_eq-slice_cmp}
 use Rattle.std.proofs.lemmas.Slice.Eq.{bytes_eq-Decides}
-use Rattle.fw_types.specs.Keyed.{Ascends, placed, under, without}
+use Rattle.fw_types.specs.Keyed.{Ascends, is_named, placed, under, without}
 use Rattle.fw_types.specs.Name.{is_before}
 use Rattle.fw_types.proofs.KeyedLemmas.{insert_is_placed}
 use Rattle.auth_records.specs.Spelling.{Fields}

@@ -1,5 +1,5 @@
 -- What the keeper has after it was called.
-use Rattle.std.proofs.Common.{arith, ◌≡◌, refl, sym, ap, subst, ◌∙◌, ℕ, ◌+◌, ◌-◌, ◌^◌, ◌≤◌, min, Bool, true, false, not, ◌&&◌, cond, List, Option, Some, None, option_map, is_some, IfSome, inl, inr}
+use Rattle.std.proofs.Common.{arith, ◌≡◌, refl, sym, ap, subst, ◌∙◌, ℕ, ◌+◌, ◌-◌, ◌^◌, ◌≤◌, min, Bool, true, false, not, ◌&&◌, cond, List, [], ◌∷◌, Option, Some, None, option_map, is_some, IfSome, inl, inr}
 use mathlib.Core.Bool.{true≢false}
 use Rattle.std.specs.Str.{bytes_eq}
 use Rattle.std.proofs.lemmas.Slice.Eq.{bytes_eq-Decides}
@@ -17,7 +17,7 @@ use Rattle.auth_machine.specs.History.{DecodesTo}
 use Rattle.auth_machine.specs.Keeping.{Calls, IsCalledIf, KeepsChange, MayBeCalled, kept_by}
 use Rattle.auth_machine.specs.State.{records_after, record_name, record_at}
 use Rattle.auth_machine.specs.Step.{is_record_change, is_record}
-use Rattle.auth_machine.specs.Stepping.{PutsReadable}
+use Rattle.auth_machine.specs.Stepping.{IsReadAgain, PutsReadable}
 use Rattle.auth_machine.specs.declared.record_change.RecordChange.{RecordChange}
 use Rattle.auth_machine.specs.declared.record_change.RecordChange.TheVariants.{Leave, Put, Delete}
 

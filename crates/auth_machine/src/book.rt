@@ -127,7 +127,7 @@ impl<K: Keeper> Book<K> {
     ) -> Result<Book<K>, (K, OpenFault)>
         ensures reads { IfOk result (λ book. ReadsAs (Ok book.origin.records) (K.keeper_view keeper) book.keeper) }
         ensures sound { IfOk result (λ book. IsSound book.origin) }
-        ensures told { IfOk result (λ book. HasRecords book.origin book.history book.keeper) }
+        ensures encoded { IfOk result (λ book. HasRecords book.origin book.history book.keeper) }
         ensures keeper { IfOk result (λ book. IsCalled (K.keeper_view keeper) book.keeper) }
         ensures policy { IfOk result (λ book. book.origin.policy ≡ policy) }
         ensures history { IfOk result (λ book. book.history ≡ []) }

@@ -7,8 +7,8 @@
 //! [`Book`] is that machine with a keeper beside it. [`Book::open`] reads all records that the keeper has, or names the
 //! least bad one. [`Book::ask`] makes one entry of a request with its reply, unless as many are there as fit or there
 //! is no memory, and the history is legal from the loaded records, whatever the answer; where a record changes, is made
-//! or is deleted, the keeper is called, and has it or has failed; elsewhere it isn't called. [`Book::history`] says that the keeper, where it
-//! tells its table, has the names of the records after the history, with bytes that decode to each. A book is a port for requests, whose entries are all its own.
+//! or is deleted, the keeper is called, and has it or has failed; elsewhere it isn't called. [`Book::history`] says that the keeper's table, where it tells it,
+//! is that of the records after the history. A book is a port for requests, whose entries are all its own.
 //! [`Policy::of`] reads what the permission table says to `authsrv`. [`laws`] says what the machine comes to, of every
 //! legal history.
 #![tactic(auto)]

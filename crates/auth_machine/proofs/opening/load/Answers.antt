@@ -1,5 +1,5 @@
-use Rattle.std.specs.Prelude.{IfSome}
-use Rattle.std.proofs.Common.{◌∙◌, ap, sym, subst}
+use Rattle.std.specs.Prelude.{IfSome, Ok}
+use Rattle.std.proofs.Common.{◌≡◌, ◌∙◌, ap, sym, subst}
 use Rattle.fw_outside.specs.KeeperView.{KeeperView}
 use Rattle.auth_machine.specs.History.{DecodesTo}
 use Rattle.auth_machine.specs.Opening.{records_in}
