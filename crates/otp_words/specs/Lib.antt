@@ -1,0 +1,9 @@
+pub mod Dictionary
+pub mod SixWords
+pub mod Phrase
+pub mod Challenge
+pub mod Indexed
+pub mod Listed
+pub mod Taking
+pub mod Gathering
+pub mod Laws
