@@ -5,3 +5,6 @@ pub mod SixLemmas
 pub mod PhraseLemmas
 pub mod LongLemmas
 pub mod TakingLemmas
+pub mod WordLemmas
+pub mod ChallengeLemmas
+pub mod LawLemmas

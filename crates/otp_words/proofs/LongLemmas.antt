@@ -1,6 +1,6 @@
 -- A text that is longer than any dictionary shows its fault.
-use Rattle.std.proofs.Common.{◌≡◌, ℕ, zero, suc, ◌+◌, ◌*◌, ◌<◌, ◌≤◌, Bool, true, false, cond, List, [], ◌∷◌, ◌++◌, length, refl, sym, ap, ◌∙◌, arith, append_assoc, length-append}
-use Rattle.std.specs.Prelude.{not, ◌==◌, nat_lt, nat_le, ◌&&◌, Result, Ok, Err}
+use Rattle.std.proofs.Common.{◌≡◌, ℕ, zero, suc, ◌+◌, ◌*◌, ◌<◌, ◌≤◌, Bool, true, false, List, [], ◌∷◌, ◌++◌, length, refl, sym, ap, ◌∙◌, arith, append_assoc, length-append}
+use Rattle.std.specs.Prelude.{◌==◌, nat_lt, nat_le, ◌&&◌, Err}
 use Rattle.std.specs.Char.{is_ascii_alphabetic}
 use Rattle.std.specs.List.{list_all}
 use Rattle.std.specs.Str.{str_to_ascii_uppercase}
@@ -9,9 +9,9 @@ use Rattle.std.proofs.lemmas.Bool.{eq-eqb, leb-true}
 use Rattle.std.proofs.lemmas.Bool.Decides.{nat_tests}
 use Rattle.std.proofs.lemmas.List.{append-nil}
 use Rattle.otp_words.specs.declared.dict_fault.DictFault.{DictFault}
-use Rattle.otp_words.specs.declared.dict_fault.DictFault.TheVariants.{BadWord, Twice, Long, Short}
-use Rattle.otp_words.specs.Dictionary.{dictionary_of, is_word, stands_in, words_then}
-use Rattle.otp_words.proofs.LineLemmas.{Cut, FirstLine, Front, ended, unended, IsOneLine, first_line, front_of, lines_first, stripped_least}
+use Rattle.otp_words.specs.declared.dict_fault.DictFault.TheVariants.{BadWord, Twice, Long}
+use Rattle.otp_words.specs.Dictionary.{is_word, stands_in, words_then}
+use Rattle.otp_words.proofs.LineLemmas.{Cut, Front, ended, unended, IsOneLine, first_line, front_of, lines_first, stripped_least}
 use Rattle.otp_words.proofs.ListLemmas.{and_both}
 
 -- ---- one line

@@ -1,5 +1,5 @@
 -- Six words and their numbers.
-use Rattle.std.proofs.Common.{◌≡◌, ℕ, suc, ◌+◌, ◌<◌, ◌^◌, Bool, true, false, cond, List, [], ◌∷◌, ◌++◌, length, map, take, refl, sym, ap, ◌∙◌, arith, append_assoc, get_or, drop, zero, ◌≤◌}
+use Rattle.std.proofs.Common.{◌≡◌, ℕ, suc, ◌+◌, ◌<◌, ◌^◌, Bool, true, false, cond, List, [], ◌∷◌, ◌++◌, length, map, take, refl, sym, ap, ◌∙◌, arith, append_assoc, get_or, drop}
 use Rattle.std.specs.Prelude.{◌==◌, is_none, position, unwrap_or, Option, Some, None, Result, Ok, Err, ◌↔◌, IsErrAnd}
 use Rattle.std.specs.List.{join_with_byte}
 use Rattle.std.specs.Option.{option_map, ok_or}
@@ -9,10 +9,10 @@ use Rattle.std.proofs.lemmas.Bool.{eqb-true, eq-eqb}
 use Rattle.std.proofs.lemmas.List.{length-map, map-append, take_all}
 use Rattle.authsrv_lines.specs.Words.{words}
 use Rattle.otp_words.specs.declared.words_fault.WordsFault.{WordsFault}
-use Rattle.otp_words.specs.declared.words_fault.WordsFault.TheVariants.{Count, NoWord, Check}
+use Rattle.otp_words.specs.declared.words_fault.WordsFault.TheVariants.{Count, Check}
 use Rattle.otp_words.specs.Dictionary.{number_of, word_at}
 use Rattle.otp_words.specs.Phrase.{checked, password_in, password_unless, phrase_of, read_of}
-use Rattle.otp_words.specs.SixWords.{digits, password_of, six, check_of}
+use Rattle.otp_words.specs.SixWords.{password_of, six}
 use Rattle.otp_words.proofs.PlaceLemmas.{position_no, position_within, position_yes}
 use Rattle.otp_words.proofs.SixLemmas.{back_from_six, six_from_numbers, six_length}
 

@@ -1,6 +1,6 @@
 -- Six numbers of 11 bits, and the 66 bits that they are.
-use Rattle.std.proofs.Common.{◌≡◌, ℕ, suc, ◌+◌, ◌*◌, ◌/◌, ◌%◌, ◌-◌, ◌<◌, ◌≤◌, ◌^◌, Bool, true, false, cond, nat_eq, List, [], ◌∷◌, ◌++◌, length, refl, sym, ap, ◌∙◌, arith}
-use Rattle.std.specs.Prelude.{sum, fold, All, Option, Some, None, ◌↔◌, ◌==◌}
+use Rattle.std.proofs.Common.{◌≡◌, ℕ, suc, ◌+◌, ◌*◌, ◌/◌, ◌%◌, ◌<◌, ◌^◌, Bool, true, false, cond, nat_eq, List, [], ◌∷◌, ◌++◌, length, refl, sym, ap, ◌∙◌, arith}
+use Rattle.std.specs.Prelude.{sum, fold, All, Some, None}
 use Rattle.std.proofs.lemmas.Bool.{eqb-true, eq-eqb}
 use Rattle.std.proofs.lemmas.List.Elements.{All-cons}
 use Rattle.otp_words.specs.SixWords.{bits_of, check_of, digits, password_of, six}
@@ -27,7 +27,7 @@ unfolding check_of
 check_is password total is = rw is refl
 
 -- the six digits of 66 bits
-six_digits : (n : ℕ) → digits 2048 6 n ≡ (n / 2048 / 2048 / 2048 / 2048 / 2048 % 2048) ∷ (n / 2048 / 2048 / 2048 / 2048 % 2048) ∷ (n / 2048 / 2048 / 2048 % 2048) ∷ (n / 2048 / 2048 % 2048) ∷ (n / 2048 % 2048) ∷ (n % 2048) ∷ []
+pub six_digits : (n : ℕ) → digits 2048 6 n ≡ (n / 2048 / 2048 / 2048 / 2048 / 2048 % 2048) ∷ (n / 2048 / 2048 / 2048 / 2048 % 2048) ∷ (n / 2048 / 2048 / 2048 % 2048) ∷ (n / 2048 / 2048 % 2048) ∷ (n / 2048 % 2048) ∷ (n % 2048) ∷ []
 unfolding digits
 six_digits n = refl
 

@@ -1,5 +1,5 @@
 -- What reading a dictionary says of its source.
-use Rattle.std.proofs.Common.{◌≡◌, ◌≢◌, ℕ, ◌+◌, ◌<◌, ◌≤◌, Bool, true, false, List, [], ◌++◌, ◌⊎◌, inl, inr, length, refl, sym, ap, ◌∙◌, arith}
+use Rattle.std.proofs.Common.{◌≡◌, ◌≢◌, ℕ, ◌<◌, ◌≤◌, true, false, List, [], ◌++◌, ◌⊎◌, inl, inr, length, refl, sym, ap, ◌∙◌, arith}
 use Rattle.std.specs.Prelude.{Option, Some, None, Result, Ok, Err, IfOk, IfErr, nat_lt, ◌||◌}
 use Rattle.std.proofs.lemmas.Bool.{cases_lt}
 use Rattle.std.proofs.lemmas.Bool.Decides.{nat_tests}
@@ -12,7 +12,7 @@ use Rattle.fw_outside.specs.ToldList.{preceded, IsOver}
 use Rattle.otp_words.specs.declared.dict_fault.DictFault.{DictFault}
 use Rattle.otp_words.specs.declared.dict_fault.DictFault.TheVariants.{BadWord, Twice, Long, Short, ReadFault, NoMemory}
 use Rattle.otp_words.specs.Dictionary.{dictionary_of}
-use Rattle.otp_words.specs.Taking.{AreWordsOf, IsFaultOf, SourceAfterRead, TookAll, TookFront, TookSome, is_read_fault}
+use Rattle.otp_words.specs.Taking.{AreWordsOf, IsFaultOf, SourceAfterRead, TookSome, is_read_fault}
 use Rattle.otp_words.proofs.LongLemmas.{Settled, settled}
 
 -- the text that was gathered, and how much of it there is

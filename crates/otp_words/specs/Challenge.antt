@@ -1,5 +1,5 @@
 -- A challenge as a user reads it (RFC 2289, 6.0, the form of inputs).
-use Rattle.std.specs.Prelude.{ℕ, Bool, true, List, [], ◌∷◌, codes, Option, Some, None, if◌then◌else◌}
+use Rattle.std.specs.Prelude.{ℕ, List, ◌∷◌, codes, Option, Some, None, if◌then◌else◌}
 use Rattle.std.specs.Str.{str_eq_ignore_ascii_case}
 use Rattle.auth_records.specs.Texts.{seed_of}
 use Rattle.authsrv_lines.specs.Words.{words}

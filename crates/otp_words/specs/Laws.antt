@@ -1,16 +1,13 @@
 -- What holds of all dictionaries, passwords and challenges.
-use Rattle.std.specs.Prelude.{◌≡◌, ℕ, suc, ◌+◌, ◌<◌, ◌≤◌, ◌^◌, IsTrue, ◌↔◌, true, false, List, [], length, map, take, slice_index_or, Option, Some, Result, Ok, Err}
+use Rattle.std.specs.Prelude.{◌≡◌, ℕ, ◌+◌, ◌<◌, ◌≤◌, true, false, List, [], length, map, take, slice_index_or, Option, Some, Result, Ok, Err}
 use Rattle.std.specs.List.{list_all}
 use Rattle.std.specs.Option.{option_map}
 use Rattle.std.specs.Str.{str_to_ascii_uppercase}
-use Rattle.std.specs.Str.Lines.{lines}
-use Rattle.auth_records.specs.Texts.{is_seed}
-use Rattle.otp_md5.specs.Challenge.{challenge}
 use Rattle.otp_md5.specs.Passwords.{next_of, password}
 use Rattle.otp_words.specs.declared.dict_fault.DictFault.{DictFault}
 use Rattle.otp_words.specs.declared.dict_fault.DictFault.TheVariants.{BadWord, Twice, Long, Short, ReadFault, NoMemory}
 use Rattle.otp_words.specs.Challenge.{challenge_of}
-use Rattle.otp_words.specs.Dictionary.{AreApart, dictionary_of, is_word, stands_in}
+use Rattle.otp_words.specs.Dictionary.{AreApart, is_word, stands_in}
 
 -- the password that answers a challenge, for a pass phrase
 abbrev pub answer_to : List ℕ → List ℕ → Option ℕ

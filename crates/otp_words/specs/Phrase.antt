@@ -1,5 +1,5 @@
 -- The six words of a password (RFC 2289, 6.2): what is written, and what is read.
-use Rattle.std.specs.Prelude.{ℕ, ◌+◌, ◌==◌, Bool, is_none, List, length, map, Option, Some, None, Result, Ok, Err, position, unwrap_or, if◌then◌else◌}
+use Rattle.std.specs.Prelude.{ℕ, ◌+◌, ◌==◌, is_none, List, length, map, Option, Some, None, Result, Ok, Err, position, unwrap_or, if◌then◌else◌}
 use Rattle.std.specs.List.{join_with_byte}
 use Rattle.authsrv_lines.specs.Words.{words}
 use Rattle.otp_words.specs.declared.words_fault.WordsFault.{WordsFault}

@@ -4,7 +4,7 @@ use Rattle.fw_outside.specs.LineReaderView.{TookBytes}
 use Rattle.fw_outside.specs.SourceView.{SourceView, Broke, Idled}
 use Rattle.fw_outside.specs.ToldList.{IsOver}
 use Rattle.otp_words.specs.declared.dict_fault.DictFault.{DictFault}
-use Rattle.otp_words.specs.declared.dict_fault.DictFault.TheVariants.{BadWord, Twice, Long, Short, ReadFault, NoMemory}
+use Rattle.otp_words.specs.declared.dict_fault.DictFault.TheVariants.{ReadFault, NoMemory}
 use Rattle.otp_words.specs.Dictionary.{dictionary_of}
 
 -- the first of the bytes that were left were taken, at most one more than the longest dictionary has, and nothing else changed

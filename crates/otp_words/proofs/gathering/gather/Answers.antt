@@ -1,4 +1,4 @@
-use Rattle.std.proofs.Common.{sym, [], List, ℕ, subst}
+use Rattle.std.proofs.Common.{sym, List, ℕ, subst}
 use Rattle.fw_outside.specs.LineReaderView.{TookBytes}
 use Rattle.fw_outside.proofs.ListenLemmas.{pulled_none}
 use Rattle.otp_words.proofs.gathering.gather.Goals as goal

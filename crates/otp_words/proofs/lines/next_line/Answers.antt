@@ -1,4 +1,4 @@
-use Rattle.std.proofs.Common.{◌≡◌, ◌∷◌, ◌++◌, length, ◌<◌, rules}
+use Rattle.std.proofs.Common.{◌≡◌, ◌∷◌, ◌++◌, rules}
 use Rattle.otp_words.proofs.LineLemmas.{lines_cut, lines_whole}
 use Rattle.otp_words.proofs.lines.next_line.Goals as goal
 

@@ -1,4 +1,4 @@
-use Rattle.std.proofs.Common.{◌≡◌, ◌+◌, ◌-◌, ◌*◌, ◌<◌, ◌≤◌}
+use Rattle.std.proofs.Common.{◌≡◌, ◌+◌, ◌-◌, ◌*◌, ◌≤◌}
 use Rattle.std.specs.Prelude.{sum}
 use Rattle.otp_words.specs.SixWords.{digits}
 use Rattle.otp_words.proofs.six_numbers.check.Given as goal

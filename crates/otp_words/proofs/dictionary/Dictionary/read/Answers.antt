@@ -1,5 +1,4 @@
-use Rattle.std.proofs.Common.{◌≡◌, ◌∙◌, sym, ap, refl, rules}
-use Rattle.otp_words.proofs.TakingLemmas.{Gathered, failed_by, fault_is, source_is, words_are}
+use Rattle.otp_words.proofs.TakingLemmas.{Gathered, fault_is, source_is, words_are}
 use Rattle.otp_words.proofs.dictionary.Dictionary.read.Goals as goal
 
 pub returns-in-Ok-clause-words : goal.returns-in-Ok-clause-words

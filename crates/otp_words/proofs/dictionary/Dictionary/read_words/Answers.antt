@@ -1,9 +1,9 @@
 use Rattle.std.proofs.Common.{◌≡◌, ◌∙◌, sym, ap, refl, false}
-use Rattle.std.specs.Prelude.{◌==◌, length, Err, Ok, Result, ℕ}
+use Rattle.std.specs.Prelude.{◌==◌, length, Err}
 use Rattle.authsrv_lines.specs.Words.{words}
 use Rattle.otp_words.specs.declared.words_fault.WordsFault.TheVariants.{Count}
 use Rattle.otp_words.specs.Listed.{listed}
-use Rattle.otp_words.specs.Phrase.{checked, read_of}
+use Rattle.otp_words.specs.Phrase.{checked}
 use Rattle.otp_words.proofs.PhraseLemmas.{ok_or_is, exact_by, fault_is, read_in, read_with, wrong_count}
 use Rattle.otp_words.proofs.dictionary.Dictionary.read_words.Goals as goal
 
