@@ -8,3 +8,5 @@ pub mod TakingLemmas
 pub mod WordLemmas
 pub mod ChallengeLemmas
 pub mod LawLemmas
+pub mod TaskLemmas
+pub mod GroupLemmas

@@ -14,13 +14,17 @@ mod challenge;
 mod dict_fault;
 mod dictionary;
 mod gathering;
+mod groups;
 pub mod laws;
 mod lines;
 mod six_numbers;
+mod task;
 mod word_list;
 mod words_fault;
 
 pub use challenge::read_challenge;
 pub use dict_fault::DictFault;
 pub use dictionary::Dictionary;
+pub use groups::append_groups;
+pub use task::{TaskFault, hear_password};
 pub use words_fault::WordsFault;
