@@ -111,11 +111,8 @@ pub fault_is : {A : Type 0} (r : Result A WordsFault) (e : WordsFault) → IsErr
 fault_is (Ok x) e h = absurd h
 fault_is (Err y) e h = ap Err h
 
-pub read_with : (dictionary : List (List ℕ)) (text : List ℕ) (ws : List (List ℕ)) (ns : List ℕ) → words text ≡ ws → length ws ≡ 6 → map (number_of dictionary) ws ≡ map (λ n. Some n) ns
-    → checked (password_of ns) ≡ read_of dictionary text
-read_with dictionary text ws ns is count numbers =
-    let here : password_in dictionary ws ≡ checked (password_of ns) = rw (eq-eqb (length ws) 6 count, numbers, none_missing ns, given_back ns) refl in
-    sym here ∙ read_in dictionary text ws is
+pub list_with : (dictionary : List (List ℕ)) (ws : List (List ℕ)) (ns : List ℕ) → length ws ≡ 6 → map (number_of dictionary) ws ≡ map (λ n. Some n) ns → checked (password_of ns) ≡ password_in dictionary ws
+list_with dictionary ws ns count numbers = sym (rw (eq-eqb (length ws) 6 count, numbers, none_missing ns, given_back ns) refl)
 
 pub ok_or_is : (o : Option ℕ) (r : Result ℕ WordsFault) → r ≡ ok_or o Check → r ≡ checked o
 ok_or_is None r h = h

@@ -1,6 +1,7 @@
 -- The six words of a password (RFC 2289, 6.2): what is written, and what is read.
-use Rattle.std.specs.Prelude.{ℕ, ◌+◌, ◌==◌, is_none, List, length, map, Option, Some, None, Result, Ok, Err, position, unwrap_or, if◌then◌else◌}
-use Rattle.std.specs.List.{join_with_byte}
+use Rattle.std.specs.Prelude.{ℕ, ◌+◌, ◌==◌, Bool, ◌&&◌, not, is_none, List, length, map, Option, Some, None, Result, Ok, Err, position, unwrap_or, if◌then◌else◌}
+use Rattle.std.specs.List.{join_with_byte, list_all}
+use Rattle.otp_md5.specs.Hexadecimal.{is_blank}
 use Rattle.authsrv_lines.specs.Words.{words}
 use Rattle.otp_words.specs.declared.words_fault.WordsFault.{WordsFault}
 use Rattle.otp_words.specs.declared.words_fault.WordsFault.TheVariants.{Count, NoWord, Check}
@@ -31,3 +32,11 @@ password_in dictionary six_words =
 -- the password that a text is: six words, cut at blanks, all in the dictionary, with the right check bits
 unfoldable pub read_of : List (List ℕ) → List ℕ → Result ℕ WordsFault
 read_of dictionary text = password_in dictionary (words text)
+
+-- a word that isn't empty and holds no blank
+abbrev pub is_plain : List ℕ → Bool
+is_plain word = not (length word == 0) && list_all (λ byte. not (is_blank byte)) word
+
+-- the password of six words that stand apart
+unfoldable pub spelled_of : List (List ℕ) → List (List ℕ) → Result ℕ WordsFault
+spelled_of dictionary six_words = if list_all is_plain six_words then password_in dictionary six_words else Err Count

@@ -3,7 +3,7 @@ ghost use Rattle.fw_outside.specs.FilesView.{has_failed};
 ghost use Rattle.std.specs.Str.Lines.{lines};
 ghost use Rattle.authsrv_lines.specs.Words.{words};
 ghost use Rattle.otp_words.specs.Dictionary.{IsDictionary, dictionary_of, number_of, words_then};
-ghost use Rattle.otp_words.specs.Phrase.{password_in, phrase_of, read_of};
+ghost use Rattle.otp_words.specs.Phrase.{password_in, phrase_of, read_of, spelled_of};
 ghost use Rattle.otp_words.specs.Listed.{listed};
 ghost use Rattle.otp_words.specs.SixWords.{six};
 ghost use Rattle.otp_words.specs.Taking.{AreWordsOf, IsFaultOf, SourceAfterRead, is_read_fault};
@@ -12,10 +12,10 @@ use crate::dict_fault::DictFault;
 use crate::gathering::gather;
 use crate::lines::next_line;
 use crate::six_numbers::{password_of, six};
+use crate::six_words::{SixWords, six_words};
 use crate::word_list::{ALL, WordList};
 use crate::words_fault::WordsFault;
 use arrayvec::ArrayVec;
-use authsrv_lines::next_word;
 use fw_outside::Source;
 use fw_types::{append, append_byte};
 use std::alloc::Global;
@@ -67,41 +67,6 @@ fn dictionary_in(alloc: Global, text: &[u8]) -> Result<Dictionary, DictFault>
         });
     }
     Ok(Dictionary { list })
-}
-
-// Six words of a text, in order.
-#[derive(Drop)]
-struct SixWords<'a> {
-    first: &'a [u8],
-    second: &'a [u8],
-    third: &'a [u8],
-    fourth: &'a [u8],
-    fifth: &'a [u8],
-    last: &'a [u8],
-}
-
-// The six words of a text, where there are so many.
-fn six_words(text: &[u8]) -> Option<SixWords<'_>>
-    ensures some { IfSome result (λ six. words text.now ≡ listed six) }
-    ensures none { IfNone result ((length (words text.now) == 6) ≡ false) }
-{
-    let (first, rest) = next_word(text)?;
-    let (second, rest) = next_word(rest)?;
-    let (third, rest) = next_word(rest)?;
-    let (fourth, rest) = next_word(rest)?;
-    let (fifth, rest) = next_word(rest)?;
-    let (last, rest) = next_word(rest)?;
-    match next_word(rest) {
-        Some(_) => None,
-        None => Some(SixWords {
-            first,
-            second,
-            third,
-            fourth,
-            fifth,
-            last,
-        }),
-    }
 }
 
 impl Dictionary {
@@ -166,6 +131,14 @@ impl Dictionary {
         ])
     }
 
+    // The password of six words without blanks.
+    fn read_plain(&self, six: &SixWords) -> Result<u64, WordsFault>
+        ensures { result ≡ password_in self.now (listed six.now) }
+    {
+        let numbers = self.numbers_of(six)?;
+        password_of(numbers).ok_or(WordsFault::Check)
+    }
+
     /// The password that a text is: six words of the dictionary, cut at blanks, in whatever case.
     ///
     /// # Errors
@@ -182,7 +155,22 @@ impl Dictionary {
         let Some(words) = six_words(text) else {
             return Err(WordsFault::Count);
         };
-        let numbers = self.numbers_of(&words)?;
-        password_of(numbers).ok_or(WordsFault::Check)
+        self.read_plain(&words)
+    }
+
+    /// The password of six words, in whatever case.
+    ///
+    /// # Errors
+    ///
+    /// `Count` where one of them holds a blank or is empty; `NoWord` at the first, from 1, that the dictionary hasn't;
+    /// `Check` where the check bits aren't those of the password.
+    #[tactic(auto, unfolding(crate::specs::Phrase::spelled_of))]
+    pub fn read_six(&self, six: &SixWords) -> Result<u64, WordsFault>
+        ensures { result ≡ spelled_of self.now (listed six.now) }
+    {
+        if !six.are_plain() {
+            return Err(WordsFault::Count);
+        }
+        self.read_plain(six)
     }
 }
