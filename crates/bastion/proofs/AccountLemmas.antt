@@ -126,6 +126,8 @@ record OrderAccounts (post : Post) (order : Order) (basis : Basis) (status : ℕ
 job_stands : (post : Post) → (job : Job) (outcome : Outcome) (old mid new : WorldView) → (h : DoesJob post job outcome old mid) → TellsIf (fault_line_of outcome) mid new → HandsStand post job (job_course post job outcome old mid h) (status_of outcome) old new
 job_stands post (jobs.Drill drill) outcome old mid new h tells = tt
 job_stands post jobs.SpoolInit outcome old mid new h tells = tt
+job_stands post (jobs.OtpCalc file) outcome old mid new h tells = tt
+job_stands post (jobs.OtpHex spelling) outcome old mid new h tells = tt
 job_stands post jobs.Smapd outcome old mid new h tells = handed_on post outcome old mid new h tells
 
 order_accounts : (post : Post) (name : List ℕ) (order : Order) (outcome : Outcome) (old mid new : WorldView) → (h : DoesOrder post name order outcome old mid) → TellsIf (fault_line_of outcome) mid new

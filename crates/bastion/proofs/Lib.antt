@@ -1,6 +1,8 @@
 pub mod AccountLemmas
 pub mod AtGatewayLemmas
 pub mod AttendedLemmas
+pub mod CalculatedLemmas
+pub mod CalculatingLemmas
 pub mod ClientLemmas
 pub mod CompleteLemmas
 pub mod DecidedLemmas

@@ -32,6 +32,7 @@ use Rattle.smapd_queue.specs.declared.round.RoundFault.{RoundFault}
 use Rattle.smapd_queue.specs.declared.round.Trouble.{Trouble}
 use Rattle.bastion.specs.HandingOn.{round_text}
 use Rattle.bastion.specs.HandedOn.{HandsRound}
+use Rattle.bastion.specs.Calculating.{IsCalculated, IsSpelled}
 use Rattle.bastion.specs.Jobs.{AreFormatted, drill_refused, formatted_text}
 use Rattle.bastion.specs.Outcome.{fault_line_of, refusal_text, status_of, verdict_status}
 use Rattle.bastion.specs.Run.{verdict_for}
@@ -43,7 +44,8 @@ use Rattle.bastion.specs.Texts.{ended_text, print_text, program_of}
 use Rattle.bastion.specs.Words.{LineView}
 use Rattle.bastion.specs.WorldView.{Post, WorldView}
 use Rattle.bastion.specs.declared.outcome.Outcome.TheVariants.{Ended}
-use Rattle.bastion.specs.declared.outcome.Refusal.TheVariants.{Slot}
+use Rattle.bastion.specs.declared.outcome.OtpRefusal.{OtpRefusal}
+use Rattle.bastion.specs.declared.outcome.Refusal.TheVariants.{Slot, Otp}
 use Rattle.bastion.specs.declared.words.Caller.{Caller}
 use Rattle.bastion.specs.declared.words.Client.{Client}
 use Rattle.bastion.specs.declared.words.Command.{Command}
@@ -200,9 +202,21 @@ pub record IsRoundWhole (post : Post) (turns : List Turn) (status : ℕ) (old ne
   pub held : HandsRound post turns answer trouble old new
   pub whole : IsWhole (lines_of turns) (round_text round) 0 status old new
 
+-- a text is printed, or what has no reading is told to the log
+abbrev pub IsToldWhole : Result (List ℕ) OtpRefusal → ℕ → WorldView → WorldView → Type 0
+IsToldWhole (Ok text) status old new = IsWhole [] text 0 status old new
+IsToldWhole (Err refusal) status old new = IsWhole (codes "fault " ++ refusal_text (Otp refusal) ++ codes "\n") [] 3 status old new
+
+pub record IsReadWhole (Reads : Result (List ℕ) OtpRefusal → WorldView → Type 0) (status : ℕ) (old new : WorldView) : Type 0 where
+  pub read : Result (List ℕ) OtpRefusal
+  pub reads : Reads read old
+  pub told : IsToldWhole read status old new
+
 abbrev pub IsJobComplete : Post → Job → Course → ℕ → WorldView → WorldView → Type 0
 IsJobComplete post (jobs.Drill drill) course status old new = (status ≡ 5) ⊎ IsDrilledWhole drill (drilled drill) status old new
 IsJobComplete post jobs.SpoolInit course status old new = IsFormattedWhole status old new
+IsJobComplete post (jobs.OtpCalc file) course status old new = (status ≡ 5) ⊎ IsReadWhole (IsCalculated file) status old new
+IsJobComplete post (jobs.OtpHex spelling) course status old new = (status ≡ 5) ⊎ IsReadWhole (IsSpelled spelling) status old new
 IsJobComplete post jobs.Smapd course status old new = (status ≡ 5) ⊎ (IsBadWhole status old new ⊎ IsRoundWhole post course.turns status old new)
 
 abbrev pub IsOrderComplete : Post → Order → Basis → Course → ℕ → WorldView → WorldView → Type 0

@@ -1,9 +1,11 @@
 pub mod Account
 pub mod Asking
 pub mod AtGateway
+pub mod Calculating
 pub mod Basis
 pub mod Complete
 pub mod Deciding
+pub mod FilesAsked
 pub mod FtpGateway
 pub mod Gateway
 pub mod Gateways
@@ -22,6 +24,7 @@ pub mod Reading
 pub mod Run
 pub mod Serving
 pub mod SessionSteps
+pub mod SpellingView
 pub mod Spool
 pub mod Status
 pub mod TableReport

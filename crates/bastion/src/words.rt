@@ -7,6 +7,7 @@ ghost use Rattle.bastion.specs.Places.{places_of};
 ghost use Rattle.bastion.specs.Words.{after_options, any_twice, caller_in, caller_of, command_in, gateway_of, drill_by, drill_in, is_option_pair, is_option_name, is_option_word, line_of, order_in, order_of, places_in, slots_in, slots_or, lone_in, name_in, netacl_by, netacl_in, peer_by, peer_in, query_of, run_in, stands, table_in, table_named, client_in, client_of, word_after, word_or};
 
 use crate::Places;
+use crate::spelling::{FileName, Spelling, calc_in, hex_in};
 use drill_lines::Drill;
 use fw_types::{HostName, Octets, Peer, in_range, read_number, read_numbered_port, read_quad};
 use gate_rules::{Label, Service};
@@ -64,23 +65,27 @@ pub enum Command {
 }
 
 /// What the words of a command line ask for that needs no table.
-#[derive(Clone, Copy, Debug, PartialEq, Eq)]
-pub enum Job {
+#[derive(Drop)]
+pub enum Job<'a> {
     /// `drill START N`: draw the lines of a table and as many peers, and print how many of them it permits.
     Drill(Drill),
     /// `spool-init`: make a free slot of each disk.
     SpoolInit,
     /// `smapd`: hand on the messages of the slots, in one round.
     Smapd,
+    /// `otp-calc FILE`: print the password that the input asks for, in words of this dictionary and in digits.
+    OtpCalc(FileName<'a>),
+    /// `otp-hex FILE W1 W2 W3 W4 W5 W6`: print the password that these words of the dictionary are, in digits.
+    OtpHex(Spelling<'a>),
 }
 
 /// What the words of a command line ask for.
 #[derive(Drop)]
-pub enum Order {
+pub enum Order<'a> {
     /// It goes by the table.
     ByTable(Command),
     /// It needs no table.
-    Alone(Job),
+    Alone(Job<'a>),
 }
 
 const DEFAULT_TABLE: &[u8] = b"/usr/local/etc/netperm-table";
@@ -383,7 +388,7 @@ fn drill_in(words: &[Octets]) -> Option<Drill>
 }
 
 // A job that has no further words.
-fn lone_in(job: Job, words: &[Octets]) -> Option<Job>
+fn lone_in<'a>(job: Job<'a>, words: &[Octets]) -> Option<Job<'a>>
     ensures { result ≡ lone_in job words.now }
 {
     match words {
@@ -392,8 +397,8 @@ fn lone_in(job: Job, words: &[Octets]) -> Option<Job>
     }
 }
 
-fn order_in(words: &[Octets]) -> Option<Order>
-    ensures { result ≡ order_in words.now }
+fn order_in(words: &[Octets]) -> Option<Order<'_>>
+    ensures { result ≡ order_in words.entry.now }
 {
     match words {
         [name, more @ ..] => {
@@ -406,6 +411,12 @@ fn order_in(words: &[Octets]) -> Option<Order>
             if is_word(name, b"smapd") {
                 return lone_in(Job::Smapd, more).map(Order::Alone);
             }
+            if is_word(name, b"otp-calc") {
+                return calc_in(more).map(Job::OtpCalc).map(Order::Alone);
+            }
+            if is_word(name, b"otp-hex") {
+                return hex_in(more).map(Job::OtpHex).map(Order::Alone);
+            }
             command_in(words).map(Order::ByTable)
         }
         [] => None,
@@ -414,8 +425,8 @@ fn order_in(words: &[Octets]) -> Option<Order>
 
 /// The order that the words are, or nothing where they are no command.
 #[tactic(auto, unfolding(crate::specs::Words::order_of))]
-pub fn read_order(words: &[Octets]) -> Option<Order>
-    ensures { result ≡ order_of words.now }
+pub fn read_order(words: &[Octets]) -> Option<Order<'_>>
+    ensures { result ≡ order_of words.entry.now }
 {
     if any_twice(words) {
         return None;
@@ -458,7 +469,7 @@ pub fn places_in(words: &[Octets]) -> Places<'_>
 /// A command line, read.
 #[derive(Drop)]
 pub struct CommandLine<'a> {
-    pub order: Order,
+    pub order: Order<'a>,
     /// The table's name: the word after `-t`, or the place where it stands when no word says so.
     pub table: &'a [u8],
     /// What the other options name.
