@@ -1,5 +1,5 @@
 -- From the lines of a table to what they say.
-use Rattle.std.proofs.Common.{◌≡◌, ℕ, List, ap, refl}
+use Rattle.std.proofs.Common.{◌≡◌, ℕ, List, Option, Some, None, ap, refl}
 use Rattle.std.specs.Prelude.{Result, Ok, Err}
 use Rattle.fw_outside.specs.FilesView.{FilesView, bytes_under}
 use Rattle.netperm_table.specs.declared.line.Line.{Line}

@@ -4,7 +4,9 @@ ghost use Rattle.std.specs.Str.{bytes_eq};
 ghost use Rattle.fw_types.specs.Number.{in_range, number_of};
 ghost use Rattle.gate_rules.specs.Label.{label_of};
 ghost use Rattle.bastion.specs.Places.{places_of};
-ghost use Rattle.bastion.specs.Words.{after_options, any_twice, caller_in, caller_of, command_in, gateway_of, drill_by, drill_in, is_option_pair, is_option_name, is_option_word, line_of, order_in, order_of, places_in, slots_in, slots_or, lone_in, name_in, netacl_by, netacl_in, peer_by, peer_in, query_of, run_in, stands, table_in, table_named, client_in, client_of, word_after, word_or};
+ghost use Rattle.bastion.specs.declared.words.Job.TheVariants as jobs;
+ghost use Rattle.bastion.specs.declared.words.Order.TheVariants as orders;
+ghost use Rattle.bastion.specs.Words.{after_options, any_twice, calc_in, caller_in, caller_of, command_in, gateway_of, drill_by, drill_in, hex_in, is_option_pair, is_option_name, is_option_word, line_of, order_in, order_of, places_in, slots_in, slots_or, lone_in, name_in, netacl_by, netacl_in, peer_by, peer_in, query_of, run_in, stands, table_in, table_named, client_in, client_of, word_after, word_or};
 
 use crate::Places;
 use crate::spelling::{FileName, Spelling, calc_in, hex_in};
@@ -389,11 +391,56 @@ fn drill_in(words: &[Octets]) -> Option<Drill>
 
 // A job that has no further words.
 fn lone_in<'a>(job: Job<'a>, words: &[Octets]) -> Option<Job<'a>>
-    ensures { result ≡ lone_in job words.now }
+    ensures { result ≡ lone_in job.entry words.now }
 {
     match words {
         [] => Some(job),
         _ => None,
+    }
+}
+
+fn drill_job(words: &[Octets]) -> Option<Job<'_>>
+    ensures { result ≡ option_map jobs.Drill (drill_in words.entry.now) }
+{
+    match drill_in(words) {
+        Some(drill) => Some(Job::Drill(drill)),
+        None => None,
+    }
+}
+
+fn calc_job(words: &[Octets]) -> Option<Job<'_>>
+    ensures { result ≡ option_map jobs.OtpCalc (calc_in words.entry.now) }
+{
+    match calc_in(words) {
+        Some(file) => Some(Job::OtpCalc(file)),
+        None => None,
+    }
+}
+
+fn hex_job(words: &[Octets]) -> Option<Job<'_>>
+    ensures { result ≡ option_map jobs.OtpHex (hex_in words.entry.now) }
+{
+    match hex_in(words) {
+        Some(spelling) => Some(Job::OtpHex(spelling)),
+        None => None,
+    }
+}
+
+fn alone(job: Option<Job<'_>>) -> Option<Order<'_>>
+    ensures { result ≡ option_map orders.Alone job.entry }
+{
+    match job {
+        Some(job) => Some(Order::Alone(job)),
+        None => None,
+    }
+}
+
+fn by_table(words: &[Octets]) -> Option<Order<'_>>
+    ensures { result ≡ option_map orders.ByTable (command_in words.entry.now) }
+{
+    match command_in(words) {
+        Some(command) => Some(Order::ByTable(command)),
+        None => None,
     }
 }
 
@@ -403,21 +450,21 @@ fn order_in(words: &[Octets]) -> Option<Order<'_>>
     match words {
         [name, more @ ..] => {
             if is_word(name, b"drill") {
-                return drill_in(more).map(Job::Drill).map(Order::Alone);
+                return alone(drill_job(more));
             }
             if is_word(name, b"spool-init") {
-                return lone_in(Job::SpoolInit, more).map(Order::Alone);
+                return alone(lone_in(Job::SpoolInit, more));
             }
             if is_word(name, b"smapd") {
-                return lone_in(Job::Smapd, more).map(Order::Alone);
+                return alone(lone_in(Job::Smapd, more));
             }
             if is_word(name, b"otp-calc") {
-                return calc_in(more).map(Job::OtpCalc).map(Order::Alone);
+                return alone(calc_job(more));
             }
             if is_word(name, b"otp-hex") {
-                return hex_in(more).map(Job::OtpHex).map(Order::Alone);
+                return alone(hex_job(more));
             }
-            command_in(words).map(Order::ByTable)
+            by_table(words)
         }
         [] => None,
     }
