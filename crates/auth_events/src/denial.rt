@@ -7,6 +7,8 @@ pub enum Denial {
     Wrong,
     /// The user may not log in.
     Disabled,
+    /// The user may no longer log in; in seconds, the moment from which that holds.
+    Expired { at: u64 },
     /// Too many wrong responses; in seconds, the moment from which the user may try again.
     Sleeping { until: u64 },
     /// Another session's challenge stands; its number, and in seconds the moment up to which it stands.

@@ -17,6 +17,10 @@ pub struct Summary {
     pub fails: u8,
     /// How many one-time passwords are left: 0 also where there are none.
     pub number: u32,
+    /// In seconds, the moment of the last right response; 0 where there was none.
+    pub last: u64,
+    /// In seconds, the moment from which the user may not log in; 0 for never.
+    pub expires: u64,
     /// The name in full.
     pub long: LongName,
     pub ghost fails_range: { fails ≤ 5 },
@@ -59,6 +63,8 @@ impl Summary {
             wiz: self.wiz,
             fails: self.fails,
             number: self.number,
+            last: self.last,
+            expires: self.expires,
             long: self.long.twin(),
         }
     }

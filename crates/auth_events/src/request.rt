@@ -85,6 +85,11 @@ pub enum Request {
     Superwiz {
         name: Name,
     },
+    /// In seconds, the moment from which the user may not log in; 0 for never.
+    Expire {
+        name: Name,
+        until: u64,
+    },
     /// The user's record.
     Display {
         name: Name,
@@ -156,6 +161,10 @@ impl Request {
             Request::Wiz { name } => Request::Wiz { name: name.twin() },
             Request::Unwiz { name } => Request::Unwiz { name: name.twin() },
             Request::Superwiz { name } => Request::Superwiz { name: name.twin() },
+            Request::Expire { name, until } => Request::Expire {
+                name: name.twin(),
+                until: *until,
+            },
             Request::Display { name } => Request::Display { name: name.twin() },
             Request::List { after } => Request::List {
                 after: name_twin(after),

@@ -13,7 +13,7 @@ use Rattle.auth_machine.specs.Answer.{Answer}
 use Rattle.auth_machine.specs.Answer.Answer.{Denied}
 use Rattle.auth_machine.specs.Login.{answers_only}
 use Rattle.auth_machine.specs.Policy.{PolicyView}
-use Rattle.auth_machine.specs.Powers.{add_user, adds, adds_to, deletes, disabled, done_with, enabled, list, lists, new_user, asks_operation, operation_by, over_all, own_power, power_of, reachable, shows, shows_some, stores, user_of, with_group, with_otp, with_password, with_proto, with_wiz}
+use Rattle.auth_machine.specs.Powers.{add_user, adds, adds_to, deletes, disabled, done_with, enabled, list, lists, new_user, asks_operation, operation_by, over_all, own_power, power_of, reachable, shows, shows_some, stores, user_of, with_expiry, with_group, with_otp, with_password, with_proto, with_wiz}
 use Rattle.auth_machine.specs.State.{State, Change, record_at, session_of}
 use Rattle.auth_machine.specs.Step.{change_of, closes, in_session, opens}
 use Rattle.auth_machine.specs.declared.power.Power.{Power}
@@ -34,6 +34,7 @@ target (requests.Otp name number word_seed kept) = Some name
 target (requests.Wiz name) = Some name
 target (requests.Unwiz name) = Some name
 target (requests.Superwiz name) = Some name
+target (requests.Expire name until) = Some name
 target _ = None
 
 -- what it is to become
@@ -47,6 +48,7 @@ altered (requests.Otp name number word_seed kept) f = with_otp (record { number 
 altered (requests.Wiz name) f = with_wiz wizards.Group f
 altered (requests.Unwiz name) f = with_wiz wizards.None f
 altered (requests.Superwiz name) f = with_wiz wizards.Super f
+altered (requests.Expire name until) f = with_expiry until f
 altered _ f = f
 
 -- the power that it takes
@@ -144,7 +146,7 @@ module _ (s : State) (session : Session) where
   unfolding asks_operation
   of_operation policy request service host = choose (user_of s session)
     where
-      choose : (user : Option Fields) → Administers s session request (operation_by policy service host user)
+      choose : (user : Option Fields) → Administers s session request (operation_by policy s.moment service host user)
       choose None = nothing request (Denied denials.NotIn)
       choose (Some user) = nothing request _
 
@@ -194,6 +196,7 @@ module _ (policy : PolicyView) (s : State) (place sid : ℕ) where
   happens (requests.Wiz name) = altering (requests.Wiz name) name refl refl
   happens (requests.Unwiz name) = altering (requests.Unwiz name) name refl refl
   happens (requests.Superwiz name) = altering (requests.Superwiz name) name refl refl
+  happens (requests.Expire name until) = altering (requests.Expire name until) name refl refl
   happens (requests.Display name) = other (requests.Display name) _ refl (λ session. of_showing s session _ _)
   happens (requests.List told) = other (requests.List told) _ refl (λ session. of_list s session _ told)
   happens requests.Close = within requests.Close _ (session_of sid s.sessions) refl (λ session there. closing session there)

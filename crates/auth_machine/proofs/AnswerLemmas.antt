@@ -11,7 +11,7 @@ use Rattle.fw_types.specs.declared.host.Host.{Host}
 use Rattle.auth_machine.specs.Answer.{Answer}
 use Rattle.auth_machine.specs.Answer.Answer.{Password, Challenged, Denied, Ok as Done}
 use Rattle.auth_machine.specs.Answers.{IsOwnDenial}
-use Rattle.auth_machine.specs.Login.{asks, asks_word, authenticate, authenticate_as, checks, checks_otp, checks_plain, checks_word, guarded, later, lockout, refusal, respond, respond_as, respond_in, unless_refused}
+use Rattle.auth_machine.specs.Login.{asks, asks_word, asleep, authenticate, authenticate_as, checks, checks_otp, checks_plain, checks_word, guarded, later, refusal, respond, respond_as, respond_in, unless_refused}
 use Rattle.auth_machine.specs.Policy.{PolicyView}
 use Rattle.auth_machine.specs.Powers.{add_user, adds, adds_to, operation_answer, covers, done_with, asks_operation, operation_by, reachable}
 use Rattle.auth_machine.specs.State.{State, Change, challenge_at, record_at}
@@ -31,14 +31,14 @@ own_if : (b : Bool) (x y : Option Denial) → IfSome x IsOwnDenial → IfSome y 
 own_if true x y hx hy = hx
 own_if false x y hx hy = hy
 
-own_locked : (bad_sleep : Option ℕ) (since moment : ℕ) → IfSome (lockout bad_sleep since moment) IsOwnDenial
-own_locked None since moment = (refl, refl)
-own_locked (Some seconds) since moment = own_if _ (Some (denials.Sleeping (later since seconds))) None (refl, refl) tt
+own_asleep : (bad_sleep : Option ℕ) (moment : ℕ) (f : Fields) → IfSome (asleep bad_sleep moment f) IsOwnDenial
+own_asleep None moment f = tt
+own_asleep (Some seconds) moment f = own_if _ (Some (denials.Sleeping (later f.since seconds))) None (refl, refl) tt
 
 pub own_refusal : (policy : PolicyView) (moment : ℕ) (f : Fields) → IfSome (refusal policy moment f) IsOwnDenial
 own_refusal policy moment f =
-    own_if _ (Some denials.Disabled) (cond _ (lockout policy.bad_sleep f.since moment) None) (refl, refl)
-    (own_if _ (lockout policy.bad_sleep f.since moment) None (own_locked policy.bad_sleep f.since moment) tt)
+    own_if _ (Some denials.Disabled) (cond _ (Some (denials.Expired f.expires)) (asleep policy.bad_sleep moment f)) (refl, refl)
+    (own_if _ (Some (denials.Expired f.expires)) (asleep policy.bad_sleep moment f) (refl, refl) (own_asleep policy.bad_sleep moment f))
 
 own_guarded : (standing : Option Challenge) (sid moment : ℕ) → IfSome (guarded standing sid moment) IsOwnDenial
 own_guarded None sid moment = tt
@@ -118,13 +118,13 @@ module _ (P : Answer → Type 0) (denied : (d : Denial) → IsOwnDenial d → P 
   of_allowed done (Permit line) = done
   of_allowed done (Deny line) = denied (denials.NoRule line) (refl, refl)
 
-  of_operation_by : P Done → (policy : PolicyView) (service : OpService) (host : Host) (user : Option Fields) → P (operation_by policy service host user).answer
-  of_operation_by done policy service host None = denied denials.NotIn (refl, refl)
-  of_operation_by done policy service host (Some user) = of_allowed done _
+  of_operation_by : P Done → (policy : PolicyView) (moment : ℕ) (service : OpService) (host : Host) (user : Option Fields) → P (operation_by policy moment service host user).answer
+  of_operation_by done policy moment service host None = denied denials.NotIn (refl, refl)
+  of_operation_by done policy moment service host (Some user) = of_allowed done _
 
   pub of_operation : P Done → (policy : PolicyView) (s : State) (session : Session) (service : OpService) (host : Host) → P (asks_operation policy s session service host).answer
   unfolding asks_operation
-  of_operation done policy s session service host = of_operation_by done policy service host _
+  of_operation done policy s session service host = of_operation_by done policy s.moment service host _
 
   of_members : (act : Fields → Change) → ((f : Fields) → P (act f).answer) → (b : Bool) (f : Fields) → P (done_with (cond b (Ok f) (Err denials.NotWizard)) act).answer
   of_members act h true f = h f

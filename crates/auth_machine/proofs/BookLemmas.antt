@@ -2,7 +2,7 @@
 use Rattle.std.proofs.Common.{arith, ◌≡◌, refl, sym, ap, subst, ◌∙◌, ℕ, ◌<◌, ◌≤◌, ◌+◌, ◌-◌, ◌^◌, min, Bool, true, false, not, ◌&&◌, cond, List, [], ◌∷◌, ◌++◌, length, Option, None, IfSome, Ok}
 use Rattle.std.proofs.lemmas.List.{length_push}
 use Rattle.fw_outside.specs.Counts.{Grew, Rose}
-use Rattle.fw_outside.specs.KeeperView.{AreSame, KeeperView, NamedBytes}
+use Rattle.fw_outside.specs.KeeperView.{KeeperView, NamedBytes}
 use Rattle.auth_records.specs.Spelling.{Fields}
 use Rattle.auth_events.specs.Fits.{Fits}
 use Rattle.auth_events.specs.Port.{session_at}
@@ -17,7 +17,7 @@ use Rattle.auth_machine.proofs.TableLemmas.{called_if, calls_grew, lacking_calls
 use Rattle.auth_machine.specs.Answer.{Answer, answer_of}
 use Rattle.auth_machine.specs.Answers.{full_answer, full_of, is_unkept, is_unkept_answer}
 use Rattle.auth_machine.specs.Book.{Asked, AddsEntry, CalledByReply, EntersReply, KeeperAfterReply, Stands, edits_records}
-use Rattle.auth_machine.specs.History.{CountsCalls, CountsUnkept, HasRecords, IsStep, Origin, after, edits, entries_of, unkept}
+use Rattle.auth_machine.specs.History.{CountsCalls, CountsUnkept, DecodesTo, HasRecords, IsStep, Origin, after, edits, unkept}
 use Rattle.auth_machine.specs.Policy.{PolicyView}
 use Rattle.auth_machine.specs.State.{State, Change, at_moment, changed, records_after}
 use Rattle.auth_machine.specs.Step.{answer, is_refused, keeps, proposed}
@@ -42,6 +42,7 @@ same_session (requests.Otp name number word_seed kept) place sid = refl
 same_session (requests.Wiz name) place sid = refl
 same_session (requests.Unwiz name) place sid = refl
 same_session (requests.Superwiz name) place sid = refl
+same_session (requests.Expire name until) place sid = refl
 same_session (requests.Display name) place sid = refl
 same_session (requests.List after) place sid = refl
 same_session requests.Close place sid = refl
@@ -149,8 +150,8 @@ next_records origin h sid at request reply kept new before now step has =
     ≡ cond (is_refused origin.policy (after origin h) (length h) sid at request kept) (after origin h).records (records_after change.records (after origin h).records) =
     ap (λ (s : State). s.records) (after_one_more origin h (entry_of sid at request kept reply))
     ∙ records_of (is_refused origin.policy (after origin h) (length h) sid at request kept) (after origin h) (session_at request (length h) sid) at change in
-    subst (λ (records : List Fields). IfSome now.table (λ table. AreSame table (entries_of records))) (sym is)
-    (table_after change.records kept before now (after origin h).records step.keeping has)
+    subst (λ (records : List Fields). IfSome now.table (DecodesTo records)) (sym is)
+    (table_after change.records kept before now (after origin h).records step.readable step.keeping has)
 
 next_faults : (origin : Origin) (failed : ℕ) (h : List Entry) (sid at : ℕ) (request : Request) (reply : Reply) (kept : Bool) (new : State) (before now : KeeperView)
     → Next origin h sid at request reply kept new before now → CountsUnkept failed h before → CountsUnkept failed (h ++ entry_of sid at request kept reply ∷ []) now
@@ -297,7 +298,7 @@ stands_lacking h limit refused asks also origin first policy s b before now coun
   legal = book.legal;
   within = book.within;
   full = book.full;
-  records = subst (λ (table : Option NamedBytes). IfSome table (λ t. AreSame t (entries_of (after origin h).records))) (sym (lacking_table b before now lacks)) book.records;
+  records = subst (λ (table : Option NamedBytes). IfSome table (DecodesTo (after origin h).records)) (sym (lacking_table b before now lacks)) book.records;
   faults = let same = lacking_faults b before now lacks in rw same book.faults;
   calls = lacking_counted first.calls origin h asks also before now (lacking_calls b before now lacks) counted book.calls;
 }

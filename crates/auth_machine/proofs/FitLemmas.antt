@@ -17,7 +17,7 @@ use Rattle.auth_machine.specs.Answer.Answer.{Opened, Password, Challenged, Shown
 use Rattle.auth_machine.specs.Answers.{IsOwnDenial, full_answer, is_unkept_answer}
 use Rattle.auth_machine.specs.Login.{authenticate, respond}
 use Rattle.auth_machine.specs.Policy.{PolicyView}
-use Rattle.auth_machine.specs.Powers.{add_user, by_super, by_user, by_wizard, deletes, disabled, done_with, enabled, list, lists, asks_operation, over_all, own_power, power_of, reachable, sees, shows, shows_some, stores, with_group, with_otp, with_password, with_proto, with_wiz}
+use Rattle.auth_machine.specs.Powers.{add_user, by_super, by_user, by_wizard, deletes, disabled, done_with, enabled, list, lists, asks_operation, over_all, own_power, power_of, reachable, sees, shows, shows_some, stores, with_expiry, with_group, with_otp, with_password, with_proto, with_wiz}
 use Rattle.auth_machine.specs.State.{State, Change, record_at, session_of}
 use Rattle.auth_machine.specs.Step.{change_of, closes, in_session}
 use Rattle.auth_machine.specs.declared.power.Power.{Power}
@@ -217,6 +217,9 @@ own_answer policy s place sid (requests.Unwiz name) =
 own_answer policy s place sid (requests.Superwiz name) =
     own_in_session (requests.Superwiz name) place s sid (λ session. by_super s session name (λ f. stores (with_wiz wizards.Super f)))
     (λ session. own_reached (requests.Superwiz name) place (option_map over_all (power_of s session)) (record_at name s.records) (λ f. stores (with_wiz wizards.Super f)) (λ f. own_done (requests.Superwiz name) place tt))
+own_answer policy s place sid (requests.Expire name until) =
+    own_in_session (requests.Expire name until) place s sid (λ session. by_wizard s session name (λ f. stores (with_expiry until f)))
+    (λ session. own_reached (requests.Expire name until) place (power_of s session) (record_at name s.records) (λ f. stores (with_expiry until f)) (λ f. own_done (requests.Expire name until) place tt))
 own_answer policy s place sid (requests.Display name) =
     own_in_session (requests.Display name) place s sid (λ session. by_user s session name shows)
     (λ session. own_reached (requests.Display name) place (own_power s session name) (record_at name s.records) shows (λ f. record { full = refl; kept = refl; fits = fits_display name place (profile_of f) }))

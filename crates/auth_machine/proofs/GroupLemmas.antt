@@ -73,6 +73,7 @@ module _ (s : State) (session : Session) (user : List ℕ) (group : Option (List
   same_rank (requests.Proto name proto) k f is = record { wiz = refl; group_is = refl }
   same_rank (requests.Password name salt hash) k f is = record { wiz = refl; group_is = refl }
   same_rank (requests.Otp name number word_seed kept) k f is = record { wiz = refl; group_is = refl }
+  same_rank (requests.Expire name until) k f is = record { wiz = refl; group_is = refl }
   same_rank _ k f is = record { wiz = refl; group_is = refl }
 
 not_covered : (group : Option (List ℕ)) (f : Fields) → IsOutOfReach group f → covers (Members group) f ≡ true → ⊥

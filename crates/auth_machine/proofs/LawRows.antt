@@ -77,4 +77,4 @@ ann = in_group (codes "mail") wizards.Group (with_secret (codes "ann"))
 
 wizard : IsGroupWizard (left no_lines (ann ∷ []) (ask 0 10 opens ∷ ask 0 10 (names (codes "ann")) ∷ ask 0 10 (says secret) ∷ [])) 0 (codes "ann") (Some (codes "mail"))
 unfolding proposed authenticate respond md5 digest_bytes hash_after compress rounds block_words spelling
-wizard = record { session = record { sid = 0; console = false; phase = In (codes "ann") }; there = refl; console = refl; phase = refl; own = ann; own_there = refl; wiz = refl; group_is = refl }
+wizard = record { session = record { sid = 0; console = false; phase = In (codes "ann") }; there = refl; console = refl; phase = refl; own = record ann { last = 10 }; own_there = refl; wiz = refl; group_is = refl }

@@ -1,10 +1,11 @@
 pub mod ActLemmas
 pub mod AnswerLemmas
-mod ApplyLemmas
 pub mod BookLemmas
 mod Corners
 pub mod CountLemmas
 pub mod EntriesLemmas
+pub mod ExpiryLemmas
+mod ExpiryRows
 pub mod FitLemmas
 pub mod GroupLemmas
 pub mod HistoryLemmas
@@ -24,6 +25,7 @@ pub mod RecordLemmas
 mod Rows
 mod Runs
 pub mod SaidLemmas
+pub mod SearchLemmas
 pub mod SessionLemmas
 pub mod StepLemmas
 pub mod TableLemmas

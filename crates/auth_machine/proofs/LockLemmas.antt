@@ -1,12 +1,13 @@
 -- A lock holds.
-use Rattle.std.proofs.Common.{◌≡◌, ℕ, suc, ◌+◌, ◌≤◌, ◌<◌, max, Bool, true, false, cond, not, ◌&&◌, ◌||◌, List, [], ◌∷◌, ◌++◌, length, Option, Some, None, option_map, nat_eq, nat_lt, refl, sym, ap, subst, ◌∙◌, arith, eq-eqb}
+use Rattle.std.proofs.Common.{◌≡◌, ◌≢◌, ℕ, suc, ◌+◌, ◌≤◌, ◌<◌, max, Bool, true, false, cond, not, ◌&&◌, ◌||◌, List, [], ◌∷◌, ◌++◌, length, Option, Some, None, option_map, nat_eq, nat_le, nat_lt, refl, sym, ap, subst, ◌∙◌, arith, eq-eqb}
+use Rattle.std.proofs.lemmas.Bool.{eqb-false, leb-true}
 use Rattle.std.proofs.lemmas.Bool.Decides.{nat_tests}
 use Rattle.std.proofs.lemmas.List.{append_assoc}
 use Rattle.std.proofs.lemmas.Slice.Eq.{bytes_eq-Decides}
 use Rattle.auth_records.specs.Spelling.{Fields}
 use Rattle.auth_events.specs.Port.{session_at}
 use Rattle.auth_events.specs.declared.denial.Denial.{Denial}
-use Rattle.auth_events.specs.declared.denial.Denial.TheVariants.{Disabled, NotKept, Sleeping}
+use Rattle.auth_events.specs.declared.denial.Denial.TheVariants.{Disabled, Expired, NotKept, Sleeping}
 use Rattle.auth_events.specs.declared.entry.Entry.{Entry}
 use Rattle.auth_events.specs.declared.reply.Reply.{Reply}
 use Rattle.auth_events.specs.declared.reply.Reply.TheVariants as replies
@@ -16,7 +17,7 @@ use Rattle.auth_machine.specs.Answer.{answer_of}
 use Rattle.auth_machine.specs.Answer.Answer.{Denied}
 use Rattle.auth_machine.specs.History.{AreSteps, IsLegal, IsStep, Origin, after, after_entries, after_entry}
 use Rattle.auth_machine.specs.Logins.{FreesNone, HasLockOf, IsDenied, IsLockDenial, IsLocked, LocksAt, is_freeing, is_ok, phase_of, tries}
-use Rattle.auth_machine.specs.Login.{authenticate, drops, has_password, later, lockout, refusal, respond, respond_in}
+use Rattle.auth_machine.specs.Login.{asleep, authenticate, drops, has_expired, has_password, is_disabled, later, refusal, respond, respond_in}
 use Rattle.auth_machine.specs.Policy.{PolicyView}
 use Rattle.auth_machine.specs.State.{Change, State, at_moment, changed, record_at, session_of, first_state}
 use Rattle.auth_machine.specs.Step.{change_of, in_session, is_record_change, proposed}
@@ -33,35 +34,62 @@ use Rattle.auth_machine.proofs.StepLemmas.{last_step, proposed_at, refused_at}
 -- ---- the refusal
 
 -- a refusal for a lock
-record Refused (policy : PolicyView) (f : Fields) (refusal : Option Denial) : Type 0 where
+record Refused (policy : PolicyView) (moment : ℕ) (f : Fields) (refusal : Option Denial) : Type 0 where
   denial : Denial
   is : refusal ≡ Some denial
-  fits : IsLockDenial policy.bad_sleep f.since denial
+  fits : IsLockDenial policy.bad_sleep f.since moment denial
 
-locked_out : (policy : PolicyView) (f : Fields) (bad_sleep : Option ℕ) (moment : ℕ) → policy.bad_sleep ≡ bad_sleep → LocksAt bad_sleep f.since moment → Refused policy f (lockout bad_sleep f.since moment)
-locked_out policy f None moment is locks = record { denial = Disabled; is = refl; fits = tt }
-locked_out policy f (Some seconds) moment is locks =
-    let a : nat_lt 0 seconds ≡ true = grind (arith, nat_tests) in
-    let b : nat_lt moment (later f.since seconds) ≡ true = choose (nat_lt moment (later f.since seconds)) refl locks.1 in
-    record { denial = Sleeping (later f.since seconds); is = both (nat_lt 0 seconds) (nat_lt moment (later f.since seconds)) a b; fits = subst (λ l. IsLockDenial l f.since (Sleeping (later f.since seconds))) (sym is) refl }
+-- without a line `badsleep`
+disabled_locked : (f : Fields) → f.fails ≡ 5 → is_disabled None f ≡ true
+disabled_locked f five = choose (not f.enabled) (not (has_password f.proto f)) (nat_eq f.fails 5) (eq-eqb f.fails 5 five)
   where
-    choose : (b : Bool) → nat_lt moment (later f.since seconds) ≡ b → moment < later f.since seconds → nat_lt moment (later f.since seconds) ≡ true
-    choose true e h = e
-    choose false e h = absurd (grind (arith, nat_tests))
+    choose : (a b c : Bool) → c ≡ true → (a || b) || (c && true) ≡ true
+    choose true b c e = refl
+    choose false true c e = refl
+    choose false false true e = refl
+    choose false false false e = absurd (cc)
 
-    both : (a b : Bool) → a ≡ true → b ≡ true → cond (a && b) (Some (Sleeping (later f.since seconds))) None ≡ Some (Sleeping (later f.since seconds))
-    both true true ea eb = refl
-    both true false ea eb = absurd (cc)
-    both false b ea eb = absurd (cc)
-
-refused_locked : (policy : PolicyView) (moment : ℕ) (f : Fields) → IsLocked policy moment f → Refused policy f (refusal policy moment f)
-refused_locked policy moment f locked = choose (not f.enabled || not (has_password f.proto f)) (nat_eq f.fails 5) (eq-eqb f.fails 5 locked.five) (locked_out policy f policy.bad_sleep moment refl locked.locks)
+-- what has expired has an expiry that has come
+come : (moment : ℕ) (f : Fields) → has_expired moment f ≡ true → (0 < f.expires) × (f.expires ≤ moment)
+come moment f is = choose (nat_eq f.expires 0) refl (nat_le f.expires moment) refl is
   where
-    choose : (a b : Bool) → b ≡ true → Refused policy f (lockout policy.bad_sleep f.since moment)
-        → Refused policy f (cond a (Some Disabled) (cond b (lockout policy.bad_sleep f.since moment) None))
-    choose true b e out = record { denial = Disabled; is = refl; fits = tt }
-    choose false true e out = out
-    choose false false e out = absurd (cc)
+    choose : (a : Bool) → nat_eq f.expires 0 ≡ a → (b : Bool) → nat_le f.expires moment ≡ b → not a && b ≡ true → (0 < f.expires) × (f.expires ≤ moment)
+    choose false ea true eb h = let some : f.expires ≢ 0 = eqb-false f.expires 0 ea in (omega (arith, some), leb-true f.expires moment eb)
+    choose false ea false eb h = absurd (cc)
+    choose true ea b eb h = absurd (cc)
+
+asleep_locked : (seconds moment : ℕ) (f : Fields) → f.fails ≡ 5 → LocksAt (Some seconds) f.since moment → asleep (Some seconds) moment f ≡ Some (Sleeping (later f.since seconds))
+asleep_locked seconds moment f five locks =
+    choose (nat_eq f.fails 5) (nat_lt 0 seconds) (nat_lt moment (later f.since seconds)) (eq-eqb f.fails 5 five) (grind (arith, nat_tests)) (below (nat_lt moment (later f.since seconds)) refl locks.1)
+  where
+    below : (b : Bool) → nat_lt moment (later f.since seconds) ≡ b → moment < later f.since seconds → nat_lt moment (later f.since seconds) ≡ true
+    below true e h = e
+    below false e h = absurd (grind (arith, nat_tests))
+
+    choose : (a b c : Bool) → a ≡ true → b ≡ true → c ≡ true → cond (a && (b && c)) (Some (Sleeping (later f.since seconds))) None ≡ Some (Sleeping (later f.since seconds))
+    choose true true true ea eb ec = refl
+    choose true true false ea eb ec = absurd (cc)
+    choose true false c ea eb ec = absurd (cc)
+    choose false b c ea eb ec = absurd (cc)
+
+refused_locked : (policy : PolicyView) (moment : ℕ) (f : Fields) → IsLocked policy moment f → Refused policy moment f (refusal policy moment f)
+refused_locked policy moment f locked = by_line policy.bad_sleep refl locked.locks
+  where
+    choose : (a b : Bool) (late : Option Denial) → (b ≡ true → IsLockDenial policy.bad_sleep f.since moment (Expired f.expires)) → Refused policy moment f late
+        → Refused policy moment f (cond a (Some Disabled) (cond b (Some (Expired f.expires)) late))
+    choose true b late expired out = record { denial = Disabled; is = refl; fits = tt }
+    choose false true late expired out = record { denial = Expired f.expires; is = refl; fits = expired refl }
+    choose false false late expired out = out
+
+    by_line : (bad_sleep : Option ℕ) → policy.bad_sleep ≡ bad_sleep → LocksAt bad_sleep f.since moment → Refused policy moment f (refusal policy moment f)
+    by_line None is locks =
+        let out : is_disabled policy.bad_sleep f ≡ true = ap (λ (line : Option ℕ). is_disabled line f) is ∙ disabled_locked f locked.five in
+        record { denial = Disabled; is = ap (λ (b : Bool). cond b (Some Disabled) (cond (has_expired moment f) (Some (Expired f.expires)) (asleep policy.bad_sleep moment f))) out; fits = tt }
+    by_line (Some seconds) is locks =
+        let late : asleep policy.bad_sleep moment f ≡ Some (Sleeping (later f.since seconds)) = ap (λ (line : Option ℕ). asleep line moment f) is ∙ asleep_locked seconds moment f locked.five locks in
+        choose (is_disabled policy.bad_sleep f) (has_expired moment f) (asleep policy.bad_sleep moment f)
+        (λ e. subst (λ (line : Option ℕ). IsLockDenial line f.since moment (Expired f.expires)) (sym is) (come moment f e))
+        (record { denial = Sleeping (later f.since seconds); is = late; fits = subst (λ (line : Option ℕ). IsLockDenial line f.since moment (Sleeping (later f.since seconds))) (sym is) refl })
 
 -- ---- tries
 
@@ -114,13 +142,19 @@ dropped_denies policy s place entry session d step is =
     (λ e. sym (ap (λ change. is_record_change change.records s.records) is) ∙ edits policy s place entry step e)
     (step.reply ∙ ap (λ change. cond (refused_at policy s place entry) (Denied NotKept) change.answer) is)
 
-step_denies : (policy : PolicyView) (s : State) (place : ℕ) (entry : Entry) (name : List ℕ) (f : Fields) → IsStep policy s place entry → record_at name s.records ≡ Some f
-    → IsLocked policy (max s.moment entry.at) f → tries name (phase_of entry.sid s) entry.request ≡ true → IsDenied (IsLockDenial policy.bad_sleep f.since) entry.reply
+-- a try at a record that is refused is denied by the refusal
+pub refused_denies : (policy : PolicyView) (s : State) (place : ℕ) (entry : Entry) (name : List ℕ) (f : Fields) (d : Denial) → IsStep policy s place entry → record_at name s.records ≡ Some f
+    → refusal policy (max s.moment entry.at) f ≡ Some d → tries name (phase_of entry.sid s) entry.request ≡ true → entry.reply ≡ replies.Denied d
 unfolding proposed
+refused_denies policy s place entry name f d step there out tried =
+    let drop = try_drops policy (at_moment entry.at s) place entry.sid name f d there out entry.request (session_of entry.sid s.sessions) refl tried in
+    dropped_denies policy s place entry drop.0 d step drop.1
+
+step_denies : (policy : PolicyView) (s : State) (place : ℕ) (entry : Entry) (name : List ℕ) (f : Fields) → IsStep policy s place entry → record_at name s.records ≡ Some f
+    → IsLocked policy (max s.moment entry.at) f → tries name (phase_of entry.sid s) entry.request ≡ true → IsDenied (IsLockDenial policy.bad_sleep f.since (max s.moment entry.at)) entry.reply
 step_denies policy s place entry name f step there locked tried =
     let out = refused_locked policy (max s.moment entry.at) f locked in
-    let drop = try_drops policy (at_moment entry.at s) place entry.sid name f out.denial there out.is entry.request (session_of entry.sid s.sessions) refl tried in
-    subst (IsDenied (IsLockDenial policy.bad_sleep f.since)) (sym (dropped_denies policy s place entry drop.0 out.denial step drop.1)) out.fits
+    subst (IsDenied (IsLockDenial policy.bad_sleep f.since (max s.moment entry.at))) (sym (refused_denies policy s place entry name f out.denial step there out.is tried)) out.fits
 
 -- ---- while nobody frees the record
 
@@ -143,6 +177,7 @@ target_alters (requests.Otp name number word_seed kept) k f to none = (refl, ref
 target_alters (requests.Wiz name) k f to none = (refl, refl)
 target_alters (requests.Unwiz name) k f to none = (refl, refl)
 target_alters (requests.Superwiz name) k f to none = (refl, refl)
+target_alters (requests.Expire name until) k f to none = (refl, refl)
 target_alters _ k f to none = (refl, refl)
 
 step_moment : (refused : Bool) (change : Change) (j : ℕ) (s : State) → (cond refused s (changed j change s)).moment ≡ s.moment
@@ -231,7 +266,7 @@ lock_stays origin before during name f legal there locked none =
 
 pub lock_denies : (origin : Origin) (before during : List Entry) (entry : Entry) (name : List ℕ) (f : Fields) → IsLegal origin (before ++ (during ++ entry ∷ []))
     → record_at name (after origin before).records ≡ Some f → IsLocked origin.policy (max (after origin (before ++ during)).moment entry.at) f → FreesNone name during
-    → tries name (phase_of entry.sid (after origin (before ++ during))) entry.request ≡ true → IsDenied (IsLockDenial origin.policy.bad_sleep f.since) entry.reply
+    → tries name (phase_of entry.sid (after origin (before ++ during))) entry.request ≡ true → IsDenied (IsLockDenial origin.policy.bad_sleep f.since (max (after origin (before ++ during)).moment entry.at)) entry.reply
 lock_denies origin before during entry name f legal there locked none tried =
     let all : IsLegal origin ((before ++ during) ++ entry ∷ []) = subst (IsLegal origin) (sym (append_assoc before during (entry ∷ []))) legal in
     let first : IsLegal origin (before ++ during) = parts_before origin.policy (first_state origin.records) 0 (before ++ during) (entry ∷ []) all in
@@ -239,5 +274,5 @@ lock_denies origin before during entry name f legal there locked none tried =
     let most : (after origin (before ++ during)).moment ≤ m = omega arith in
     let kept = kept_through origin before during name f m first there locked most none in
     let same_lock : IsLocked origin.policy m kept.g = record { five = kept.fails ∙ locked.five; locks = subst (λ (n : ℕ). LocksAt origin.policy.bad_sleep n m) (sym kept.since) locked.locks } in
-    subst (λ (n : ℕ). IsDenied (IsLockDenial origin.policy.bad_sleep n) entry.reply) kept.since
+    subst (λ (n : ℕ). IsDenied (IsLockDenial origin.policy.bad_sleep n m) entry.reply) kept.since
     (step_denies origin.policy (after origin (before ++ during)) (0 + length (before ++ during)) entry name kept.g (last_step origin (before ++ during) entry all) kept.there same_lock tried)

@@ -74,9 +74,9 @@ pub data Responds (policy : PolicyView) (s : State) (session : Session) (word : 
   turned_down : (d : Denial) → NotIn session.phase → Responds policy s session word (turns session (Denied d) Idle)
   dropped : (d : Denial) → NotIn session.phase → Responds policy s session word (drops session (Denied d) Idle)
   wrong_one : (name : List ℕ) (f : Fields) → Awaits policy s session name f → Responds policy s session word (wrong s session f)
-  right_password : (name : List ℕ) (f : Fields) → Awaits policy s session name f → f.proto ≡ protos.Plain → Responds policy s session word (right session name (logged_in f))
+  right_password : (name : List ℕ) (f : Fields) → Awaits policy s session name f → f.proto ≡ protos.Plain → Responds policy s session word (right session name (logged_in s.moment f))
   right_word : (name : List ℕ) (f : Fields) (otp : OtpFields) (w : ℕ) → Awaits policy s session name f → word ≡ Some w → IsWord f otp w
-      → Responds policy s session word (right session name (used f otp w))
+      → Responds policy s session word (right session name (used s.moment f otp w))
 
 pub waits_not_in : (phase : Phase) (name : List ℕ) → phase ≡ Waiting name → NotIn phase
 waits_not_in phase name e = λ other is. absurd (cc)

@@ -7,6 +7,7 @@ use Rattle.std.specs.Result.{result_ok}
 use Rattle.std.specs.Str.{bytes_eq}
 use Rattle.std.proofs.lemmas.Slice.Eq.{bytes_eq-Decides}
 use Rattle.gate_rules.specs.Attribute.{attribute_of, is_operation}
+use Rattle.gate_rules.specs.Hours.{hours_of_operation}
 use Rattle.gate_rules.specs.Lists.{mapped}
 use Rattle.gate_rules.specs.Operation.{is_holder, is_name_or_star, read_operation, operation_of}
 use Rattle.gate_rules.specs.OperationHosts.{hosts_of_operation, is_about_operations}
@@ -14,6 +15,7 @@ use Rattle.gate_rules.specs.Reading.{RuleBook, book_of, closed, is_of, operation
 use Rattle.gate_rules.specs.Service.{keyword}
 use Rattle.gate_rules.specs.declared.attribute.Attribute.TheVariants.{Operation}
 use Rattle.gate_rules.specs.declared.fault.RuleFault.{RuleFault}
+use Rattle.gate_rules.specs.declared.hours.Hours.{Hours}
 use Rattle.gate_rules.specs.declared.fault.Why.{Why}
 use Rattle.gate_rules.specs.declared.fault.Why.TheVariants.{MissingValue, BadWord}
 use Rattle.gate_rules.specs.declared.line_effect.LineEffect.{LineEffect}
@@ -56,22 +58,22 @@ words_read words h = by (read_operation words) h
 
 -- words
 
-with_hosts : (number : ℕ) (permits : Bool) (a b c : Word) (words : List Word) (r : Result (List Written) Why) → is_ok r ≡ true
-    → option_map (λ said. said.number) (line_by number permits (a ∷ b ∷ c ∷ words) (result_ok r)) ≡ Some number
-with_hosts number permits a b c words (Ok hosts) h = refl
-with_hosts number permits a b c words (Err why) h = absurd (cc)
+with_hosts : (number : ℕ) (permits : Bool) (a b c : Word) (words : List Word) (r : Result (List Written) Why) (hours : Option Hours) → is_ok r ≡ true
+    → option_map (λ said. said.number) (line_by number permits (a ∷ b ∷ c ∷ words) (result_ok r) hours) ≡ Some number
+with_hosts number permits a b c words (Ok hosts) hours h = refl
+with_hosts number permits a b c words (Err why) hours h = absurd (cc)
 
 unless_bad : (P : Type 0) (a : Bool) (r : Result (List Written) Why) → (is_ok r ≡ true → P) → is_ok (cond a r (Err BadWord)) ≡ true → P
 unless_bad P true r f h = f h
 unless_bad P false r f h = absurd (cc)
 
-has_number : (number : ℕ) (permits : Bool) (words : List Word) → is_ok (read_operation words) ≡ true
-    → option_map (λ said. said.number) (line_by number permits words (result_ok (read_operation words))) ≡ Some number
-has_number number permits [] h = absurd (cc)
-has_number number permits (a ∷ []) h = unless_bad _ (is_holder a.text) (Err MissingValue) (λ e. absurd (cc)) h
-has_number number permits (a ∷ b ∷ []) h =
+has_number : (number : ℕ) (permits : Bool) (words : List Word) (hours : Option Hours) → is_ok (read_operation words) ≡ true
+    → option_map (λ said. said.number) (line_by number permits words (result_ok (read_operation words)) hours) ≡ Some number
+has_number number permits [] hours h = absurd (cc)
+has_number number permits (a ∷ []) hours h = unless_bad _ (is_holder a.text) (Err MissingValue) (λ e. absurd (cc)) h
+has_number number permits (a ∷ b ∷ []) hours h =
     unless_bad _ (is_holder a.text) (operation_of (b ∷ [])) (λ e. unless_bad _ (is_name_or_star b.text) (Err MissingValue) (λ f. absurd (cc)) e) h
-has_number number permits (a ∷ b ∷ c ∷ words) h = with_hosts number permits a b c words (read_operation (a ∷ b ∷ c ∷ words)) h
+has_number number permits (a ∷ b ∷ c ∷ words) hours h = with_hosts number permits a b c words (read_operation (a ∷ b ∷ c ∷ words)) hours h
 
 -- lines
 
@@ -84,7 +86,7 @@ unfolding hosts_of_operation
 ours line e h =
     let about : is_operation line.attribute ≡ true = (both _ _ e).1 in
     let read : is_ok (operation_effect line.words) ≡ true = ap is_ok (sym (said_operation line about)) ∙ h in
-    rw e (has_number line.number (bytes_eq line.attribute (codes "permit-operation")) line.words (words_read line.words read))
+    rw e (has_number line.number (bytes_eq line.attribute (codes "permit-operation")) line.words (hours_of_operation line) (words_read line.words read))
 
 with_one : (said : Option OperationLine) (number : ℕ) (more : List OperationLine) → option_map (λ line. line.number) said ≡ Some number
     → map (λ line. line.number) (cons_option said more) ≡ number ∷ map (λ line. line.number) more

@@ -85,9 +85,9 @@ pub data RecordMoves (policy : PolicyView) (s : State) (k : List ℕ) (entry : E
   becomes : (f : Fields) (session : Session) → target entry.request ≡ Some k → entry.reply ≡ replies.Ok → session_of entry.sid s.sessions ≡ Some session
       → reachable (power_for s session entry.request k) (Some f) ≡ common.Ok f → RecordMoves policy s k entry (Some f) (Some (altered entry.request f))
   fails : (f : Fields) → Awaited policy s k entry f → (LogsInAs s k entry → ⊥) → RecordMoves policy s k entry (Some f) (Some (failed s.moment f))
-  enters : (f : Fields) → Awaited policy s k entry f → entry.reply ≡ replies.Ok → f.proto ≡ protos.Plain → RecordMoves policy s k entry (Some f) (Some (logged_in f))
+  enters : (f : Fields) → Awaited policy s k entry f → entry.reply ≡ replies.Ok → f.proto ≡ protos.Plain → RecordMoves policy s k entry (Some f) (Some (logged_in s.moment f))
   uses : (f : Fields) (otp : OtpFields) (w : ℕ) → Awaited policy s k entry f → entry.reply ≡ replies.Ok → response_word entry.request ≡ Some w → IsWord f otp w
-      → RecordMoves policy s k entry (Some f) (Some (used f otp w))
+      → RecordMoves policy s k entry (Some f) (Some (used s.moment f otp w))
 
 altered_name : (request : Request) (f : Fields) → (altered request f).name ≡ f.name
 altered_name (requests.Enable name) f = refl
@@ -99,6 +99,7 @@ altered_name (requests.Otp name number word_seed kept) f = refl
 altered_name (requests.Wiz name) f = refl
 altered_name (requests.Unwiz name) f = refl
 altered_name (requests.Superwiz name) f = refl
+altered_name (requests.Expire name until) f = refl
 altered_name _ f = refl
 
 module _ (policy : PolicyView) (s : State) (k : List ℕ) (entry : Entry) where
@@ -173,10 +174,10 @@ module _ (policy : PolicyView) (s : State) (k : List ℕ) (entry : Entry) where
       put_move n (Some f) (failed s.moment f) awaits.there (found_name n s.records f awaits.there)
       (λ one. fails f (awaited session n f there awaits (ap is_response is) one) (no_login _ reply (λ e. absurd (cc)))) (λ other. no_login _ reply (λ e. absurd (cc)))
   on_responds hash word session change j there (right_password n f awaits proto) is false reply =
-      put_move n (Some f) (logged_in f) awaits.there (found_name n s.records f awaits.there)
+      put_move n (Some f) (logged_in s.moment f) awaits.there (found_name n s.records f awaits.there)
       (λ one. enters f (awaited session n f there awaits (ap is_response is) one) (ok_reply entry.reply reply) proto) (another session n there awaits.phase)
   on_responds hash word session change j there (right_word n f otp w awaits given chain) is false reply =
-      put_move n (Some f) (used f otp w) awaits.there (found_name n s.records f awaits.there)
+      put_move n (Some f) (used s.moment f otp w) awaits.there (found_name n s.records f awaits.there)
       (λ one. uses f otp w (awaited session n f there awaits (ap is_response is) one) (ok_reply entry.reply reply) (ap response_word is ∙ given) chain) (another session n there awaits.phase)
 
   on_administers : (request : Request) (session : Session) (change : Change) (j : ℕ) → session_of entry.sid s.sessions ≡ Some session → is_other request ≡ true

@@ -40,7 +40,7 @@ lockout : answers (bad_sleep 1200) (mjr ∷ []) (wrong_five_times ++ ask 0 1304 
 unfolding proposed authenticate respond md5 digest_bytes hash_after compress rounds block_words spelling
 lockout = refl
 
--- the keeper is called for each wrong response, and for the right one, since the count of wrong ones falls
+-- the keeper is called for each response, a wrong one and the right one
 lockout_calls : calls (bad_sleep 1200) (mjr ∷ []) (wrong_five_times ++ ask 0 1305 (names (codes "mjr")) ∷ ask 0 1305 (says secret) ∷ [])
     ≡ false ∷ false ∷ true ∷ false ∷ true ∷ false ∷ true ∷ false ∷ true ∷ false ∷ true ∷ false ∷ true ∷ []
 unfolding proposed authenticate respond md5 digest_bytes hash_after compress rounds block_words spelling
@@ -56,7 +56,7 @@ clock_stands : (left (bad_sleep 1200) (mjr ∷ []) (wrong_five_times ++ ask 0 5 
 unfolding proposed authenticate respond md5 digest_bytes hash_after compress rounds block_words spelling
 clock_stands = refl
 
--- a wrong response that isn't kept counts nothing, and the session goes on waiting; the right one then changes no record
+-- a wrong response that isn't kept counts nothing, and the session goes on waiting; the right one then is kept with its moment
 wrong_not_kept : answers no_lines (mjr ∷ []) (ask 0 10 opens ∷ ask 0 10 (names (codes "mjr")) ∷ failing 0 11 (says other) ∷ ask 0 12 (says secret)
     ∷ ask 0 12 Close ∷ [])
     ≡ Opened 0 ∷ Password ∷ Denied NotKept ∷ Ok ∷ Ok ∷ []
@@ -65,7 +65,7 @@ wrong_not_kept = refl
 
 wrong_not_kept_calls : calls no_lines (mjr ∷ []) (ask 0 10 opens ∷ ask 0 10 (names (codes "mjr")) ∷ failing 0 11 (says other)
     ∷ ask 0 12 (says secret) ∷ ask 0 12 Close ∷ [])
-    ≡ false ∷ false ∷ true ∷ false ∷ false ∷ []
+    ≡ false ∷ false ∷ true ∷ true ∷ false ∷ []
 unfolding proposed authenticate respond md5 digest_bytes hash_after compress rounds block_words spelling
 wrong_not_kept_calls = refl
 
@@ -78,9 +78,9 @@ last_password : answers no_lines (otp1 ∷ []) (ask 0 10 opens ∷ ask 0 10 (nam
 unfolding proposed authenticate respond next_of folded md5 digest_bytes hash_after compress rounds block_words spelling
 last_password = refl
 
--- this password is kept from now on, and the wrong responses are forgotten
+-- this password is kept from now on, with its moment, and the wrong responses are forgotten
 last_password_kept : (left no_lines (record otp1 { fails = 3 } ∷ []) (ask 0 10 opens ∷ ask 0 10 (names (codes "otp1")) ∷ ask 0 11 (says_word last_word) ∷ [])).records
-    ≡ record otp1 { otp = Some (record { number = 0; word_seed = codes "test"; kept = last_word }) } ∷ []
+    ≡ record otp1 { last = 11; otp = Some (record { number = 0; word_seed = codes "test"; kept = last_word }) } ∷ []
 unfolding proposed authenticate respond next_of folded md5 digest_bytes hash_after compress rounds block_words spelling
 last_password_kept = refl
 
@@ -125,12 +125,12 @@ group_wizard : answers no_lines (ann ∷ root ∷ []) (ann_logs_in
     ∷ ask 0 11 (Display (codes "root")) ∷ ask 0 11 (Enable (codes "x")) ∷ ask 0 12 (requests.List None)
     ∷ ask 0 12 (requests.List (Some (codes "ann"))) ∷ ask 0 12 (requests.List (Some (codes "bob"))) ∷ [])
     ≡ Opened 0 ∷ Password ∷ Ok ∷ Ok ∷ Shown (profile_of bob) ∷ Denied NotWizard ∷ Denied NotWizard ∷ Denied NoSuch
-    ∷ Shown (profile_of ann) ∷ Shown (profile_of bob) ∷ Denied NoSuch ∷ []
+    ∷ Shown (profile_of (record ann { last = 10 })) ∷ Shown (profile_of bob) ∷ Denied NoSuch ∷ []
 unfolding proposed authenticate respond add_user list md5 digest_bytes hash_after compress rounds block_words spelling
 group_wizard = refl
 
 -- what is shown of a user who was just added
-shown : profile_of bob ≡ record { name = codes "bob"; group = Some (codes "staff"); proto = protos.None; enabled = false; wiz = wizards.None; fails = 0; number = 0; long = codes "Bob" }
+shown : profile_of bob ≡ record { name = codes "bob"; group = Some (codes "staff"); proto = protos.None; enabled = false; wiz = wizards.None; fails = 0; number = 0; last = 0; expires = 0; long = codes "Bob" }
 shown = refl
 
 nobody_in : answers no_lines (bob ∷ []) (ask 0 10 opens ∷ ask 0 10 (Enable (codes "bob")) ∷ []) ≡ Opened 0 ∷ Denied NotIn ∷ []

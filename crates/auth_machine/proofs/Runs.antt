@@ -66,7 +66,7 @@ bad_sleep seconds = record no_lines { bad_sleep = Some seconds }
 
 -- nobody's record: a name alone
 abbrev pub bare : List ℕ → Fields
-bare name = record { name = name; long = []; group = None; proto = protos.None; enabled = false; wiz = wizards.None; fails = 0; since = 0; plain = None; otp = None }
+bare name = record { name = name; long = []; group = None; proto = protos.None; enabled = false; wiz = wizards.None; fails = 0; since = 0; last = 0; expires = 0; plain = None; otp = None }
 
 abbrev pub salt : List ℕ
 salt = 1 ∷ 2 ∷ 3 ∷ 4 ∷ 5 ∷ 6 ∷ 7 ∷ 8 ∷ []

@@ -10,28 +10,25 @@ use Rattle.fw_outside.specs.declared.keep_fault.KeepFault.TheVariants as faults
 use Rattle.std.specs.Prelude.{Result, Ok, Err, OnErr}
 use Rattle.fw_types.specs.Keyed.{without}
 use Rattle.fw_types.proofs.KeyedLemmas.{under_placed, under_without}
-use Rattle.fw_outside.specs.KeeperView.{AreSame, Sets, Stores, IsSetTo, IsToldSet, KeeperFailed, NamedBytes, KeeperView}
+use Rattle.fw_outside.specs.KeeperView.{Sets, Stores, IsSetTo, IsToldSet, KeeperFailed, NamedBytes, KeeperView}
+use Rattle.auth_records.specs.Reading.{decoded}
 use Rattle.auth_records.specs.Spelling.{Fields, spelling}
-use Rattle.auth_machine.specs.History.{record_entry, entries_of}
+use Rattle.auth_machine.specs.History.{DecodesTo}
 use Rattle.auth_machine.specs.Keeping.{Calls, IsCalledIf, KeepsChange, MayBeCalled, kept_by}
 use Rattle.auth_machine.specs.State.{records_after, record_name, record_at}
 use Rattle.auth_machine.specs.Step.{is_record_change, is_record}
+use Rattle.auth_machine.specs.Stepping.{IsReadAgain, PutsReadable}
 use Rattle.auth_machine.specs.declared.record_change.RecordChange.{RecordChange}
 use Rattle.auth_machine.specs.declared.record_change.RecordChange.TheVariants.{Leave, Put, Delete}
+
+-- a record that was read
+abbrev read : Fields → Result Fields ℕ
+read f = Ok f
 
 pub clash : {A : Type 0} → false ≡ true → A
 clash h = absurd (true≢false (sym h))
 
--- ---- what stands under a name in the table of records
-
-held_step : (b : Bool) (f : Fields) (found : Option (List ℕ × List ℕ)) (rest : Option Fields) → option_map (λ e. e.1) found ≡ option_map spelling rest
-    → option_map (λ e. e.1) (cond b (Some (record_entry f)) found) ≡ option_map spelling (cond b (Some f) rest)
-held_step true f found rest same = refl
-held_step false f found rest same = same
-
-pub held_in_table : (records : List Fields) (name : List ℕ) → bytes_under (entries_of records) name ≡ option_map spelling (record_at name records)
-held_in_table [] name = refl
-held_in_table (f ∷ fs) name = held_step (bytes_eq f.name name) f _ _ (held_in_table fs name)
+-- ---- what stands under a name after an edit
 
 equal_name : (name : List ℕ) → bytes_eq name name ≡ true
 equal_name name = (bytes_eq-Decides name name).1 refl
@@ -49,99 +46,91 @@ record_after_put f records name =
     ∙ ap (λ (found : Option Fields). cond (bytes_eq name f.name) (Some f) found) (under_without record_name f.name records name)
     ∙ twice (bytes_eq name f.name) (Some f) (record_at name records)
 
-bytes_of : (b : Bool) (x found : Option Fields) → option_map spelling (cond b x found) ≡ cond b (option_map spelling x) (option_map spelling found)
-bytes_of true x found = refl
-bytes_of false x found = refl
-
-held_after_put : (f : Fields) (records : List Fields) (name : List ℕ) → bytes_under (entries_of (records_after (Put f) records)) name ≡ cond (bytes_eq name f.name) (Some (spelling f)) (bytes_under (entries_of records) name)
-held_after_put f records name =
-    held_in_table (records_after (Put f) records) name
-    ∙ ap (option_map spelling) (record_after_put f records name)
-    ∙ bytes_of (bytes_eq name f.name) (Some f) (record_at name records)
-    ∙ ap (λ (found : Option (List ℕ)). cond (bytes_eq name f.name) (Some (spelling f)) found) (sym (held_in_table records name))
-
-held_after_delete : (gone : List ℕ) (records : List Fields) (name : List ℕ) → bytes_under (entries_of (records_after (Delete gone) records)) name ≡ cond (bytes_eq name gone) None (bytes_under (entries_of records) name)
-held_after_delete gone records name =
-    held_in_table (records_after (Delete gone) records) name
-    ∙ ap (option_map spelling) (under_without record_name gone records name)
-    ∙ bytes_of (bytes_eq name gone) None (record_at name records)
-    ∙ ap (λ (found : Option (List ℕ)). cond (bytes_eq name gone) None found) (sym (held_in_table records name))
-
--- ---- a record that is the same byte for byte
-
-same_bytes : (f : Fields) (found : Option Fields) → is_record f found ≡ true → option_map spelling found ≡ Some (spelling f)
-same_bytes f None other = clash other
-same_bytes f (Some old) same = ap (λ (bytes : List ℕ). Some bytes) (sym ((bytes_eq-Decides (spelling f) (spelling old)).0 same))
-
-unchanged : (f : Fields) (records : List Fields) (name : List ℕ) (b : Bool) → bytes_eq name f.name ≡ b → is_record f (record_at f.name records) ≡ true
-    → bytes_under (entries_of records) name ≡ cond b (Some (spelling f)) (bytes_under (entries_of records) name)
-unchanged f records name false other same = refl
-unchanged f records name true is same =
-    let one : name ≡ f.name = (bytes_eq-Decides name f.name).0 is in
-    held_in_table records name ∙ ap (λ (n : List ℕ). option_map spelling (record_at n records)) one ∙ same_bytes f (record_at f.name records) same
+-- where a record stands already, putting it changes nothing
+put_again : (f : Fields) (records : List Fields) (name : List ℕ) (b : Bool) → bytes_eq name f.name ≡ b → record_at f.name records ≡ Some f
+    → record_at name records ≡ cond b (Some f) (record_at name records)
+put_again f records name false other stands = refl
+put_again f records name true is stands = ap (λ (n : List ℕ). record_at n records) ((bytes_eq-Decides name f.name).0 is) ∙ stands
 
 -- ---- the keeper's table
 
--- a table that was set so is that of records that were edited so
-set_table : (name : List ℕ) (value : Option (List ℕ)) (old new : NamedBytes) (records edits : List Fields) → IsSetTo name value old new → AreSame old (entries_of records)
-    → ((k : List ℕ) → bytes_under (entries_of edits) k ≡ cond (bytes_eq k name) value (bytes_under (entries_of records) k)) → AreSame new (entries_of edits)
-set_table name value old new records edits is_set same records_after k =
-    is_set k ∙ ap (λ (found : Option (List ℕ)). cond (bytes_eq k name) value found) (same k) ∙ sym (records_after k)
+bytes_of : (b : Bool) (x found : Option (List ℕ)) → option_map decoded (cond b x found) ≡ cond b (option_map decoded x) (option_map decoded found)
+bytes_of true x found = refl
+bytes_of false x found = refl
 
-told_set : (name : List ℕ) (value : Option (List ℕ)) (old new : Option NamedBytes) (records edits : List Fields) → IsToldSet name value old new → IfSome old (λ table. AreSame table (entries_of records))
-    → ((k : List ℕ) → bytes_under (entries_of edits) k ≡ cond (bytes_eq k name) value (bytes_under (entries_of records) k)) → IfSome new (λ table. AreSame table (entries_of edits))
-told_set name value None None records edits is_set same records_after = tt
-told_set name value None (Some new) records edits is_set same records_after = absurd is_set
-told_set name value (Some old) None records edits is_set same records_after = absurd is_set
-told_set name value (Some old) (Some new) records edits is_set same records_after = set_table name value old new records edits is_set same records_after
+fields_of : (b : Bool) (x found : Option Fields) → cond b (option_map read x) (option_map read found) ≡ option_map read (cond b x found)
+fields_of true x found = refl
+fields_of false x found = refl
 
-kept_set : (name : List ℕ) (value : Option (List ℕ)) (old new : KeeperView) (records edits : List Fields) → Stores name value old new → IfSome old.table (λ table. AreSame table (entries_of records))
-    → ((k : List ℕ) → bytes_under (entries_of edits) k ≡ cond (bytes_eq k name) value (bytes_under (entries_of records) k)) → IfSome new.table (λ table. AreSame table (entries_of edits))
-kept_set name value old new records edits kept same records_after =
-    subst (λ (keeper : KeeperView). IfSome keeper.table (λ table. AreSame table (entries_of edits))) (sym kept.is)
-    (told_set name value old.table kept.table records edits kept.told same records_after)
+-- a table in which bytes were set has the records that were edited so
+set_table : (name : List ℕ) (value : Option (List ℕ)) (f : Option Fields) (old new : NamedBytes) (records edits : List Fields) → IsSetTo name value old new
+    → option_map decoded value ≡ option_map read f → ((k : List ℕ) → record_at k edits ≡ cond (bytes_eq k name) f (record_at k records))
+    → DecodesTo records old → DecodesTo edits new
+set_table name value f old new records edits is_set decodes after_edit has k =
+    ap (option_map decoded) (is_set k)
+    ∙ bytes_of (bytes_eq k name) value (bytes_under old k)
+    ∙ ap (λ (z : Option (Result Fields ℕ)). cond (bytes_eq k name) z (option_map decoded (bytes_under old k))) decodes
+    ∙ ap (λ (z : Option (Result Fields ℕ)). cond (bytes_eq k name) (option_map read f) z) (has k)
+    ∙ fields_of (bytes_eq k name) f (record_at k records)
+    ∙ sym (ap (option_map read) (after_edit k))
 
-missed_same : (old new : KeeperView) (records : List Fields) → KeeperFailed old new → IfSome old.table (λ table. AreSame table (entries_of records)) → IfSome new.table (λ table. AreSame table (entries_of records))
-missed_same old new records missed same = subst (λ (keeper : KeeperView). IfSome keeper.table (λ table. AreSame table (entries_of records))) (sym missed.is) same
+told_set : (name : List ℕ) (value : Option (List ℕ)) (f : Option Fields) (old new : Option NamedBytes) (records edits : List Fields) → IsToldSet name value old new
+    → option_map decoded value ≡ option_map read f → ((k : List ℕ) → record_at k edits ≡ cond (bytes_eq k name) f (record_at k records))
+    → IfSome old (DecodesTo records) → IfSome new (DecodesTo edits)
+told_set name value f None None records edits is_set decodes after_edit has = tt
+told_set name value f None (Some new) records edits is_set decodes after_edit has = absurd is_set
+told_set name value f (Some old) None records edits is_set decodes after_edit has = absurd is_set
+told_set name value f (Some old) (Some new) records edits is_set decodes after_edit has = set_table name value f old new records edits is_set decodes after_edit has
 
-called : (edit : RecordChange) (kept : Bool) (old new : KeeperView) (records : List Fields) → Calls edit kept old new → IfSome old.table (λ table. AreSame table (entries_of records))
-    → IfSome new.table (λ table. AreSame table (entries_of (cond (not kept) records (records_after edit records))))
-called Leave kept old new records calls same = absurd calls
-called (Put f) true old new records calls same = kept_set f.name (Some (spelling f)) old new records (records_after (Put f) records) calls same (held_after_put f records)
-called (Put f) false old new records calls same = missed_same old new records calls same
-called (Delete name) true old new records calls same = kept_set name None old new records (records_after (Delete name) records) calls same (held_after_delete name records)
-called (Delete name) false old new records calls same = missed_same old new records calls same
+kept_set : (name : List ℕ) (value : Option (List ℕ)) (f : Option Fields) (old new : KeeperView) (records edits : List Fields) → Stores name value old new
+    → option_map decoded value ≡ option_map read f → ((k : List ℕ) → record_at k edits ≡ cond (bytes_eq k name) f (record_at k records))
+    → IfSome old.table (DecodesTo records) → IfSome new.table (DecodesTo edits)
+kept_set name value f old new records edits kept decodes after_edit has =
+    subst (λ (keeper : KeeperView). IfSome keeper.table (DecodesTo edits)) (sym kept.is)
+    (told_set name value f old.table kept.table records edits kept.told decodes after_edit has)
 
-same_table : (old : Option NamedBytes) (records edits : List Fields) → ((k : List ℕ) → bytes_under (entries_of records) k ≡ bytes_under (entries_of edits) k)
-    → IfSome old (λ table. AreSame table (entries_of records)) → IfSome old (λ table. AreSame table (entries_of edits))
-same_table None records edits alike same = tt
-same_table (Some table) records edits alike same = λ k. same k ∙ alike k
+missed_same : (old new : KeeperView) (records : List Fields) → KeeperFailed old new → IfSome old.table (DecodesTo records) → IfSome new.table (DecodesTo records)
+missed_same old new records missed has = subst (λ (keeper : KeeperView). IfSome keeper.table (DecodesTo records)) (sym missed.is) has
+
+called : (edit : RecordChange) (kept : Bool) (old new : KeeperView) (records : List Fields) → PutsReadable edit records → Calls edit kept old new → IfSome old.table (DecodesTo records)
+    → IfSome new.table (DecodesTo (cond (not kept) records (records_after edit records)))
+called Leave kept old new records readable calls has = absurd calls
+called (Put f) true old new records readable calls has =
+    kept_set f.name (Some (spelling f)) (Some f) old new records (records_after (Put f) records) calls (ap (λ (r : Result Fields ℕ). Some r) readable.decodes) (record_after_put f records) has
+called (Put f) false old new records readable calls has = missed_same old new records calls has
+called (Delete name) true old new records readable calls has =
+    kept_set name None None old new records (records_after (Delete name) records) calls refl (λ k. under_without record_name name records k) has
+called (Delete name) false old new records readable calls has = missed_same old new records calls has
+
+same_records : (old : Option NamedBytes) (records edits : List Fields) → ((k : List ℕ) → record_at k records ≡ record_at k edits) → IfSome old (DecodesTo records) → IfSome old (DecodesTo edits)
+same_records None records edits alike has = tt
+same_records (Some table) records edits alike has = λ k. has k ∙ ap (option_map read) (alike k)
 
 flipped : (b : Bool) → not b ≡ false → b ≡ true
 flipped true h = refl
 flipped false h = clash (sym h)
 
 -- nothing to be kept
-idle : (edit : RecordChange) (old : Option NamedBytes) (records : List Fields) → is_record_change edit records ≡ false → IfSome old (λ table. AreSame table (entries_of records))
-    → IfSome old (λ table. AreSame table (entries_of (records_after edit records)))
-idle Leave old records idle_is same = same
-idle (Put f) old records idle_is same =
-    same_table old records (records_after (Put f) records)
-    (λ k. unchanged f records k (bytes_eq k f.name) refl (flipped (is_record f (record_at f.name records)) idle_is) ∙ sym (held_after_put f records k)) same
-idle (Delete name) old records idle_is same = clash (sym idle_is)
+idle : (edit : RecordChange) (old : Option NamedBytes) (records : List Fields) → is_record_change edit records ≡ false → PutsReadable edit records → IfSome old (DecodesTo records)
+    → IfSome old (DecodesTo (records_after edit records))
+idle Leave old records idle_is readable has = has
+idle (Put f) old records idle_is readable has =
+    same_records old records (records_after (Put f) records)
+    (λ k. put_again f records k (bytes_eq k f.name) refl (readable.stands (flipped (is_record f (record_at f.name records)) idle_is)) ∙ sym (record_after_put f records k)) has
+idle (Delete name) old records idle_is readable has = clash (sym idle_is)
 
-keeps_table : (b : Bool) (edit : RecordChange) (kept : Bool) (old new : KeeperView) (records : List Fields) → is_record_change edit records ≡ b → KeepsChange b edit kept old new
-    → IfSome old.table (λ table. AreSame table (entries_of records))
-    → IfSome new.table (λ table. AreSame table (entries_of (cond (b && not kept) records (records_after edit records))))
-keeps_table true edit kept old new records is keeps same = called edit kept old new records keeps same
-keeps_table false edit kept old new records is keeps same =
-    subst (λ (keeper : KeeperView). IfSome keeper.table (λ table. AreSame table (entries_of (records_after edit records)))) (sym keeps.1) (idle edit old.table records is same)
+keeps_table : (b : Bool) (edit : RecordChange) (kept : Bool) (old new : KeeperView) (records : List Fields) → is_record_change edit records ≡ b → PutsReadable edit records
+    → KeepsChange b edit kept old new → IfSome old.table (DecodesTo records)
+    → IfSome new.table (DecodesTo (cond (b && not kept) records (records_after edit records)))
+keeps_table true edit kept old new records is readable keeps has = called edit kept old new records readable keeps has
+keeps_table false edit kept old new records is readable keeps has =
+    subst (λ (keeper : KeeperView). IfSome keeper.table (DecodesTo (records_after edit records))) (sym keeps.1) (idle edit old.table records is readable has)
 
 -- the keeper has the records after a step, as it had those before it
-pub table_after : (edit : RecordChange) (kept : Bool) (old new : KeeperView) (records : List Fields) → KeepsChange (is_record_change edit records) edit kept old new
-    → IfSome old.table (λ table. AreSame table (entries_of records))
-    → IfSome new.table (λ table. AreSame table (entries_of (cond (is_record_change edit records && not kept) records (records_after edit records))))
-table_after edit kept old new records keeps same = keeps_table (is_record_change edit records) edit kept old new records refl keeps same
+pub table_after : (edit : RecordChange) (kept : Bool) (old new : KeeperView) (records : List Fields) → PutsReadable edit records
+    → KeepsChange (is_record_change edit records) edit kept old new → IfSome old.table (DecodesTo records)
+    → IfSome new.table (DecodesTo (cond (is_record_change edit records && not kept) records (records_after edit records)))
+table_after edit kept old new records readable keeps has = keeps_table (is_record_change edit records) edit kept old new records refl readable keeps has
 
 -- ---- the keeper's counts
 

@@ -7,7 +7,7 @@ use Rattle.auth_records.specs.declared.record.Proto.TheVariants as protos
 use Rattle.auth_records.specs.declared.record.Wiz.TheVariants as wizards
 use Rattle.auth_events.specs.declared.denial.Denial.TheVariants.{NoChallenge, NotIn, NotWizard, Exists, NoSuch, NotKept}
 use Rattle.auth_events.specs.declared.request.OpService.TheVariants.{Telnet}
-use Rattle.auth_events.specs.declared.request.Request.TheVariants.{Adduser, Deluser, Disable, Display, Enable, Group, Operation, Proto, Superwiz, Unwiz}
+use Rattle.auth_events.specs.declared.request.Request.TheVariants.{Adduser, Deluser, Disable, Display, Enable, Expire, Group, Operation, Proto, Superwiz, Unwiz}
 use Rattle.auth_events.specs.declared.request.Request.TheVariants as requests
 use Rattle.fw_types.specs.declared.host.Host.TheVariants.{Addr}
 use Rattle.auth_machine.specs.Answer.Answer.{Opened, Password, Ok, Shown, Denied}
@@ -29,14 +29,14 @@ mjr_in = Opened 0 ∷ Password ∷ Ok ∷ []
 own_record : answers no_lines (mjr ∷ otp1 ∷ []) (mjr_logs_in
     ++ ask 0 11 (Display (codes "mjr")) ∷ ask 0 11 (requests.Password (codes "mjr") salt other) ∷ ask 0 11 (Enable (codes "mjr"))
     ∷ ask 0 11 (requests.Wiz (codes "mjr")) ∷ ask 0 11 (Display (codes "otp1")) ∷ ask 0 11 (Display (codes "nobody")) ∷ ask 0 11 (requests.List None) ∷ [])
-    ≡ mjr_in ++ Shown (profile_of mjr) ∷ Ok ∷ Denied NotWizard ∷ Denied NotWizard ∷ Denied NotWizard ∷ Denied NotWizard ∷ Denied NotWizard ∷ []
+    ≡ mjr_in ++ Shown (profile_of (record mjr { last = 10 })) ∷ Ok ∷ Denied NotWizard ∷ Denied NotWizard ∷ Denied NotWizard ∷ Denied NotWizard ∷ Denied NotWizard ∷ []
 unfolding proposed authenticate respond list md5 digest_bytes hash_after compress rounds block_words spelling
 own_record = refl
 
 -- one more response is refused, and the user stays logged in; asking again logs the user out
 still_in : answers no_lines (mjr ∷ []) (mjr_logs_in
     ++ ask 0 11 (says secret) ∷ ask 0 11 (Display (codes "mjr")) ∷ ask 0 12 (names (codes "mjr")) ∷ ask 0 12 (Display (codes "mjr")) ∷ [])
-    ≡ mjr_in ++ Denied NoChallenge ∷ Shown (profile_of mjr) ∷ Password ∷ Denied NotIn ∷ []
+    ≡ mjr_in ++ Denied NoChallenge ∷ Shown (profile_of (record mjr { last = 10 })) ∷ Password ∷ Denied NotIn ∷ []
 unfolding proposed authenticate respond md5 digest_bytes hash_after compress rounds block_words spelling
 still_in = refl
 
@@ -68,9 +68,9 @@ ann_logs_in = ask 0 10 opens ∷ ask 0 10 (names (codes "ann")) ∷ ask 0 10 (sa
 
 super_of_group : answers no_lines (ann ∷ zoe ∷ []) (ann_logs_in
     ++ ask 0 11 (requests.List (Some (codes "ann"))) ∷ ask 0 11 (Display (codes "zoe")) ∷ ask 0 11 (Deluser (codes "zoe"))
-    ∷ ask 0 11 (Adduser (codes "zoe") []) ∷ ask 0 11 (Unwiz (codes "ann"))
+    ∷ ask 0 11 (Adduser (codes "zoe") []) ∷ ask 0 11 (Expire (codes "zoe") 500) ∷ ask 0 11 (Unwiz (codes "ann"))
     ∷ ask 0 11 (Superwiz (codes "ann")) ∷ ask 0 11 (Group (codes "ann") None) ∷ [])
-    ≡ mjr_in ++ Shown (profile_of zoe) ∷ Denied NotWizard ∷ Denied NotWizard ∷ Denied Exists ∷ Denied NotWizard ∷ Denied NotWizard ∷ Denied NotWizard ∷ []
+    ≡ mjr_in ++ Shown (profile_of zoe) ∷ Denied NotWizard ∷ Denied NotWizard ∷ Denied Exists ∷ Denied NotWizard ∷ Denied NotWizard ∷ Denied NotWizard ∷ Denied NotWizard ∷ []
 unfolding proposed authenticate respond add_user list md5 digest_bytes hash_after compress rounds block_words spelling
 super_of_group = refl
 
@@ -78,7 +78,7 @@ super_of_group = refl
 no_group : answers no_lines (record ann { group = None } ∷ mjr ∷ []) (ann_logs_in
     ++ ask 0 11 (requests.List None) ∷ ask 0 11 (Display (codes "mjr")) ∷ ask 0 11 (Display (codes "ann")) ∷ ask 0 11 (Disable (codes "ann"))
     ∷ ask 0 11 (Adduser (codes "bob") []) ∷ ask 0 11 (Display (codes "bob")) ∷ [])
-    ≡ mjr_in ++ Denied NoSuch ∷ Denied NotWizard ∷ Shown (profile_of (record ann { group = None })) ∷ Denied NotWizard ∷ Ok ∷ Denied NotWizard ∷ []
+    ≡ mjr_in ++ Denied NoSuch ∷ Denied NotWizard ∷ Shown (profile_of (record ann { group = None; last = 10 })) ∷ Denied NotWizard ∷ Ok ∷ Denied NotWizard ∷ []
 unfolding proposed authenticate respond add_user list md5 digest_bytes hash_after compress rounds block_words spelling
 no_group = refl
 

@@ -65,6 +65,7 @@ altered_words (requests.Password name salt hash) k f to none = refl
 altered_words (requests.Wiz name) k f to none = refl
 altered_words (requests.Unwiz name) k f to none = refl
 altered_words (requests.Superwiz name) k f to none = refl
+altered_words (requests.Expire name until) k f to none = refl
 altered_words _ k f to none = refl
 
 nothing_left : (otp : Option OtpFields) → AreLeft otp []

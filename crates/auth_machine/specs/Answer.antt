@@ -17,6 +17,8 @@ pub record Profile : Type 0 where
   pub wiz : Wiz
   pub fails : ℕ
   pub number : ℕ
+  pub last : ℕ
+  pub expires : ℕ
   pub long : List ℕ
 
 pub data Answer : Type 0 where
@@ -34,11 +36,11 @@ number_left (Some otp) = otp.number
 
 -- what is shown of a record
 abbrev pub profile_of : Fields → Profile
-profile_of f = record { name = f.name; group = f.group; proto = f.proto; enabled = f.enabled; wiz = f.wiz; fails = f.fails; number = number_left f.otp; long = f.long }
+profile_of f = record { name = f.name; group = f.group; proto = f.proto; enabled = f.enabled; wiz = f.wiz; fails = f.fails; number = number_left f.otp; last = f.last; expires = f.expires; long = f.long }
 
 -- a reply without what its type says of it
 abbrev pub summary_profile : Summary → Profile
-summary_profile s = record { name = s.name; group = s.group; proto = s.proto; enabled = s.enabled; wiz = s.wiz; fails = s.fails; number = s.number; long = s.long }
+summary_profile s = record { name = s.name; group = s.group; proto = s.proto; enabled = s.enabled; wiz = s.wiz; fails = s.fails; number = s.number; last = s.last; expires = s.expires; long = s.long }
 
 abbrev pub answer_of : Reply → Answer
 answer_of (replies.Opened sid) = Opened sid

@@ -1,13 +1,15 @@
 -- Histories: which are legal, and what they leave.
-use Rattle.std.specs.Prelude.{◌≡◌, ℕ, suc, ◌+◌, ◌-◌, ◌^◌, ◌<◌, ◌≤◌, min, true, false, All, List, [], ◌∷◌, length, map, IfSome, if◌then◌else◌}
-use Rattle.fw_outside.specs.KeeperView.{AreSame, NamedBytes, KeeperView}
+use Rattle.std.specs.Prelude.{◌≡◌, ℕ, suc, ◌+◌, ◌-◌, ◌^◌, ◌<◌, ◌≤◌, min, true, false, All, List, [], ◌∷◌, length, option_map, IfSome, Ok, if◌then◌else◌}
+use Rattle.fw_outside.specs.FilesView.{bytes_under}
+use Rattle.fw_outside.specs.KeeperView.{NamedBytes, KeeperView}
 use Rattle.fw_types.specs.Keyed.{Ascends}
-use Rattle.auth_records.specs.Spelling.{Fields, HasForm, spelling}
+use Rattle.auth_records.specs.Reading.{decoded}
+use Rattle.auth_records.specs.Spelling.{Fields, HasForm}
 use Rattle.auth_events.specs.Port.{session_at}
 use Rattle.auth_events.specs.declared.entry.Entry.{Entry}
 use Rattle.auth_machine.specs.Answer.{answer_of}
 use Rattle.auth_machine.specs.Policy.{PolicyView}
-use Rattle.auth_machine.specs.State.{State, first_state, record_name}
+use Rattle.auth_machine.specs.State.{State, first_state, record_at, record_name}
 use Rattle.auth_machine.specs.Step.{answer, keeps, next_state}
 
 -- what a history stands on: the policy and the records that were loaded
@@ -59,16 +61,13 @@ edits origin history = edits_from origin.policy (first_state origin.records) 0 h
 
 -- ---- what is kept
 
--- the names of records with their bytes
-abbrev pub record_entry : Fields → List ℕ × List ℕ
-record_entry f = (f.name, spelling f)
-
-abbrev pub entries_of : List Fields → NamedBytes
-entries_of records = map record_entry records
+-- under the name of each record stand bytes that decode to it, and under any other name nothing
+abbrev pub DecodesTo : List Fields → NamedBytes → Type 0
+DecodesTo records table = (name : List ℕ) → option_map decoded (bytes_under table name) ≡ option_map Ok (record_at name records)
 
 -- the keeper has exactly the records after the history, where it tells
 abbrev pub HasRecords : Origin → List Entry → KeeperView → Type 0
-HasRecords origin history keeper = IfSome keeper.table (λ table. AreSame table (entries_of (after origin history).records))
+HasRecords origin history keeper = IfSome keeper.table (DecodesTo (after origin history).records)
 
 -- how many entries were not kept
 abbrev pub unkept : List Entry → ℕ

@@ -1,5 +1,6 @@
 -- Logging in: whom a password is asked of, and whether the response is right.
-use Rattle.std.specs.Prelude.{ℕ, ◌+◌, ◌-◌, ◌^◌, min, Bool, false, not, ◌&&◌, ◌||◌, ◌==◌, nat_lt, List, ◌++◌, Option, Some, None, is_some, if◌then◌else◌}
+use Rattle.std.specs.Prelude.{ℕ, ◌+◌, ◌-◌, ◌^◌, min, Bool, false, not, ◌&&◌, ◌||◌, ◌==◌, nat_le, nat_lt, List, ◌++◌, Option, Some, None, is_some, if◌then◌else◌}
+use Rattle.std.specs.Option.{is_none}
 use Rattle.std.specs.Str.{bytes_eq}
 use Rattle.md5.specs.Md5.{md5}
 use Rattle.auth_records.specs.Spelling.{Fields, OtpFields}
@@ -7,7 +8,7 @@ use Rattle.auth_records.specs.declared.record.Plain.{Plain}
 use Rattle.auth_records.specs.declared.record.Proto.{Proto}
 use Rattle.auth_records.specs.declared.record.Proto.TheVariants as protos
 use Rattle.auth_events.specs.declared.denial.Denial.{Denial}
-use Rattle.auth_events.specs.declared.denial.Denial.TheVariants.{Unknown, Wrong, Disabled, Sleeping, Busy, Exhausted, NoChallenge}
+use Rattle.auth_events.specs.declared.denial.Denial.TheVariants.{Unknown, Wrong, Disabled, Expired, Sleeping, Busy, Exhausted, NoChallenge}
 use Rattle.otp_md5.specs.Passwords.{next_of}
 use Rattle.auth_machine.specs.Answer.{Answer}
 use Rattle.auth_machine.specs.Answer.Answer.{Password, Challenged, Ok, Denied}
@@ -33,20 +34,28 @@ has_password protos.None f = false
 has_password protos.Plain f = is_some f.plain
 has_password protos.Otp f = is_some f.otp
 
--- what five wrong responses in a row do: without a line `badsleep` the record is disabled, and with one it sleeps so long
--- from the fifth on, and with 0 it doesn't
-abbrev pub lockout : Option ℕ → ℕ → ℕ → Option Denial
-lockout None since moment = Some Disabled
-lockout (Some seconds) since moment =
-    if nat_lt 0 seconds && nat_lt moment (later since seconds) then Some (Sleeping (later since seconds)) else None
+-- the record isn't enabled, or has no password of its protocol, or had five wrong responses in a row and no line `badsleep`
+-- says how long it sleeps then
+abbrev pub is_disabled : Option ℕ → Fields → Bool
+is_disabled bad_sleep f = not f.enabled || not (has_password f.proto f) || (f.fails == 5 && is_none bad_sleep)
+
+-- the moment from which the record can't be used has come; 0 is no such moment
+abbrev pub has_expired : ℕ → Fields → Bool
+has_expired moment f = not (f.expires == 0) && nat_le f.expires moment
+
+-- where a line `badsleep` stands, a record sleeps so long from the fifth wrong response in a row on, and with 0 it doesn't
+abbrev pub asleep : Option ℕ → ℕ → Fields → Option Denial
+asleep None moment f = None
+asleep (Some seconds) moment f =
+    if f.fails == 5 && (nat_lt 0 seconds && nat_lt moment (later f.since seconds)) then Some (Sleeping (later f.since seconds)) else None
 
 -- why the record can't be used now, if so. Kept by `Book::ask` (`asked`), through `IsLegal`; body: src/login.rt. That a
--- lock holds is the law `a_lock_holds`.
+-- lock holds is the law `a_lock_holds`, and that what has expired stays so is the law `an_expiry_holds`.
 abbrev pub refusal : PolicyView → ℕ → Fields → Option Denial
 refusal policy moment f =
-    if not f.enabled || not (has_password f.proto f) then Some Disabled
-    else if f.fails == 5 then lockout policy.bad_sleep f.since moment
-    else None
+    if is_disabled policy.bad_sleep f then Some Disabled
+    else if has_expired moment f then Some (Expired f.expires)
+    else asleep policy.bad_sleep moment f
 
 -- ---- answers of a session, and the phase that it is in then
 
@@ -124,16 +133,16 @@ one_more fails = if fails == 5 then 1 else fails + 1
 abbrev pub failed : ℕ → Fields → Fields
 failed moment f = record f { fails = one_more f.fails; since = if one_more f.fails == 5 then moment else f.since }
 
--- the record after the right plain password
-abbrev pub logged_in : Fields → Fields
-logged_in f = record f { fails = 0 }
+-- the record after the right plain password, at this moment
+abbrev pub logged_in : ℕ → Fields → Fields
+logged_in moment f = record f { fails = 0; last = moment }
 
 -- the record after the right one-time password: the count falls by one, and this password is kept (RFC 2289, 7.0)
 abbrev pub lowered : OtpFields → ℕ → OtpFields
 lowered otp word = record otp { number = otp.number - 1; kept = word }
 
-abbrev pub used : Fields → OtpFields → ℕ → Fields
-used f otp word = record f { fails = 0; otp = Some (lowered otp word) }
+abbrev pub used : ℕ → Fields → OtpFields → ℕ → Fields
+used moment f otp word = record f { fails = 0; last = moment; otp = Some (lowered otp word) }
 
 abbrev pub wrong : State → Session → Fields → Change
 wrong s session f = settles session (Denied Wrong) Idle (failed s.moment f)
@@ -148,13 +157,13 @@ is_password hash plain = bytes_eq (md5 (plain.salt ++ hash)) plain.hash
 abbrev pub checks_plain : State → Session → List ℕ → Fields → List ℕ → Option Plain → Change
 checks_plain s session name f hash None = drops session (Denied Disabled) Idle
 checks_plain s session name f hash (Some plain) =
-    if is_password hash plain then right session name (logged_in f) else wrong s session f
+    if is_password hash plain then right session name (logged_in s.moment f) else wrong s session f
 
 -- the response is a password, whose next one is the kept one (RFC 2289, 7.0)
 abbrev pub checks_word : State → Session → List ℕ → Fields → OtpFields → Option ℕ → Change
 checks_word s session name f otp None = wrong s session f
 checks_word s session name f otp (Some word) =
-    if next_of word == otp.kept then right session name (used f otp word) else wrong s session f
+    if next_of word == otp.kept then right session name (used s.moment f otp word) else wrong s session f
 
 -- the challenge is the session's
 abbrev pub is_own_challenge : Option Challenge → ℕ → Bool

@@ -1,10 +1,10 @@
 -- What entries say of logins and locks.
-use Rattle.std.specs.Prelude.{◌≡◌, ℕ, ◌<◌, Bool, true, false, ◌&&◌, ◌==◌, List, ◌∷◌, ◌++◌, Option, Some, None, option_map}
+use Rattle.std.specs.Prelude.{◌≡◌, ℕ, ◌<◌, ◌≤◌, Bool, true, false, ◌&&◌, ◌==◌, List, ◌∷◌, ◌++◌, Option, Some, None, option_map}
 use Rattle.std.specs.List.{AllByRecursion}
 use Rattle.std.specs.Str.{bytes_eq}
 use Rattle.auth_records.specs.Spelling.{Fields}
 use Rattle.auth_events.specs.declared.denial.Denial.{Denial}
-use Rattle.auth_events.specs.declared.denial.Denial.TheVariants.{Disabled, Sleeping}
+use Rattle.auth_events.specs.declared.denial.Denial.TheVariants.{Disabled, Expired, Sleeping}
 use Rattle.auth_events.specs.declared.entry.Entry.{Entry}
 use Rattle.auth_events.specs.declared.reply.Reply.{Reply}
 use Rattle.auth_events.specs.declared.reply.Reply.TheVariants as replies
@@ -105,11 +105,13 @@ is_freeing name _ = false
 abbrev pub FreesNone : List ℕ → List Entry → Type 0
 FreesNone name entries = AllByRecursion (λ entry. is_ok entry.reply && is_freeing name entry.request ≡ false) entries
 
--- what a try is denied by then: without a line `badsleep` as by a wizard, and with one also by the end of the lock
-abbrev pub IsLockDenial : Option ℕ → ℕ → Denial → Type 0
-IsLockDenial bad_sleep since Disabled = Unit {0}
-IsLockDenial (Some seconds) since (Sleeping until) = until ≡ later since seconds
-IsLockDenial bad_sleep since _ = ⊥
+-- what a try is denied by at this moment: without a line `badsleep` as by a wizard, and with one also by the end of the
+-- lock, or by a moment that has come, from which the user can't log in
+abbrev pub IsLockDenial : Option ℕ → ℕ → ℕ → Denial → Type 0
+IsLockDenial bad_sleep since moment Disabled = Unit {0}
+IsLockDenial (Some seconds) since moment (Sleeping until) = until ≡ later since seconds
+IsLockDenial (Some seconds) since moment (Expired at) = (0 < at) × (at ≤ moment)
+IsLockDenial bad_sleep since moment _ = ⊥
 
 abbrev pub IsDenied : (Denial → Type 0) → Reply → Type 0
 IsDenied P (replies.Denied denial) = P denial
@@ -121,3 +123,26 @@ pub record HasLockOf (f : Fields) (name : List ℕ) (records : List Fields) : Ty
   pub there : record_at name records ≡ Some g
   pub fails : g.fails ≡ f.fails
   pub since : g.since ≡ f.since
+
+-- ---- expiry
+
+-- a wizard sets the moment from which this user can't log in, or deletes the user
+abbrev pub is_extending : List ℕ → Request → Bool
+is_extending name (requests.Expire one until) = bytes_eq one name
+is_extending name (requests.Deluser one) = bytes_eq one name
+is_extending name _ = false
+
+abbrev pub ExtendsNone : List ℕ → List Entry → Type 0
+ExtendsNone name entries = AllByRecursion (λ entry. is_ok entry.reply && is_extending name entry.request ≡ false) entries
+
+-- what a try is denied by then: as by a wizard, or by that moment
+abbrev pub IsExpiryDenial : ℕ → Denial → Type 0
+IsExpiryDenial expires Disabled = Unit {0}
+IsExpiryDenial expires (Expired at) = at ≡ expires
+IsExpiryDenial expires _ = ⊥
+
+-- the record under the name expires with this one
+pub record HasExpiryOf (f : Fields) (name : List ℕ) (records : List Fields) : Type 0 where
+  pub g : Fields
+  pub there : record_at name records ≡ Some g
+  pub expires : g.expires ≡ f.expires

@@ -1,5 +1,5 @@
 -- Opening a book: what the records are that a keeper has, or which is the first bad one.
-use Rattle.std.specs.Prelude.{◌≡◌, ℕ, List, [], ◌∷◌, Result, Ok, Err, if◌then◌else◌}
+use Rattle.std.specs.Prelude.{◌≡◌, ℕ, ◌==◌, List, [], ◌∷◌, Result, Ok, Err, if◌then◌else◌}
 use Rattle.std.specs.Str.{bytes_eq}
 use Rattle.fw_outside.specs.KeeperView.{AreLoaded, IsCalled, KeeperFailed, NamedBytes, KeeperView}
 use Rattle.auth_records.specs.Reading.{decoded}
@@ -7,14 +7,19 @@ use Rattle.auth_records.specs.Spelling.{Fields}
 use Rattle.auth_machine.specs.declared.open_fault.OpenFault.{OpenFault}
 use Rattle.auth_machine.specs.declared.open_fault.OpenFault.TheVariants.{LoadFault, BadRecord, NoMemory}
 
--- a record has the name under which it stands: another name is a fault at the first byte of the name, which is byte 14
-abbrev pub with_name : List ℕ → Result Fields ℕ → Result Fields ℕ
-with_name name (Err at) = Err at
-with_name name (Ok f) = if bytes_eq f.name name then Ok f else Err 14
+-- the place of the first byte of the name in the bytes of a record: by the first byte, which is the version
+abbrev pub name_place : List ℕ → ℕ
+name_place [] = 30
+name_place (version ∷ rest) = if version == 1 then 14 else 30
+
+-- a record has the name under which it stands: another name is a fault at the first byte of the name
+abbrev pub with_name : List ℕ → ℕ → Result Fields ℕ → Result Fields ℕ
+with_name name place (Err at) = Err at
+with_name name place (Ok f) = if bytes_eq f.name name then Ok f else Err place
 
 -- the record that an entry is, or the place of its first bad byte
 abbrev pub record_in : (List ℕ × List ℕ) → Result Fields ℕ
-record_in entry = with_name entry.0 (decoded entry.1)
+record_in entry = with_name entry.0 (name_place entry.1) (decoded entry.1)
 
 abbrev pub in_front : List ℕ → Result Fields ℕ → Result (List Fields) (List ℕ × ℕ) → Result (List Fields) (List ℕ × ℕ)
 in_front name (Err at) others = Err (name, at)

@@ -8,7 +8,9 @@ use Rattle.fw_types.specs.Dest.{party_at}
 use Rattle.fw_types.specs.Name.{name_of}
 use Rattle.fw_types.specs.declared.host.Host.{Host}
 use Rattle.fw_types.specs.declared.peer.Peer.{Peer}
+use Rattle.gate_rules.specs.Hours.{hours_of_operation, is_open}
 use Rattle.gate_rules.specs.OperationHosts.{hosts_of_operation}
+use Rattle.gate_rules.specs.declared.hours.Hours.{Hours}
 use Rattle.gate_rules.specs.declared.verdict.Verdict.{Verdict}
 use Rattle.gate_rules.specs.declared.verdict.Verdict.TheVariants.{Permit, Deny}
 use Rattle.host_pattern.specs.Pattern.{Written}
@@ -19,7 +21,7 @@ use Rattle.auth_machine.specs.declared.operation.Holder.{Holder}
 use Rattle.auth_machine.specs.declared.operation.Holder.TheVariants.{User, Group}
 use Rattle.auth_machine.specs.declared.operation.OperationLine.{OperationLine}
 
--- the words of a line: `user` or `group`; a name or `*`; a gateway or `*`; and the host list
+-- the words of a line: `user` or `group`; a name or `*`; a gateway or `*`; the host list; and the hours, if it has any
 
 abbrev pub holder_of : List ℕ → Holder
 holder_of text = if bytes_eq text (codes "group") then Group else User
@@ -32,24 +34,25 @@ line_service_of text =
     else if bytes_eq text (codes "ftp-gw") then Some Ftp
     else None
 
-abbrev pub operation_line_with : ℕ → Bool → List Word → List Written → Option OperationLine
-operation_line_with number permits (holder ∷ name ∷ service ∷ words) hosts = Some (record {
+abbrev pub operation_line_with : ℕ → Bool → List Word → List Written → Option Hours → Option OperationLine
+operation_line_with number permits (holder ∷ name ∷ service ∷ words) hosts hours = Some (record {
   number = number;
   permits = permits;
   holder = holder_of holder.text;
   name = name_of name.text;
   service = line_service_of service.text;
   hosts = hosts;
+  hours = hours;
 })
-operation_line_with number permits _ hosts = None
+operation_line_with number permits _ hosts hours = None
 
-abbrev pub line_by : ℕ → Bool → List Word → Option (List Written) → Option OperationLine
-line_by number permits words None = None
-line_by number permits words (Some hosts) = operation_line_with number permits words hosts
+abbrev pub line_by : ℕ → Bool → List Word → Option (List Written) → Option Hours → Option OperationLine
+line_by number permits words None hours = None
+line_by number permits words (Some hosts) hours = operation_line_with number permits words hosts hours
 
 -- what a line of the table says of operations, where it does
 abbrev pub operation_line : Line → Option OperationLine
-operation_line line = line_by line.number (bytes_eq line.attribute (codes "permit-operation")) line.words (hosts_of_operation line)
+operation_line line = line_by line.number (bytes_eq line.attribute (codes "permit-operation")) line.words (hosts_of_operation line) (hours_of_operation line)
 
 -- the lines about operations, in the table's order
 abbrev pub operation_lines : List Line → List OperationLine
@@ -76,10 +79,10 @@ abbrev pub is_through : Option OpService → OpService → Bool
 is_through None service = true
 is_through (Some one) service = service_place one == service_place service
 
--- the line fits user, group, service and destination
-abbrev pub fits : List ℕ → Option (List ℕ) → OpService → Peer → OperationLine → Bool
-fits user group service party line =
-    is_whose line.holder line.name user group && is_through line.service service && list_matches line.hosts party
+-- the line fits user, group, service and destination, and is open at this moment; a line without hours always is
+abbrev pub fits : List ℕ → Option (List ℕ) → OpService → Peer → ℕ → OperationLine → Bool
+fits user group service party moment line =
+    is_whose line.holder line.name user group && is_through line.service service && list_matches line.hosts party && is_open line.hours moment
 
 -- the first of these lines decides, and where there is none the operation is denied by line 0
 abbrev pub first_decides : List OperationLine → Verdict
@@ -87,5 +90,5 @@ first_decides [] = Deny 0
 first_decides (line ∷ lines) = if line.permits then Permit line.number else Deny line.number
 
 -- of the lines that fit, the first decides
-unfoldable pub operation_verdict : List OperationLine → List ℕ → Option (List ℕ) → OpService → Host → Verdict
-operation_verdict lines user group service host = first_decides (filter (fits user group service (party_at host)) lines)
+unfoldable pub operation_verdict : List OperationLine → List ℕ → Option (List ℕ) → OpService → Host → ℕ → Verdict
+operation_verdict lines user group service host moment = first_decides (filter (fits user group service (party_at host) moment) lines)

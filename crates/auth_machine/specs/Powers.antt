@@ -54,12 +54,12 @@ abbrev pub operation_answer : Verdict → Answer
 operation_answer (Permit line) = Ok
 operation_answer (Deny line) = Denied (NoRule line)
 
-abbrev pub operation_by : PolicyView → OpService → Host → Option Fields → Change
-operation_by policy service host None = answers_only (Denied NotIn)
-operation_by policy service host (Some user) = answers_only (operation_answer (operation_verdict policy.operations user.name user.group service host))
+abbrev pub operation_by : PolicyView → ℕ → OpService → Host → Option Fields → Change
+operation_by policy moment service host None = answers_only (Denied NotIn)
+operation_by policy moment service host (Some user) = answers_only (operation_answer (operation_verdict policy.operations user.name user.group service host moment))
 
 unfoldable pub asks_operation : PolicyView → State → Session → OpService → Host → Change
-asks_operation policy s session service host = operation_by policy service host (user_of s session)
+asks_operation policy s session service host = operation_by policy s.moment service host (user_of s session)
 
 -- ---- power
 
@@ -171,6 +171,10 @@ with_otp otp f = record f { otp = Some otp }
 abbrev pub with_wiz : Wiz → Fields → Fields
 with_wiz wiz f = record f { wiz = wiz }
 
+-- the moment from which the user can't log in, or 0 for never
+abbrev pub with_expiry : ℕ → Fields → Fields
+with_expiry until f = record f { expires = until }
+
 -- ---- Adduser
 
 -- a new user of this name, who can't log in yet
@@ -184,6 +188,8 @@ new_user name long group = record {
   wiz = wizards.None;
   fails = 0;
   since = 0;
+  last = 0;
+  expires = 0;
   plain = None;
   otp = None;
 }

@@ -11,7 +11,7 @@ use Rattle.auth_machine.specs.Answer.{Answer}
 use Rattle.auth_machine.specs.Answer.Answer.{Opened, Ok, Denied}
 use Rattle.auth_machine.specs.Login.{answers_only, authenticate, respond}
 use Rattle.auth_machine.specs.Policy.{PolicyView}
-use Rattle.auth_machine.specs.Powers.{add_user, by_super, by_user, by_wizard, deletes, disabled, enabled, list, asks_operation, shows, stores, with_group, with_otp, with_password, with_proto, with_wiz}
+use Rattle.auth_machine.specs.Powers.{add_user, by_super, by_user, by_wizard, deletes, disabled, enabled, list, asks_operation, shows, stores, with_expiry, with_group, with_otp, with_password, with_proto, with_wiz}
 use Rattle.auth_machine.specs.declared.record_change.RecordChange.{RecordChange}
 use Rattle.auth_machine.specs.State.{Change, State, at_moment, changed, record_at, session_of}
 use Rattle.auth_machine.specs.declared.record_change.RecordChange.TheVariants.{Leave, Put, Delete}
@@ -55,6 +55,7 @@ change_of policy s place sid (requests.Otp name number word_seed kept) = in_sess
 change_of policy s place sid (requests.Wiz name) = in_session (session_of sid s.sessions) (λ session. by_super s session name (λ f. stores (with_wiz wizards.Group f)))
 change_of policy s place sid (requests.Unwiz name) = in_session (session_of sid s.sessions) (λ session. by_super s session name (λ f. stores (with_wiz wizards.None f)))
 change_of policy s place sid (requests.Superwiz name) = in_session (session_of sid s.sessions) (λ session. by_super s session name (λ f. stores (with_wiz wizards.Super f)))
+change_of policy s place sid (requests.Expire name until) = in_session (session_of sid s.sessions) (λ session. by_wizard s session name (λ f. stores (with_expiry until f)))
 change_of policy s place sid (requests.Display name) = in_session (session_of sid s.sessions) (λ session. by_user s session name shows)
 change_of policy s place sid (requests.List after) = in_session (session_of sid s.sessions) (λ session. list s session after)
 change_of policy s place sid requests.Close = in_session (session_of sid s.sessions) (λ session. closes)

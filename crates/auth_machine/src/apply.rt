@@ -1,14 +1,13 @@
 //! Carrying changes out, for which there is room.
-ghost use Rattle.std.specs.Prelude.{◌≡◌, ◌≤◌, ◌<◌, ◌++◌, ◌∷◌, [], not, length};
-ghost use Rattle.std.specs.List.{position, position_or_len};
+ghost use Rattle.std.specs.Prelude.{◌≡◌, ◌≤◌, ◌<◌, ◌++◌, ◌∷◌, [], not};
 ghost use Rattle.std.specs.Str.{bytes_eq};
 ghost use Rattle.std.specs.Vec.{vec_capacity, vec_len};
-ghost use Rattle.fw_types.specs.Keyed.{is_named, placed, without};
-ghost use Rattle.fw_types.specs.Name.{is_before};
+ghost use Rattle.fw_types.specs.Keyed.{Ascends, placed, without};
 ghost use Rattle.auth_machine.specs.State.{records_after, challenges_after, record_name, sessions_after, without_name, without_own, without_session};
 
-use crate::machine_ref::{is_challenge_of, is_named};
+use crate::machine_ref::is_challenge_of;
 use crate::record_change::{ChallengeChange, RecordChange, SessionChange};
+use crate::search::{count_before, is_named, stands_at};
 use crate::user_record::UserRecord;
 use crate::{Challenge, Session};
 use fw_types::Name;
@@ -21,33 +20,17 @@ fn without_record(records: &mut Vec<UserRecord>, name: &Name)
     records.retain(|user| !is_named(user, name));
 }
 
-fn is_before(user: &UserRecord, name: &Name) -> bool
-    ensures { result ≡ is_before user.now.name name.now }
-{
-    user.record.name.is_before(name)
-}
-
-fn first_not_before(records: &[UserRecord], name: &Name) -> Option<usize>
-    ensures { result ≡ position (λ user. not (is_before user.name name.now)) records.now }
-{
-    records.iter().position(|user| !is_before(user, name))
-}
-
-// How many records, in order, have names before this one.
-fn count_before(records: &[UserRecord], name: &Name) -> usize
-    ensures count { result ≡ position_or_len (λ user. not (is_before user.name name.now)) records.now }
-    ensures within { result ≤ length records.now }
-{
-    first_not_before(records, name).unwrap_or(records.len())
-}
-
+// Puts the record in the place of the one with its name, or between its neighbours where there is none.
 fn put_record(records: &mut Vec<UserRecord>, user: UserRecord)
-    requires { vec_len records.old < vec_capacity records.old }
+    requires room { vec_len records.old < vec_capacity records.old }
+    requires ordered { Ascends record_name records.old.items }
     ensures { records.new.items ≡ placed record_name user (without record_name user.name records.old.items) }
 {
-    let name = user.record.name.twin();
-    without_record(records, &name);
-    let at = count_before(records, &name);
+    let at = count_before(records, &user.record.name);
+    if stands_at(records, at, &user.record.name) {
+        records[at] = user;
+        return;
+    }
     if records.insert(at, user).is_err() {
         unreachable!();
     }
@@ -55,7 +38,8 @@ fn put_record(records: &mut Vec<UserRecord>, user: UserRecord)
 
 // Carries out what becomes of the records.
 pub(crate) fn change_records(records: &mut Vec<UserRecord>, change: RecordChange)
-    requires { vec_len records.old < vec_capacity records.old }
+    requires room { vec_len records.old < vec_capacity records.old }
+    requires ordered { Ascends record_name records.old.items }
     ensures { records.new.items ≡ records_after change records.old.items }
 {
     match change {

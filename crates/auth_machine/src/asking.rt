@@ -11,7 +11,7 @@ use crate::opening_session::{closes, opens};
 use crate::operation_request::asks_operation;
 use crate::passwords::{otp, password};
 use crate::response::respond;
-use crate::rights::{disable, enable, group, proto, wiz};
+use crate::rights::{disable, enable, expire, group, proto, wiz};
 use crate::showing::{display, list};
 use crate::users::{add_user, deluser};
 use crate::{Policy, Session};
@@ -62,6 +62,7 @@ pub(crate) fn asked(
         Request::Wiz { name } => wiz(machine, session, name, Wiz::Group),
         Request::Unwiz { name } => wiz(machine, session, name, Wiz::None),
         Request::Superwiz { name } => wiz(machine, session, name, Wiz::Super),
+        Request::Expire { name, until } => expire(machine, session, name, *until),
         Request::Display { name } => display(machine, session, name),
         Request::List { after } => list(machine, session, after),
         Request::Close => closes(),

@@ -2,10 +2,10 @@ ghost use Rattle.std.specs.Prelude.{◌≡◌, ◌≤◌, All, [], IfErr, IfOk, 
 ghost use Rattle.std.specs.Bool.{OnTrue};
 ghost use Rattle.fw_types.specs.Keyed.{Ascends};
 ghost use Rattle.fw_outside.specs.Counts.{Grew};
-ghost use Rattle.fw_outside.specs.KeeperView.{AreSame, IsCalled};
+ghost use Rattle.fw_outside.specs.KeeperView.{IsCalled};
 ghost use Rattle.auth_records.specs.Spelling.{HasForm};
 ghost use Rattle.auth_machine.specs.Book.{Asked, CalledBy, KeeperAfter, RoseIfUnkept, Stands, edits_records, refused_by};
-ghost use Rattle.auth_machine.specs.History.{CountsCalls, CountsUnkept, HasRecords, IsLegal, IsSound, entries_of};
+ghost use Rattle.auth_machine.specs.History.{CountsCalls, CountsUnkept, DecodesTo, HasRecords, IsLegal, IsSound};
 ghost use Rattle.auth_machine.specs.Opening.{ReadsAs, RefusesBook};
 ghost use Rattle.auth_machine.specs.MachineState.{state_of};
 ghost use Rattle.auth_machine.specs.State.{record_name};
@@ -77,7 +77,7 @@ impl<K: Keeper> Book<K> {
         records: Vec<UserRecord>,
         limit: u64,
     ) -> Book<K>
-        requires told { IfSome (K.keeper_view keeper).table (λ table. AreSame table (entries_of records.items)) }
+        requires told { IfSome (K.keeper_view keeper).table (DecodesTo records.items) }
         requires ordered { Ascends record_name records.items }
         requires formed { All HasForm records.items }
         ensures { result ≡ record {

@@ -13,8 +13,9 @@ ghost use Rattle.auth_events.specs.declared.request.Request.TheVariants as reque
 ghost use Rattle.auth_machine.specs.Answer.{summary_profile};
 ghost use Rattle.auth_machine.specs.History.{IsLegal, IsStep, Origin, after};
 ghost use Rattle.auth_machine.specs.Laws.{HasRankOf, IsGroupWizard, IsNewcomer, IsOutOfReach, SaysIfKept, ShowsLeast, ShowsNone};
-ghost use Rattle.auth_machine.specs.Logins.{FreesNone, HasLockOf, IsDenied, IsLockDenial, IsLocked, LoginStands, SomeLoginStands, phase_of, tries};
+ghost use Rattle.auth_machine.specs.Logins.{ExtendsNone, FreesNone, HasExpiryOf, HasLockOf, IsDenied, IsExpiryDenial, IsLockDenial, IsLocked, LoginStands, SomeLoginStands, phase_of, tries};
 ghost use Rattle.auth_machine.specs.Chains.{AreLeft, IsAcceptance, Lowers, SetsNone, accepted, later_word, otp_in_record};
+ghost use Rattle.auth_machine.specs.Login.{has_expired};
 ghost use Rattle.auth_machine.specs.State.{record_name, record_at};
 ghost use Rattle.auth_machine.specs.declared.session.Phase.TheVariants.{In};
 
@@ -77,18 +78,32 @@ pub fn words_are_used_once()
 {}
 
 /// While a record is locked, and no wizard enables or deletes the user, each try to log in as the user is denied, the
-/// right password too, and the lock stays as it is: whatever else is changed of the record, it is neither longer nor
-/// shorter.
+/// right password too, by the lock or since the record has expired as well, and the lock stays as it is: whatever else
+/// is changed of the record, it is neither longer nor shorter.
 pub fn a_lock_holds()
     ensures denied { (origin : Origin) (before during : List Entry) (entry : Entry) (name : List ℕ) (f : Fields)
         → IsLegal origin (before ++ (during ++ entry ∷ [])) → record_at name (after origin before).records ≡ Some f
         → IsLocked origin.policy (max (after origin (before ++ during)).moment entry.at) f → FreesNone name during
         → tries name (phase_of entry.sid (after origin (before ++ during))) entry.request ≡ true
-        → IsDenied (IsLockDenial origin.policy.bad_sleep f.since) entry.reply }
+        → IsDenied (IsLockDenial origin.policy.bad_sleep f.since (max (after origin (before ++ during)).moment
+        entry.at)) entry.reply }
     ensures stays { (origin : Origin) (before during : List Entry) (name : List ℕ) (f : Fields)
         → IsLegal origin (before ++ during) → record_at name (after origin before).records ≡ Some f
         → IsLocked origin.policy (after origin (before ++ during)).moment f → FreesNone name during
         → HasLockOf f name (after origin (before ++ during)).records }
+{}
+
+/// Once a record has expired, and while no wizard says anew when it does or deletes the user, each try to log in as the
+/// user is denied, the right password too, and the moment of its expiry stays.
+pub fn an_expiry_holds()
+    ensures denied { (origin : Origin) (before during : List Entry) (entry : Entry) (name : List ℕ) (f : Fields)
+        → IsLegal origin (before ++ (during ++ entry ∷ [])) → record_at name (after origin before).records ≡ Some f
+        → has_expired (max (after origin (before ++ during)).moment entry.at) f ≡ true → ExtendsNone name during
+        → tries name (phase_of entry.sid (after origin (before ++ during))) entry.request ≡ true
+        → IsDenied (IsExpiryDenial f.expires) entry.reply }
+    ensures stays { (origin : Origin) (before during : List Entry) (name : List ℕ) (f : Fields)
+        → IsLegal origin (before ++ during) → record_at name (after origin before).records ≡ Some f
+        → ExtendsNone name during → HasExpiryOf f name (after origin (before ++ during)).records }
 {}
 
 /// What the wizard of a group asks for, whatever it is, leaves every record as it is but the wizard's own and those of

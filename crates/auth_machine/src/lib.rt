@@ -38,6 +38,7 @@ mod record_change;
 mod response;
 mod rights;
 mod room;
+mod search;
 mod session;
 mod showing;
 mod standing;

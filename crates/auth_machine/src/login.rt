@@ -3,12 +3,13 @@ ghost use Rattle.std.specs.Prelude.{◌≡◌, Some, None};
 ghost use Rattle.std.specs.Option.{option_copied};
 ghost use Rattle.auth_records.specs.Spelling.{fields, otp_fields};
 ghost use Rattle.auth_machine.specs.Answer.{answer_of};
-ghost use Rattle.auth_machine.specs.Login.{asks, asks_word, authenticate, authenticate_as, challenges, checks, checks_otp, checks_plain, checks_word, failed, guarded, has_password, is_own_challenge, is_password, later, lockout, logged_in, one_more, refusal, respond, respond_as, respond_in, right, unless_refused, used, wrong};
+ghost use Rattle.auth_machine.specs.Login.{asks, asks_word, asleep, authenticate, authenticate_as, challenges, guarded, has_expired, has_password, is_disabled, later, refusal};
 ghost use Rattle.auth_machine.specs.State.{record_at};
 
 use crate::change::{Change, in_phase};
-use crate::machine_ref::{MachineRef, challenge_at, record_at};
+use crate::machine_ref::{MachineRef, challenge_at};
 use crate::record_change::{ChallengeChange, RecordChange, SessionChange};
+use crate::search::record_at;
 use crate::user_record::UserRecord;
 use crate::{Challenge, Phase, Policy, Session};
 use auth_events::{Denial, Reply};
@@ -31,14 +32,26 @@ fn has_password(user: &UserRecord) -> bool
     }
 }
 
-fn lockout(bad_sleep: Option<u64>, since: u64, moment: u64) -> Option<Denial>
-    ensures { result ≡ lockout bad_sleep since moment }
+fn is_disabled(bad_sleep: Option<u64>, user: &UserRecord) -> bool
+    ensures { result ≡ is_disabled bad_sleep user.now }
+{
+    !user.record.enabled || !has_password(user) || user.record.fails == 5 && bad_sleep.is_none()
+}
+
+fn has_expired(moment: u64, user: &UserRecord) -> bool
+    ensures { result ≡ has_expired moment user.now }
+{
+    user.record.expires != 0 && user.record.expires <= moment
+}
+
+fn asleep(bad_sleep: Option<u64>, moment: u64, user: &UserRecord) -> Option<Denial>
+    ensures { result ≡ asleep bad_sleep moment user.now }
 {
     match bad_sleep {
-        None => Some(Denial::Disabled),
+        None => None,
         Some(seconds) => {
-            let until = later(since, seconds);
-            if seconds > 0 && moment < until {
+            let until = later(user.record.since, seconds);
+            if user.record.fails == 5 && (seconds > 0 && moment < until) {
                 return Some(Denial::Sleeping { until });
             }
             None
@@ -49,13 +62,15 @@ fn lockout(bad_sleep: Option<u64>, since: u64, moment: u64) -> Option<Denial>
 pub(crate) fn refusal(policy: &Policy, moment: u64, user: &UserRecord) -> Option<Denial>
     ensures { result ≡ refusal policy.now moment user.now }
 {
-    if !user.record.enabled || !has_password(user) {
+    if is_disabled(policy.bad_sleep(), user) {
         return Some(Denial::Disabled);
     }
-    if user.record.fails == 5 {
-        return lockout(policy.bad_sleep(), user.record.since, moment);
+    if has_expired(moment, user) {
+        return Some(Denial::Expired {
+            at: user.record.expires,
+        });
     }
-    None
+    asleep(policy.bad_sleep(), moment, user)
 }
 
 fn guarded(challenge: Option<&Challenge>, sid: u64, moment: u64) -> Option<Denial>

@@ -1,15 +1,14 @@
 ghost use Rattle.std.specs.Prelude.{◌≡◌};
 ghost use Rattle.std.specs.Option.{option_copied};
 ghost use Rattle.std.specs.Str.{bytes_eq};
-ghost use Rattle.fw_types.specs.Keyed.{is_named};
-ghost use Rattle.auth_machine.specs.State.{challenge_at, record_name, record_at, session_of};
+ghost use Rattle.auth_machine.specs.State.{challenge_at, session_of};
 
 use crate::user_record::UserRecord;
 use crate::{Challenge, Session};
 use fw_types::Name;
 use std::marker::Model;
 
-/// What stands at a moment: the records, the sessions and the challenges.
+/// What stands at a moment: the records, in the order of their names, the sessions and the challenges.
 #[derive(Drop)]
 pub(crate) struct MachineRef<'a> {
     pub(crate) records: &'a [UserRecord],
@@ -19,7 +18,8 @@ pub(crate) struct MachineRef<'a> {
 }
 
 impl<'a> Model for MachineRef<'a> {
-    ghost use Rattle.auth_machine.specs.State.{State};
+    ghost use Rattle.fw_types.specs.Keyed.{Ascends};
+    ghost use Rattle.auth_machine.specs.State.{State, record_name};
 
     ghost Value = { State };
 
@@ -29,25 +29,14 @@ impl<'a> Model for MachineRef<'a> {
       challenges = m.challenges.now;
       moment = m.moment;
     } };
-}
 
-pub(crate) fn is_named(user: &UserRecord, name: &Name) -> bool
-    ensures { result ≡ is_named record_name name.now user.now }
-{
-    user.record.name.text() == name.text()
+    ghost invariant = { λ m. Ascends record_name m.records.now };
 }
 
 pub(crate) fn is_challenge_of(challenge: &Challenge, name: &Name) -> bool
     ensures { result ≡ bytes_eq challenge.now.name name.now }
 {
     challenge.name.text() == name.text()
-}
-
-// The record of this name.
-pub(crate) fn record_at<'a>(records: &'a [UserRecord], name: &Name) -> Option<&'a UserRecord>
-    ensures { option_copied result ≡ record_at name.now records.entry.now }
-{
-    records.iter().find(|user| is_named(user, name))
 }
 
 // The session of this number.

@@ -1,7 +1,8 @@
 ghost use Rattle.std.specs.Prelude.{◌≡◌, OnOk, OnErr};
+ghost use Rattle.fw_types.specs.Keyed.{Ascends};
 ghost use Rattle.auth_machine.specs.Answer.{answer_of};
 ghost use Rattle.auth_machine.specs.MachineState.{HasRoom, state_of};
-ghost use Rattle.auth_machine.specs.State.{at_moment, changed, first_state};
+ghost use Rattle.auth_machine.specs.State.{at_moment, changed, first_state, record_name};
 
 use crate::apply::{change_challenges, change_records, change_sessions};
 use crate::change::Change;
@@ -48,6 +49,7 @@ impl MachineState {
 
     // The same at a later moment.
     pub(crate) fn at_moment(&self, at: u64) -> MachineRef<'_>
+        requires { Ascends record_name (state_of self.now).records }
         ensures { result ≡ at_moment at (state_of self.now) }
     {
         MachineRef {
@@ -67,7 +69,8 @@ impl MachineState {
 
     // Carries out a change of the session of this number.
     pub(crate) fn carry_out(&mut self, at: u64, sid: u64, change: Change) -> Reply
-        requires { HasRoom self.old }
+        requires room { HasRoom self.old }
+        requires ordered { Ascends record_name (state_of self.old).records }
         ensures state { state_of self.new ≡ changed sid change (at_moment at (state_of self.old)) }
         ensures reply { answer_of result ≡ change.answer }
     {

@@ -1,6 +1,7 @@
 //! Lines about operations, one by one.
 use auth_events::OpService;
 use fw_types::Name;
+use gate_rules::Hours;
 use host_pattern::PatternList;
 
 /// Whose name a line about operations has.
@@ -25,4 +26,6 @@ pub struct OperationLine {
     pub service: Option<OpService>,
     /// The destinations that it speaks of.
     pub hosts: PatternList,
+    /// When it is open, or nothing where it always is.
+    pub hours: Option<Hours>,
 }

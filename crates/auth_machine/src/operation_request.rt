@@ -11,11 +11,18 @@ use auth_events::{Denial, OpService, Reply};
 use fw_types::Host;
 use gate_rules::Verdict;
 
-// What the policy decides of an operation of this user.
-fn operation_of(policy: &Policy, user: &UserRecord, service: OpService, host: &Host) -> Change
-    ensures { result ≡ operation_by policy.now service host.now (Some user.now) }
+// What the policy decides of an operation of this user at this moment.
+fn operation_of(
+    policy: &Policy,
+    moment: u64,
+    user: &UserRecord,
+    service: OpService,
+    host: &Host,
+) -> Change
+    ensures { result ≡ operation_by policy.now moment service host.now (Some user.now) }
 {
-    match policy.verdict(&user.record.name, &user.record.group, service, host) {
+    let verdict = policy.verdict(&user.record.name, &user.record.group, service, host, moment);
+    match verdict {
         Verdict::Permit { .. } => Change::only(Reply::Ok),
         Verdict::Deny { line } => Change::denied(Denial::NoRule { line }),
     }
@@ -33,6 +40,6 @@ pub(crate) fn asks_operation(
 {
     match user_of(machine, session) {
         None => Change::denied(Denial::NotIn),
-        Some(user) => operation_of(policy, user, service, host),
+        Some(user) => operation_of(policy, machine.moment, user, service, host),
     }
 }

@@ -1,13 +1,14 @@
 //! Reading the lines about operations, and what they decide.
 ghost use Rattle.std.specs.Prelude.{◌≡◌, ◌<◌, List, ◌∷◌, filter, IfOk};
 ghost use Rattle.fw_types.specs.Dest.{party_at};
+ghost use Rattle.gate_rules.specs.Hours.{is_open};
 ghost use Rattle.auth_machine.specs.declared.operation.OperationLine.{OperationLine};
 ghost use Rattle.auth_machine.specs.Operations.{first_decides, fits, holder_of, is_about_user, is_through, is_whose, line_by, operation_line_with, operation_line, operation_lines, operation_verdict, line_service_of, service_place};
 
 use crate::operation::{Holder, OperationLine};
 use auth_events::OpService;
 use fw_types::{Dest, Host, Name, NoMemory, Peer};
-use gate_rules::{Verdict, hosts_of_operation};
+use gate_rules::{Hours, Verdict, hosts_of_operation, hours_of_operation};
 use host_pattern::{PatternList, Steps, Word};
 use netperm_table::Line;
 use std::alloc::Global;
@@ -39,14 +40,15 @@ fn line_service_of(text: &[u8]) -> Option<OpService>
     None
 }
 
-// The line with these words and this host list.
+// The line with these words, this host list and these hours.
 fn operation_line_with(
     number: u32,
     permits: bool,
     words: &[Word],
     hosts: PatternList,
+    hours: Option<Hours>,
 ) -> Option<OperationLine>
-    ensures { result ≡ operation_line_with number permits words.now hosts }
+    ensures { result ≡ operation_line_with number permits words.now hosts hours }
 {
     match words {
         [holder, name, service, ..] => Some(OperationLine {
@@ -56,6 +58,7 @@ fn operation_line_with(
             name: Name::read(name.text.bytes()),
             service: line_service_of(service.text.bytes()),
             hosts,
+            hours,
         }),
         _ => None,
     }
@@ -67,11 +70,12 @@ fn line_by(
     permits: bool,
     words: &[Word],
     hosts: Option<PatternList>,
+    hours: Option<Hours>,
 ) -> Option<OperationLine>
-    ensures { result ≡ line_by number permits words.now hosts }
+    ensures { result ≡ line_by number permits words.now hosts hours }
 {
     match hosts {
-        Some(hosts) => operation_line_with(number, permits, words, hosts),
+        Some(hosts) => operation_line_with(number, permits, words, hosts, hours),
         None => None,
     }
 }
@@ -81,8 +85,9 @@ fn operation_line(alloc: Global, line: &Line) -> Result<Option<OperationLine>, N
     ensures { IfOk result (λ said. said ≡ operation_line line.now) }
 {
     let hosts = hosts_of_operation(alloc, line)?;
+    let hours = hours_of_operation(line);
     let permits = line.attribute.bytes() == b"permit-operation".as_slice();
-    Ok(line_by(line.number, permits, line.words.as_slice(), hosts))
+    Ok(line_by(line.number, permits, line.words.as_slice(), hosts, hours))
 }
 
 // The lines about operations, in order.
@@ -138,20 +143,31 @@ fn is_through(one: Option<OpService>, service: OpService) -> bool
     }
 }
 
-// Whether the line fits user, group, service and destination.
+fn is_open(hours: &Option<Hours>, moment: u64) -> bool
+    ensures { result ≡ is_open hours.now moment }
+{
+    match hours {
+        Some(hours) => hours.is_open(moment),
+        None => true,
+    }
+}
+
+// Whether the line fits user, group, service and destination, and is open.
 fn fits<L: Ledger>(
     line: &OperationLine,
     user: &Name,
     group: &Option<Name>,
     service: OpService,
     party: &Peer,
+    moment: u64,
     steps: &mut Steps<L>,
 ) -> bool
-    ensures { result ≡ fits user.now group.now service party.now line.now }
+    ensures { result ≡ fits user.now group.now service party.now moment line.now }
 {
     is_whose(line.holder, &line.name, user, group)
         && is_through(line.service, service)
         && line.hosts.matches(party, steps)
+        && is_open(&line.hours, moment)
 }
 
 // What a line decides where it is the first that fits.
@@ -173,15 +189,16 @@ fn verdict_in<L: Ledger>(
     group: &Option<Name>,
     service: OpService,
     party: &Peer,
+    moment: u64,
 ) -> Verdict
     requires name { blank.name ≡ L.name }
     requires parts { blank.parts ≡ L.parts }
     requires some { 0 < blank.parts }
-    ensures { result ≡ first_decides (filter (fits user.now group.now service party.now) lines.now) }
+    ensures { result ≡ first_decides (filter (fits user.now group.now service party.now moment) lines.now) }
 {
     let mut steps = Steps::<L>::new(blank);
     for line in lines {
-        if fits(line, user, group, service, party, &mut steps) {
+        if fits(line, user, group, service, party, moment, &mut steps) {
             return verdict_by(line);
         }
     }
@@ -199,7 +216,7 @@ fn party_at(host: &Host) -> Peer
     dest.party()
 }
 
-/// What the lines decide of an operation.
+/// What the lines decide of an operation at this moment, in seconds.
 #[tactic(auto, unfolding(crate::specs::Operations::operation_verdict))]
 pub(crate) fn operation_verdict(
     lines: &[OperationLine],
@@ -207,9 +224,10 @@ pub(crate) fn operation_verdict(
     group: &Option<Name>,
     service: OpService,
     host: &Host,
+    moment: u64,
 ) -> Verdict
-    ensures { result ≡ operation_verdict lines.now user.now group.now service host.now }
+    ensures { result ≡ operation_verdict lines.now user.now group.now service host.now moment }
 {
     let party = party_at(host);
-    verdict_in::<Brand>(Blank::new(1), lines, user, group, service, &party)
+    verdict_in::<Brand>(Blank::new(1), lines, user, group, service, &party, moment)
 }

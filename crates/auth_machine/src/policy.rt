@@ -94,17 +94,18 @@ impl Policy {
         self.no_bogus
     }
 
-    /// What is decided of an operation that a user of a group, if any, asks for: the first line that fits decides, and
-    /// where none fits it is denied by line 0. It takes no memory.
+    /// What is decided of an operation that a user of a group, if any, asks for at this moment, in seconds: the first
+    /// line that fits and is open then decides, and where there is none it is denied by line 0. It takes no memory.
     pub fn verdict(
         &self,
         user: &Name,
         group: &Option<Name>,
         service: OpService,
         host: &Host,
+        moment: u64,
     ) -> Verdict
-        ensures { result ≡ operation_verdict self.now.operations user.now group.now service host.now }
+        ensures { result ≡ operation_verdict self.now.operations user.now group.now service host.now moment }
     {
-        operation_verdict(&self.operations, user, group, service, host)
+        operation_verdict(&self.operations, user, group, service, host, moment)
     }
 }

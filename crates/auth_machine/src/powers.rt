@@ -4,7 +4,8 @@ ghost use Rattle.std.specs.Option.{option_copied};
 ghost use Rattle.auth_machine.specs.Powers.{covers, is_name_in, is_super, name_in_phase, over_all, own_power, power_of, reachable, record_of, same_group, sees, user_of, wizard_power};
 ghost use Rattle.auth_machine.specs.State.{record_at};
 
-use crate::machine_ref::{MachineRef, record_at};
+use crate::machine_ref::MachineRef;
+use crate::search::record_at;
 use crate::user_record::UserRecord;
 use crate::{Phase, Power, Session};
 use auth_events::Denial;

@@ -9,7 +9,8 @@ ghost use Rattle.auth_machine.specs.Login.{checks, checks_otp, checks_plain, che
 
 use crate::change::Change;
 use crate::login::refusal;
-use crate::machine_ref::{MachineRef, challenge_at, record_at};
+use crate::machine_ref::{MachineRef, challenge_at};
+use crate::search::record_at;
 use crate::user_record::UserRecord;
 use crate::{Challenge, Phase, Policy, Session};
 use auth_events::{Denial, Reply};
@@ -38,19 +39,21 @@ fn failed(moment: u64, user: &UserRecord) -> UserRecord
     UserRecord { record }
 }
 
-fn logged_in(user: &UserRecord) -> UserRecord
-    ensures { result ≡ logged_in user.now }
+fn logged_in(moment: u64, user: &UserRecord) -> UserRecord
+    ensures { result ≡ logged_in moment user.now }
 {
     let mut record = user.record.twin();
     record.fails = 0;
+    record.last = moment;
     UserRecord { record }
 }
 
-fn used(user: &UserRecord, otp: &Otp, word: u64) -> UserRecord
-    ensures { result ≡ used user.now (otp_fields otp.now) word }
+fn used(moment: u64, user: &UserRecord, otp: &Otp, word: u64) -> UserRecord
+    ensures { result ≡ used moment user.now (otp_fields otp.now) word }
 {
     let mut record = user.record.twin();
     record.fails = 0;
+    record.last = moment;
     record.otp = Some(Otp {
         number: otp.number.saturating_sub(1),
         word_seed: otp.word_seed.twin(),
@@ -101,7 +104,7 @@ fn checks_plain(
         None => Change::drops(session, Reply::Denied(Denial::Disabled), Phase::Idle),
         Some(plain) => {
             if is_password(hash, plain) {
-                return right(session, name, logged_in(user));
+                return right(session, name, logged_in(machine.moment, user));
             }
             wrong(machine, session, user)
         }
@@ -122,7 +125,7 @@ fn checks_word(
         None => wrong(machine, session, user),
         Some(word) => {
             if next(word) == otp.kept {
-                return right(session, name, used(user, otp, word));
+                return right(session, name, used(machine.moment, user, otp, word));
             }
             wrong(machine, session, user)
         }

@@ -1,5 +1,5 @@
-//! What a wizard sets of a user: whether the user is enabled, the group, the protocol and the power.
-ghost use Rattle.auth_machine.specs.Powers.{by_super, by_wizard, disabled, enabled, stores, with_group, with_proto, with_wiz};
+//! What a wizard sets of a user: whether the user is enabled and until when, the group, the protocol and the power.
+ghost use Rattle.auth_machine.specs.Powers.{by_super, by_wizard, disabled, enabled, stores, with_expiry, with_group, with_proto, with_wiz};
 ghost use Rattle.std.specs.Prelude.{◌≡◌};
 
 use crate::Session;
@@ -80,6 +80,23 @@ pub(crate) fn proto(machine: &MachineRef, session: &Session, name: &Name, proto:
 {
     match by_wizard(machine, session, name) {
         Ok(user) => sets_proto(user, proto),
+        Err(denial) => Change::denied(denial),
+    }
+}
+
+fn sets_expiry(user: &UserRecord, until: u64) -> Change
+    ensures { result ≡ stores (with_expiry until user.now) }
+{
+    let mut record = user.record.twin();
+    record.expires = until;
+    stores(record)
+}
+
+pub(crate) fn expire(machine: &MachineRef, session: &Session, name: &Name, until: u64) -> Change
+    ensures { result ≡ by_wizard machine.now session.now name.now (λ f. stores (with_expiry until f)) }
+{
+    match by_wizard(machine, session, name) {
+        Ok(user) => sets_expiry(user, until),
         Err(denial) => Change::denied(denial),
     }
 }

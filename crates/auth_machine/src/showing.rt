@@ -38,6 +38,8 @@ pub(crate) fn summary(user: &UserRecord) -> Summary
         enabled: record.enabled,
         wiz: record.wiz,
         fails: record.fails,
+        last: record.last,
+        expires: record.expires,
         long: record.long,
     }
 }

@@ -1,8 +1,10 @@
 //! One step of the machine, with the keeper beside it.
 ghost use Rattle.std.specs.Prelude.{◌≡◌, IfOk, OnErr};
+ghost use Rattle.fw_types.specs.Keyed.{Ascends};
 ghost use Rattle.auth_events.specs.Port.{session_at};
 ghost use Rattle.auth_machine.specs.Keeping.{MayBeCalled};
 ghost use Rattle.auth_machine.specs.MachineState.{state_of};
+ghost use Rattle.auth_machine.specs.State.{record_name};
 ghost use Rattle.auth_machine.specs.Step.{keeps};
 ghost use Rattle.auth_machine.specs.Stepping.{Steps};
 
@@ -44,6 +46,7 @@ pub(crate) fn step<K: Keeper>(
     at: u64,
     request: &Request,
 ) -> Result<Stepped, NoMemory>
+    requires { Ascends record_name (state_of state.old).records }
     ensures done { IfOk result (λ done. Steps policy.now place sid at request.now done.reply done.kept (state_of
         state.old) (state_of state.new) (K.keeper_view keeper.old) (K.keeper_view keeper.new)) }
     ensures state { OnErr result (state_of state.new ≡ state_of state.old) }

@@ -5,9 +5,10 @@ ghost use Rattle.std.specs.Option.{option_copied};
 ghost use Rattle.std.specs.Prelude.{◌≡◌};
 
 use crate::change::{Change, stores};
-use crate::machine_ref::{MachineRef, record_at};
+use crate::machine_ref::MachineRef;
 use crate::powers::{by_wizard, power_of};
 use crate::record_change::{ChallengeChange, RecordChange, SessionChange};
+use crate::search::record_at;
 use crate::user_record::UserRecord;
 use crate::{Power, Session};
 use auth_events::{Denial, Reply};
@@ -26,6 +27,8 @@ fn new_user(name: &Name, long: &LongName, group: Option<Name>) -> Record
         wiz: Wiz::None,
         fails: 0,
         since: 0,
+        last: 0,
+        expires: 0,
         plain: None,
         otp: None,
     }

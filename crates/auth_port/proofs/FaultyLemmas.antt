@@ -68,6 +68,7 @@ module _ {Origin : Type 0} where
   replied sid at request (replies.Denied denials.Unknown) asks more faults old new grew h = entered _ _ _ _ _ _ _ _ _ grew h
   replied sid at request (replies.Denied denials.Wrong) asks more faults old new grew h = entered _ _ _ _ _ _ _ _ _ grew h
   replied sid at request (replies.Denied denials.Disabled) asks more faults old new grew h = entered _ _ _ _ _ _ _ _ _ grew h
+  replied sid at request (replies.Denied (denials.Expired moment)) asks more faults old new grew h = entered _ _ _ _ _ _ _ _ _ grew h
   replied sid at request (replies.Denied (denials.Sleeping until)) asks more faults old new grew h = entered _ _ _ _ _ _ _ _ _ grew h
   replied sid at request (replies.Denied (denials.Busy other until)) asks more faults old new grew h = entered _ _ _ _ _ _ _ _ _ grew h
   replied sid at request (replies.Denied denials.Exhausted) asks more faults old new grew h = entered _ _ _ _ _ _ _ _ _ grew h

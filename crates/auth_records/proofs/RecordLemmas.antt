@@ -1,4 +1,4 @@
--- Readers of the head, the passwords and the whole record.
+-- Readers of the head, the dates, the names and the passwords.
 use Rattle.std.proofs.Common.{◌≡◌, ℕ, zero, suc, ◌<◌, ◌≤◌, ◌^◌, Bool, true, false, nat_eq, lit≤, List, [], ◌∷◌, ◌++◌, Option, Some, None, Result, Ok, refl, subst, ◌∙◌, arith, bit_and}
 use Rattle.std.specs.Prelude.{IfSome, is_some}
 use Rattle.std.specs.Int.{w32, w64, to_be_bytes}
@@ -13,7 +13,7 @@ use Rattle.auth_records.specs.declared.record.Wiz.{Wiz}
 use Rattle.auth_records.specs.declared.record.Wiz.TheVariants as wizards
 use Rattle.auth_records.specs.declared.record.Plain.{Plain}
 use Rattle.auth_records.specs.Spelling.{OtpFields, IsGroup, IsPlain, IsOtp, flags, proto_byte, wiz_byte, or_empty}
-use Rattle.auth_records.specs.Reading.{Head, Names, small_number_at, name_at, long_at, group_at, seed_at, head_at, names_at, plain_at, otp_at, optional_at, head_of, proto_of, wiz_of}
+use Rattle.auth_records.specs.Reading.{Head, Dates, Names, small_number_at, name_at, long_at, group_at, seed_at, head_at, dates_at, names_at, plain_at, otp_at, optional_at, head_of, proto_of, wiz_of}
 use Rattle.auth_records.proofs.NumberLemmas.{IsSmall, small_bytes, reads_small_number}
 use Rattle.auth_records.proofs.TextLemmas.{IsName, IsLongName, IsSeed, group_bytes, reads_name, reads_long, reads_group, reads_seed}
 
@@ -221,6 +221,38 @@ head_same bytes =
 
 pub reads_head : ReadsExactly Head head_at FitsHead head_bytes
 reads_head = reads_same Head (through H5 Head h5 head_in) head_at FitsHead head_bytes head_same (reads_through H5 Head h5 Fits5 spell5 head_in FitsHead head_bytes reads_h5 (record { to = head_to; from = head_from }))
+
+-- ---- the dates
+
+pub record FitsDates (d : Dates) : Type 0 where
+  pub last : IsLong d.last
+  pub expires : IsLong d.expires
+
+abbrev pub dates_bytes : Dates → List ℕ
+dates_bytes d = to_be_bytes w64 d.last ++ to_be_bytes w64 d.expires
+
+abbrev d2 : List ℕ → Read H2
+d2 = both ℕ ℕ long_number_at (λ a. long_number_at)
+
+abbrev FitsD2 : H2 → Type 0
+FitsD2 = FitBoth ℕ ℕ IsLong (λ a. IsLong)
+
+abbrev spell_d2 : H2 → List ℕ
+spell_d2 = spell_both ℕ ℕ long_bytes (λ a. long_bytes)
+
+abbrev dates_in : H2 → Dates
+dates_in x = record { last = x.0; expires = x.1 }
+
+dates_same : (bytes : List ℕ) → dates_at bytes ≡ through H2 Dates d2 dates_in bytes
+unfolding dates_at
+dates_same bytes = bind_both ℕ ℕ (Dates × List ℕ) long_number_at (λ a. long_number_at) (λ x rest. Ok (dates_in x, rest)) bytes
+
+pub reads_dates : ReadsExactly Dates dates_at FitsDates dates_bytes
+reads_dates = reads_same Dates (through H2 Dates d2 dates_in) dates_at FitsDates dates_bytes dates_same (reads_through H2 Dates d2 FitsD2 spell_d2 dates_in FitsDates dates_bytes
+    (reads_both ℕ ℕ long_number_at (λ a. long_number_at) IsLong long_bytes (λ a. IsLong) (λ a. long_bytes) reads_long_number (λ a h. reads_long_number)) (record {
+      to = λ x fits. (record { last = fits.0; expires = fits.1 }, refl);
+      from = λ d fits. ((d.last, d.expires), (fits.last, fits.expires), refl);
+    }))
 
 -- ---- the names
 

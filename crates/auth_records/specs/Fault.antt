@@ -1,11 +1,11 @@
 -- The first bad byte of what is no record.
 use Rattle.std.specs.Prelude.{◌≡◌, ℕ, ◌≤◌, List, ◌++◌, length, take}
 use Rattle.auth_records.specs.declared.record.Record.{Record}
-use Rattle.auth_records.specs.Spelling.{IsRecord, record_bytes}
+use Rattle.auth_records.specs.Spelling.{IsRecord, Spells}
 
--- some record's bytes begin so
+-- some record's bytes, in either version, begin so
 abbrev pub BeginsRecord : List ℕ → Type 0
-BeginsRecord front = (r : Record) × IsRecord r × (rest : List ℕ) × (record_bytes r ≡ front ++ rest)
+BeginsRecord front = (r : Record) × IsRecord r × (rest : List ℕ) × Spells (front ++ rest) r
 
 -- the longest prefix that begins some record's bytes has this length. Kept by `decode` (`at`); body: src/decoding.rt.
 pub record IsLongestBeginning (bytes : List ℕ) (at : ℕ) : Type 0 where

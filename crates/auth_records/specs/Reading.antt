@@ -64,6 +64,27 @@ head_at bytes = do
   since ← long_number_at fails.1
   Ok (head_of flags.0 proto.0 wiz.0 fails.0 since.0, since.1)
 
+-- ---- the dates
+
+pub record Dates : Type 0 where
+  pub last : ℕ
+  pub expires : ℕ
+
+unfoldable pub dates_at : List ℕ → Read Dates
+dates_at bytes = do
+  last ← long_number_at bytes
+  expires ← long_number_at last.1
+  Ok (record { last = last.0; expires = expires.0 }, expires.1)
+
+-- where there are none both are 0
+abbrev pub last_of : Option Dates → ℕ
+last_of None = 0
+last_of (Some dates) = dates.last
+
+abbrev pub expires_of : Option Dates → ℕ
+expires_of None = 0
+expires_of (Some dates) = dates.expires
+
 -- ---- the names
 
 abbrev pub group_of : List ℕ → Option (List ℕ)
@@ -120,17 +141,18 @@ optional_at true read bytes = do
 
 -- ---- the record
 
-abbrev pub fields_of : Head → Names → Option Plain → Option OtpFields → Fields
-fields_of h n plain otp = record { name = n.name; long = n.long; group = n.group; proto = h.proto; enabled = h.enabled; wiz = h.wiz; fails = h.fails; since = h.since; plain = plain; otp = otp }
+abbrev pub fields_of : Head → Option Dates → Names → Option Plain → Option OtpFields → Fields
+fields_of h d n plain otp = record { name = n.name; long = n.long; group = n.group; proto = h.proto; enabled = h.enabled; wiz = h.wiz; fails = h.fails; since = h.since; last = last_of d; expires = expires_of d; plain = plain; otp = otp }
 
 unfoldable pub whole_record_at : List ℕ → Read Fields
 whole_record_at bytes = do
-  form ← byte_at 1 1 bytes
-  head ← head_at form.1
-  names ← names_at head.1
+  version ← byte_at 1 2 bytes
+  head ← head_at version.1
+  dates ← optional_at (version.0 == 2) dates_at head.1
+  names ← names_at dates.1
   plain ← optional_at head.0.has_plain plain_at names.1
   otp ← optional_at head.0.has_otp otp_at plain.1
-  Ok (fields_of head.0 names.0 plain.0 otp.0, otp.1)
+  Ok (fields_of head.0 dates.0 names.0 plain.0 otp.0, otp.1)
 
 -- all of the bytes
 unfoldable pub whole : List ℕ → Result Fields ℕ

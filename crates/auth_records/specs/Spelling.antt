@@ -1,5 +1,6 @@
--- The fields of a record, and the one spelling of each record as bytes, from left to right.
-use Rattle.std.specs.Prelude.{◌≡◌, ℕ, ◌+◌, ◌<◌, ◌≤◌, ◌^◌, Bool, IsTrue, List, [], ◌∷◌, ◌++◌, length, Option, Some, None, is_some, option_map, IfSome, if◌then◌else◌}
+-- The fields of a record, and its spelling as bytes, from left to right. A record is written in version 2. Version 1 has no
+-- dates, so it spells only records whose dates are both 0.
+use Rattle.std.specs.Prelude.{◌≡◌, ℕ, ◌+◌, ◌<◌, ◌≤◌, ◌^◌, ◌⊎◌, Bool, IsTrue, List, [], ◌∷◌, ◌++◌, length, Option, Some, None, is_some, option_map, IfSome, if◌then◌else◌}
 use Rattle.std.specs.Int.{w32, w64, to_be_bytes}
 pub use Rattle.byte_reader.specs.Reading.{IsBytes}
 pub use Rattle.byte_reader.specs.Exact.{with_length}
@@ -29,6 +30,8 @@ pub record Fields : Type 0 where
   pub wiz : Wiz
   pub fails : ℕ
   pub since : ℕ
+  pub last : ℕ
+  pub expires : ℕ
   pub plain : Option Plain
   pub otp : Option OtpFields
 
@@ -36,7 +39,7 @@ abbrev pub otp_fields : Otp → OtpFields
 otp_fields o = record { number = o.number; word_seed = o.word_seed; kept = o.kept }
 
 abbrev pub fields : Record → Fields
-fields r = record { name = r.name; long = r.long; group = r.group; proto = r.proto; enabled = r.enabled; wiz = r.wiz; fails = r.fails; since = r.since; plain = r.plain; otp = option_map otp_fields r.otp }
+fields r = record { name = r.name; long = r.long; group = r.group; proto = r.proto; enabled = r.enabled; wiz = r.wiz; fails = r.fails; since = r.since; last = r.last; expires = r.expires; plain = r.plain; otp = option_map otp_fields r.otp }
 
 -- ---- what the type says of them
 
@@ -60,6 +63,8 @@ pub record HasForm (f : Fields) : Type 0 where
   pub group : IsGroup f.group
   pub fails : f.fails ≤ 5
   pub since : f.since < 2 ^ 64
+  pub last : f.last < 2 ^ 64
+  pub expires : f.expires < 2 ^ 64
   pub plain : IfSome f.plain IsPlain
   pub otp : IfSome f.otp IsOtp
 
@@ -96,17 +101,38 @@ abbrev pub otp_bytes : Option OtpFields → List ℕ
 otp_bytes None = []
 otp_bytes (Some o) = to_be_bytes w32 o.number ++ with_length o.word_seed ++ to_be_bytes w64 o.kept
 
--- Byte 0 says the form of the head. What follows the head doesn't depend on the form, so another form of record is
--- another first byte with another head.
+-- what follows the number of the version
 abbrev pub head : Fields → List ℕ
-head f = 1 ∷ flags f.enabled (is_some f.plain) (is_some f.otp) ∷ proto_byte f.proto ∷ wiz_byte f.wiz ∷ f.fails ∷ to_be_bytes w64 f.since
+head f = flags f.enabled (is_some f.plain) (is_some f.otp) ∷ proto_byte f.proto ∷ wiz_byte f.wiz ∷ f.fails ∷ to_be_bytes w64 f.since
+
+-- the last right response, and the end: version 2 alone has them
+abbrev pub dates : Fields → List ℕ
+dates f = to_be_bytes w64 f.last ++ to_be_bytes w64 f.expires
 
 abbrev pub names : Fields → List ℕ
 names f = with_length f.name ++ with_length f.long ++ with_length (or_empty f.group)
 
+-- version 2
 unfoldable pub spelling : Fields → List ℕ
-spelling f = head f ++ names f ++ plain_bytes f.plain ++ otp_bytes f.otp
+spelling f = 2 ∷ head f ++ dates f ++ names f ++ plain_bytes f.plain ++ otp_bytes f.otp
+
+-- version 1
+unfoldable pub old_spelling : Fields → List ℕ
+old_spelling f = 1 ∷ head f ++ names f ++ plain_bytes f.plain ++ otp_bytes f.otp
+
+-- no response was right yet, and there is no end
+pub record IsUndated (f : Fields) : Type 0 where
+  pub last : f.last ≡ 0
+  pub expires : f.expires ≡ 0
 
 -- the bytes of a record
 abbrev pub record_bytes : Record → List ℕ
 record_bytes r = spelling (fields r)
+
+-- the bytes that version 1 has for it, but for its dates
+abbrev pub old_record_bytes : Record → List ℕ
+old_record_bytes r = old_spelling (fields r)
+
+-- the bytes spell the record: in version 2, or in version 1 where both dates are 0
+abbrev pub Spells : List ℕ → Record → Type 0
+Spells bytes r = (bytes ≡ record_bytes r) ⊎ (IsUndated (fields r) × (bytes ≡ old_record_bytes r))

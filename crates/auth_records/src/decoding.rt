@@ -1,18 +1,18 @@
 //! Reading a record from its bytes.
-ghost use Rattle.std.specs.Prelude.{◌≡◌, ◌≢◌, ◌≤◌, ◌^◌, Bool, List, Option, IsTrue, IfOk, IfErr, MatchResult, Ok, Err, option_map};
+ghost use Rattle.std.specs.Prelude.{◌≡◌, ◌≤◌, ◌^◌, Bool, List, Option, IsTrue, IfOk, IfErr, MatchResult, Ok, Err, option_map};
 ghost use Rattle.auth_records.specs.declared.record.Record.{Record};
-ghost use Rattle.auth_records.specs.Spelling.{IsRecord, fields, otp_fields, record_bytes};
-ghost use Rattle.auth_records.specs.Reading.{Head, Names, head_at, names_at, plain_at, otp_at, optional_at, whole_record_at, whole, decoded, proto_of, wiz_of};
+ghost use Rattle.auth_records.specs.Spelling.{IsRecord, Spells, fields, otp_fields};
+ghost use Rattle.auth_records.specs.Reading.{Head, Names, head_at, dates_at, last_of, expires_of, names_at, plain_at, otp_at, optional_at, whole_record_at, whole, decoded, proto_of, wiz_of};
 ghost use Rattle.byte_reader.specs.Reading.{IsReadAs};
 ghost use Rattle.auth_records.specs.Fault.{IsLongestBeginning};
-ghost use Rattle.auth_records.specs.Views.{head_view, names_view};
+ghost use Rattle.auth_records.specs.Views.{head_view, dates_view, names_view};
 
 use crate::fields::{group_of, long_of, name_of, seed_of, small_number_of};
 use crate::{LongName, Otp, Plain, Proto, Record, RecordFault, Wiz};
 use byte_reader::{Stop, byte_of, bytes_of, long_number_of};
 use fw_types::Name;
 
-/// What stands in front of the names.
+/// What follows the number of the version.
 #[derive(Drop)]
 pub(crate) struct Head {
     pub(crate) enabled: bool,
@@ -22,6 +22,13 @@ pub(crate) struct Head {
     pub(crate) wiz: Wiz,
     pub(crate) fails: u8,
     pub(crate) since: u64,
+}
+
+/// What version 2 has besides.
+#[derive(Clone, Copy)]
+pub(crate) struct Dates {
+    pub(crate) last: u64,
+    pub(crate) expires: u64,
 }
 
 /// The names.
@@ -74,6 +81,15 @@ fn head_of(bytes: &[u8]) -> Result<(Head, &[u8]), Stop>
     Ok((head, rest))
 }
 
+#[tactic(auto, unfolding(crate::specs::Reading::dates_at))]
+fn dates_of(bytes: &[u8]) -> Result<(Dates, &[u8]), Stop>
+    ensures { IsReadAs (λ x. (dates_view x.0, x.1.now)) result (dates_at bytes.now) }
+{
+    let (last, rest) = long_number_of(bytes)?;
+    let (expires, rest) = long_number_of(rest)?;
+    Ok((Dates { last, expires }, rest))
+}
+
 #[tactic(auto, unfolding(crate::specs::Reading::names_at))]
 fn names_of(bytes: &[u8]) -> Result<(Names, &[u8]), Stop>
     ensures { IsReadAs (λ x. (names_view x.0, x.1.now)) result (names_at bytes.now) }
@@ -115,6 +131,35 @@ fn otp_of(bytes: &[u8]) -> Result<(Otp, &[u8]), Stop>
 }
 
 #[tactic(auto, unfolding(crate::specs::Reading::optional_at))]
+fn dates_where(flag: bool, bytes: &[u8]) -> Result<(Option<Dates>, &[u8]), Stop>
+    ensures { IsReadAs (λ x. (option_map dates_view x.0, x.1.now)) result (optional_at flag dates_at bytes.now) }
+{
+    if !flag {
+        return Ok((None, bytes));
+    }
+    let (dates, rest) = dates_of(bytes)?;
+    Ok((Some(dates), rest))
+}
+
+fn last_of(dates: Option<Dates>) -> u64
+    ensures { result ≡ last_of (option_map dates_view dates) }
+{
+    match dates {
+        Some(dates) => dates.last,
+        None => 0,
+    }
+}
+
+fn expires_of(dates: Option<Dates>) -> u64
+    ensures { result ≡ expires_of (option_map dates_view dates) }
+{
+    match dates {
+        Some(dates) => dates.expires,
+        None => 0,
+    }
+}
+
+#[tactic(auto, unfolding(crate::specs::Reading::optional_at))]
 fn plain_where(flag: bool, bytes: &[u8]) -> Result<(Option<Plain>, &[u8]), Stop>
     ensures { IsReadAs (λ x. (x.0, x.1.now)) result (optional_at flag plain_at bytes.now) }
 {
@@ -140,8 +185,9 @@ fn otp_where(flag: bool, bytes: &[u8]) -> Result<(Option<Otp>, &[u8]), Stop>
 fn record_of(bytes: &[u8]) -> Result<(Record, &[u8]), Stop>
     ensures { IsReadAs (λ x. (fields x.0, x.1.now)) result (whole_record_at bytes.now) }
 {
-    let (_, rest) = byte_of(1, 1, bytes)?;
+    let (version, rest) = byte_of(1, 2, bytes)?;
     let (head, rest) = head_of(rest)?;
+    let (dates, rest) = dates_where(version == 2, rest)?;
     let (names, rest) = names_of(rest)?;
     let (plain, rest) = plain_where(head.has_plain, rest)?;
     let (otp, rest) = otp_where(head.has_otp, rest)?;
@@ -154,6 +200,8 @@ fn record_of(bytes: &[u8]) -> Result<(Record, &[u8]), Stop>
         wiz: head.wiz,
         fails: head.fails,
         since: head.since,
+        last: last_of(dates),
+        expires: expires_of(dates),
         plain,
         otp,
     };
@@ -171,12 +219,12 @@ fn whole_record(bytes: &[u8]) -> Result<Record, Stop>
     Ok(record)
 }
 
-/// The record whose bytes these are. Takes no memory.
+/// The record whose bytes these are, in either version. Takes no memory.
 #[tactic(auto, unfolding(crate::specs::Reading::decoded))]
 pub fn decode(bytes: &[u8]) -> Result<Record, RecordFault>
-    ensures found { IfOk result (λ r. IsRecord r × (bytes.now ≡ record_bytes r)) }
-    ensures only { (r : Record) → IsRecord r → bytes.now ≡ record_bytes r → result ≡ Ok r }
-    ensures none { IfErr result (λ e. (r : Record) → IsRecord r → bytes.now ≢ record_bytes r) }
+    ensures found { IfOk result (λ r. IsRecord r × Spells bytes.now r) }
+    ensures only { (r : Record) → IsRecord r → Spells bytes.now r → result ≡ Ok r }
+    ensures none { IfErr result (λ e. (r : Record) → IsRecord r → ¬ Spells bytes.now r) }
     ensures at { IfErr result (λ e. IsLongestBeginning bytes.now e.at) }
     ensures computed { MatchResult result (λ r. decoded bytes.now ≡ Ok (fields r)) (λ e. decoded bytes.now ≡ Err e.at) }
 {

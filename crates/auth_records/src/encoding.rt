@@ -1,8 +1,9 @@
 //! Writing a record as bytes.
-ghost use Rattle.std.specs.Prelude.{◌≡◌, ◌≤◌, ◌<◌, ◌^◌, ◌++◌, ◌∷◌, length, option_map, is_some, IsTrue, IfOk, OnOk, IfSome};
+ghost use Rattle.std.specs.Prelude.{◌≡◌, ◌≤◌, ◌<◌, ◌^◌, ◌++◌, ◌∷◌, length, option_map, is_some, IsTrue, Ok, IfOk, OnOk, IfSome};
 ghost use Rattle.fw_types.specs.Name.{is_name};
 ghost use Rattle.auth_records.specs.Texts.{is_long_name};
-ghost use Rattle.auth_records.specs.Spelling.{IsRecord, IsBytes, IsGroup, IsPlain, IsOtp, fields, otp_fields, record_bytes, head, names, with_length, or_empty, flags, proto_byte, wiz_byte, plain_bytes, otp_bytes};
+ghost use Rattle.auth_records.specs.Reading.{decoded};
+ghost use Rattle.auth_records.specs.Spelling.{IsRecord, IsBytes, IsGroup, IsPlain, IsOtp, fields, otp_fields, record_bytes, head, dates, names, with_length, or_empty, flags, proto_byte, wiz_byte, plain_bytes, otp_bytes};
 
 use crate::{Otp, Plain, Proto, Record, Wiz};
 use fw_types::{Name, NoMemory, Octets};
@@ -43,18 +44,27 @@ fn flags_of(rec: &Record) -> u8
 }
 
 fn put_head(out: &mut Vec<u8>, rec: &Record) -> Result<(), AllocError>
-    ensures bytes { OnOk result (out.new.items ≡ out.old.items ++ head (fields rec.now)) }
+    ensures bytes { OnOk result (out.new.items ≡ out.old.items ++ 2 ∷ head (fields rec.now)) }
     ensures fails { OnOk result (rec.now.fails ≤ 5) }
     ensures since { OnOk result (rec.now.since < 2 ^ 64) }
 {
     out.extend_from_slice(&[
-        1,
+        2,
         flags_of(rec),
         proto_byte(rec.proto),
         wiz_byte(rec.wiz),
         rec.fails,
     ])?;
     out.extend_from_slice(&rec.since.to_be_bytes())
+}
+
+fn put_dates(out: &mut Vec<u8>, rec: &Record) -> Result<(), AllocError>
+    ensures bytes { OnOk result (out.new.items ≡ out.old.items ++ dates (fields rec.now)) }
+    ensures last { OnOk result (rec.now.last < 2 ^ 64) }
+    ensures expires { OnOk result (rec.now.expires < 2 ^ 64) }
+{
+    out.extend_from_slice(&rec.last.to_be_bytes())?;
+    out.extend_from_slice(&rec.expires.to_be_bytes())
 }
 
 fn put_counted(out: &mut Vec<u8>, text: &[u8]) -> Result<(), AllocError>
@@ -117,15 +127,18 @@ fn put_otp(out: &mut Vec<u8>, otp: &Option<Otp>) -> Result<(), AllocError>
     Ok(())
 }
 
-/// The bytes of a record.
+/// The bytes of a record, in version 2.
 #[tactic(auto, unfolding(crate::specs::Spelling::spelling))]
 pub fn encode(alloc: Global, rec: &Record) -> Result<Octets, NoMemory>
     ensures bytes { IfOk result (λ octets. octets ≡ record_bytes rec.now) }
-    // What every record is, by its type: so `decode` gives this one again.
+    // What every record is, by its type.
     ensures form { IfOk result (λ octets. IsRecord rec.now) }
+    // So `decode` gives this one again.
+    ensures decodes { IfOk result (λ octets. decoded octets ≡ Ok (fields rec.now)) }
 {
     let mut out = Vec::new(alloc);
     put_head(&mut out, rec)?;
+    put_dates(&mut out, rec)?;
     put_names(&mut out, rec)?;
     put_plain(&mut out, &rec.plain)?;
     put_otp(&mut out, &rec.otp)?;

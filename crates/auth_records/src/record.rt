@@ -56,6 +56,10 @@ pub struct Record {
     pub fails: u8,
     /// The moment of the last fifth wrong response, in seconds.
     pub since: u64,
+    /// The moment of the last right response, in seconds; 0 where there was none.
+    pub last: u64,
+    /// The moment from which the user may not log in, in seconds; 0 for never.
+    pub expires: u64,
     pub plain: Option<Plain>,
     pub otp: Option<Otp>,
     pub ghost in_range: { fails ≤ 5 },
@@ -88,6 +92,8 @@ impl Record {
             wiz: self.wiz,
             fails: self.fails,
             since: self.since,
+            last: self.last,
+            expires: self.expires,
             plain: self.plain,
             otp: otp_twin(&self.otp),
         }

@@ -24,7 +24,7 @@ use std::mem::size_of;
 use std::thread::Threads;
 
 // What an entry takes, on which the size of a history counts.
-const _: () = prove!(size_of::<Entry>() == 480);
+const _: () = prove!(size_of::<Entry>() == 496);
 
 fn print_difference(rt: &HostRuntime, name: &str, number: u64, told: &[u8]) -> io::Result<()> {
     let first = format!(in rt.alloc(); "differs {name} at {number}: ")?;

@@ -104,6 +104,8 @@ fn record_of(text: &[u8]) -> Option<Record> {
         wiz,
         fails: 0,
         since: 0,
+        last: 0,
+        expires: 0,
         plain: plain_of(password),
         otp: otp_of(password),
     })

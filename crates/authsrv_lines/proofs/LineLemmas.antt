@@ -3,13 +3,14 @@ use Rattle.std.proofs.Common.{◌≡◌, refl, ℕ, nat_lt, Bool, true, false, c
 use Rattle.std.specs.Prelude.{unwrap_or}
 use Rattle.fw_types.specs.Host.{host_of}
 use Rattle.fw_types.specs.Name.{name_of}
+use Rattle.fw_types.specs.Number.{number_of}
 use Rattle.fw_types.specs.declared.host.Host.{Host}
 use Rattle.auth_records.specs.Texts.{long_name_of, seed_of}
 use Rattle.auth_records.specs.declared.record.Proto.{Proto}
 use Rattle.auth_events.specs.declared.request.OpService.{OpService}
 use Rattle.otp_md5.specs.Hexadecimal.{read_of}
 use Rattle.authsrv_lines.specs.Command.{wire_command_of, named_request}
-use Rattle.authsrv_lines.specs.Request.{about, adduser, adduser_of, wire_alone, asked, by_command, by_words, count_of, group_none, group_request, group_some, grouped, named_request_of, operation_request, operation_request_of, otp, otp_of, password_request, password_of, proto_named, proto_request, proto_set, request_of, response_of, service_named}
+use Rattle.authsrv_lines.specs.Request.{about, adduser, adduser_of, wire_alone, asked, by_command, by_words, count_of, digest_alone, digest_of, digest_word, digested, hash_of, expire_request, expire_set, group_none, group_request, group_some, grouped, named_request_of, operation_request, operation_request_of, otp, otp_of, password_request, password_of, proto_named, proto_request, proto_set, request_of, response_of, service_named}
 use Rattle.authsrv_lines.specs.Words.{after_word, has_none, one_of, one_or_two, text_after, two_of, words}
 use Rattle.authsrv_lines.specs.declared.command.Command.{Command}
 use Rattle.authsrv_lines.specs.declared.command.Command.TheVariants as commands
@@ -58,6 +59,23 @@ named_of_plain named (Some text) = about_plain named (name_of text)
 response_plain : (text : Option (List ℕ)) → AsksPlain (response_of text)
 response_plain None = tt
 response_plain (Some text) = refl
+
+digest_alone_plain : (hash : Option (List ℕ)) → AsksPlain (digest_alone hash)
+digest_alone_plain None = tt
+digest_alone_plain (Some hash) = refl
+
+digest_word_plain : (hash : Option (List ℕ)) (word : Option ℕ) → AsksPlain (digest_word hash word)
+digest_word_plain (Some hash) (Some word) = refl
+digest_word_plain (Some hash) None = tt
+digest_word_plain None word = tt
+
+digested_plain : (hash : List ℕ) (word : Option (List ℕ)) → AsksPlain (digested hash word)
+digested_plain hash None = digest_alone_plain (hash_of hash)
+digested_plain hash (Some word) = digest_word_plain (hash_of hash) (read_of word)
+
+digest_of_plain : (texts : Option (List ℕ × Option (List ℕ))) → AsksPlain (digest_of texts)
+digest_of_plain None = tt
+digest_of_plain (Some texts) = digested_plain texts.0 texts.1
 
 operation_plain : (service : Option OpService) (host : Option Host) → AsksPlain (operation_request service host)
 operation_plain (Some service) (Some host) = refl
@@ -131,6 +149,16 @@ otp_of_plain (name ∷ number ∷ []) text = tt
 otp_of_plain (name ∷ number ∷ word_seed ∷ parts) None = tt
 otp_of_plain (name ∷ number ∷ word_seed ∷ parts) (Some text) = otp_plain (name_of name) (count_of number) (seed_of word_seed) (read_of text)
 
+expire_plain : (name : Option (List ℕ)) (until : Option ℕ) → AsksPlain (expire_set name until)
+expire_plain None None = tt
+expire_plain (Some name) None = tt
+expire_plain None (Some until) = tt
+expire_plain (Some name) (Some until) = refl
+
+expire_of_plain : (texts : Option (List ℕ × List ℕ)) → AsksPlain (expire_request texts)
+expire_of_plain None = tt
+expire_of_plain (Some texts) = expire_plain (name_of texts.0) (number_of texts.1)
+
 list_plain : (none : Bool) → AsksPlain (wire_alone wires.List none)
 list_plain true = tt
 list_plain false = tt
@@ -142,12 +170,14 @@ quit_plain false = tt
 asked_plain : (command : Command) (parts : List (List ℕ)) (rest : List ℕ) → AsksPlain (asked command parts rest)
 asked_plain (commands.Named named) parts rest = named_of_plain named (one_of parts)
 asked_plain commands.Response parts rest = response_plain (text_after 0 rest)
+asked_plain commands.Digest parts rest = digest_of_plain (one_or_two parts)
 asked_plain commands.Operation parts rest = operation_of_plain (two_of parts)
 asked_plain commands.Adduser parts rest = adduser_of_plain parts (text_after 1 rest)
 asked_plain commands.Group parts rest = group_of_plain (one_or_two parts)
 asked_plain commands.Proto parts rest = proto_of_plain (two_of parts)
 asked_plain commands.Password parts rest = password_of_plain parts (text_after 1 rest)
 asked_plain commands.Otp parts rest = otp_of_plain parts (text_after 3 rest)
+asked_plain commands.Expire parts rest = expire_of_plain (two_of parts)
 asked_plain commands.List parts rest = list_plain (has_none parts)
 asked_plain commands.Quit parts rest = quit_plain (has_none parts)
 

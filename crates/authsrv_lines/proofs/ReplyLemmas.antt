@@ -16,13 +16,13 @@ use Rattle.auth_records.specs.declared.record.Wiz.{Wiz}
 use Rattle.auth_records.specs.declared.record.Wiz.TheVariants as wizards
 use Rattle.otp_md5.specs.Challenge.{challenge}
 use Rattle.auth_events.specs.declared.denial.Denial.{Denial}
-use Rattle.auth_events.specs.declared.denial.Denial.TheVariants.{Unknown, Wrong, Disabled, Sleeping, Busy, Exhausted, NoChallenge, NotIn, NotWizard, Exists, NoSuch, NoRule, Full, Closed, NotKept}
+use Rattle.auth_events.specs.declared.denial.Denial.TheVariants.{Unknown, Wrong, Disabled, Expired, Sleeping, Busy, Exhausted, NoChallenge, NotIn, NotWizard, Exists, NoSuch, NoRule, Full, Closed, NotKept}
 use Rattle.auth_events.specs.declared.reply.Summary.{Summary}
 use Rattle.auth_events.specs.declared.reply.Reply.{Reply}
 use Rattle.auth_events.specs.declared.reply.Reply.TheVariants as replies
 use Rattle.authsrv_lines.specs.Number.{number_up_to}
 use Rattle.authsrv_lines.specs.Request.{proto_named}
-use Rattle.authsrv_lines.specs.Reply.{ReadsReply, IsDenial, IsReply, IsSummary, Says, cause, counts, group_text, identity, is_whole, proto_text, reply_line, rights, state_text, summary_line, wiz_text}
+use Rattle.authsrv_lines.specs.Reply.{ReadsReply, IsDenial, IsReply, IsSummary, Says, cause, counts, dates, group_text, identity, in_full, is_whole, proto_text, reply_line, rights, state_text, summary_line, wiz_text}
 use Rattle.authsrv_lines.specs.ReplyReading.{SummaryFields, Spoken, behind, busy, challenge_of, challenge_with, denial_of, field, summary_fields, group_in, guessed, longest, after_two_spaces, of_fields, of_other, spoken, state_in, summary_of, wiz_in}
 use Rattle.authsrv_lines.proofs.NumberLemmas.{decimal_read}
 use Rattle.authsrv_lines.proofs.SpaceLemmas.{IsWord, both, decimal_word, field_is, behind_is, name_word, next_is, piece}
@@ -61,6 +61,7 @@ unfolding denial_of
 denial_read Unknown h = refl
 denial_read Wrong h = refl
 denial_read Disabled h = refl
+denial_read (Expired at) h = ap (option_map (λ n. Expired n)) (decimal_read longest at (omega arith) (omega arith))
 denial_read (Sleeping until) h = ap (option_map (λ n. Sleeping n)) (decimal_read longest until (omega arith) (omega arith))
 denial_read (Busy sid until) h = ap denial_of (four (codes "busy ") (decimal sid) (codes " until ") (decimal until)) ∙ busy_read sid until h.0 h.1
 denial_read Exhausted h = refl
@@ -149,8 +150,14 @@ long_read : (long : List ℕ) → IsTrue (is_long_name long) → long_name_of lo
 long_read long h = rw h refl
 
 -- what stands behind each part of the line
+abbrev t8 : Summary → List ℕ
+t8 s = piece (decimal s.expires) (codes "long") s.long
+
+abbrev t7 : Summary → List ℕ
+t7 s = piece (decimal s.last) (codes "expires") (t8 s)
+
 abbrev t6 : Summary → List ℕ
-t6 s = piece (decimal s.number) (codes "long") s.long
+t6 s = piece (decimal s.number) (codes "last") (t7 s)
 
 abbrev t5 : Summary → List ℕ
 t5 s = piece (decimal s.fails) (codes "number") (t6 s)
@@ -173,15 +180,17 @@ t0 s = piece s.name (codes "group") (t1 s)
 line_is : (s : Summary) → summary_line s ≡ codes "user " ++ t0 s
 unfolding summary_line
 line_is s =
-    let whole = append_assoc (identity s) (rights s) (counts s) in
-    let front = five (codes "user ") s.name (codes " group ") (group_text s.group) (rights s ++ counts s) in
-    let middle = seven (codes " proto ") (proto_text s.proto) (codes " state ") (state_text s.enabled) (codes " wiz ") (wiz_text s.wiz) (counts s) in
-    let back = six (codes " fails ") (decimal s.fails) (codes " number ") (decimal s.number) (codes " long ") s.long in
-    let from_middle = middle ∙ ap (λ x. codes " proto " ++ (proto_text s.proto ++ (codes " state " ++ (state_text s.enabled ++ (codes " wiz " ++ (wiz_text s.wiz ++ x)))))) back in
+    let whole = five (identity s) (rights s) (counts s) (dates s) (in_full s) in
+    let front = five (codes "user ") s.name (codes " group ") (group_text s.group) (rights s ++ (counts s ++ (dates s ++ in_full s))) in
+    let middle = seven (codes " proto ") (proto_text s.proto) (codes " state ") (state_text s.enabled) (codes " wiz ") (wiz_text s.wiz) (counts s ++ (dates s ++ in_full s)) in
+    let numbers = five (codes " fails ") (decimal s.fails) (codes " number ") (decimal s.number) (dates s ++ in_full s) in
+    let back = five (codes " last ") (decimal s.last) (codes " expires ") (decimal s.expires) (in_full s) in
+    let from_numbers = numbers ∙ ap (λ x. codes " fails " ++ (decimal s.fails ++ (codes " number " ++ (decimal s.number ++ x)))) back in
+    let from_middle = middle ∙ ap (λ x. codes " proto " ++ (proto_text s.proto ++ (codes " state " ++ (state_text s.enabled ++ (codes " wiz " ++ (wiz_text s.wiz ++ x)))))) from_numbers in
     whole ∙ (front ∙ ap (λ x. codes "user " ++ (s.name ++ (codes " group " ++ (group_text s.group ++ x)))) from_middle)
 
 -- the parts' values, each read from its own field
-record Reads (x : SummaryFields) (a b c d e f g h : List ℕ) : Type 0 where
+record Reads (x : SummaryFields) (a b c d e f g h i j : List ℕ) : Type 0 where
   ab : after_two_spaces a ≡ b
   bc : after_two_spaces b ≡ c
   cd : after_two_spaces c ≡ d
@@ -189,6 +198,8 @@ record Reads (x : SummaryFields) (a b c d e f g h : List ℕ) : Type 0 where
   ef : after_two_spaces e ≡ f
   fg : after_two_spaces f ≡ g
   gh : after_two_spaces g ≡ h
+  hi : after_two_spaces h ≡ i
+  ij : after_two_spaces i ≡ j
   name : name_of (field a) ≡ Some x.name
   group : group_in (field b) ≡ Some x.group
   proto : proto_named (field c) ≡ Some x.proto
@@ -196,11 +207,13 @@ record Reads (x : SummaryFields) (a b c d e f g h : List ℕ) : Type 0 where
   wiz : wiz_in (field e) ≡ Some x.wiz
   fails : number_up_to 5 (field f) ≡ Some x.fails
   number : number_up_to 9999 (field g) ≡ Some x.number
-  long : long_name_of h ≡ Some x.long
+  last : number_up_to longest (field h) ≡ Some x.last
+  expires : number_up_to longest (field i) ≡ Some x.expires
+  long : long_name_of j ≡ Some x.long
 
-read_by : (x : SummaryFields) (a b c d e f g h : List ℕ) → Reads x a b c d e f g h → summary_of a ≡ Some x
+read_by : (x : SummaryFields) (a b c d e f g h i j : List ℕ) → Reads x a b c d e f g h i j → summary_of a ≡ Some x
 unfolding summary_of
-read_by x a b c d e f g h r = rw (r.ab, r.bc, r.cd, r.de, r.ef, r.fg, r.gh, r.name, r.group, r.proto, r.enabled, r.wiz, r.fails, r.number, r.long) refl
+read_by x a b c d e f g h i j r = rw (r.ab, r.bc, r.cd, r.de, r.ef, r.fg, r.gh, r.hi, r.ij, r.name, r.group, r.proto, r.enabled, r.wiz, r.fails, r.number, r.last, r.expires, r.long) refl
 
 summary_read : (s : Summary) → IsSummary s → summary_of (t0 s) ≡ Some (summary_fields s)
 summary_read s is =
@@ -211,14 +224,18 @@ summary_read s is =
     let wiz = wiz_read s.wiz in
     let fails = decimal_word s.fails (omega (arith, is.fails)) in
     let number = decimal_word s.number (omega (arith, is.number)) in
-    read_by (summary_fields s) (t0 s) (t1 s) (t2 s) (t3 s) (t4 s) (t5 s) (t6 s) s.long (record {
+    let last = decimal_word s.last is.last in
+    let expires = decimal_word s.expires is.expires in
+    read_by (summary_fields s) (t0 s) (t1 s) (t2 s) (t3 s) (t4 s) (t5 s) (t6 s) (t7 s) (t8 s) s.long (record {
       ab = next_is s.name (codes "group") (t1 s) name refl;
       bc = next_is (group_text s.group) (codes "proto") (t2 s) group refl;
       cd = next_is (proto_text s.proto) (codes "state") (t3 s) proto.1 refl;
       de = next_is (state_text s.enabled) (codes "wiz") (t4 s) state.1 refl;
       ef = next_is (wiz_text s.wiz) (codes "fails") (t5 s) wiz.1 refl;
       fg = next_is (decimal s.fails) (codes "number") (t6 s) fails refl;
-      gh = next_is (decimal s.number) (codes "long") s.long number refl;
+      gh = next_is (decimal s.number) (codes "last") (t7 s) number refl;
+      hi = next_is (decimal s.last) (codes "expires") (t8 s) last refl;
+      ij = next_is (decimal s.expires) (codes "long") s.long expires refl;
       name = ap name_of (field_is s.name _ name) ∙ name_read s.name is.name;
       group = ap group_in (field_is (group_text s.group) _ group) ∙ group_read s.group is.group;
       proto = ap proto_named (field_is (proto_text s.proto) _ proto.1) ∙ proto.0;
@@ -226,6 +243,8 @@ summary_read s is =
       wiz = ap wiz_in (field_is (wiz_text s.wiz) _ wiz.1) ∙ wiz.0;
       fails = ap (number_up_to 5) (field_is (decimal s.fails) _ fails) ∙ decimal_read 5 s.fails (omega arith) is.fails;
       number = ap (number_up_to 9999) (field_is (decimal s.number) _ number) ∙ decimal_read 9999 s.number (omega arith) is.number;
+      last = ap (number_up_to longest) (field_is (decimal s.last) _ last) ∙ decimal_read longest s.last (omega arith) (omega (arith, is.last));
+      expires = ap (number_up_to longest) (field_is (decimal s.expires) _ expires) ∙ decimal_read longest s.expires (omega arith) (omega (arith, is.expires));
       long = long_read s.long is.long;
     })
 
@@ -261,7 +280,7 @@ abbrev RangesFit : SummaryFields → Type 0
 RangesFit f = (f.fails ≤ 5) × (f.number ≤ 9999)
 
 abbrev made : (f : SummaryFields) → RangesFit f → Summary
-made f fits = record { name = f.name; group = f.group; proto = f.proto; enabled = f.enabled; wiz = f.wiz; fails = f.fails; number = f.number; long = f.long; fails_range = fits.0; number_range = fits.1 }
+made f fits = record { name = f.name; group = f.group; proto = f.proto; enabled = f.enabled; wiz = f.wiz; fails = f.fails; number = f.number; last = f.last; expires = f.expires; long = f.long; fails_range = fits.0; number_range = fits.1 }
 
 ranges_one : (f : SummaryFields) → IsProp (RangesFit f)
 ranges_one f = hlevel props

@@ -29,12 +29,14 @@ named_of word =
 unfoldable pub other_of : List ℕ → Option Command
 other_of word =
     if is word (codes "response") then Some commands.Response
+    else if is word (codes "digest") then Some commands.Digest
     else if is word (codes "operation") then Some commands.Operation
     else if is word (codes "adduser") then Some commands.Adduser
     else if is word (codes "group") then Some commands.Group
     else if is word (codes "proto") then Some commands.Proto
     else if is word (codes "password") then Some commands.Password
     else if is word (codes "otp") then Some commands.Otp
+    else if is word (codes "expire") then Some commands.Expire
     else if is word (codes "list") then Some commands.List
     else if is word (codes "quit") then Some commands.Quit
     else None

@@ -4,4 +4,5 @@ pub mod Number
 pub mod Reply
 pub mod ReplyReading
 pub mod Request
+pub mod RequestLine
 pub mod Words

@@ -9,7 +9,7 @@ use Rattle.auth_records.specs.declared.record.Wiz.{Wiz}
 use Rattle.auth_records.specs.declared.record.Wiz.TheVariants as wizards
 use Rattle.otp_md5.specs.Challenge.{challenge}
 use Rattle.auth_events.specs.declared.denial.Denial.{Denial}
-use Rattle.auth_events.specs.declared.denial.Denial.TheVariants.{Unknown, Wrong, Disabled, Sleeping, Busy, Exhausted, NoChallenge, NotIn, NotWizard, Exists, NoSuch, NoRule, Full, Closed, NotKept}
+use Rattle.auth_events.specs.declared.denial.Denial.TheVariants.{Unknown, Wrong, Disabled, Expired, Sleeping, Busy, Exhausted, NoChallenge, NotIn, NotWizard, Exists, NoSuch, NoRule, Full, Closed, NotKept}
 use Rattle.auth_events.specs.declared.reply.Summary.{Summary}
 use Rattle.auth_events.specs.declared.reply.Reply.{Reply}
 use Rattle.auth_events.specs.declared.reply.Reply.TheVariants as replies
@@ -21,6 +21,7 @@ abbrev pub cause : Denial → List ℕ
 cause Unknown = codes "unknown user"
 cause Wrong = codes "wrong response"
 cause Disabled = codes "disabled"
+cause (Expired at) = codes "expired " ++ decimal at
 cause (Sleeping until) = codes "sleeping until " ++ decimal until
 cause (Busy sid until) = codes "busy " ++ decimal sid ++ codes " until " ++ decimal until
 cause Exhausted = codes "no passwords left"
@@ -66,12 +67,20 @@ identity s = codes "user " ++ s.name ++ codes " group " ++ group_text s.group
 abbrev pub rights : Summary → List ℕ
 rights s = codes " proto " ++ proto_text s.proto ++ codes " state " ++ state_text s.enabled ++ codes " wiz " ++ wiz_text s.wiz
 
--- the counts, and the name in full
+-- the counts
 abbrev pub counts : Summary → List ℕ
-counts s = codes " fails " ++ decimal s.fails ++ codes " number " ++ decimal s.number ++ codes " long " ++ s.long
+counts s = codes " fails " ++ decimal s.fails ++ codes " number " ++ decimal s.number
+
+-- the last right response, and the end
+abbrev pub dates : Summary → List ℕ
+dates s = codes " last " ++ decimal s.last ++ codes " expires " ++ decimal s.expires
+
+-- the name in full
+abbrev pub in_full : Summary → List ℕ
+in_full s = codes " long " ++ s.long
 
 unfoldable pub summary_line : Summary → List ℕ
-summary_line s = identity s ++ rights s ++ counts s
+summary_line s = identity s ++ rights s ++ counts s ++ dates s ++ in_full s
 
 -- ---- replies
 
@@ -86,6 +95,7 @@ reply_line (replies.Denied denial) = denial_line denial
 -- ---- what the types say of replies
 
 abbrev pub IsDenial : Denial → Type 0
+IsDenial (Expired at) = at < 2 ^ 64
 IsDenial (Sleeping until) = until < 2 ^ 64
 IsDenial (Busy sid until) = (sid < 2 ^ 64) × (until < 2 ^ 64)
 IsDenial (NoRule line) = line < 2 ^ 32
@@ -97,6 +107,8 @@ pub record IsSummary (s : Summary) : Type 0 where
   pub group : IfSome s.group (λ group. IsTrue (is_name group))
   pub fails : s.fails ≤ 5
   pub number : s.number ≤ 9999
+  pub last : s.last < 2 ^ 64
+  pub expires : s.expires < 2 ^ 64
   pub long : IsTrue (is_long_name s.long)
 
 -- what every value of the type `Reply` is

@@ -10,7 +10,7 @@ use Rattle.auth_records.specs.declared.record.Proto.{Proto}
 use Rattle.auth_records.specs.declared.record.Wiz.{Wiz}
 use Rattle.auth_records.specs.declared.record.Wiz.TheVariants as wizards
 use Rattle.auth_events.specs.declared.denial.Denial.{Denial}
-use Rattle.auth_events.specs.declared.denial.Denial.TheVariants.{Unknown, Wrong, Disabled, Sleeping, Busy, Exhausted, NoChallenge, NotIn, NotWizard, Exists, NoSuch, NoRule, Full, Closed, NotKept}
+use Rattle.auth_events.specs.declared.denial.Denial.TheVariants.{Unknown, Wrong, Disabled, Expired, Sleeping, Busy, Exhausted, NoChallenge, NotIn, NotWizard, Exists, NoSuch, NoRule, Full, Closed, NotKept}
 use Rattle.auth_events.specs.declared.reply.Summary.{Summary}
 use Rattle.auth_events.specs.declared.reply.Reply.{Reply}
 use Rattle.auth_events.specs.declared.reply.Reply.TheVariants as replies
@@ -65,6 +65,7 @@ limited_denial text =
 abbrev pub counted_denial : List ℕ → Option Denial
 counted_denial text =
     if starts_with nat_eq text (codes "sleeping until ") then option_map (λ n. Sleeping n) (number_up_to longest (drop 15 text))
+    else if starts_with nat_eq text (codes "expired ") then option_map (λ n. Expired n) (number_up_to longest (drop 8 text))
     else if starts_with nat_eq text (codes "busy ") then busy (number_up_to longest (field (drop 5 text))) (number_up_to longest (after_two_spaces (drop 5 text)))
     else limited_denial text
 
@@ -94,10 +95,12 @@ pub record SummaryFields : Type 0 where
   pub wiz : Wiz
   pub fails : ℕ
   pub number : ℕ
+  pub last : ℕ
+  pub expires : ℕ
   pub long : List ℕ
 
 abbrev pub summary_fields : Summary → SummaryFields
-summary_fields s = record { name = s.name; group = s.group; proto = s.proto; enabled = s.enabled; wiz = s.wiz; fails = s.fails; number = s.number; long = s.long }
+summary_fields s = record { name = s.name; group = s.group; proto = s.proto; enabled = s.enabled; wiz = s.wiz; fails = s.fails; number = s.number; last = s.last; expires = s.expires; long = s.long }
 
 abbrev pub group_in : List ℕ → Option (Option (List ℕ))
 group_in text = if bytes_eq text (codes "-") then Some None else option_map (λ name. Some name) (name_of text)
@@ -112,9 +115,9 @@ wiz_in text =
     else if bytes_eq text (codes "super") then Some wizards.Super
     else None
 
-abbrev pub fields_with : Option (List ℕ) → Option (Option (List ℕ)) → Option Proto → Option Bool → Option Wiz → Option ℕ → Option ℕ → Option (List ℕ) → Option SummaryFields
-fields_with (Some name) (Some group) (Some proto) (Some enabled) (Some wiz) (Some fails) (Some number) (Some long) = Some (record { name = name; group = group; proto = proto; enabled = enabled; wiz = wiz; fails = fails; number = number; long = long })
-fields_with _ _ _ _ _ _ _ _ = None
+abbrev pub fields_with : Option (List ℕ) → Option (Option (List ℕ)) → Option Proto → Option Bool → Option Wiz → Option ℕ → Option ℕ → Option ℕ → Option ℕ → Option (List ℕ) → Option SummaryFields
+fields_with (Some name) (Some group) (Some proto) (Some enabled) (Some wiz) (Some fails) (Some number) (Some last) (Some expires) (Some long) = Some (record { name = name; group = group; proto = proto; enabled = enabled; wiz = wiz; fails = fails; number = number; last = last; expires = expires; long = long })
+fields_with _ _ _ _ _ _ _ _ _ _ = None
 
 unfoldable pub summary_of : List ℕ → Option SummaryFields
 summary_of t0 =
@@ -125,7 +128,9 @@ summary_of t0 =
     let t5 = after_two_spaces t4 in
     let t6 = after_two_spaces t5 in
     let t7 = after_two_spaces t6 in
-    fields_with (name_of (field t0)) (group_in (field t1)) (proto_named (field t2)) (state_in (field t3)) (wiz_in (field t4)) (number_up_to 5 (field t5)) (number_up_to 9999 (field t6)) (long_name_of t7)
+    let t8 = after_two_spaces t7 in
+    let t9 = after_two_spaces t8 in
+    fields_with (name_of (field t0)) (group_in (field t1)) (proto_named (field t2)) (state_in (field t3)) (wiz_in (field t4)) (number_up_to 5 (field t5)) (number_up_to 9999 (field t6)) (number_up_to longest (field t7)) (number_up_to longest (field t8)) (long_name_of t9)
 
 -- ---- any reply
 

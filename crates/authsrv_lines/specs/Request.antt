@@ -1,6 +1,8 @@
 -- What a line asks for, by the table of lines.
 use Rattle.std.specs.Prelude.{ℕ, nat_lt, Bool, true, false, List, [], ◌∷◌, length, Option, Some, None, Result, Ok, Err, unwrap_or, codes, if◌then◌else◌}
 use Rattle.std.specs.Str.{bytes_eq}
+use Rattle.std.specs.Result.{result_ok}
+use Rattle.hex.specs.Hex.{decode_sized}
 use Rattle.md5.specs.Md5.{md5}
 use Rattle.fw_types.specs.declared.host.Host.{Host}
 use Rattle.fw_types.specs.Host.{host_of}
@@ -66,6 +68,26 @@ named_request_of named (Some text) = about named (name_of text)
 abbrev pub response_of : Option (List ℕ) → ReadRequest
 response_of None = Err Words
 response_of (Some text) = Ok (wires.Ask (requests.Response (md5 text) (read_of text)))
+
+-- HASH, HASH WORD: 32 hexadecimal digits, and 16, in either case
+abbrev pub hash_of : List ℕ → Option (List ℕ)
+hash_of text = result_ok (decode_sized text 16)
+
+abbrev pub digest_alone : Option (List ℕ) → ReadRequest
+digest_alone None = Err Words
+digest_alone (Some hash) = Ok (wires.Ask (requests.Response hash None))
+
+abbrev pub digest_word : Option (List ℕ) → Option ℕ → ReadRequest
+digest_word (Some hash) (Some word) = Ok (wires.Ask (requests.Response hash (Some word)))
+digest_word _ _ = Err Words
+
+abbrev pub digested : List ℕ → Option (List ℕ) → ReadRequest
+digested hash None = digest_alone (hash_of hash)
+digested hash (Some word) = digest_word (hash_of hash) (read_of word)
+
+abbrev pub digest_of : Option (List ℕ × Option (List ℕ)) → ReadRequest
+digest_of None = Err Words
+digest_of (Some texts) = digested texts.0 texts.1
 
 -- SERVICE HOST
 abbrev pub operation_request : Option OpService → Option Host → ReadRequest
@@ -138,6 +160,16 @@ abbrev pub otp_of : List (List ℕ) → Option (List ℕ) → ReadRequest
 otp_of (name ∷ number ∷ word_seed ∷ _) (Some text) = otp_with name number word_seed text
 otp_of _ _ = Err Words
 
+-- NAME NUMBER
+abbrev pub expire_set : Option (List ℕ) → Option ℕ → ReadRequest
+expire_set name None = Err Words
+expire_set None (Some until) = Err BadName
+expire_set (Some name) (Some until) = Ok (wires.Ask (requests.Expire name until))
+
+abbrev pub expire_request : Option (List ℕ × List ℕ) → ReadRequest
+expire_request None = Err Words
+expire_request (Some texts) = expire_set (name_of texts.0) (number_of texts.1)
+
 -- nothing
 abbrev pub wire_alone : Wire → Bool → ReadRequest
 wire_alone wire true = Ok wire
@@ -148,12 +180,14 @@ wire_alone wire false = Err Words
 abbrev pub asked : Command → List (List ℕ) → List ℕ → ReadRequest
 asked (commands.Named named) parts rest = named_request_of named (one_of parts)
 asked commands.Response parts rest = response_of (text_after 0 rest)
+asked commands.Digest parts rest = digest_of (one_or_two parts)
 asked commands.Operation parts rest = operation_request_of (two_of parts)
 asked commands.Adduser parts rest = adduser_of parts (text_after 1 rest)
 asked commands.Group parts rest = group_request (one_or_two parts)
 asked commands.Proto parts rest = proto_request (two_of parts)
 asked commands.Password parts rest = password_of parts (text_after 1 rest)
 asked commands.Otp parts rest = otp_of parts (text_after 3 rest)
+asked commands.Expire parts rest = expire_request (two_of parts)
 asked commands.List parts rest = wire_alone wires.List (has_none parts)
 asked commands.Quit parts rest = wire_alone wires.Quit (has_none parts)
 

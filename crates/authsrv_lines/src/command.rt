@@ -23,12 +23,14 @@ pub(crate) enum Named {
 pub(crate) enum Command {
     Named(Named),
     Response,
+    Digest,
     Operation,
     Adduser,
     Group,
     Proto,
     Password,
     Otp,
+    Expire,
     List,
     Quit,
 }
@@ -88,6 +90,8 @@ fn other_of(word: &[u8]) -> Option<Command>
 {
     if is(word, b"response") {
         Some(Command::Response)
+    } else if is(word, b"digest") {
+        Some(Command::Digest)
     } else if is(word, b"operation") {
         Some(Command::Operation)
     } else if is(word, b"adduser") {
@@ -100,6 +104,8 @@ fn other_of(word: &[u8]) -> Option<Command>
         Some(Command::Password)
     } else if is(word, b"otp") {
         Some(Command::Otp)
+    } else if is(word, b"expire") {
+        Some(Command::Expire)
     } else if is(word, b"list") {
         Some(Command::List)
     } else if is(word, b"quit") {

@@ -32,6 +32,10 @@ pub fn denial_text(denial: Denial, out: &mut ArrayVec<u8, 512>)
         Denial::Unknown => append(out, b"unknown user"),
         Denial::Wrong => append(out, b"wrong response"),
         Denial::Disabled => append(out, b"disabled"),
+        Denial::Expired { at } => {
+            append(out, b"expired ");
+            append_u64(out, at);
+        }
         Denial::Sleeping { until } => {
             append(out, b"sleeping until ");
             append_u64(out, until);
@@ -101,6 +105,13 @@ fn sleeping(text: &[u8]) -> Option<Denial>
     Some(Denial::Sleeping { until })
 }
 
+fn expired(text: &[u8]) -> Option<Denial>
+    ensures { result ≡ option_map (λ n. Denial.Expired n) (number_up_to longest text.now) }
+{
+    let at = read_up_to(u64::MAX, text)?;
+    Some(Denial::Expired { at })
+}
+
 fn no_rule(text: &[u8]) -> Option<Denial>
     ensures { result ≡ option_map (λ n. Denial.NoRule n) (number_up_to 4294967295 text.now) }
 {
@@ -132,6 +143,8 @@ fn counted_denial(text: &[u8]) -> Option<Denial>
 {
     if text.starts_with(b"sleeping until ") {
         sleeping(&text[15..])
+    } else if text.starts_with(b"expired ") {
+        expired(&text[8..])
     } else if text.starts_with(b"busy ") {
         busy(&text[5..])
     } else {

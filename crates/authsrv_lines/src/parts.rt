@@ -1,8 +1,9 @@
 //! What follows a command, and the request that it makes.
 ghost use Rattle.std.specs.Prelude.{◌≡◌};
 ghost use Rattle.fw_types.specs.Name.{name_of};
+ghost use Rattle.otp_md5.specs.Hexadecimal.{read_of};
 ghost use Rattle.authsrv_lines.specs.Words.{has_none, one_of, two_of, one_or_two, text_after, words};
-ghost use Rattle.authsrv_lines.specs.Request.{adduser_of, adduser_with, wire_alone, count_of, group_none, group_request, group_some, named_request_of, operation_request_of, otp_of, otp_with, password_of, proto_request, proto_named, response_of, service_named};
+ghost use Rattle.authsrv_lines.specs.Request.{adduser_of, adduser_with, wire_alone, count_of, digest_alone, digest_of, digest_word, hash_of, expire_request, group_none, group_request, group_some, named_request_of, operation_request_of, otp_of, otp_with, password_of, proto_request, proto_named, response_of, service_named};
 
 use crate::command::{Command, Named};
 use crate::words::{behind_blank, has_no_word, next_word, one_or_two_words, one_word, two_words};
@@ -37,6 +38,54 @@ pub(crate) fn read_response(rest: &[u8]) -> Result<Wire, WireFault>
         hash: Md5::digest(text),
         word: read_hex(text),
     }))
+}
+
+// The digest that 32 hexadecimal digits are.
+fn read_hash(text: &[u8]) -> Option<[u8; 16]>
+    ensures { result ≡ hash_of text.now }
+{
+    let mut hash = [0; 16];
+    match hex::decode_to_slice(text, &mut hash) {
+        Ok(()) => Some(hash),
+        Err(_) => None,
+    }
+}
+
+fn digest_alone(hash: &[u8]) -> Result<Wire, WireFault>
+    ensures { result ≡ digest_alone (hash_of hash.now) }
+{
+    match read_hash(hash) {
+        Some(hash) => Ok(Wire::Ask(Request::Response { hash, word: None })),
+        None => Err(WireFault::Words),
+    }
+}
+
+fn digest_word(hash: &[u8], word: &[u8]) -> Result<Wire, WireFault>
+    ensures { result ≡ digest_word (hash_of hash.now) (read_of word.now) }
+{
+    let Some(hash) = read_hash(hash) else {
+        return Err(WireFault::Words);
+    };
+    let Some(word) = read_hex(word) else {
+        return Err(WireFault::Words);
+    };
+    Ok(Wire::Ask(Request::Response {
+        hash,
+        word: Some(word),
+    }))
+}
+
+/// The digest of a response, and the one-time password that it was, or nothing.
+pub(crate) fn read_digest(rest: &[u8]) -> Result<Wire, WireFault>
+    ensures { result ≡ digest_of (one_or_two (words rest.now)) }
+{
+    let Some((hash, word)) = one_or_two_words(rest) else {
+        return Err(WireFault::Words);
+    };
+    match word {
+        Some(word) => digest_word(hash, word),
+        None => digest_alone(hash),
+    }
 }
 
 fn read_service(text: &[u8]) -> Option<OpService>
@@ -230,6 +279,22 @@ pub(crate) fn read_otp(rest: &[u8]) -> Result<Wire, WireFault>
         return Err(WireFault::Words);
     };
     otp_with(name, number, word_seed, text)
+}
+
+/// The name of a user, and a number of 1 to 10 digits.
+pub(crate) fn read_expire(rest: &[u8]) -> Result<Wire, WireFault>
+    ensures { result ≡ expire_request (two_of (words rest.now)) }
+{
+    let Some((name, until)) = two_words(rest) else {
+        return Err(WireFault::Words);
+    };
+    let Some(until) = read_number(until) else {
+        return Err(WireFault::Words);
+    };
+    let Some(name) = Name::read(name) else {
+        return Err(WireFault::BadName);
+    };
+    Ok(Wire::Ask(Request::Expire { name, until }))
 }
 
 /// Nothing.

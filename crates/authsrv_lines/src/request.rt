@@ -4,8 +4,8 @@ ghost use Rattle.authsrv_lines.specs.Request.{asked, request_of};
 
 use crate::command::Command;
 use crate::parts::{
-    read_adduser, read_alone, read_group, read_named, read_operation, read_otp, read_password,
-    read_proto, read_response,
+    read_adduser, read_alone, read_digest, read_expire, read_group, read_named, read_operation,
+    read_otp, read_password, read_proto, read_response,
 };
 use crate::words::next_word;
 use crate::{Wire, WireFault};
@@ -17,12 +17,14 @@ fn read_parts(command: Command, rest: &[u8]) -> Result<Wire, WireFault>
     match command {
         Command::Named(named) => read_named(named, rest),
         Command::Response => read_response(rest),
+        Command::Digest => read_digest(rest),
         Command::Operation => read_operation(rest),
         Command::Adduser => read_adduser(rest),
         Command::Group => read_group(rest),
         Command::Proto => read_proto(rest),
         Command::Password => read_password(rest),
         Command::Otp => read_otp(rest),
+        Command::Expire => read_expire(rest),
         Command::List => read_alone(Wire::List, rest),
         Command::Quit => read_alone(Wire::Quit, rest),
     }

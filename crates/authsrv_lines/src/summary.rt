@@ -1,13 +1,13 @@
 //! What is shown of a user.
-ghost use Rattle.std.specs.Prelude.{◌≡◌, ◌≤◌, ◌++◌, length, option_map, IsTrue, IfSome};
+ghost use Rattle.std.specs.Prelude.{◌≡◌, ◌<◌, ◌≤◌, ◌^◌, ◌++◌, length, option_map, IsTrue, IfSome};
 ghost use Rattle.fw_types.specs.Name.{is_name};
 ghost use Rattle.auth_records.specs.Texts.{is_long_name};
 ghost use Rattle.authsrv_lines.specs.Number.{number_up_to};
 ghost use Rattle.arrayvec.specs.ArrayVec.{array_vec_len};
-ghost use Rattle.authsrv_lines.specs.Reply.{IsSummary, counts, group_text, identity, proto_text, rights, state_text, summary_line, wiz_text};
-ghost use Rattle.authsrv_lines.specs.ReplyReading.{behind, field, summary_fields, group_in, after_two_spaces, state_in, summary_of, to_space, wiz_in};
+ghost use Rattle.authsrv_lines.specs.Reply.{IsSummary, counts, dates, group_text, identity, in_full, proto_text, rights, state_text, summary_line, wiz_text};
+ghost use Rattle.authsrv_lines.specs.ReplyReading.{behind, field, longest, summary_fields, group_in, after_two_spaces, state_in, summary_of, to_space, wiz_in};
 
-use crate::number::read_up_to;
+use crate::number::{append_u64, read_up_to};
 use crate::parts::read_proto_name;
 use arrayvec::ArrayVec;
 use auth_events::Summary;
@@ -115,12 +115,32 @@ fn append_rights(out: &mut ArrayVec<u8, 512>, summary: &Summary)
 fn append_counts(out: &mut ArrayVec<u8, 512>, summary: &Summary)
     requires { array_vec_len out.old ≤ 200 }
     ensures items { out.new.items ≡ out.old.items ++ counts summary.now }
-    ensures long { IsTrue (is_long_name summary.now.long) }
+    ensures room { array_vec_len out.new ≤ 250 }
 {
     append(out, b" fails ");
     append_u32(out, u32::from(summary.fails));
     append(out, b" number ");
     append_u32(out, summary.number);
+}
+
+fn append_dates(out: &mut ArrayVec<u8, 512>, summary: &Summary)
+    requires { array_vec_len out.old ≤ 250 }
+    ensures items { out.new.items ≡ out.old.items ++ dates summary.now }
+    ensures room { array_vec_len out.new ≤ 320 }
+    ensures last { summary.now.last < 2 ^ 64 }
+    ensures expires { summary.now.expires < 2 ^ 64 }
+{
+    append(out, b" last ");
+    append_u64(out, summary.last);
+    append(out, b" expires ");
+    append_u64(out, summary.expires);
+}
+
+fn append_in_full(out: &mut ArrayVec<u8, 512>, summary: &Summary)
+    requires { array_vec_len out.old ≤ 320 }
+    ensures items { out.new.items ≡ out.old.items ++ in_full summary.now }
+    ensures long { IsTrue (is_long_name summary.now.long) }
+{
     append(out, b" long ");
     append(out, summary.long.text());
 }
@@ -135,6 +155,8 @@ pub(crate) fn summary_text(summary: &Summary, out: &mut ArrayVec<u8, 512>)
     append_identity(out, summary);
     append_rights(out, summary);
     append_counts(out, summary);
+    append_dates(out, summary);
+    append_in_full(out, summary);
 }
 
 fn read_group(text: &[u8]) -> Option<Option<Name>>
@@ -206,6 +228,10 @@ pub(crate) fn read_summary(text: &[u8]) -> Option<Summary>
     let fails = read_fails(field(text))?;
     let text = after_two_spaces(text);
     let number = read_number(field(text))?;
+    let text = after_two_spaces(text);
+    let last = read_up_to(u64::MAX, field(text))?;
+    let text = after_two_spaces(text);
+    let expires = read_up_to(u64::MAX, field(text))?;
     let long = LongName::read(after_two_spaces(text))?;
     Some(Summary {
         name,
@@ -215,6 +241,8 @@ pub(crate) fn read_summary(text: &[u8]) -> Option<Summary>
         wiz,
         fails,
         number,
+        last,
+        expires,
         long,
     })
 }

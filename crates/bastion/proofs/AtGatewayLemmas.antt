@@ -31,6 +31,7 @@ use Rattle.session_acts.proofs.LinkedLemmas.{called_gains}
 use Rattle.session_acts.proofs.ToldLemmas.{by_both, logged_gains}
 use Rattle.tn_gate.specs.Dummies.{lent}
 use Rattle.bastion.specs.Asking.{FailsWithin}
+use Rattle.bastion.specs.Basis.{Course, no_course, of_session}
 use Rattle.bastion.specs.AtGateway.{Comes, IsCutOff, OfGateway, begins_at, ends_at, gated_devices, let_in}
 use Rattle.bastion.specs.Complete.{IsPassedWhole, IsServedAtGate, closing_text}
 use Rattle.bastion.specs.Gating.{Gated, devices_over}
@@ -74,6 +75,16 @@ passed_undenied line status old new (inr (inr six)) is = let now = six.0 in omeg
 
 untouched_deny : (service : Service) → ((line : ℕ) (one other : KeeperView) → Untouched service (Deny line) one other → other ≡ one) → (verdict : Verdict) (line : ℕ) (one other : KeeperView) → verdict ≡ Deny line → Untouched service verdict one other → other ≡ one
 untouched_deny service leaves verdict line one other denied same = leaves line one other (subst (λ (v : Verdict). Untouched service v one other) denied same)
+
+-- a session was held
+pub record Holds {P : Type 0} (relays : Bool) (command : Command) (service : Service) (peer : Peer) (rows : ℕ → PlaceTable (acts BookOrigin) P) (first : ℕ → Row (acts BookOrigin) P) (inputs : Inputs) (status : ℕ) (old new : WorldView) : Type 0 where
+  pub course : Course
+  pub at : OfGateway relays command service peer rows first inputs course status old new
+
+-- a client came, and this became of it
+pub record CameAs (command : Command) (service : Service) (peer : Peer) (words : ℕ → List ℕ) (Of : Inputs → Course → ℕ → WorldView → WorldView → Type 0) (inputs : Inputs) (status : ℕ) (old new : WorldView) : Type 0 where
+  pub course : Course
+  pub comes : Comes command service peer words Of inputs course status old new
 
 module _ {P : Type 0} (relays : Bool) (command : Command) (service : Service) (words : ℕ → List ℕ) (inputs : Inputs) (rows : ℕ → PlaceTable (acts BookOrigin) P) (first : ℕ → Row (acts BookOrigin) P) (out : Outcome) (old mid new : WorldView)
     (h : Gated service (peer_of command) inputs out old mid) (tells : TellsIf (fault_line_of out) mid new) where
@@ -141,7 +152,7 @@ module _ {P : Type 0} (relays : Bool) (command : Command) (service : Service) (w
 
   -- as the run left it
   held_so : (line : ℕ) → verdict_for command inputs ≡ Permit line → (logs : SinkView) → SessionAs relays (rows line) (first line) (let_in service inputs peer line met) (record (gated_devices mid h.book) { logs = logs }) h.ending
-      → NotedIf (ending_line service peer h.ending) logs mid.logs → OfGateway relays command service peer rows first inputs (status_of out) old new
+      → NotedIf (ending_line service peer h.ending) logs mid.logs → Holds relays command service peer rows first inputs (status_of out) old new
   held_so line permitted logs session noted =
       let later = tells_later (fault_line_of out) mid new tells in
       let start : Devices BookOrigin = let_in service inputs peer line met in
@@ -150,30 +161,33 @@ module _ {P : Type 0} (relays : Bool) (command : Command) (service : Service) (w
       let here : SessionAs relays (rows line) (first line) start left h.ending =
       subst (λ (o : SinkView). Left new.inputs o) (sym later.output) (subst (λ (i : SessionInputs). Left i mid.output) (sym later.inputs) session) in
       record {
-        before = h.before;
-        keeper = h.over.keeper;
-        line = line;
-        permitted = permitted;
-        book = h.book;
-        logs = logs;
-        ending = h.ending;
-        session = here;
-        talk = legal_talk (rows line) (first line) start left h.ending here inputs h.before h.book out old mid h.over refl refl;
-        kept = ap (λ (i : SessionInputs). i.keeper) later.inputs ∙ h.over.kept;
-        asked = asked_for line logs here;
-        logged = logged_so line logs here;
-        told = session_gave here;
-        concluded =
-            concluded service peer h.ending h.book.refused (was_refused (deeds_of here.held)) out logs mid new h.over.comes (was (rows line) (first line) start left h.ending here inputs h.before h.book out old mid h.over refl refl) noted tells;
+        course = of_session (deeds_of here.held) h.ending;
+        at = record {
+          before = h.before;
+          keeper = h.over.keeper;
+          line = line;
+          permitted = permitted;
+          book = h.book;
+          logs = logs;
+          session = here;
+          deeds = refl;
+          talk = legal_talk (rows line) (first line) start left h.ending here inputs h.before h.book out old mid h.over refl refl;
+          kept = ap (λ (i : SessionInputs). i.keeper) later.inputs ∙ h.over.kept;
+          asked = asked_for line logs here;
+          logged = logged_so line logs here;
+          told = session_gave here;
+          concluded =
+              concluded service peer h.ending h.book.refused (was_refused (deeds_of here.held)) out logs mid new h.over.comes (was (rows line) (first line) start left h.ending here inputs h.before h.book out old mid h.over refl refl) noted tells;
+        };
       }
 
   -- ---- the headline
 
-  module _ (Of : Inputs → ℕ → WorldView → WorldView → Type 0) (make : OfGateway relays command service peer rows first inputs (status_of out) old new → Of inputs (status_of out) old new) (outside : is_at_console command ≡ false)
+  module _ (Of : Inputs → Course → ℕ → WorldView → WorldView → Type 0) (make : (course : Course) → OfGateway relays command service peer rows first inputs course (status_of out) old new → Of inputs course (status_of out) old new) (outside : is_at_console command ≡ false)
       (leaves : (line : ℕ) (one other : KeeperView) → Untouched service (Deny line) one other → other ≡ one)
       (status : ((status_of out ≡ 4) ⊎ (status_of out ≡ 5)) ⊎ IsPassed (verdict_for command inputs) (status_of out) old.inputs mid.inputs) where
     abbrev Came : Type 0
-    Came = Comes command service peer words Of inputs (status_of out) old new
+    Came = CameAs command service peer words Of inputs (status_of out) old new
 
     abbrev Denials : Type 0
     Denials = IsSilent (status_of out) old new ⊎ (IsPermitted command inputs (status_of out) ⊎ IsDenied command service peer inputs (status_of out) old new)
@@ -185,22 +199,25 @@ module _ {P : Type 0} (relays : Bool) (command : Command) (service : Service) (w
     held_comes : (line : ℕ) → verdict_for command inputs ≡ Permit line → (logs : SinkView) → NotedIf (ending_line service peer h.ending) logs mid.logs
         → HeldAs relays (text (Permit line)) (rows line) (first line) h.ending (patient (timeout_of inputs.rules) met) (record (gated_devices mid h.book) { logs = logs }) → Came
     held_comes line permitted logs noted (inl fails) =
-        inl (permit_cut line permitted (fails_last service peer (text (Permit line)) (patient (timeout_of inputs.rules) met) (gated_devices mid h.book) logs h.ending h.ending fails.ends noted fails))
-    held_comes line permitted logs noted (inr session) = inr (inr (make (held_so line permitted logs session noted)))
+        record { course = no_course; comes = inl (permit_cut line permitted (fails_last service peer (text (Permit line)) (patient (timeout_of inputs.rules) met) (gated_devices mid h.book) logs h.ending h.ending fails.ends noted fails)) }
+    held_comes line permitted logs noted (inr session) = let holds = held_so line permitted logs session noted in record { course = holds.course; comes = inr (inr (make holds.course holds.at)) }
 
     denied_comes : (line : ℕ) → verdict_for command inputs ≡ Deny line
         → LogFails (text (Deny line)) (begun_for inputs h.before old) (devices_over mid h.book) h.ending ⊎ DeniesWhole service words line peer (begun_for inputs h.before old) (devices_over mid h.book) h.ending → Came × Denials
     denied_comes line denied (inl fails) =
         let cut = deny_cut line denied fails in
         let four = cut.status_is in
-        (inl cut, inl (record { output = cut.output; undenied = λ one. omega (arith, four, one) }))
+        (record { course = no_course; comes = inl cut }, inl (record { output = cut.output; undenied = λ one. omega (arith, four, one) }))
     denied_comes line denied (inr whole) =
         let kept : h.book.keeper ≡ h.before = untouched_deny service leaves (verdict_for command inputs) line h.before h.book.keeper denied h.untouched in
         let same : new ≡ mid = denial_same command service words peer inputs old.inputs.dialer mid.inputs.dialer h.before h.book h.ending out old mid new h.over tells line denied whole in (
-          inr (inl (record {
-            off = told_off command service words peer inputs old.inputs.dialer mid.inputs.dialer h.before h.book h.ending out old mid new h.over tells line denied whole outside kept;
-            dialer = ap (λ (w : WorldView). w.inputs.dialer) same ∙ whole.dialer;
-          })),
+          record {
+            course = no_course;
+            comes = inr (inl (record {
+              off = told_off command service words peer inputs old.inputs.dialer mid.inputs.dialer h.before h.book h.ending out old mid new h.over tells line denied whole outside kept;
+              dialer = ap (λ (w : WorldView). w.inputs.dialer) same ∙ whole.dialer;
+            }));
+          },
           inr (inr (told_denied command service words peer inputs old.inputs.dialer mid.inputs.dialer h.before h.book h.ending out old mid new h.over tells line denied whole)),
         )
 
@@ -214,19 +231,23 @@ module _ {P : Type 0} (relays : Bool) (command : Command) (service : Service) (w
 
 -- ---- a run in which no count rose
 
-pub passed_whole : {P : Type 0} (relays : Bool) (command : Command) (service : Service) (peer : Peer) (rows : ℕ → PlaceTable (acts BookOrigin) P) (first : ℕ → Row (acts BookOrigin) P) (name : List ℕ) (inputs : Inputs) (status : ℕ) (old middle new : WorldView) → Quiet old new → ReadsOnly name true old middle
-    → (at : OfGateway relays command service peer rows first inputs status middle new) → IsPassed (Permit at.line) status old.inputs new.inputs → IsPassedWhole at old
-passed_whole relays command service peer rows first name inputs status old middle new q only at passed =
+pub passed_whole : {P : Type 0} (relays : Bool) (command : Command) (service : Service) (peer : Peer) (rows : ℕ → PlaceTable (acts BookOrigin) P) (first : ℕ → Row (acts BookOrigin) P) (name : List ℕ) (inputs : Inputs) (course : Course) (status : ℕ) (old middle new : WorldView) → Quiet old new
+    → ReadsOnly name true old middle → (Session : Type 0) → Session → (at : OfGateway relays command service peer rows first inputs course status middle new) → (line : ℕ) → Permit line ≡ Permit at.line → IsPassed (Permit line) status old.inputs new.inputs
+    → IsPassedWhole service peer line Session course status old new
+passed_whole relays command service peer rows first name inputs course status old middle new q only Session session at line same passed =
+    let Says : Verdict → List Deed → Type 0 = λ v d. new.logs.given ≡ grown old.logs.given (decision_text v service peer ++ gives logged d ++ closing_text service peer course.ending (was_refused d)) in
     let refused = was_refused (deeds_of at.session.held) in
-    let closing : List ℕ = closing_text service peer at.ending refused in
+    let closing : List ℕ = closing_text service peer course.ending refused in
     let said : List ℕ = decision_text (Permit at.line) service peer ++ gives logged (deeds_of at.session.held) in
     let start : old.logs.faults ≤ middle.logs.faults = same_from old.logs middle.logs only.logs in
     let low : middle.logs.faults ≤ at.logs.faults = (any_keeps relays at.session).log_drops in
     let closed : new.logs.given ≡ grown at.logs.given closing =
-    concluded_whole service peer at.ending refused status at.logs new.logs (λ a b more high rose. q.logs a b (omega (arith, start, low, more)) high rose) at.concluded in
+    concluded_whole service peer course.ending refused status at.logs new.logs (λ a b more high rose. q.logs a b (omega (arith, start, low, more)) high rose) at.concluded in
+    let here : Says (Permit at.line) (deeds_of at.session.held) = closed ∙ ap (λ (g : Option (List ℕ)). grown g closing) (at.logged ∙ ap (λ (s : SinkView). grown s.given said) only.logs) ∙ by_both old.logs.given said closing in
     record {
-      ends = ends_by at.ending refused (subst (λ (n : ℕ). (n ≡ 0) ⊎ (n ≡ 6)) at.concluded.status_is (passed_so at.line status old.inputs new.inputs passed));
-      logs = closed ∙ ap (λ (g : Option (List ℕ)). grown g closing) (at.logged ∙ ap (λ (s : SinkView). grown s.given said) only.logs) ∙ by_both old.logs.given said closing;
+      session = session;
+      ends = ends_by course.ending refused (subst (λ (n : ℕ). (n ≡ 0) ⊎ (n ≡ 6)) at.concluded.status_is (passed_so line status old.inputs new.inputs passed));
+      logs = subst (λ (v : Verdict). Says v course.deeds) (sym same) (subst (λ (d : List Deed). Says (Permit at.line) d) at.deeds here);
       passed = passed;
     }
 
@@ -235,25 +256,26 @@ unfailed : {A : Type 0} (text : List ℕ) (old middle new : WorldView) → Quiet
 unfailed text old middle new q logs h = absurd (q.logs middle.logs.faults new.logs.faults (same_from old.logs middle.logs logs) (omega (arith)) h.rose)
 
 module _ {P : Type 0} (relays : Bool) (command : Command) (service : Service) (words : ℕ → List ℕ) (inputs : Inputs) (rows : ℕ → PlaceTable (acts BookOrigin) P) (first : ℕ → Row (acts BookOrigin) P) (name : List ℕ) (out : Outcome) (old middle mid new : WorldView) (q : Quiet old new)
-    (only : ReadsOnly name true old middle) (h : Gated service (peer_of command) inputs out middle mid) (tells : TellsIf (fault_line_of out) mid new) (Of : Inputs → ℕ → WorldView → WorldView → Type 0) (Whole : List ℕ → Peer → Inputs → ℕ → WorldView → WorldView → Type 0)
-    (finish : (line : ℕ) → verdict_for command inputs ≡ Permit line → IsPassed (Permit line) (status_of out) old.inputs new.inputs → Of inputs (status_of out) middle new → Whole name (peer_of command) inputs (status_of out) old new) where
-  abbrev AtEnd : Verdict → Type 0
-  AtEnd verdict = IsServedAtGate verdict service words Whole name (peer_of command) inputs (status_of out) old new
+    (only : ReadsOnly name true old middle) (h : Gated service (peer_of command) inputs out middle mid) (tells : TellsIf (fault_line_of out) mid new) (Of : Inputs → Course → ℕ → WorldView → WorldView → Type 0)
+    (finish : (line : ℕ) → verdict_for command inputs ≡ Permit line → IsPassed (Permit line) (status_of out) old.inputs new.inputs → (course : Course) → Of inputs course (status_of out) middle new
+    → IsPassedWhole service (peer_of command) line (Of inputs course (status_of out) middle new) course (status_of out) old new) where
+  abbrev AtEnd : Course → Verdict → Type 0
+  AtEnd course verdict = IsServedAtGate verdict service words (peer_of command) (Of inputs course (status_of out) middle new) course (status_of out) old new
 
   abbrev Passes : Verdict → Type 0
   Passes verdict = IsPassed verdict (status_of out) old.inputs new.inputs
 
-  held_whole : (line : ℕ) → Passes (Permit line) → Comes command service (peer_of command) words Of inputs (status_of out) middle new → verdict_for command inputs ≡ Permit line → AtEnd (Permit line)
-  held_whole line passed (inl cut) permitted = unfailed (decision_text (verdict_for command inputs) service (peer_of command)) old middle new q only.logs cut.within
-  held_whole line passed (inr (inl barred)) permitted = let clash : Permit line ≡ Deny barred.off.line = sym permitted ∙ barred.off.denied in absurd (cc)
-  held_whole line passed (inr (inr x)) permitted = finish line permitted passed x
+  held_whole : (line : ℕ) → Passes (Permit line) → (course : Course) → Comes command service (peer_of command) words Of inputs course (status_of out) middle new → verdict_for command inputs ≡ Permit line → AtEnd course (Permit line)
+  held_whole line passed course (inl cut) permitted = unfailed (decision_text (verdict_for command inputs) service (peer_of command)) old middle new q only.logs cut.within
+  held_whole line passed course (inr (inl barred)) permitted = let clash : Permit line ≡ Deny barred.off.line = sym permitted ∙ barred.off.denied in absurd (cc)
+  held_whole line passed course (inr (inr x)) permitted = finish line permitted passed course x
 
-  pub caller_whole : (verdict : Verdict) → verdict_for command inputs ≡ verdict → Passes verdict → Comes command service (peer_of command) words Of inputs (status_of out) middle new
-      → OfCaller relays service words rows first (verdict_for command inputs) inputs.rules (peer_of command) (begun_for inputs h.before middle) (devices_over mid h.book) h.ending → AtEnd verdict
-  caller_whole (Permit line) is passed came so = held_whole line passed came is
+  pub caller_whole : (verdict : Verdict) → verdict_for command inputs ≡ verdict → Passes verdict → (came : CameAs command service (peer_of command) words Of inputs (status_of out) middle new)
+      → OfCaller relays service words rows first (verdict_for command inputs) inputs.rules (peer_of command) (begun_for inputs h.before middle) (devices_over mid h.book) h.ending → AtEnd came.course verdict
+  caller_whole (Permit line) is passed came so = held_whole line passed came.course came.comes is
   caller_whole (Deny line) is passed came (inl s) = let clash : Deny line ≡ Permit s.line = sym is ∙ s.permitted in absurd (cc)
   caller_whole (Deny line) is passed came (inr d) =
       let same : Deny d.line ≡ Deny line = sym d.denied ∙ is in
-      subst AtEnd same
+      subst (AtEnd came.course) same
       (denial_whole command service words (peer_of command) inputs middle.inputs.dialer mid.inputs.dialer h.before h.book h.ending out old middle mid new h.over tells d.line d.denied q only.logs only.output (tells_later (fault_line_of out) mid new tells).logs
       (denial_so service words false (verdict_for command inputs) (peer_of command) (begun_for inputs h.before middle) (devices_over mid h.book) h.ending d))

@@ -1,10 +1,10 @@
 -- From the book that was opened to what a session over it comes to and leaves.
-use Rattle.std.proofs.Common.{◌≡◌, sym, ◌∙◌, ap, subst, refl, inr, ℕ, List, Bool, true, false}
+use Rattle.std.proofs.Common.{◌≡◌, sym, ◌∙◌, ap, subst, refl, inl, inr, ℕ, List, Bool, true, false}
 use Rattle.auth_machine.specs.Book.{BookView}
 use Rattle.auth_machine.specs.History.{CountsCalls, CountsUnkept, HasRecords, IsLegal, IsSound, Origin}
 use Rattle.auth_machine.specs.Port.{BookOrigin, book_origin}
 use Rattle.client_service.proofs.ConnLemmas.{conn_origin, console_origin}
-use Rattle.client_service.specs.Conn.{Conn, Untouched}
+use Rattle.client_service.specs.Conn.{Conn, IsServed, Untouched}
 use Rattle.client_service.specs.Meeting.{dialer_then}
 use Rattle.fw_outside.specs.DialerView.{DialerView}
 use Rattle.fw_types.specs.declared.ending.Ending.{Ending}
@@ -19,11 +19,15 @@ use Rattle.session_acts.specs.Dummies.{nowhere}
 use Rattle.bastion.specs.Gating.{Gated, devices_over}
 use Rattle.bastion.specs.Run.{DoesFor}
 use Rattle.bastion.specs.Serving.{Attended, OverBook, Serves, UntouchedAt, book_at_first, devices_at, most_entries, origin_of}
-use Rattle.bastion.specs.SessionSteps.{EndsOver, HoldsOver, IsUndialed, Opens, PassesOver}
+use Rattle.bastion.specs.SessionSteps.{EndsOver, HoldsOver, IsUndialed, Opens, PassesOver, StopsEach}
 use Rattle.bastion.specs.WorldView.{WorldView}
 use Rattle.bastion.specs.declared.outcome.Outcome.{Outcome}
 use Rattle.bastion.specs.declared.words.Client.{Client}
 use Rattle.bastion.specs.declared.words.Command.TheVariants as commands
+use Rattle.bastion.specs.declared.words.GatewayKind.{GatewayKind}
+use Rattle.bastion.specs.declared.words.GatewayKind.TheVariants as kinds
+use Rattle.bastion.specs.Gateways.{gateway_service}
+use Rattle.bastion.specs.Inputs.{book_needs}
 
 -- ---- what the history stands on stays
 
@@ -119,17 +123,34 @@ module _ (name : List ℕ) (service : Service) (rules : RuleBook) (first : BookV
 
 pub holds_does : (name : List ℕ) (client : Client) (rules : RuleBook) (first : BookView) (out : Outcome) (old mid new : WorldView) → Opens name services.Authsrv rules first old mid → HoldsOver client rules first out mid new → DoesFor name (commands.Authsrv client) out old new
 holds_does name client rules first out old mid new o h =
-    inr (record { inputs = o.inputs; read = o.read (commands.Authsrv client) refl; middle = o.middle; only = o.only; works = holds_attended name services.Authsrv rules first old mid o client out new h })
+    inr (record { reading = o.reading; inputs = o.inputs; read = o.read (commands.Authsrv client) refl; middle = o.middle; only = o.only; works = holds_attended name services.Authsrv rules first old mid o client out new h })
 
-pub telnet_does : (name : List ℕ) (peer : Peer) (rules : RuleBook) (first : BookView) (out : Outcome) (old mid new : WorldView) → Opens name services.TnGw rules first old mid → PassesOver services.TnGw peer rules first out mid new → DoesFor name (commands.TnGw peer) out old new
-telnet_does name peer rules first out old mid new o h =
-    let gated = passes_gated name services.TnGw rules first old mid o services.TnGw peer (telnet_untouched name services.TnGw rules first old mid o) out new h in
-    inr (record { inputs = o.inputs; read = o.read (commands.TnGw peer) refl; middle = o.middle; only = o.only; works = gated })
+gateway_untouched : (name : List ℕ) (kind : GatewayKind) (rules : RuleBook) (first : BookView) (old mid : WorldView) (o : Opens name (gateway_service kind) rules first old mid) (verdict : Verdict) (book : BookView) → Untouched (gateway_service kind) verdict first book
+    → Untouched (gateway_service kind) verdict o.before book.keeper
+gateway_untouched name kinds.Telnet rules first old mid o verdict book h = telnet_untouched name services.TnGw rules first old mid o verdict book h
+gateway_untouched name kinds.Ftp rules first old mid o verdict book h = ftp_untouched name services.FtpGw rules first old mid o verdict book h
 
-pub ftp_does : (name : List ℕ) (peer : Peer) (rules : RuleBook) (first : BookView) (out : Outcome) (old mid new : WorldView) → Opens name services.FtpGw rules first old mid → PassesOver services.FtpGw peer rules first out mid new → DoesFor name (commands.FtpGw peer) out old new
-ftp_does name peer rules first out old mid new o h =
-    let gated = passes_gated name services.FtpGw rules first old mid o services.FtpGw peer (ftp_untouched name services.FtpGw rules first old mid o) out new h in
-    inr (record { inputs = o.inputs; read = o.read (commands.FtpGw peer) refl; middle = o.middle; only = o.only; works = gated })
+gateway_gated : (name : List ℕ) (kind : GatewayKind) (peer : Peer) (rules : RuleBook) (first : BookView) (out : Outcome) (old mid new : WorldView) → Opens name (gateway_service kind) rules first old mid → PassesOver (gateway_service kind) peer rules first out mid new
+    → DoesFor name (commands.Gateway kind peer) out old new
+gateway_gated name kind peer rules first out old mid new o h =
+    let gated = passes_gated name (gateway_service kind) rules first old mid o (gateway_service kind) peer (gateway_untouched name kind rules first old mid o) out new h in
+    inr (record { reading = o.reading; inputs = o.inputs; read = o.read (commands.Gateway kind peer) refl; middle = o.middle; only = o.only; works = gated })
+
+module _ (name : List ℕ) (kind : GatewayKind) (peer : Peer) (service : Service) (is : service ≡ gateway_service kind) where
+  pub gateway_does : (rules : RuleBook) (first : BookView) (out : Outcome) (old mid new : WorldView) → Opens name service rules first old mid → PassesOver service peer rules first out mid new → DoesFor name (commands.Gateway kind peer) out old new
+  gateway_does rules first out old mid new o h =
+      gateway_gated name kind peer rules first out old mid new (subst (λ (s : Service). Opens name s rules first old mid) is o) (subst (λ (s : Service). PassesOver s peer rules first out mid new) is h)
+
+  pub gateway_stops : (out : Outcome) (old new : WorldView) → StopsEach name service out old new → DoesFor name (commands.Gateway kind peer) out old new
+  gateway_stops out old new h = inl (h (commands.Gateway kind peer) (ap book_needs (sym is)))
+
+-- neither is the plug
+served_by_kind : (kind : GatewayKind) (rules : RuleBook) → IsServed (gateway_service kind) rules
+served_by_kind kinds.Telnet rules = tt
+served_by_kind kinds.Ftp rules = tt
+
+pub gateway_served : (kind : GatewayKind) (service : Service) → service ≡ gateway_service kind → (rules : RuleBook) → IsServed service rules
+gateway_served kind service is rules = subst (λ (s : Service). IsServed s rules) (sym is) (served_by_kind kind rules)
 
 -- ---- the dialer
 

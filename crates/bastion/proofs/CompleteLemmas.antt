@@ -19,16 +19,19 @@ use Rattle.session_acts.proofs.ToldLemmas.{by_both, by_nothing}
 use Rattle.spool_rack.specs.Opening.{CameBack, IsRackFault}
 use Rattle.spool_slots.specs.declared.slot_why.SlotWhy.{SlotWhy}
 use Rattle.spool_slots.specs.declared.slot_why.SlotWhy.TheVariants as whys
-use Rattle.bastion.specs.Complete.{AllDone, IsComplete, IsDrilledWhole, IsFormattedWhole, IsJobComplete, IsLaunchedWhole, IsLinkedWhole, IsOrderComplete, IsRoundWhole, IsStartedWhole, IsTakenWhole, IsWhole}
-use Rattle.bastion.specs.Inputs.{HasInputs, Inputs}
+use Rattle.bastion.specs.Complete.{AllDone, IsAllDone, IsDrilledWhole, IsFormattedWhole, IsJobComplete, IsLaunchedWhole, IsRoundWhole, IsStartedWhole, IsTakenWhole, IsWhole}
+use Rattle.bastion.specs.Basis.{Course, no_course, of_round}
+use Rattle.bastion.specs.Gateways.{denial_words, gateway_service}
+use Rattle.bastion.specs.Gating.{Gated}
+use Rattle.bastion.specs.Headline.{IsReplied, OfGateKind}
+use Rattle.bastion.specs.Inputs.{Inputs}
 use Rattle.bastion.specs.Jobs.{AreFormatted, DoesJob, DrillsBy, Formats, TellsFormatted, drill_refused, formatted_text, printed}
 use Rattle.bastion.specs.Mailing.{Mailed, slot_fault}
 use Rattle.bastion.specs.Outcome.{DiskRose, fault_line_of, refusal_text, status_of, verdict_status}
-use Rattle.bastion.specs.Run.{DoesLine, DoesOrder, Run, Stops, TellsIf, Worked, verdict_for}
-use Rattle.bastion.specs.Status.{IsPassed, IsServed, RoseBy, RoseInJob, RoseInOrder, RoseOf, SomeRose}
+use Rattle.bastion.specs.Run.{ReadsOnly, Stops, TellsIf, Unused, Worked, stopped_by, verdict_for}
+use Rattle.bastion.specs.Status.{IsPassed, IsServed, RoseBy, RoseInJob, SomeRose}
 use Rattle.client_service.specs.Decision.{decision_text}
 use Rattle.bastion.specs.Texts.{ended_text, print_text, program_of}
-use Rattle.bastion.specs.Words.{LineView}
 use Rattle.bastion.specs.Works.{LaunchesIf, PrintsAfter, PrintsEnd, StaysSo, announced, shown, with_given}
 use Rattle.bastion.specs.WorldView.{Post, SessionInputs, WorldView}
 use Rattle.bastion.specs.declared.outcome.Device.TheVariants as device
@@ -36,24 +39,25 @@ use Rattle.bastion.specs.declared.outcome.Outcome.{Outcome}
 use Rattle.bastion.specs.declared.outcome.Outcome.TheVariants.{Usage, Unread, Failed, NoMemory, Done, Decided, Ended}
 use Rattle.bastion.specs.declared.outcome.Refusal.TheVariants.{Slot}
 use Rattle.bastion.specs.declared.words.Command.{Command}
-use Rattle.bastion.specs.declared.words.Command.TheVariants.{Netacl, NetaclRun, Table, Authsrv, PlugGw, TnGw, FtpGw, Smap}
+use Rattle.bastion.specs.declared.words.Command.TheVariants.{Netacl, NetaclRun, Table, Authsrv, PlugGw, Gateway, Smap}
+use Rattle.bastion.specs.declared.words.GatewayKind.{GatewayKind}
+use Rattle.bastion.specs.declared.words.GatewayKind.TheVariants as kinds
 use Rattle.bastion.specs.declared.words.Job.{Job}
 use Rattle.bastion.specs.declared.words.Job.TheVariants.{Drill, SpoolInit, Smapd}
-use Rattle.bastion.specs.declared.words.Order.{Order}
-use Rattle.bastion.specs.declared.words.Order.TheVariants.{ByTable, Alone}
 use Rattle.bastion.specs.declared.words.Caller.{Caller}
 use Rattle.bastion.specs.declared.words.Client.{Client}
 use Rattle.bastion.specs.declared.words.Query.{Query}
 use Rattle.bastion.proofs.AttendedLemmas.{attended_status}
 use Rattle.bastion.proofs.FtpGatewayLemmas.{ftp_whole}
-use Rattle.bastion.proofs.GateStatusLemmas.{ftp_status, telnet_status}
+use Rattle.bastion.proofs.GateStatusLemmas.{gateway_status}
 use Rattle.bastion.proofs.GatewayLemmas.{telnet_whole}
 use Rattle.bastion.proofs.JobRoseLemmas.{fails_rose}
 use Rattle.bastion.proofs.LaunchLemmas.{Launching, launched}
 use Rattle.bastion.proofs.LeftLemmas.{calls_launcher, only_left, stops_left, tells_later}
 use Rattle.bastion.proofs.RoseLemmas.{by_later, count_some, rose_some, some_by, some_later, stops_rose, worked_rose}
 use Rattle.bastion.proofs.RunLemmas.{passed_then, served_then}
-use Rattle.bastion.proofs.LinkedLemmas.{linked_whole}
+use Rattle.bastion.proofs.AtGatewayLemmas.{CameAs}
+use Rattle.bastion.proofs.LinkedLemmas.{LinkedHeadline, linked_whole}
 use Rattle.bastion.proofs.MailKeptLemmas as kept
 use Rattle.bastion.proofs.QuietLemmas.{Quiet, gave_whole, quiet, same_from, same_to}
 use Rattle.bastion.proofs.ServedLemmas.{attended_whole}
@@ -71,9 +75,9 @@ use Rattle.smapd_queue.specs.declared.round.Trouble.{Trouble}
 use Rattle.smapd_queue.specs.declared.round.Trouble.TheVariants as troubles
 use Rattle.bastion.specs.HandingOn.{RoundHeld, TellsRound, outcome_printed, round_text}
 use Rattle.bastion.specs.Mailing.{SlotsUnread}
-use Rattle.bastion.proofs.HandedLemmas.{round_now, troubled_now}
+use Rattle.bastion.proofs.HandedLemmas.{handed_turns, round_now, troubled_now}
 use Rattle.bastion.proofs.HandedRoseLemmas.{IsTroubled, round_log}
-use Rattle.bastion.proofs.MailedLemmas.{unread_rose}
+use Rattle.bastion.proofs.MailedLemmas.{served_so, unread_rose}
 
 grown_from : (text : List ℕ) (a b c : SinkView) → b ≡ a → c ≡ with_given b text → c.given ≡ grown a.given text
 grown_from text a b c same is = ap (λ (s : SinkView). s.given) is ∙ ap (λ (s : SinkView). grown s.given text) same
@@ -87,19 +91,19 @@ told_whole text old mid new q logs output tells =
     let whole : new.logs ≡ with_given mid.logs text = gave_whole tells.told text mid.logs new.logs (q.logs mid.logs.faults new.logs.faults (same_from old.logs mid.logs logs) (same_to new.logs new.logs refl)) tells.logged in
     (grown_from text old.logs mid.logs new.logs logs whole, grown_none old.output new.output (tells.output ∙ output))
 
-stops_complete : (name : List ℕ) (command : Command) (outcome : Outcome) (old mid new : WorldView) → (RoseBy command old new → ⊥) → Stops name command outcome old mid → TellsIf (fault_line_of outcome) mid new
-    → (status_of outcome ≡ 5) ⊎ AllDone name command (status_of outcome) old new
-stops_complete name command (Unread refusal) old mid new none h tells =
+pub stops_complete : (name : List ℕ) (command : Command) (outcome : Outcome) (course : Course) (old mid new : WorldView) → (RoseBy command old new → ⊥) → (h : Stops name command outcome old mid) → TellsIf (fault_line_of outcome) mid new
+    → AllDone command (stopped_by name command outcome old mid h) course (status_of outcome) old new
+stops_complete name command (Unread refusal) course old mid new none h tells =
     let left = stops_left name command (Unread refusal) old mid h in
     let told = told_whole (codes "fault " ++ refusal_text refusal ++ codes "\n") old mid new (quiet old new (λ some. none (some_by command old new some))) left.logs left.output tells in
-    inr (record { read = Err refusal; inputs = h.read; does = record { logs = told.0; output = told.1; status_is = refl } })
-stops_complete name command (Failed which) old mid new none h tells =
+    record { logs = told.0; output = told.1; status_is = refl }
+stops_complete name command (Failed which) course old mid new none h tells =
     absurd (none (some_by command old new (some_later old mid new (tells_later (fault_line_of (Failed which)) mid new tells) (count_some (Failed which) old mid (stops_rose name command (Failed which) old mid h) refl))))
-stops_complete name command (NoMemory step) old mid new none h tells = inl refl
-stops_complete name command Usage old mid new none h tells = absurd h
-stops_complete name command Done old mid new none h tells = absurd h
-stops_complete name command (Decided verdict) old mid new none h tells = absurd h
-stops_complete name command (Ended ending refused) old mid new none h tells = absurd h
+stops_complete name command (NoMemory step) course old mid new none h tells = refl
+stops_complete name command Usage course old mid new none h tells = absurd h
+stops_complete name command Done course old mid new none h tells = absurd h
+stops_complete name command (Decided verdict) course old mid new none h tells = absurd h
+stops_complete name command (Ended ending refused) course old mid new none h tells = absurd h
 
 -- ---- netacl and table
 
@@ -236,131 +240,98 @@ run_whole query inputs decided outcome old middle between mid new q never logs o
 
 -- ---- all commands
 
-served_whole : (name : List ℕ) (client : Client) (outcome : Outcome) (old mid new : WorldView) → (SomeRose old new → ⊥) → (h : Worked name (Authsrv client) outcome old mid) → TellsIf (fault_line_of outcome) mid new
-    → ((status_of outcome ≡ 4) ⊎ (status_of outcome ≡ 5)) ⊎ IsServed client.console (verdict_of h.inputs.rules client.peer) (status_of outcome) h.middle.inputs mid.inputs
-    → (status_of outcome ≡ 5) ⊎ AllDone name (Authsrv client) (status_of outcome) old new
-served_whole name client outcome old mid new none h tells (inl (inl four)) =
-    absurd (none (some_later old mid new (tells_later (fault_line_of outcome) mid new tells) (count_some outcome old mid (worked_rose name (Authsrv client) outcome old mid h) four)))
-served_whole name client outcome old mid new none h tells (inl (inr five)) = inl five
-served_whole name client outcome old mid new none h tells (inr served) =
-    let later = tells_later (fault_line_of outcome) mid new tells in
-    let left = only_left name true old h.middle h.only in
-    inr (record {
-      read = Ok h.inputs;
-      inputs = h.read;
-      does =
-          attended_whole name client h.inputs outcome old h.middle mid new (quiet old new none) h.only h.works tells
-          (served_then client.console (verdict_of h.inputs.rules client.peer) (status_of outcome) h.middle.inputs mid.inputs old.inputs new.inputs left.input left.clock later.inputs served);
-    })
+-- a status of 4 is for a count that rose
+no_four : (name : List ℕ) (command : Command) (outcome : Outcome) (old mid new : WorldView) → (RoseBy command old new → ⊥) → Worked name command outcome old mid → TellsIf (fault_line_of outcome) mid new → status_of outcome ≡ 4 → ⊥
+no_four name command outcome old mid new none h tells four =
+    none (by_later command old mid new (tells_later (fault_line_of outcome) mid new tells) (rose_some command outcome old mid (worked_rose name command outcome old mid h) four))
 
-linked_done : (name : List ℕ) (caller : Caller) (inputs : Inputs) (outcome : Outcome) (old new : WorldView) → HasInputs name (PlugGw caller) (Ok inputs) old
-    → (status_of outcome ≡ 5) ⊎ IsLinkedWhole (verdict_for (PlugGw caller) inputs) caller inputs (status_of outcome) old new → (status_of outcome ≡ 5) ⊎ AllDone name (PlugGw caller) (status_of outcome) old new
-linked_done name caller inputs outcome old new read (inl five) = inl five
-linked_done name caller inputs outcome old new read (inr whole) = inr (record { read = Ok inputs; inputs = read; does = whole })
+pub served_complete : (name : List ℕ) (client : Client) (outcome : Outcome) (course : Course) (old mid new : WorldView) → (SomeRose old new → ⊥) → (h : Worked name (Authsrv client) outcome old mid) → TellsIf (fault_line_of outcome) mid new → IsReplied client h.inputs course (status_of outcome) h.middle new
+    → (status_of outcome ≡ 5) ⊎ IsAllDone (Authsrv client) h.inputs course (status_of outcome) old h.middle new
+served_complete name client outcome course old mid new none h tells replied = by (attended_status client h.inputs outcome h.middle mid h.works)
+  where
+    by : ((status_of outcome ≡ 4) ⊎ (status_of outcome ≡ 5)) ⊎ IsServed client.console (verdict_of h.inputs.rules client.peer) (status_of outcome) h.middle.inputs mid.inputs
+        → (status_of outcome ≡ 5) ⊎ IsAllDone (Authsrv client) h.inputs course (status_of outcome) old h.middle new
+    by (inl (inl four)) = absurd (no_four name (Authsrv client) outcome old mid new none h tells four)
+    by (inl (inr five)) = inl five
+    by (inr served) =
+        let later = tells_later (fault_line_of outcome) mid new tells in
+        let left = only_left name true old h.middle h.only in
+        inr (attended_whole name client h.inputs course outcome old h.middle mid new (quiet old new none) h.only h.works tells
+        (served_then client.console (verdict_of h.inputs.rules client.peer) (status_of outcome) h.middle.inputs mid.inputs old.inputs new.inputs left.input left.clock later.inputs served) replied)
 
-telnet_done : (name : List ℕ) (peer : Peer) (outcome : Outcome) (old mid new : WorldView) → (RoseBy (TnGw peer) old new → ⊥) → (h : Worked name (TnGw peer) outcome old mid) → TellsIf (fault_line_of outcome) mid new
-    → ((status_of outcome ≡ 4) ⊎ (status_of outcome ≡ 5)) ⊎ IsPassed (verdict_of h.inputs.rules peer) (status_of outcome) h.middle.inputs mid.inputs
-    → (status_of outcome ≡ 5) ⊎ AllDone name (TnGw peer) (status_of outcome) old new
-telnet_done name peer outcome old mid new none h tells (inl (inl four)) =
-    absurd (none (by_later (TnGw peer) old mid new (tells_later (fault_line_of outcome) mid new tells) (rose_some (TnGw peer) outcome old mid (worked_rose name (TnGw peer) outcome old mid h) four)))
-telnet_done name peer outcome old mid new none h tells (inl (inr five)) = inl five
-telnet_done name peer outcome old mid new none h tells (inr passed) =
-    let later = tells_later (fault_line_of outcome) mid new tells in
-    let left = only_left name true old h.middle h.only in
-    inr (record {
-      read = Ok h.inputs;
-      inputs = h.read;
-      does =
-          telnet_whole name peer h.inputs outcome old h.middle mid new (quiet old new (λ some. none (inl some))) h.only h.works tells
-          (passed_then (verdict_of h.inputs.rules peer) (status_of outcome) h.middle.inputs mid.inputs old.inputs new.inputs left.input left.clock later.inputs passed);
-    })
+pub linked_complete : (name : List ℕ) (caller : Caller) (outcome : Outcome) (course : Course) (old mid new : WorldView) → (RoseBy (PlugGw caller) old new → ⊥) → (h : Worked name (PlugGw caller) outcome old mid) → TellsIf (fault_line_of outcome) mid new
+    → LinkedHeadline caller h.inputs course.ending (status_of outcome) h.middle new → (status_of outcome ≡ 5) ⊎ IsAllDone (PlugGw caller) h.inputs course (status_of outcome) old h.middle new
+linked_complete name caller outcome course old mid new none h tells so =
+    linked_whole name caller h.inputs course outcome old h.middle mid new (quiet old new (λ some. none (inl some))) (no_four name (PlugGw caller) outcome old mid new none h tells) h.only h.works so
 
-ftp_done : (name : List ℕ) (peer : Peer) (outcome : Outcome) (old mid new : WorldView) → (RoseBy (FtpGw peer) old new → ⊥) → (h : Worked name (FtpGw peer) outcome old mid) → TellsIf (fault_line_of outcome) mid new
-    → ((status_of outcome ≡ 4) ⊎ (status_of outcome ≡ 5)) ⊎ IsPassed (verdict_of h.inputs.rules peer) (status_of outcome) h.middle.inputs mid.inputs
-    → (status_of outcome ≡ 5) ⊎ AllDone name (FtpGw peer) (status_of outcome) old new
-ftp_done name peer outcome old mid new none h tells (inl (inl four)) =
-    absurd (none (by_later (FtpGw peer) old mid new (tells_later (fault_line_of outcome) mid new tells) (rose_some (FtpGw peer) outcome old mid (worked_rose name (FtpGw peer) outcome old mid h) four)))
-ftp_done name peer outcome old mid new none h tells (inl (inr five)) = inl five
-ftp_done name peer outcome old mid new none h tells (inr passed) =
-    let later = tells_later (fault_line_of outcome) mid new tells in
-    let left = only_left name true old h.middle h.only in
-    inr (record {
-      read = Ok h.inputs;
-      inputs = h.read;
-      does =
-          ftp_whole name peer h.inputs outcome old h.middle mid new (quiet old new (λ some. none (inl some))) h.only h.works tells
-          (passed_then (verdict_of h.inputs.rules peer) (status_of outcome) h.middle.inputs mid.inputs old.inputs new.inputs left.input left.clock later.inputs passed);
-    })
+gateway_whole : (kind : GatewayKind) (name : List ℕ) (peer : Peer) (inputs : Inputs) (out : Outcome) (old middle mid new : WorldView) → Quiet old new → ReadsOnly name true old middle → Gated (gateway_service kind) peer inputs out middle mid → TellsIf (fault_line_of out) mid new
+    → IsPassed (verdict_of inputs.rules peer) (status_of out) old.inputs new.inputs → (came : CameAs (Gateway kind peer) (gateway_service kind) peer (denial_words kind) (OfGateKind kind peer) inputs (status_of out) middle new)
+    → IsAllDone (Gateway kind peer) inputs came.course (status_of out) old middle new
+gateway_whole kinds.Telnet name peer inputs out old middle mid new q only h tells passed came = telnet_whole name peer inputs out old middle mid new q only h tells passed came
+gateway_whole kinds.Ftp name peer inputs out old middle mid new q only h tells passed came = ftp_whole name peer inputs out old middle mid new q only h tells passed came
+
+pub gateway_complete : (name : List ℕ) (kind : GatewayKind) (peer : Peer) (outcome : Outcome) (old mid new : WorldView) → (RoseBy (Gateway kind peer) old new → ⊥) → (h : Worked name (Gateway kind peer) outcome old mid) → TellsIf (fault_line_of outcome) mid new
+    → (came : CameAs (Gateway kind peer) (gateway_service kind) peer (denial_words kind) (OfGateKind kind peer) h.inputs (status_of outcome) h.middle new) → (status_of outcome ≡ 5) ⊎ IsAllDone (Gateway kind peer) h.inputs came.course (status_of outcome) old h.middle new
+gateway_complete name kind peer outcome old mid new none h tells came = by (gateway_status kind peer h.inputs outcome h.middle mid h.works)
+  where
+    by : ((status_of outcome ≡ 4) ⊎ (status_of outcome ≡ 5)) ⊎ IsPassed (verdict_of h.inputs.rules peer) (status_of outcome) h.middle.inputs mid.inputs
+        → (status_of outcome ≡ 5) ⊎ IsAllDone (Gateway kind peer) h.inputs came.course (status_of outcome) old h.middle new
+    by (inl (inl four)) = absurd (no_four name (Gateway kind peer) outcome old mid new none h tells four)
+    by (inl (inr five)) = inl five
+    by (inr passed) =
+        let later = tells_later (fault_line_of outcome) mid new tells in
+        let left = only_left name true old h.middle h.only in
+        inr (gateway_whole kind name peer h.inputs outcome old h.middle mid new (quiet old new (λ some. none (inl some))) h.only h.works tells
+        (passed_then (verdict_of h.inputs.rules peer) (status_of outcome) h.middle.inputs mid.inputs old.inputs new.inputs left.input left.clock later.inputs passed) came)
 
 -- a slot has no reading, or there was no memory
-bad_done : (name : List ℕ) (peer : Peer) (outcome : Outcome) (old mid new : WorldView) → Quiet old new → (status_of outcome ≡ 4 → ⊥) → (h : Worked name (Smap peer) outcome old mid) → TellsIf (fault_line_of outcome) mid new → (slot : ℕ) (why : SlotWhy)
-    → IsRackFault (Unit {0}) h.middle.inputs.disks slot why mid.inputs.disks → outcome ≡ slot_fault slot why → mid.logs ≡ h.middle.logs → mid.output ≡ h.middle.output → (status_of outcome ≡ 5) ⊎ AllDone name (Smap peer) (status_of outcome) old new
-bad_done name peer outcome old mid new q never h tells slot whys.DiskFault fault comes logs output = absurd (never (ap status_of comes))
-bad_done name peer outcome old mid new q never h tells slot whys.NoMemory fault comes logs output = inl (ap status_of comes)
-bad_done name peer outcome old mid new q never h tells slot (whys.BadSlot at) (inl none) comes logs output = let clash : whys.BadSlot at ≡ whys.NoMemory = none.1 in absurd (cc)
-bad_done name peer outcome old mid new q never h tells slot (whys.BadSlot at) (inr came) comes logs output =
+bad_done : (name : List ℕ) (peer : Peer) (outcome : Outcome) (course : Course) (old mid new : WorldView) → Quiet old new → (status_of outcome ≡ 4 → ⊥) → (h : Worked name (Smap peer) outcome old mid) → TellsIf (fault_line_of outcome) mid new → (slot : ℕ) (why : SlotWhy)
+    → IsRackFault (Unit {0}) h.middle.inputs.disks slot why mid.inputs.disks → outcome ≡ slot_fault slot why → mid.logs ≡ h.middle.logs → mid.output ≡ h.middle.output → (status_of outcome ≡ 5) ⊎ IsAllDone (Smap peer) h.inputs course (status_of outcome) old h.middle new
+bad_done name peer outcome course old mid new q never h tells slot whys.DiskFault fault comes logs output = absurd (never (ap status_of comes))
+bad_done name peer outcome course old mid new q never h tells slot whys.NoMemory fault comes logs output = inl (ap status_of comes)
+bad_done name peer outcome course old mid new q never h tells slot (whys.BadSlot at) (inl none) comes logs output = let clash : whys.BadSlot at ≡ whys.NoMemory = none.1 in absurd (cc)
+bad_done name peer outcome course old mid new q never h tells slot (whys.BadSlot at) (inr came) comes logs output =
     let told : TellsIf (Some (codes "fault " ++ refusal_text (Slot slot at) ++ codes "\n")) mid new = subst (λ (o : Outcome). TellsIf (fault_line_of o) mid new) comes tells in
     let whole = told_whole (codes "fault " ++ refusal_text (Slot slot at) ++ codes "\n") old mid new q (logs ∙ h.only.logs) (output ∙ h.only.output) told in
     let Came : SessionInputs → SessionInputs → Type 0 = λ a b. CameBack (Unit {0}) 0 slot (whys.BadSlot at) a.disks b.disks in
-    inr (record {
-      read = Ok h.inputs;
-      inputs = h.read;
-      does = inl (record {
-        slot = slot;
-        at = at;
-        bad = record { came = subst (λ (i : SessionInputs). Came i new.inputs) h.only.inputs (subst (λ (i : SessionInputs). Came h.middle.inputs i) (sym (tells_later (fault_line_of outcome) mid new tells).inputs) came) };
-        whole = record { logs = whole.0; output = whole.1; status_is = ap status_of comes };
-      });
-    })
+    inr (inl (record {
+      slot = slot;
+      at = at;
+      bad = record { came = subst (λ (i : SessionInputs). Came i new.inputs) h.only.inputs (subst (λ (i : SessionInputs). Came h.middle.inputs i) (sym (tells_later (fault_line_of outcome) mid new tells).inputs) came) };
+      whole = record { logs = whole.0; output = whole.1; status_is = ap status_of comes };
+    }))
 
-taken_done : (name : List ℕ) (peer : Peer) (inputs : Inputs) (outcome : Outcome) (old new : WorldView) → HasInputs name (Smap peer) (Ok inputs) old
-    → (status_of outcome ≡ 5) ⊎ IsTakenWhole (verdict_for (Smap peer) inputs) name peer inputs (status_of outcome) old new → (status_of outcome ≡ 5) ⊎ AllDone name (Smap peer) (status_of outcome) old new
-taken_done name peer inputs outcome old new read (inl five) = inl five
-taken_done name peer inputs outcome old new read (inr whole) = inr (record { read = Ok inputs; inputs = read; does = inr whole })
+taken_done : (peer : Peer) (inputs : Inputs) (outcome : Outcome) (course : Course) (old middle new : WorldView) → (status_of outcome ≡ 5) ⊎ IsTakenWhole (verdict_for (Smap peer) inputs) peer inputs course (status_of outcome) old middle new
+    → (status_of outcome ≡ 5) ⊎ IsAllDone (Smap peer) inputs course (status_of outcome) old middle new
+taken_done peer inputs outcome course old middle new (inl five) = inl five
+taken_done peer inputs outcome course old middle new (inr whole) = inr (inr whole)
 
-mailed_done : (name : List ℕ) (peer : Peer) (outcome : Outcome) (old mid new : WorldView) → Quiet old new → (status_of outcome ≡ 4 → ⊥) → (h : Worked name (Smap peer) outcome old mid) → TellsIf (fault_line_of outcome) mid new
-    → Mailed peer h.inputs outcome h.middle mid → (status_of outcome ≡ 5) ⊎ AllDone name (Smap peer) (status_of outcome) old new
+mailed_done : (name : List ℕ) (peer : Peer) (outcome : Outcome) (old mid new : WorldView) → Quiet old new → (status_of outcome ≡ 4 → ⊥) → (h : Worked name (Smap peer) outcome old mid) → (tells : TellsIf (fault_line_of outcome) mid new)
+    → (m : Mailed peer h.inputs outcome h.middle mid) → (status_of outcome ≡ 5) ⊎ IsAllDone (Smap peer) h.inputs (kept.mail_course peer h.inputs outcome h.middle mid new m tells) (status_of outcome) old h.middle new
 mailed_done name peer outcome old mid new q never h tells (inl u) =
-    bad_done name peer outcome old mid new q never h tells u.slot u.why u.fault u.comes (ap (λ (w : WorldView). w.logs) u.is) (ap (λ (w : WorldView). w.output) u.is)
-mailed_done name peer outcome old mid new q never h tells (inr s) = taken_done name peer h.inputs outcome old new h.read (kept.served_whole name peer h.inputs outcome old h.middle mid new q never h.only s tells)
+    bad_done name peer outcome no_course old mid new q never h tells u.slot u.why u.fault u.comes (ap (λ (w : WorldView). w.logs) u.is) (ap (λ (w : WorldView). w.output) u.is)
+mailed_done name peer outcome old mid new q never h tells (inr s) =
+    taken_done peer h.inputs outcome (kept.course_by peer h.inputs outcome h.middle mid new s tells (served_so peer h.inputs outcome h.middle mid s)) old h.middle new (kept.served_whole name peer h.inputs outcome old h.middle mid new q never h.only s tells)
 
-worked_complete : (name : List ℕ) (command : Command) (outcome : Outcome) (old mid new : WorldView) → (RoseBy command old new → ⊥) → Worked name command outcome old mid → TellsIf (fault_line_of outcome) mid new
-    → (status_of outcome ≡ 5) ⊎ AllDone name command (status_of outcome) old new
-worked_complete name (Netacl query) outcome old mid new none h tells =
-    inr (record {
-      read = Ok h.inputs;
-      inputs = h.read;
-      does =
-          netacl_whole (verdict_of h.inputs.rules query.peer) _ _ outcome old h.middle mid new (quiet old new none) h.only.logs h.only.output h.works.logging h.works.logged h.works.printed tells;
-    })
-worked_complete name (NetaclRun query) outcome old mid new none h tells =
-    let later = tells_later (fault_line_of outcome) mid new tells in
-    let never : status_of outcome ≡ 4 → ⊥ = λ four. none (some_later old mid new later (count_some outcome old mid (worked_rose name (NetaclRun query) outcome old mid h) four)) in
-    inr (record {
-      read = Ok h.inputs;
-      inputs = h.read;
-      does =
-          run_whole query h.inputs h.works.decided outcome old h.middle h.works.middle mid new (quiet old new none) never h.only.logs h.only.output (calls_launcher false old.inputs h.middle.inputs h.only.inputs) h.works.announced.inputs
-          h.works.announced.logging h.works.announced.logged h.works.announced.printed h.works.launched tells;
-    })
-worked_complete name (Table query) outcome old mid new none h tells =
-    inr (record {
-      read = Ok h.inputs;
-      inputs = h.read;
-      does =
-          table_whole (verdict_of h.inputs.rules query.peer) _ outcome old h.middle mid new (quiet old new none) h.only.logs h.only.output h.works.logs h.works.printed.printing h.works.printed.is h.works.printed.gives tells;
-    })
-worked_complete name (Authsrv client) outcome old mid new none h tells = served_whole name client outcome old mid new none h tells (attended_status client h.inputs outcome h.middle mid h.works)
-worked_complete name (PlugGw caller) outcome old mid new none h tells =
-    let later = tells_later (fault_line_of outcome) mid new tells in
-    let never : status_of outcome ≡ 4 → ⊥ = λ four. none (by_later (PlugGw caller) old mid new later (rose_some (PlugGw caller) outcome old mid (worked_rose name (PlugGw caller) outcome old mid h) four)) in
-    linked_done name caller h.inputs outcome old new h.read (linked_whole name caller h.inputs outcome old h.middle mid new (quiet old new (λ some. none (inl some))) never h.only h.works tells)
-worked_complete name (Smap peer) outcome old mid new none h tells =
-    let later = tells_later (fault_line_of outcome) mid new tells in
-    let never : status_of outcome ≡ 4 → ⊥ = λ four. none (by_later (Smap peer) old mid new later (rose_some (Smap peer) outcome old mid (worked_rose name (Smap peer) outcome old mid h) four)) in
-    mailed_done name peer outcome old mid new (quiet old new (λ some. none (inl some))) never h tells h.works
-worked_complete name (TnGw peer) outcome old mid new none h tells = telnet_done name peer outcome old mid new none h tells (telnet_status peer h.inputs outcome h.middle mid h.works)
-worked_complete name (FtpGw peer) outcome old mid new none h tells = ftp_done name peer outcome old mid new none h tells (ftp_status peer h.inputs outcome h.middle mid h.works)
+pub mailed_complete : (name : List ℕ) (peer : Peer) (outcome : Outcome) (old mid new : WorldView) → (RoseBy (Smap peer) old new → ⊥) → (h : Worked name (Smap peer) outcome old mid) → (tells : TellsIf (fault_line_of outcome) mid new)
+    → (status_of outcome ≡ 5) ⊎ IsAllDone (Smap peer) h.inputs (kept.mail_course peer h.inputs outcome h.middle mid new h.works tells) (status_of outcome) old h.middle new
+mailed_complete name peer outcome old mid new none h tells = mailed_done name peer outcome old mid new (quiet old new (λ some. none (inl some))) (no_four name (Smap peer) outcome old mid new none h tells) h tells h.works
+
+pub netacl_complete : (name : List ℕ) (query : Query) (outcome : Outcome) (course : Course) (old mid new : WorldView) → (SomeRose old new → ⊥) → (h : Worked name (Netacl query) outcome old mid) → TellsIf (fault_line_of outcome) mid new
+    → (status_of outcome ≡ 5) ⊎ IsAllDone (Netacl query) h.inputs course (status_of outcome) old h.middle new
+netacl_complete name query outcome course old mid new none h tells =
+    inr (netacl_whole (verdict_of h.inputs.rules query.peer) _ _ outcome old h.middle mid new (quiet old new none) h.only.logs h.only.output h.works.logging h.works.logged h.works.printed tells)
+
+pub netacl_run_complete : (name : List ℕ) (query : Query) (outcome : Outcome) (course : Course) (old mid new : WorldView) → (SomeRose old new → ⊥) → (h : Worked name (NetaclRun query) outcome old mid) → TellsIf (fault_line_of outcome) mid new
+    → (status_of outcome ≡ 5) ⊎ IsAllDone (NetaclRun query) h.inputs course (status_of outcome) old h.middle new
+netacl_run_complete name query outcome course old mid new none h tells =
+    inr (run_whole query h.inputs h.works.decided outcome old h.middle h.works.middle mid new (quiet old new none) (no_four name (NetaclRun query) outcome old mid new none h tells) h.only.logs h.only.output
+    (calls_launcher false old.inputs h.middle.inputs h.only.inputs) h.works.announced.inputs h.works.announced.logging h.works.announced.logged h.works.announced.printed h.works.launched tells)
+
+pub table_complete : (name : List ℕ) (query : Query) (outcome : Outcome) (course : Course) (old mid new : WorldView) → (SomeRose old new → ⊥) → (h : Worked name (Table query) outcome old mid) → TellsIf (fault_line_of outcome) mid new
+    → (status_of outcome ≡ 5) ⊎ IsAllDone (Table query) h.inputs course (status_of outcome) old h.middle new
+table_complete name query outcome course old mid new none h tells =
+    inr (table_whole (verdict_of h.inputs.rules query.peer) _ outcome old h.middle mid new (quiet old new none) h.only.logs h.only.output h.works.logs h.works.printed.printing h.works.printed.is h.works.printed.gives tells)
 
 -- ---- without a table
 
@@ -399,13 +370,13 @@ init_complete post (Err slot) outcome old mid new none logs formats h tells =
     absurd (none (inr (slot, subst (λ (i : SessionInputs). DiskRose slot old.inputs.disks i.disks) (sym (tells_later (fault_line_of outcome) mid new tells).inputs) (fails_rose slot old.inputs.disks mid.inputs.disks formats))))
 
 -- a slot has no reading, or there was no memory
-unread_complete : (post : Post) → (outcome : Outcome) (old mid new : WorldView) → (RoseInJob post Smapd old new → ⊥) → (u : SlotsUnread outcome old mid) → TellsIf (fault_line_of outcome) mid new → (slot : ℕ) (why : SlotWhy) → IsRackFault (Unit {0}) old.inputs.disks slot why mid.inputs.disks → outcome ≡ slot_fault slot why
-    → IsJobComplete post Smapd (status_of outcome) old new
-unread_complete post outcome old mid new none u tells slot whys.NoMemory fault comes = inl (ap status_of comes)
-unread_complete post outcome old mid new none u tells slot whys.DiskFault fault comes =
+unread_complete : (post : Post) → (outcome : Outcome) (old mid new : WorldView) → (RoseInJob post Smapd old new → ⊥) → (u : SlotsUnread outcome old mid) → TellsIf (fault_line_of outcome) mid new → (course : Course) (slot : ℕ) (why : SlotWhy) → IsRackFault (Unit {0}) old.inputs.disks slot why mid.inputs.disks → outcome ≡ slot_fault slot why
+    → IsJobComplete post Smapd course (status_of outcome) old new
+unread_complete post outcome old mid new none u tells course slot whys.NoMemory fault comes = inl (ap status_of comes)
+unread_complete post outcome old mid new none u tells course slot whys.DiskFault fault comes =
     absurd (none (inr (inl (slot, subst (λ (i : SessionInputs). DiskRose slot old.inputs.disks i.disks) (sym (tells_later (fault_line_of outcome) mid new tells).inputs) (unread_rose slot whys.DiskFault old mid fault)))))
-unread_complete post outcome old mid new none u tells slot (whys.BadSlot at) (inl none_at) comes = let clash : whys.BadSlot at ≡ whys.NoMemory = none_at.1 in absurd (cc)
-unread_complete post outcome old mid new none u tells slot (whys.BadSlot at) (inr came) comes =
+unread_complete post outcome old mid new none u tells course slot (whys.BadSlot at) (inl none_at) comes = let clash : whys.BadSlot at ≡ whys.NoMemory = none_at.1 in absurd (cc)
+unread_complete post outcome old mid new none u tells course slot (whys.BadSlot at) (inr came) comes =
     let told : TellsIf (Some (codes "fault " ++ refusal_text (Slot slot at) ++ codes "\n")) mid new = subst (λ (o : Outcome). TellsIf (fault_line_of o) mid new) comes tells in
     let whole = told_whole (codes "fault " ++ refusal_text (Slot slot at) ++ codes "\n") old mid new (quiet old new (λ some. none (inl some))) (ap (λ (w : WorldView). w.logs) u.is) (ap (λ (w : WorldView). w.output) u.is) told in
     inr (inl (record {
@@ -424,13 +395,13 @@ round_lines (Lacked slot message) turns round old new is goes = absurd (cc)
 
 -- what was printed of it, and no line follows
 round_whole : (post : Post) → (outcome : Outcome) (old mid new : WorldView) → (Rose old.output.faults mid.output.faults → ⊥) → (h : RoundHeld post outcome old mid) → TellsIf (fault_line_of outcome) mid new → (round : Round) → h.answer ≡ Ok round → h.trouble ≡ None → (printing : Result (Unit {0}) sink.Failed)
-    → outcome ≡ outcome_printed printing → Gives printing (round_text round) old.output mid.output → IsRoundWhole post (status_of outcome) old new
+    → outcome ≡ outcome_printed printing → Gives printing (round_text round) old.output mid.output → IsRoundWhole post h.hands.hands.turns (status_of outcome) old new
 round_whole post outcome old mid new never h tells round well untroubled (Err failed) is gives = absurd (never (cut_rose (round_text round) old.output mid.output gives))
 round_whole post outcome old mid new never h tells round well untroubled (Ok done) is gives =
     let P : Outcome → Type 0 = λ o. TellsIf (fault_line_of o) mid new in
     let same : new ≡ mid = subst P is tells in
     let lines = round_lines h.hands.hands.ending h.hands.hands.turns round old.logs mid.logs (sym well ∙ h.hands.hands.answer) h.hands.hands.logs in
-    subst (IsRoundWhole post (status_of outcome) old) (sym same) (record {
+    subst (IsRoundWhole post h.hands.hands.turns (status_of outcome) old) (sym same) (record {
       round = round;
       answer = h.answer;
       trouble = h.trouble;
@@ -446,7 +417,7 @@ round_whole post outcome old mid new never h tells round well untroubled (Ok don
 
 -- without trouble
 round_complete : (post : Post) → (outcome : Outcome) (old mid new : WorldView) → (RoseInJob post Smapd old new → ⊥) → (h : RoundHeld post outcome old mid) → TellsIf (fault_line_of outcome) mid new → (answer : Result Round RoundFault) → h.answer ≡ answer → (trouble : Option Trouble) → h.trouble ≡ trouble
-    → TellsRound answer trouble outcome old.output mid.output → IsJobComplete post Smapd (status_of outcome) old new
+    → TellsRound answer trouble outcome old.output mid.output → IsJobComplete post Smapd (of_round h.hands.hands.turns) (status_of outcome) old new
 round_complete post outcome old mid new none h tells answer is (Some troubles.Mailer) trouble_is told =
     absurd (none (inr (inr (subst (IsTroubled post old new) trouble_is (troubled_now post outcome old mid new (tells_later (fault_line_of outcome) mid new tells) h)))))
 round_complete post outcome old mid new none h tells answer is (Some (troubles.Disk slot)) trouble_is told =
@@ -458,26 +429,21 @@ round_complete post outcome old mid new none h tells (Ok round) is None trouble_
     let later = tells_later (fault_line_of outcome) mid new tells in
     inr (inr (round_whole post outcome old mid new (λ rose. none (inl (some_later old mid new later (inr (inl (inl rose)))))) h tells round is trouble_is told.printing told.is told.gives))
 
-job_complete : (post : Post) → (job : Job) (outcome : Outcome) (old mid new : WorldView) → (RoseInJob post job old new → ⊥) → DoesJob post job outcome old mid → TellsIf (fault_line_of outcome) mid new → IsJobComplete post job (status_of outcome) old new
+-- the turns of its round, if there was one
+abbrev pub job_course : (post : Post) → (job : Job) (outcome : Outcome) (old new : WorldView) → DoesJob post job outcome old new → Course
+job_course post (Drill drill) outcome old new h = no_course
+job_course post SpoolInit outcome old new h = no_course
+job_course post Smapd outcome old new h = of_round (handed_turns post outcome old new h)
+
+pub job_complete : (post : Post) → (job : Job) (outcome : Outcome) (old mid new : WorldView) → (RoseInJob post job old new → ⊥) → (h : DoesJob post job outcome old mid) → TellsIf (fault_line_of outcome) mid new → IsJobComplete post job (job_course post job outcome old mid h) (status_of outcome) old new
 job_complete post (Drill drill) outcome old mid new none (inl h) tells = inl (ap status_of h.is)
 job_complete post (Drill drill) outcome old mid new none (inr h) tells = inr (drill_complete drill (drilled drill) outcome old mid new (quiet old new none) h tells)
-job_complete post Smapd outcome old mid new none (inl u) tells = unread_complete post outcome old mid new none u.0 tells u.0.slot u.0.why u.0.fault u.0.comes
+job_complete post Smapd outcome old mid new none (inl u) tells = unread_complete post outcome old mid new none u.0 tells no_course u.0.slot u.0.why u.0.fault u.0.comes
 job_complete post Smapd outcome old mid new none (inr h) tells = round_complete post outcome old mid new none h tells h.answer refl h.trouble refl h.tells
 job_complete post SpoolInit outcome old mid new none h tells = init_complete post h.answer outcome old mid new none h.logs h.formats h.tells tells
 
-order_complete : (post : Post) → (name : List ℕ) (order : Order) (outcome : Outcome) (old mid new : WorldView) → (RoseInOrder post order old new → ⊥) → DoesOrder post name order outcome old mid → TellsIf (fault_line_of outcome) mid new
-    → IsOrderComplete post name order (status_of outcome) old new
-order_complete post name (ByTable command) outcome old mid new none (inl h) tells = stops_complete name command outcome old mid new none h tells
-order_complete post name (ByTable command) outcome old mid new none (inr h) tells = worked_complete name command outcome old mid new none h tells
-order_complete post name (Alone job) outcome old mid new none h tells = job_complete post job outcome old mid new none h tells
-
-does_complete : (post : Post) → (line : Option LineView) (outcome : Outcome) (old mid new : WorldView) → (RoseOf post line old new → ⊥) → DoesLine post line outcome old mid → TellsIf (fault_line_of outcome) mid new → IsComplete post line (status_of outcome) old new
-does_complete post None outcome old mid new none h tells =
+pub usage_complete : (outcome : Outcome) (old mid new : WorldView) → (SomeRose old new → ⊥) → Unused outcome old mid → TellsIf (fault_line_of outcome) mid new → IsWhole (codes "fault usage\n") [] 2 (status_of outcome) old new
+usage_complete outcome old mid new none h tells =
     let usage : TellsIf (fault_line_of Usage) mid new = subst (λ (o : Outcome). TellsIf (fault_line_of o) mid new) h.usage tells in
     let told = told_whole (codes "fault usage\n") old mid new (quiet old new none) (ap (λ (w : WorldView). w.logs) h.is) (ap (λ (w : WorldView). w.output) h.is) usage in
     record { logs = told.0; output = told.1; status_is = ap status_of h.usage }
-does_complete post (Some line) outcome old mid new none h tells = order_complete post line.table line.order outcome old mid new none h tells
-
-pub run_complete : (post : Post) → (line : Option LineView) (status : ℕ) (old new : WorldView) → Run post line status old new → (RoseOf post line old new → ⊥) → IsComplete post line status old new
-run_complete post line status old new ran none =
-    subst (λ (s : ℕ). IsComplete post line s old new) (sym ran.status_is) (does_complete post line ran.outcome old ran.middle new none ran.does ran.tells)

@@ -1,5 +1,5 @@
 -- From what a client of `ftp-gw` did to the headline, and to a run in which no count rose.
-use Rattle.std.proofs.Common.{◌≡◌, ◌∙◌, ℕ, List, length, refl, sym, ap, subst, ◌⊎◌, true, false}
+use Rattle.std.proofs.Common.{◌≡◌, ◌∙◌, ℕ, List, length, refl, sym, ap, subst, true, false}
 use Rattle.std.specs.Prelude.{Result}
 use Rattle.auth_events.specs.Port.{Port, places}
 use Rattle.auth_machine.specs.Port.{BookOrigin, book_port}
@@ -19,7 +19,6 @@ use Rattle.ftp_gate.specs.Laws.{IsDone}
 use Rattle.fw_types.specs.declared.ending.Ending.TheVariants as endings
 use Rattle.fw_types.specs.declared.peer.Peer.{Peer}
 use Rattle.gate_rules.specs.declared.service.Service.TheVariants as services
-use Rattle.gate_rules.specs.declared.verdict.Verdict.{Verdict}
 use Rattle.gate_rules.specs.declared.verdict.Verdict.TheVariants.{Permit}
 use Rattle.session_acts.proofs.BrokenLemmas.{broken_gains}
 use Rattle.session_acts.proofs.DeedLemmas.{all_gain, held_deeds}
@@ -38,26 +37,27 @@ use Rattle.session_acts.specs.Session.{deeds_of}
 use Rattle.session_acts.specs.Talk.{asked}
 use Rattle.session_acts.specs.World.{Devices, IsUnlinked, World, at_first}
 use Rattle.session_acts.specs.declared.cause.Cause.{Cause}
-use Rattle.bastion.specs.AtGateway.{Comes, OfGateway, begins_at}
-use Rattle.bastion.specs.Complete.{IsServedAtGate, IsServedFiles}
+use Rattle.bastion.specs.Basis.{Course}
+use Rattle.bastion.specs.AtGateway.{OfGateway, begins_at}
+use Rattle.bastion.specs.Complete.{IsPassedWhole, IsServedAtGate}
 use Rattle.bastion.specs.FtpGateway.{IsUpheld, OfFtp, serving_row, serving_rows}
 use Rattle.bastion.specs.Gating.{Gated}
-use Rattle.bastion.specs.Headline.{IsDenied, IsPermitted}
+use Rattle.bastion.specs.Headline.{LogsDenial}
 use Rattle.bastion.specs.Inputs.{Inputs}
 use Rattle.bastion.specs.Outcome.{fault_line_of, status_of}
 use Rattle.bastion.specs.Run.{ReadsOnly, TellsIf, verdict_for}
 use Rattle.bastion.specs.Status.{IsPassed}
-use Rattle.bastion.specs.Talk.{IsSilent}
 use Rattle.bastion.specs.WorldView.{WorldView}
 use Rattle.bastion.specs.declared.outcome.Outcome.{Outcome}
-use Rattle.bastion.specs.declared.words.Command.TheVariants.{FtpGw}
-use Rattle.bastion.proofs.AtGatewayLemmas.{caller_headline, caller_whole, passed_whole}
+use Rattle.bastion.specs.declared.words.Command.TheVariants.{Gateway}
+use Rattle.bastion.specs.declared.words.GatewayKind.TheVariants as kinds
+use Rattle.bastion.proofs.AtGatewayLemmas.{CameAs, caller_headline, caller_whole, passed_whole}
 use Rattle.bastion.proofs.DenialLemmas.{done_only}
 use Rattle.bastion.proofs.GateStatusLemmas.{ftp_so, ftp_status}
 use Rattle.bastion.proofs.QuietLemmas.{Quiet}
 
 -- by the laws of the gateway and of all sessions
-module _ (peer : Peer) (inputs : Inputs) (status : ℕ) (old new : WorldView) (at : OfGateway false (FtpGw peer) services.FtpGw peer (serving_rows inputs peer) (serving_row inputs peer) inputs status old new) where
+module _ (peer : Peer) (inputs : Inputs) (course : Course) (status : ℕ) (old new : WorldView) (at : OfGateway false (Gateway kinds.Ftp peer) services.FtpGw peer (serving_rows inputs peer) (serving_row inputs peer) inputs course status old new) where
   abbrev gate : Gate
   gate = gate_at inputs.rules at.line peer
 
@@ -80,79 +80,74 @@ module _ (peer : Peer) (inputs : Inputs) (status : ℕ) (old new : WorldView) (a
   unlinked = record { main = refl; side = refl }
 
   -- a session that is done came to the end of its dialogue
-  went : at.ending ≡ endings.Done → IsDone at.session.held.dialogue
+  went : course.ending ≡ endings.Done → IsDone at.session.held.dialogue
   went is =
       let held = at.session.held in
       subst (λ (d : Result (Unit {0}) Cause). IsDone d) (sym (done_only held.dialogue held.mid.office.opened held.answer (sym is ∙ held.ends))) tt
 
   upheld : IsUpheld gate at.book.history at.session.held
   upheld = record {
-    lines = held_heard (serving_rows inputs peer at.line) (serving_row inputs peer at.line) begun last at.ending at.session.held refl;
-    exactly = held_asks gate begun last at.ending at.session.held;
-    all = λ is. (held_asks gate begun last at.ending at.session.held).whole (went is);
-    cleared = held_cleared gate begun last at.ending at.session.held;
-    passage = held_gives gate begun last at.ending at.session.held;
-    passed = λ is. (held_gives gate begun last at.ending at.session.held).whole (went is);
-    unblocked = held_unblocked gate begun last at.ending at.session.held;
-    joins = held_own gate begun last at.ending at.session.held;
-    asked_for = held_joined gate begun last at.ending at.session.held;
-    denials = held_logged gate begun last at.ending at.session.held;
-    requests = held_asked gate begun last at.ending at.session.held;
+    lines = held_heard (serving_rows inputs peer at.line) (serving_row inputs peer at.line) begun last course.ending at.session.held refl;
+    exactly = held_asks gate begun last course.ending at.session.held;
+    all = λ is. (held_asks gate begun last course.ending at.session.held).whole (went is);
+    cleared = held_cleared gate begun last course.ending at.session.held;
+    passage = held_gives gate begun last course.ending at.session.held;
+    passed = λ is. (held_gives gate begun last course.ending at.session.held).whole (went is);
+    unblocked = held_unblocked gate begun last course.ending at.session.held;
+    joins = held_own gate begun last course.ending at.session.held;
+    asked_for = held_joined gate begun last course.ending at.session.held;
+    denials = held_logged gate begun last course.ending at.session.held;
+    requests = held_asked gate begun last course.ending at.session.held;
     logins =
         λ before after deed is outward needs.
-        subst (λ (p : Port BookOrigin). LoginStandsIn (number_opened (gives asked deeds)) (gives asked before) p.seen) port_is (whole_login gate begun last at.ending at.session.held refl refl own before after deed is outward needs);
+        subst (λ (p : Port BookOrigin). LoginStandsIn (number_opened (gives asked deeds)) (gives asked before) p.seen) port_is (whole_login gate begun last course.ending at.session.held refl refl own before after deed is outward needs);
     known_by = λ some. login_known gate some;
-    doors = held_doors gate begun last at.ending at.session.held;
-    copies = held_copies gate begun last at.ending at.session.held;
-    carries = held_carries gate begun last at.ending at.session.held;
-    between = held_marked gate begun last at.ending at.session.held unlinked;
-    due = held_due gate begun last at.ending at.session.held;
-    causes = held_caused gate begun last at.ending at.session.held;
-    acts = held_right gate begun last at.ending at.session.held;
-    opened = held_once gate begun last at.ending at.session.held refl;
-    ends = held_there gate begun last at.ending at.session.held;
-    ended = λ finish. held_ended gate begun last at.ending at.session.held finish;
+    doors = held_doors gate begun last course.ending at.session.held;
+    copies = held_copies gate begun last course.ending at.session.held;
+    carries = held_carries gate begun last course.ending at.session.held;
+    between = held_marked gate begun last course.ending at.session.held unlinked;
+    due = held_due gate begun last course.ending at.session.held;
+    causes = held_caused gate begun last course.ending at.session.held;
+    acts = held_right gate begun last course.ending at.session.held;
+    opened = held_once gate begun last course.ending at.session.held refl;
+    ends = held_there gate begun last course.ending at.session.held;
+    ended = λ finish. held_ended gate begun last course.ending at.session.held finish;
     entered = all_gain entered_gains deeds begun last (held_deeds at.session.held);
-    given = servers_given (serving_rows inputs peer at.line) (serving_row inputs peer at.line) begun last at.ending at.session.held unlinked;
-    replies = servers_heard (serving_rows inputs peer at.line) (serving_row inputs peer at.line) begun last at.ending at.session.held unlinked;
+    given = servers_given (serving_rows inputs peer at.line) (serving_row inputs peer at.line) begun last course.ending at.session.held unlinked;
+    replies = servers_heard (serving_rows inputs peer at.line) (serving_row inputs peer at.line) begun last course.ending at.session.held unlinked;
     links = all_gain linked_gains deeds begun last (held_deeds at.session.held);
     over = (
-      held_unlinked (serving_rows inputs peer at.line) (serving_row inputs peer at.line) begun last at.ending at.session.held,
-      held_unpaired (serving_rows inputs peer at.line) (serving_row inputs peer at.line) begun last at.ending at.session.held unlinked,
+      held_unlinked (serving_rows inputs peer at.line) (serving_row inputs peer at.line) begun last course.ending at.session.held,
+      held_unpaired (serving_rows inputs peer at.line) (serving_row inputs peer at.line) begun last course.ending at.session.held unlinked,
     );
     refusals = all_gain refused_gains deeds begun last (held_deeds at.session.held);
-    refusals_told = held_told gate begun last at.ending at.session.held;
+    refusals_told = held_told gate begun last course.ending at.session.held;
     broken = all_gain broken_gains deeds begun last (held_deeds at.session.held);
-    breaks_told = held_breaks gate begun last at.ending at.session.held;
+    breaks_told = held_breaks gate begun last course.ending at.session.held;
     stops = λ cause is. stops_last cause at.session.held is;
   }
 
-  of_ftp : OfFtp peer inputs status old new
+  of_ftp : OfFtp peer inputs course status old new
   of_ftp = record { at = at; upheld = upheld }
 
 -- ---- the headline
 
 module _ (peer : Peer) (inputs : Inputs) (out : Outcome) (old mid new : WorldView) (h : Gated services.FtpGw peer inputs out old mid) (tells : TellsIf (fault_line_of out) mid new) where
-  pub ftp_headline : Comes (FtpGw peer) services.FtpGw peer refusal_reply (OfFtp peer) inputs (status_of out) old new
-      × (IsSilent (status_of out) old new ⊎ (IsPermitted (FtpGw peer) inputs (status_of out) ⊎ IsDenied (FtpGw peer) services.FtpGw peer inputs (status_of out) old new))
+  pub ftp_headline : CameAs (Gateway kinds.Ftp peer) services.FtpGw peer refusal_reply (OfFtp peer) inputs (status_of out) old new × LogsDenial (Gateway kinds.Ftp peer) services.FtpGw peer inputs (status_of out) old new
   ftp_headline =
-      caller_headline false (FtpGw peer) services.FtpGw refusal_reply inputs (serving_rows inputs peer) (serving_row inputs peer) out old mid new h tells (OfFtp peer) (λ at. of_ftp peer inputs (status_of out) old new at) refl
+      caller_headline false (Gateway kinds.Ftp peer) services.FtpGw refusal_reply inputs (serving_rows inputs peer) (serving_row inputs peer) out old mid new h tells (OfFtp peer) (λ course at. of_ftp peer inputs course (status_of out) old new at) refl
       (λ line one other same. same) (ftp_status peer inputs out old mid h) (ftp_so peer inputs out old mid h)
 
 -- ---- a run in which no count rose
 
 module _ (name : List ℕ) (peer : Peer) (inputs : Inputs) (out : Outcome) (old middle mid new : WorldView) (q : Quiet old new) (only : ReadsOnly name true old middle) (h : Gated services.FtpGw peer inputs out middle mid) (tells : TellsIf (fault_line_of out) mid new) where
-  served_files : (line : ℕ) → verdict_for (FtpGw peer) inputs ≡ Permit line → IsPassed (Permit line) (status_of out) old.inputs new.inputs → OfFtp peer inputs (status_of out) middle new → IsServedFiles name peer inputs (status_of out) old new
-  served_files line permitted passed x =
-      let same : Permit line ≡ Permit x.at.line = sym permitted ∙ x.at.permitted in
-      record {
-        middle = middle;
-        only = only;
-        session = x;
-        whole = passed_whole false (FtpGw peer) services.FtpGw peer (serving_rows inputs peer) (serving_row inputs peer) name inputs (status_of out) old middle new q only x.at (subst (λ (v : Verdict). IsPassed v (status_of out) old.inputs new.inputs) same passed);
-      }
+  held_whole : (line : ℕ) → verdict_for (Gateway kinds.Ftp peer) inputs ≡ Permit line → IsPassed (Permit line) (status_of out) old.inputs new.inputs → (course : Course) → OfFtp peer inputs course (status_of out) middle new
+      → IsPassedWhole services.FtpGw peer line (OfFtp peer inputs course (status_of out) middle new) course (status_of out) old new
+  held_whole line permitted passed course x =
+      passed_whole false (Gateway kinds.Ftp peer) services.FtpGw peer (serving_rows inputs peer) (serving_row inputs peer) name inputs course (status_of out) old middle new q only (OfFtp peer inputs course (status_of out) middle new) x x.at line (sym permitted ∙ x.at.permitted) passed
 
-  pub ftp_whole : IsPassed (verdict_for (FtpGw peer) inputs) (status_of out) old.inputs new.inputs → IsServedAtGate (verdict_for (FtpGw peer) inputs) services.FtpGw refusal_reply IsServedFiles name peer inputs (status_of out) old new
-  ftp_whole passed =
-      caller_whole false (FtpGw peer) services.FtpGw refusal_reply inputs (serving_rows inputs peer) (serving_row inputs peer) name out old middle mid new q only h tells (OfFtp peer) IsServedFiles served_files (verdict_for (FtpGw peer) inputs) refl passed
-      (ftp_headline peer inputs out middle mid new h tells).0 (ftp_so peer inputs out middle mid h)
+  pub ftp_whole : IsPassed (verdict_for (Gateway kinds.Ftp peer) inputs) (status_of out) old.inputs new.inputs → (came : CameAs (Gateway kinds.Ftp peer) services.FtpGw peer refusal_reply (OfFtp peer) inputs (status_of out) middle new)
+      → IsServedAtGate (verdict_for (Gateway kinds.Ftp peer) inputs) services.FtpGw refusal_reply peer (OfFtp peer inputs came.course (status_of out) middle new) came.course (status_of out) old new
+  ftp_whole passed came =
+      caller_whole false (Gateway kinds.Ftp peer) services.FtpGw refusal_reply inputs (serving_rows inputs peer) (serving_row inputs peer) name out old middle mid new q only h tells (OfFtp peer) held_whole (verdict_for (Gateway kinds.Ftp peer) inputs) refl passed
+      came (ftp_so peer inputs out middle mid h)

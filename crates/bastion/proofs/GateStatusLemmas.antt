@@ -31,11 +31,14 @@ use Rattle.bastion.specs.Gating.{Gated, devices_over}
 use Rattle.bastion.specs.Inputs.{Inputs}
 use Rattle.bastion.specs.Outcome.{RoseFor, status_of}
 use Rattle.bastion.specs.Serving.{book_at_first, most_entries, origin_of}
-use Rattle.bastion.specs.Status.{IsPassed, TakesIn, TakesOver}
+use Rattle.bastion.specs.Status.{IsPassed, TakesFor, TakesIn, TakesOver}
 use Rattle.bastion.specs.WorldView.{WorldView}
 use Rattle.bastion.specs.declared.outcome.Outcome.{Outcome}
 use Rattle.bastion.specs.declared.outcome.Outcome.TheVariants.{Ended}
-use Rattle.bastion.specs.declared.words.Command.TheVariants.{FtpGw, TnGw}
+use Rattle.bastion.specs.declared.words.Command.TheVariants.{Gateway}
+use Rattle.bastion.specs.declared.words.GatewayKind.{GatewayKind}
+use Rattle.bastion.specs.declared.words.GatewayKind.TheVariants as kinds
+use Rattle.bastion.specs.Gateways.{gateway_service}
 use Rattle.bastion.proofs.GatedLemmas.{OfCaller, begun_for, caller_rose, caller_status}
 use Rattle.bastion.proofs.LinkingLemmas.{spent_alone, spent_status}
 
@@ -60,9 +63,9 @@ telnet_takes_so (Permit line) ending refused old new first book takes = record {
 telnet_takes_so (Deny line) ending refused old new first book takes = record { took = takes.took; all = λ long. inl (spent_alone ending refused (takes.all ∙ ap (λ (n : ℕ). n == most_taken) long)) }
 
 module _ (peer : Peer) (inputs : Inputs) (out : Outcome) (old new : WorldView) (h : Gated services.TnGw peer inputs out old new) where
-  pub telnet_rose : RoseFor (TnGw peer) out old new
+  pub telnet_rose : RoseFor (Gateway kinds.Telnet peer) out old new
   telnet_rose =
-      subst (λ (o : Outcome). RoseFor (TnGw peer) o old new) (sym h.over.comes)
+      subst (λ (o : Outcome). RoseFor (Gateway kinds.Telnet peer) o old new) (sym h.over.comes)
       (caller_rose true services.TnGw refusal (telnet_rows inputs peer) (telnet_row inputs peer) peer inputs out old new h (λ line causes. causes)
       (λ line logs held. telnet_routed line inputs peer (patient (timeout_of inputs.rules) (gate_devices (begun_for inputs h.before old))) (gate_devices (record (devices_over new h.book) { logs = logs })) h.ending held)
       (telnet_so peer inputs out old new h))
@@ -113,9 +116,9 @@ module _ (peer : Peer) (inputs : Inputs) (out : Outcome) (old new : WorldView) (
   gates : (line : ℕ) → Causes Replied (Permit line) h.ending (begun_for inputs h.before old) (devices_over new h.book) → Causes ByGate (Permit line) h.ending (begun_for inputs h.before old) (devices_over new h.book)
   gates line causes = replied_gated line h.ending (begun_for inputs h.before old) (devices_over new h.book) causes
 
-  pub ftp_rose : RoseFor (FtpGw peer) out old new
+  pub ftp_rose : RoseFor (Gateway kinds.Ftp peer) out old new
   ftp_rose =
-      subst (λ (o : Outcome). RoseFor (FtpGw peer) o old new) (sym h.over.comes)
+      subst (λ (o : Outcome). RoseFor (Gateway kinds.Ftp peer) o old new) (sym h.over.comes)
       (caller_rose false services.FtpGw refusal_reply (serving_rows inputs peer) (serving_row inputs peer) peer inputs out old new h gates
       (λ line logs held. ftp_routed line inputs peer (patient (timeout_of inputs.rules) (gate_devices (begun_for inputs h.before old))) (gate_devices (record (devices_over new h.book) { logs = logs })) h.ending held)
       (ftp_so peer inputs out old new h))
@@ -128,3 +131,18 @@ module _ (peer : Peer) (inputs : Inputs) (out : Outcome) (old new : WorldView) (
 
   pub ftp_status : ((status_of out ≡ 4) ⊎ (status_of out ≡ 5)) ⊎ IsPassed (verdict_of inputs.rules peer) (status_of out) old.inputs new.inputs
   ftp_status = caller_status false services.FtpGw refusal_reply (serving_rows inputs peer) (serving_row inputs peer) peer inputs out old new h gates (ftp_so peer inputs out old new h)
+
+-- ---- a client of either
+
+pub gateway_rose : (kind : GatewayKind) (peer : Peer) (inputs : Inputs) (out : Outcome) (old new : WorldView) → Gated (gateway_service kind) peer inputs out old new → RoseFor (Gateway kind peer) out old new
+gateway_rose kinds.Telnet peer inputs out old new h = telnet_rose peer inputs out old new h
+gateway_rose kinds.Ftp peer inputs out old new h = ftp_rose peer inputs out old new h
+
+pub gateway_takes : (kind : GatewayKind) (peer : Peer) (inputs : Inputs) (out : Outcome) (old new : WorldView) → Gated (gateway_service kind) peer inputs out old new → TakesFor (Gateway kind peer) (status_of out) old.inputs.input new.inputs.input
+gateway_takes kinds.Telnet peer inputs out old new h = telnet_takes peer inputs out old new h
+gateway_takes kinds.Ftp peer inputs out old new h = ftp_takes peer inputs out old new h
+
+pub gateway_status : (kind : GatewayKind) (peer : Peer) (inputs : Inputs) (out : Outcome) (old new : WorldView) → Gated (gateway_service kind) peer inputs out old new
+    → ((status_of out ≡ 4) ⊎ (status_of out ≡ 5)) ⊎ IsPassed (verdict_of inputs.rules peer) (status_of out) old.inputs new.inputs
+gateway_status kinds.Telnet peer inputs out old new h = telnet_status peer inputs out old new h
+gateway_status kinds.Ftp peer inputs out old new h = ftp_status peer inputs out old new h

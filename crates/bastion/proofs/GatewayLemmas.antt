@@ -7,7 +7,6 @@ use Rattle.fw_types.specs.declared.ending.Ending.{Ending}
 use Rattle.fw_types.specs.declared.ending.Ending.TheVariants as endings
 use Rattle.fw_types.specs.declared.peer.Peer.{Peer}
 use Rattle.gate_rules.specs.declared.service.Service.TheVariants as services
-use Rattle.gate_rules.specs.declared.verdict.Verdict.{Verdict}
 use Rattle.gate_rules.specs.declared.verdict.Verdict.TheVariants.{Permit}
 use Rattle.session_acts.proofs.DeedLemmas.{all_gain, held_deeds}
 use Rattle.session_acts.proofs.LastStopLemmas.{stops_last}
@@ -34,20 +33,21 @@ use Rattle.tn_gate.specs.Gate.{Gate, gate_at}
 use Rattle.tn_gate.specs.Laws.{AsksExactly}
 use Rattle.tn_gate.specs.Login.{LoginStandsIn, number_opened}
 use Rattle.tn_gate.specs.Texts.{refusal}
-use Rattle.bastion.specs.AtGateway.{Comes, OfGateway, begins_at, ends_at}
-use Rattle.bastion.specs.Complete.{IsLetThrough, IsServedAtGate}
+use Rattle.bastion.specs.Basis.{Course}
+use Rattle.bastion.specs.AtGateway.{OfGateway, begins_at, ends_at}
+use Rattle.bastion.specs.Complete.{IsPassedWhole, IsServedAtGate}
 use Rattle.bastion.specs.Gateway.{IsGuarded, OfTelnet, telnet_row, telnet_rows}
 use Rattle.bastion.specs.Gating.{Gated}
-use Rattle.bastion.specs.Headline.{IsDenied, IsPermitted}
+use Rattle.bastion.specs.Headline.{LogsDenial}
 use Rattle.bastion.specs.Inputs.{Inputs}
 use Rattle.bastion.specs.Outcome.{fault_line_of, status_of}
 use Rattle.bastion.specs.Run.{ReadsOnly, TellsIf, verdict_for}
 use Rattle.bastion.specs.Status.{IsPassed}
-use Rattle.bastion.specs.Talk.{IsSilent}
 use Rattle.bastion.specs.WorldView.{WorldView}
 use Rattle.bastion.specs.declared.outcome.Outcome.{Outcome}
-use Rattle.bastion.specs.declared.words.Command.TheVariants.{TnGw}
-use Rattle.bastion.proofs.AtGatewayLemmas.{caller_headline, caller_whole, passed_whole}
+use Rattle.bastion.specs.declared.words.Command.TheVariants.{Gateway}
+use Rattle.bastion.specs.declared.words.GatewayKind.TheVariants as kinds
+use Rattle.bastion.proofs.AtGatewayLemmas.{CameAs, caller_headline, caller_whole, passed_whole}
 use Rattle.bastion.proofs.DenialLemmas.{done_only}
 use Rattle.bastion.proofs.GateStatusLemmas.{telnet_so, telnet_status}
 use Rattle.bastion.proofs.QuietLemmas.{Quiet}
@@ -63,7 +63,7 @@ all_asked gate old new ending held asks is = by asks.whole
         let clash : Ok tt ≡ Err stops.cause = sym went ∙ stops.is in absurd (cc)
 
 -- by the laws of the gateway
-module _ (peer : Peer) (inputs : Inputs) (status : ℕ) (old new : WorldView) (at : OfGateway true (TnGw peer) services.TnGw peer (telnet_rows inputs peer) (telnet_row inputs peer) inputs status old new) where
+module _ (peer : Peer) (inputs : Inputs) (course : Course) (status : ℕ) (old new : WorldView) (at : OfGateway true (Gateway kinds.Telnet peer) services.TnGw peer (telnet_rows inputs peer) (telnet_row inputs peer) inputs course status old new) where
   abbrev gate : Gate
   gate = gate_at inputs.rules at.line peer
 
@@ -84,57 +84,52 @@ module _ (peer : Peer) (inputs : Inputs) (status : ℕ) (old new : WorldView) (a
 
   guarded : IsGuarded gate at.book.history at.session.held
   guarded = record {
-    lines = held_says (telnet_rows inputs peer at.line) (telnet_row inputs peer at.line) begun last at.ending at.session.held refl;
-    heard = held_lines gate begun last at.ending at.session.held;
-    exactly = held_asks gate begun last at.ending at.session.held;
-    all = λ is. all_asked gate begun last at.ending at.session.held (held_asks gate begun last at.ending at.session.held) is;
-    cleared = held_cleared gate begun last at.ending at.session.held;
+    lines = held_says (telnet_rows inputs peer at.line) (telnet_row inputs peer at.line) begun last course.ending at.session.held refl;
+    heard = held_lines gate begun last course.ending at.session.held;
+    exactly = held_asks gate begun last course.ending at.session.held;
+    all = λ is. all_asked gate begun last course.ending at.session.held (held_asks gate begun last course.ending at.session.held) is;
+    cleared = held_cleared gate begun last course.ending at.session.held;
     logins =
         λ asks before after deed dest is calls.
-        subst (λ (p : Port BookOrigin). LoginStandsIn (number_opened (gives asked deeds)) (gives asked before) p.seen) port_is (whole_login gate begun last at.ending at.session.held refl refl own asks before after deed dest is calls);
-    dialed = held_dialed gate begun last at.ending at.session.held;
-    due = held_due gate begun last at.ending at.session.held;
-    denials = held_logged gate begun last at.ending at.session.held;
-    opened = held_once gate begun last at.ending at.session.held refl;
-    requests = held_due_asked gate begun last at.ending at.session.held;
-    ends = held_ends gate begun last at.ending at.session.held;
-    ended = λ finish. held_ended gate begun last at.ending at.session.held finish;
+        subst (λ (p : Port BookOrigin). LoginStandsIn (number_opened (gives asked deeds)) (gives asked before) p.seen) port_is (whole_login gate begun last course.ending at.session.held refl refl own asks before after deed dest is calls);
+    dialed = held_dialed gate begun last course.ending at.session.held;
+    due = held_due gate begun last course.ending at.session.held;
+    denials = held_logged gate begun last course.ending at.session.held;
+    opened = held_once gate begun last course.ending at.session.held refl;
+    requests = held_due_asked gate begun last course.ending at.session.held;
+    ends = held_ends gate begun last course.ending at.session.held;
+    ended = λ finish. held_ended gate begun last course.ending at.session.held finish;
     links = all_gain linked_gains deeds begun last (held_deeds at.session.held);
     refusals = all_gain refused_gains deeds begun last (held_deeds at.session.held);
     entered = all_gain entered_gains deeds begun last (held_deeds at.session.held);
     stops = λ cause is. stops_last cause at.session.held is;
   }
 
-  of_telnet : OfTelnet peer inputs status old new
+  of_telnet : OfTelnet peer inputs course status old new
   of_telnet = record {
     at = at;
     guarded = guarded;
-    fronts = session_fronts (tn_rows gate) (tn_row gate) (begins_at services.TnGw inputs peer at.line at.before old) (ends_at at.book at.logs new) at.ending at.session (tn_keeps_quiet gate);
+    fronts = session_fronts (tn_rows gate) (tn_row gate) (begins_at services.TnGw inputs peer at.line at.before old) (ends_at at.book at.logs new) course.ending at.session (tn_keeps_quiet gate);
   }
 
 -- ---- the headline
 
 module _ (peer : Peer) (inputs : Inputs) (out : Outcome) (old mid new : WorldView) (h : Gated services.TnGw peer inputs out old mid) (tells : TellsIf (fault_line_of out) mid new) where
-  pub telnet_headline : Comes (TnGw peer) services.TnGw peer refusal (OfTelnet peer) inputs (status_of out) old new
-      × (IsSilent (status_of out) old new ⊎ (IsPermitted (TnGw peer) inputs (status_of out) ⊎ IsDenied (TnGw peer) services.TnGw peer inputs (status_of out) old new))
+  pub telnet_headline : CameAs (Gateway kinds.Telnet peer) services.TnGw peer refusal (OfTelnet peer) inputs (status_of out) old new × LogsDenial (Gateway kinds.Telnet peer) services.TnGw peer inputs (status_of out) old new
   telnet_headline =
-      caller_headline true (TnGw peer) services.TnGw refusal inputs (telnet_rows inputs peer) (telnet_row inputs peer) out old mid new h tells (OfTelnet peer) (λ at. of_telnet peer inputs (status_of out) old new at) refl
+      caller_headline true (Gateway kinds.Telnet peer) services.TnGw refusal inputs (telnet_rows inputs peer) (telnet_row inputs peer) out old mid new h tells (OfTelnet peer) (λ course at. of_telnet peer inputs course (status_of out) old new at) refl
       (λ line one other same. same) (telnet_status peer inputs out old mid h) (telnet_so peer inputs out old mid h)
 
 -- ---- a run in which no count rose
 
 module _ (name : List ℕ) (peer : Peer) (inputs : Inputs) (out : Outcome) (old middle mid new : WorldView) (q : Quiet old new) (only : ReadsOnly name true old middle) (h : Gated services.TnGw peer inputs out middle mid) (tells : TellsIf (fault_line_of out) mid new) where
-  let_through : (line : ℕ) → verdict_for (TnGw peer) inputs ≡ Permit line → IsPassed (Permit line) (status_of out) old.inputs new.inputs → OfTelnet peer inputs (status_of out) middle new → IsLetThrough name peer inputs (status_of out) old new
-  let_through line permitted passed x =
-      let same : Permit line ≡ Permit x.at.line = sym permitted ∙ x.at.permitted in
-      record {
-        middle = middle;
-        only = only;
-        session = x;
-        whole = passed_whole true (TnGw peer) services.TnGw peer (telnet_rows inputs peer) (telnet_row inputs peer) name inputs (status_of out) old middle new q only x.at (subst (λ (v : Verdict). IsPassed v (status_of out) old.inputs new.inputs) same passed);
-      }
+  held_whole : (line : ℕ) → verdict_for (Gateway kinds.Telnet peer) inputs ≡ Permit line → IsPassed (Permit line) (status_of out) old.inputs new.inputs → (course : Course) → OfTelnet peer inputs course (status_of out) middle new
+      → IsPassedWhole services.TnGw peer line (OfTelnet peer inputs course (status_of out) middle new) course (status_of out) old new
+  held_whole line permitted passed course x =
+      passed_whole true (Gateway kinds.Telnet peer) services.TnGw peer (telnet_rows inputs peer) (telnet_row inputs peer) name inputs course (status_of out) old middle new q only (OfTelnet peer inputs course (status_of out) middle new) x x.at line (sym permitted ∙ x.at.permitted) passed
 
-  pub telnet_whole : IsPassed (verdict_for (TnGw peer) inputs) (status_of out) old.inputs new.inputs → IsServedAtGate (verdict_for (TnGw peer) inputs) services.TnGw refusal IsLetThrough name peer inputs (status_of out) old new
-  telnet_whole passed =
-      caller_whole true (TnGw peer) services.TnGw refusal inputs (telnet_rows inputs peer) (telnet_row inputs peer) name out old middle mid new q only h tells (OfTelnet peer) IsLetThrough let_through (verdict_for (TnGw peer) inputs) refl passed
-      (telnet_headline peer inputs out middle mid new h tells).0 (telnet_so peer inputs out middle mid h)
+  pub telnet_whole : IsPassed (verdict_for (Gateway kinds.Telnet peer) inputs) (status_of out) old.inputs new.inputs → (came : CameAs (Gateway kinds.Telnet peer) services.TnGw peer refusal (OfTelnet peer) inputs (status_of out) middle new)
+      → IsServedAtGate (verdict_for (Gateway kinds.Telnet peer) inputs) services.TnGw refusal peer (OfTelnet peer inputs came.course (status_of out) middle new) came.course (status_of out) old new
+  telnet_whole passed came =
+      caller_whole true (Gateway kinds.Telnet peer) services.TnGw refusal inputs (telnet_rows inputs peer) (telnet_row inputs peer) name out old middle mid new q only h tells (OfTelnet peer) held_whole (verdict_for (Gateway kinds.Telnet peer) inputs) refl passed
+      came (telnet_so peer inputs out middle mid h)

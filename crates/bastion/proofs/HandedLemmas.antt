@@ -1,26 +1,19 @@
 -- What a run of `smapd` comes to, and what it leaves.
-use Rattle.std.proofs.Common.{arith, ◌≡◌, refl, sym, ap, subst, ◌∙◌, ℕ, List, [], ◌∷◌, ◌++◌, append-nil, length, map, inl, inr, ◌⊎◌, Option, Some, None, Result, Ok, Err}
-use Rattle.std.specs.Prelude.{◌≢◌, IfSome, IsSome, codes}
+use Rattle.std.proofs.Common.{arith, ◌≡◌, refl, sym, ap, subst, ◌∙◌, ℕ, List, [], ◌++◌, length, map, inl, inr, ◌⊎◌, Option, Some, None, Result, Ok, Err}
+use Rattle.std.specs.Prelude.{◌≢◌, IfSome}
 use Rattle.fw_disk.specs.DiskView.{DiskView}
-use Rattle.fw_mail.specs.MailerView.{MailerView}
-use Rattle.fw_outside.specs.Counts.{Rose}
-use Rattle.fw_outside.specs.KeeperView.{KeeperView}
 use Rattle.fw_outside.specs.SinkView.{Gives, SinkView}
-use Rattle.fw_outside.specs.ToldList.{grown}
 use Rattle.fw_outside.specs.declared.failed.Failed as sink
-use Rattle.slot_bytes.specs.Layout.{Mail}
 use Rattle.slot_bytes.specs.SlotView.{mail_view}
-use Rattle.smapd_queue.specs.Meeting.{End, last_turn, meeting_with}
-use Rattle.smapd_queue.specs.Meeting.End.{AllTaken, NoneFull, Unlogged, Lacked}
-use Rattle.smapd_queue.specs.Round.{HandsOn, HandsOnTelling, answer_of, round_of}
-use Rattle.smapd_queue.specs.Sums.{LogGoes}
-use Rattle.smapd_queue.specs.Turns.{Turn, accepted_of, lines_of}
+use Rattle.smapd_queue.specs.Meeting.{last_turn, meeting_with}
+use Rattle.smapd_queue.specs.Round.{HandsOnTelling}
+use Rattle.smapd_queue.specs.Turns.{Turn, accepted_of}
 use Rattle.smapd_queue.specs.declared.round.Round.{Round}
 use Rattle.smapd_queue.specs.declared.round.RoundFault.{RoundFault}
 use Rattle.smapd_queue.specs.declared.round.RoundFault.TheVariants as faults
 use Rattle.smapd_queue.specs.declared.round.Trouble.{Trouble}
 use Rattle.smapd_queue.specs.declared.round.Trouble.TheVariants as troubles
-use Rattle.spool_rack.specs.Opening.{AreInOrder, CameBack, IsRackFault, queues_of}
+use Rattle.spool_rack.specs.Opening.{AreInOrder, CameBack, IsRackFault}
 use Rattle.spool_rack.specs.Store.{StoreView}
 use Rattle.spool_slots.specs.declared.slot_why.SlotWhy.{SlotWhy}
 use Rattle.spool_slots.specs.declared.slot_why.SlotWhy.TheVariants as whys
@@ -29,11 +22,11 @@ use Rattle.spool_runs.proofs.RoundLemmas.{round_grows}
 use Rattle.spool_runs.proofs.StoreLemmas.{run_over_rack}
 use Rattle.bastion.specs.HandedOn.{HandsRound, IsHandedOn, LineIf}
 use Rattle.bastion.specs.HandingOn.{HandsMail, RoundHeld, ServesRound, TellsRound, outcome_after, outcome_faulted, outcome_printed}
-use Rattle.bastion.specs.Mailing.{OpensRack, SlotsUnread, slot_fault, with_disks}
+use Rattle.bastion.specs.Mailing.{OpensRack, slot_fault, with_disks}
 use Rattle.bastion.specs.Outcome.{DiskRose, MailersRose, fault_line_of, status_of}
 use Rattle.bastion.specs.Run.{TellsIf}
 use Rattle.bastion.specs.Spool.{AreOpened, LeavesAside}
-use Rattle.bastion.specs.Status.{IsRoundStatus, IsStatusOfJob, RoseInJob, SomeRose}
+use Rattle.bastion.specs.Status.{IsRoundStatus, IsStatusOfJob, RoseInJob}
 use Rattle.bastion.specs.WorldView.{Post, SessionInputs, WorldView}
 use Rattle.bastion.specs.declared.outcome.Outcome.{Outcome}
 use Rattle.bastion.specs.declared.words.Job.TheVariants.{Smapd}
@@ -150,8 +143,8 @@ module _ (post : Post) where
       run_over_rack [] (map mail_view (accepted_of (h.hands.hands.turns ++ last_turn h.hands.hands.ending))) old.inputs.disks new.inputs.disks h.opened.slots h.first h.store h.opened.are (first_queues old.inputs.disks h.first h.opened)
       (round_grows count count h.answer (meeting_with h.first post.before old.logs) (meeting_with h.store post.after new.logs) h.hands.hands) h.closed
 
-  abbrev pub round_now : (outcome : Outcome) (old new : WorldView) (h : RoundHeld post outcome old new) → HandsRound post h.answer h.trouble old new
-  round_now outcome old new h = record { first = h.first; opened = h.opened; store = h.store; closed = h.closed; logs = new.logs; hands = h.hands; spool = round_spool outcome old new h }
+  abbrev pub round_now : (outcome : Outcome) (old new : WorldView) (h : RoundHeld post outcome old new) → HandsRound post h.hands.hands.turns h.answer h.trouble old new
+  round_now outcome old new h = record { first = h.first; opened = h.opened; store = h.store; closed = h.closed; logs = new.logs; hands = h.hands; turns_are = refl; spool = round_spool outcome old new h }
 
   round_later : (outcome : Outcome) (old mid new : WorldView) (h : RoundHeld post outcome old mid) → Later mid new → RunsSpool [] (map mail_view (accepted_of (h.hands.hands.turns ++ last_turn h.hands.hands.ending))) old.inputs.disks new.inputs.disks
   round_later outcome old mid new h later =
@@ -167,7 +160,11 @@ module _ (post : Post) where
   unread_some slot whys.DiskFault is = omega (arith, is)
   unread_some slot whys.NoMemory is = omega (arith, is)
 
-  pub handed_on : (outcome : Outcome) (old mid new : WorldView) → HandsMail post outcome old mid → TellsIf (fault_line_of outcome) mid new → IsHandedOn post (status_of outcome) old new
+  abbrev pub handed_turns : (outcome : Outcome) (old new : WorldView) → HandsMail post outcome old new → List Turn
+  handed_turns outcome old new (inl u) = []
+  handed_turns outcome old new (inr h) = h.hands.hands.turns
+
+  pub handed_on : (outcome : Outcome) (old mid new : WorldView) → (h : HandsMail post outcome old mid) → TellsIf (fault_line_of outcome) mid new → IsHandedOn post (handed_turns outcome old mid h) (status_of outcome) old new
   handed_on outcome old mid new (inl u) tells =
       let later = tells_later (fault_line_of outcome) mid new tells in
       let line : LineIf (fault_line_of outcome) old.logs new.logs = subst (λ (s : SinkView). LineIf (fault_line_of outcome) s new.logs) (ap (λ (w : WorldView). w.logs) u.0.is) (line_if (fault_line_of outcome) mid new tells) in
@@ -187,7 +184,7 @@ module _ (post : Post) where
       inr (record {
         answer = h.answer;
         trouble = h.trouble;
-        held = record { first = h.first; opened = h.opened; store = h.store; closed = subst (λ (i : SessionInputs). IfSome h.store.queues (λ q. AreInOrder q i.disks)) (sym later.inputs) h.closed; logs = mid.logs; hands = h.hands; spool = round_later outcome old mid new h later };
+        held = record { first = h.first; opened = h.opened; store = h.store; closed = subst (λ (i : SessionInputs). IfSome h.store.queues (λ q. AreInOrder q i.disks)) (sym later.inputs) h.closed; logs = mid.logs; hands = h.hands; turns_are = refl; spool = round_later outcome old mid new h later };
         outcome = outcome;
         status_is = refl;
         printed = subst (λ (s : SinkView). TellsRound h.answer h.trouble outcome old.output s) (sym later.output) h.tells;

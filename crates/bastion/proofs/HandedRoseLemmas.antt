@@ -1,44 +1,40 @@
 -- Whose count rose in a run of `smapd`.
-use Rattle.std.proofs.Common.{arith, ◌≡◌, refl, sym, ap, subst, ◌∙◌, ℕ, zero, suc, ◌+◌, ◌<◌, List, [], ◌∷◌, ◌++◌, length, map, inl, inr, ◌⊎◌, Option, Some, None, Result, Ok, Err}
+use Rattle.std.proofs.Common.{arith, ◌≡◌, refl, sym, subst, ◌∙◌, ℕ, zero, suc, ◌+◌, List, [], ◌∷◌, ◌++◌, length, inl, inr, Option, Some, None, Result, Ok, Err}
 use Rattle.std.specs.Prelude.{IfSome}
 use Rattle.std.specs.List.{AllByRecursion}
 use Rattle.fw_disk.specs.DiskView.{DiskView}
 use Rattle.fw_mail.specs.MailerView.{MailerView}
 use Rattle.fw_outside.specs.Counts.{Rose}
-use Rattle.fw_outside.specs.SinkView.{Cut, Gives, SinkView}
-use Rattle.fw_outside.specs.ToldList.{grown}
+use Rattle.fw_outside.specs.SinkView.{Gives, SinkView}
 use Rattle.fw_outside.specs.declared.failed.Failed as sink
-use Rattle.smapd_queue.specs.Meeting.{End, Meeting, last_turn, lacked_of, meeting_with}
+use Rattle.smapd_queue.specs.Meeting.{End, last_turn, lacked_of, meeting_with}
 use Rattle.smapd_queue.specs.Meeting.End.{AllTaken, NoneFull, Unlogged, Lacked}
-use Rattle.smapd_queue.specs.Round.{HandsOn, HandsOnTelling, IsTurn, answer_of, round_of}
+use Rattle.smapd_queue.specs.Round.{IsTurn, answer_of, round_of}
 use Rattle.smapd_queue.specs.Slots.{IsFateOf}
-use Rattle.smapd_queue.specs.Sums.{LogFails, LogGoes, QueuesGo, ToldQueuesGo}
-use Rattle.smapd_queue.specs.Turns.{Fate, Turn, broken_of, line_of, lines_of, or_else, trouble_by, trouble_of}
+use Rattle.smapd_queue.specs.Sums.{LogGoes, QueuesGo, ToldQueuesGo}
+use Rattle.smapd_queue.specs.Turns.{Fate, Turn, broken_of, line_of, or_else, trouble_by, trouble_of}
 use Rattle.smapd_queue.specs.Turns.Fate.{Freed, NotFreed, PutAside, NotAside, PutBack, Unread}
 use Rattle.smapd_queue.specs.declared.round.Round.{Round}
 use Rattle.smapd_queue.specs.declared.round.RoundFault.{RoundFault}
 use Rattle.smapd_queue.specs.declared.round.RoundFault.TheVariants as faults
 use Rattle.smapd_queue.specs.declared.round.Trouble.{Trouble}
 use Rattle.smapd_queue.specs.declared.round.Trouble.TheVariants as troubles
-use Rattle.spool_rack.specs.Opening.{AreInOrder, AreSlotsOf, IsRackOf, held_broken, queues_of}
-use Rattle.spool_rack.specs.Store.{Queues, StoreView}
-use Rattle.spool_slots.specs.Opened.{number_of}
+use Rattle.spool_rack.specs.Opening.{AreInOrder, AreSlotsOf, held_broken, queues_of}
+use Rattle.spool_rack.specs.Store.{Queues}
 use Rattle.spool_slots.specs.States.{BrokenView, FullView, IsBrokenFull}
 use Rattle.spool_slots.specs.declared.opening.Opened.{Opened}
 use Rattle.spool_slots.specs.declared.opening.Opened.TheVariants as opened
-use Rattle.spool_runs.proofs.KeepLemmas.{Keeps, round_keeps}
-use Rattle.spool_runs.proofs.MailerLemmas.{FailsRose, MailersKeep, round_mailers}
+use Rattle.spool_runs.proofs.KeepLemmas.{round_keeps}
+use Rattle.spool_runs.proofs.MailerLemmas.{FailsRose, round_mailers}
 use Rattle.spool_runs.proofs.NumberLemmas.{weaker}
-use Rattle.bastion.specs.HandingOn.{HandsMail, RoundHeld, TellsRound, device_of, outcome_after, outcome_faulted, outcome_printed}
+use Rattle.bastion.specs.HandingOn.{HandsMail, RoundHeld, TellsRound, outcome_after, outcome_faulted, outcome_printed}
 use Rattle.spool_slots.specs.declared.slot_why.SlotWhy.{SlotWhy}
 use Rattle.spool_slots.specs.declared.slot_why.SlotWhy.TheVariants as whys
-use Rattle.bastion.specs.Mailing.{SlotsUnread, slot_fault}
+use Rattle.bastion.specs.Mailing.{slot_fault}
 use Rattle.bastion.specs.Outcome.{DiskRose, JobRose, MailersRose, SlotsRose}
 use Rattle.bastion.specs.Spool.{AtPlace}
 use Rattle.bastion.specs.WorldView.{Post, WorldView}
-use Rattle.bastion.specs.declared.outcome.Device.TheVariants as device
 use Rattle.bastion.specs.declared.outcome.Outcome.{Outcome}
-use Rattle.bastion.specs.declared.outcome.Outcome.TheVariants.{Failed, NoMemory, Done}
 use Rattle.bastion.proofs.MailedLemmas.{first_queues, unread_rose}
 use Rattle.bastion.proofs.SpoolLemmas.{AreAt, IsHeldAt, both_parts, closed_at, closed_length}
 use Rattle.client_service.proofs.SinkLemmas.{cut_rose}

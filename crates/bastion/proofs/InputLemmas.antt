@@ -9,18 +9,16 @@ use Rattle.fw_outside.specs.KeeperView.{AreLoaded, KeeperView, NamedBytes}
 use Rattle.gate_rules.specs.Reading.{RuleBook, rules_of}
 use Rattle.gate_rules.specs.declared.fault.RuleFault.{RuleFault}
 use Rattle.gate_rules.specs.declared.service.Service.{Service}
-use Rattle.netperm_table.specs.Table.{table_of}
 use Rattle.netperm_table.specs.declared.line.Line.{Line}
 use Rattle.netperm_table.specs.declared.table_fault.TableFault.{TableFault}
-use Rattle.bastion.specs.Inputs.{HasInputs, Inputs, IsAllOf, Need, OfText, book_needs, inputs_by, inputs_of, is_of_line, is_of_records, is_of_table, need_then, needs, needs_records, needs_then, no_inputs, with_policy, with_records, with_rules}
+use Rattle.bastion.specs.Inputs.{HasInputs, Inputs, IsAllOf, Need, Reading, book_needs, inputs_by, is_of_line, is_of_records, is_of_table, need_then, needs, needs_records, needs_then, no_inputs, with_policy, with_records, with_rules}
 use Rattle.bastion.specs.Inputs.Need.{RulesOf, ThePolicy, TheRecords}
-use Rattle.bastion.specs.Reading.{both_of, or_rule_fault, ruling_by, ruling_in, server_rules_of}
+use Rattle.bastion.specs.Reading.{IsSaid, both_of, or_rule_fault, ruling_by, server_rules_of}
 use Rattle.bastion.specs.WorldView.{WorldView}
 use Rattle.bastion.specs.declared.outcome.Refusal.{Refusal}
 use Rattle.bastion.specs.declared.outcome.Refusal.TheVariants.{Table, Rule, Record}
 use Rattle.bastion.specs.declared.server_rules.ServerRules.{ServerRules}
 use Rattle.bastion.specs.declared.words.Command.{Command}
-use Rattle.bastion.proofs.ReadingLemmas.{of_text}
 
 -- ---- the rules of a service alone
 
@@ -43,14 +41,6 @@ table_rules_err : (service : Service) (read : Result (List Line) TableFault) (re
 table_rules_err service (Ok lines) refusal h = rules_err (rules_of service lines) refusal h
 table_rules_err service (Err fault) refusal h = let same : Table fault ≡ refusal = cc in ap (λ (r : Refusal). Err r) same
 
-text_rules_ok : (service : Service) (text : List ℕ) (rules : RuleBook) → ruling_in (rules_of service) text ≡ Ok rules → inputs_of (RulesOf service ∷ []) text [] ≡ Ok (of_rules rules)
-unfolding ruling_in
-text_rules_ok service text rules h = table_rules_ok service (table_of text) rules h
-
-text_rules_err : (service : Service) (text : List ℕ) (refusal : Refusal) → ruling_in (rules_of service) text ≡ Err refusal → inputs_of (RulesOf service ∷ []) text [] ≡ Err refusal
-unfolding ruling_in
-text_rules_err service text refusal h = table_rules_err service (table_of text) refusal h
-
 -- the command needs the rules of this service, and nothing else
 pub record NeedsRules (command : Command) (service : Service) : Type 0 where
   pub only : needs command ≡ RulesOf service ∷ []
@@ -59,19 +49,21 @@ pub record NeedsRules (command : Command) (service : Service) : Type 0 where
 never_needed : {A : Type 0} (command : Command) → needs_records command ≡ false → needs_records command ≡ true → A
 never_needed command without wanted = absurd (cc)
 
-pub inputs_rules : (command : Command) (service : Service) → NeedsRules command service → (name : List ℕ) (rules : RuleBook) (world : WorldView) → OfText world.files.holds name (λ text. ruling_in (rules_of service) text ≡ Ok rules)
-    → HasInputs name command (Ok (of_rules rules)) world
+-- a reading of the table alone
+abbrev pub alone : Result (List Line) TableFault → Reading
+alone table = record { table = table; loaded = [] }
+
+pub inputs_rules : (command : Command) (service : Service) → NeedsRules command service → (name : List ℕ) (rules : RuleBook) (world : WorldView) → (h : IsSaid (rules_of service) name (Ok rules) world.files) → HasInputs name command (alone h.table) (Ok (of_rules rules)) world
 inputs_rules command service needed name rules world h = record {
-  loaded = [];
-  of_table = of_text world.files.holds name (λ text said. subst (λ (some : List Need). inputs_of some text [] ≡ Ok (of_rules rules)) (sym needed.only) (text_rules_ok service text rules said)) h;
+  of_table = h.of_text;
+  is = subst (λ (some : List Need). inputs_by [] some h.table ≡ Ok (of_rules rules)) (sym needed.only) (table_rules_ok service h.table rules h.is);
   of_keeper = λ wanted come. never_needed command needed.no_records wanted;
 }
 
-pub refuses_rules : (command : Command) (service : Service) → NeedsRules command service → (name : List ℕ) (refusal : Refusal) (world : WorldView) → OfText world.files.holds name (λ text. ruling_in (rules_of service) text ≡ Err refusal)
-    → HasInputs name command (Err refusal) world
+pub refuses_rules : (command : Command) (service : Service) → NeedsRules command service → (name : List ℕ) (refusal : Refusal) (world : WorldView) → (h : IsSaid (rules_of service) name (Err refusal) world.files) → HasInputs name command (alone h.table) (Err refusal) world
 refuses_rules command service needed name refusal world h = record {
-  loaded = [];
-  of_table = of_text world.files.holds name (λ text said. subst (λ (some : List Need). inputs_of some text [] ≡ Err refusal) (sym needed.only) (text_rules_err service text refusal said)) h;
+  of_table = h.of_text;
+  is = subst (λ (some : List Need). inputs_by [] some h.table ≡ Err refusal) (sym needed.only) (table_rules_err service h.table refusal h.is);
   of_keeper = λ wanted come. never_needed command needed.no_records wanted;
 }
 
@@ -120,43 +112,41 @@ table_server_err : (service : Service) (loaded : NamedBytes) (read : Result (Lis
 table_server_err service loaded (Ok lines) refusal h = fold service lines loaded ∙ both_err (rules_of service lines) (policy_of lines) refusal (records_in loaded) h
 table_server_err service loaded (Err fault) refusal h = let same : Table fault ≡ refusal = cc in ap (λ (r : Refusal). Err r) same
 
-text_server_ok : (service : Service) (loaded : NamedBytes) (text : List ℕ) (server_rules : ServerRules) → ruling_in (server_rules_of service) text ≡ Ok server_rules → inputs_of (book_needs service) text loaded ≡ with_records (server_inputs server_rules []) (records_in loaded)
-unfolding ruling_in
-text_server_ok service loaded text server_rules h = table_server_ok service loaded (table_of text) server_rules h
-
-text_server_err : (service : Service) (loaded : NamedBytes) (text : List ℕ) (refusal : Refusal) → ruling_in (server_rules_of service) text ≡ Err refusal → inputs_of (book_needs service) text loaded ≡ Err refusal
-unfolding ruling_in
-text_server_err service loaded text refusal h = table_server_err service loaded (table_of text) refusal h
-
 kept_loaded : (keeper : Option KeeperView) (before : KeeperView) (loaded : NamedBytes) (after : KeeperView) → keeper ≡ Some before → AreLoaded loaded before after → IfSome keeper (IsAllOf loaded)
 kept_loaded keeper before loaded after is are = let all : IsAllOf loaded before = record { ordered = are.ordered; told = are.told } in subst (λ (k : Option KeeperView). IfSome k (IsAllOf loaded)) (sym is) all
 
+-- a reading of the table and of all that a keeper has
+abbrev pub both_read : Result (List Line) TableFault → NamedBytes → Reading
+both_read table loaded = record { table = table; loaded = loaded }
+
 -- the rules and the policy by the table, and the records that the keeper has, or the first that can't be read
 read_server : (command : Command) (service : Service) → needs command ≡ book_needs service → (name : List ℕ) (server_rules : ServerRules) (records : Result (List Fields) (List ℕ × ℕ)) (before after : KeeperView) (world : WorldView)
-    → world.inputs.keeper ≡ Some before → OfText world.files.holds name (λ text. ruling_in (server_rules_of service) text ≡ Ok server_rules) → ReadsAs records before after
-    → HasInputs name command (with_records (server_inputs server_rules []) records) world
+    → world.inputs.keeper ≡ Some before → (said : IsSaid (server_rules_of service) name (Ok server_rules) world.files) → (read : ReadsAs records before after)
+    → HasInputs name command (both_read said.table read.loaded) (with_records (server_inputs server_rules []) records) world
 read_server command service needed name server_rules records before after world keeper said read = record {
-  loaded = read.loaded;
-  of_table = of_text world.files.holds name (λ text h. subst (λ (some : List Need). inputs_of some text read.loaded ≡ with_records (server_inputs server_rules []) records) (sym needed) (text_server_ok service read.loaded text server_rules h ∙ ap (with_records (server_inputs server_rules [])) read.is)) said;
+  of_table = said.of_text;
+  is =
+      subst (λ (some : List Need). inputs_by read.loaded some said.table ≡ with_records (server_inputs server_rules []) records) (sym needed)
+      (table_server_ok service read.loaded said.table server_rules said.is ∙ ap (with_records (server_inputs server_rules [])) read.is);
   of_keeper = λ wanted come. kept_loaded world.inputs.keeper before read.loaded after keeper read.are;
 }
 
 pub inputs_server : (command : Command) (service : Service) → needs command ≡ book_needs service → (name : List ℕ) (server_rules : ServerRules) (records : List Fields) (before after : KeeperView) (world : WorldView) → world.inputs.keeper ≡ Some before
-    → OfText world.files.holds name (λ text. ruling_in (server_rules_of service) text ≡ Ok server_rules) → ReadsAs (Ok records) before after → HasInputs name command (Ok (server_inputs server_rules records)) world
+    → (said : IsSaid (server_rules_of service) name (Ok server_rules) world.files) → (read : ReadsAs (Ok records) before after) → HasInputs name command (both_read said.table read.loaded) (Ok (server_inputs server_rules records)) world
 inputs_server command service needed name server_rules records before after world keeper said read = read_server command service needed name server_rules (Ok records) before after world keeper said read
 
 pub refuses_record : (command : Command) (service : Service) → needs command ≡ book_needs service → (name : List ℕ) (server_rules : ServerRules) (user : List ℕ) (at : ℕ) (before after : KeeperView) (world : WorldView) → world.inputs.keeper ≡ Some before
-    → OfText world.files.holds name (λ text. ruling_in (server_rules_of service) text ≡ Ok server_rules) → ReadsAs (Err (user, at)) before after → HasInputs name command (Err (Record user at)) world
+    → (said : IsSaid (server_rules_of service) name (Ok server_rules) world.files) → (read : ReadsAs (Err (user, at)) before after) → HasInputs name command (both_read said.table read.loaded) (Err (Record user at)) world
 refuses_record command service needed name server_rules user at before after world keeper said read = read_server command service needed name server_rules (Err (user, at)) before after world keeper said read
 
 of_no_records : {A : Type 0} (refusal : Refusal) → is_of_line refusal ≡ true → is_of_table (Err refusal) ≡ false → A
 of_no_records refusal line record_ = absurd (cc)
 
-pub refuses_server : (command : Command) (service : Service) → needs command ≡ book_needs service → (name : List ℕ) (refusal : Refusal) (world : WorldView) → is_of_line refusal ≡ true → OfText world.files.holds name (λ text. ruling_in (server_rules_of service) text ≡ Err refusal)
-    → HasInputs name command (Err refusal) world
+pub refuses_server : (command : Command) (service : Service) → needs command ≡ book_needs service → (name : List ℕ) (refusal : Refusal) (world : WorldView) → is_of_line refusal ≡ true → (said : IsSaid (server_rules_of service) name (Err refusal) world.files)
+    → HasInputs name command (alone said.table) (Err refusal) world
 refuses_server command service needed name refusal world of_line said = record {
-  loaded = [];
-  of_table = of_text world.files.holds name (λ text h. subst (λ (some : List Need). inputs_of some text [] ≡ Err refusal) (sym needed) (text_server_err service [] text refusal h)) said;
+  of_table = said.of_text;
+  is = subst (λ (some : List Need). inputs_by [] some said.table ≡ Err refusal) (sym needed) (table_server_err service [] said.table refusal said.is);
   of_keeper = λ wanted come. of_no_records refusal of_line come;
 }
 

@@ -1,3 +1,4 @@
+pub mod AccountLemmas
 pub mod AtGatewayLemmas
 pub mod AttendedLemmas
 pub mod ClientLemmas

@@ -33,16 +33,16 @@ use Rattle.session_acts.specs.Relayed.{relayed}
 use Rattle.session_acts.specs.Session.{RelaySession}
 use Rattle.session_acts.specs.World.{Devices}
 use Rattle.client_service.specs.PlugService.{LinksTo, target_of}
-use Rattle.bastion.specs.Asking.{FailsAtLog, IsAsked, IsUnasked, linking_text}
+use Rattle.bastion.specs.Basis.{Course}
+use Rattle.bastion.specs.Asking.{AsksAtMost, FailsAtLog, IsAsked, IsUnasked, linking_text}
 use Rattle.bastion.specs.Complete as complete
 use Rattle.bastion.specs.Complete.{IsLinkedWhole, IsPutThrough}
-use Rattle.bastion.specs.Headline.{IsDenied, IsPermitted}
+use Rattle.bastion.specs.Headline.{LogsDenial}
 use Rattle.bastion.specs.Inputs.{Inputs}
 use Rattle.bastion.specs.Linking.{Linked, devices_for, linked_devices}
 use Rattle.bastion.specs.Outcome.{ending_status, fault_line_of, is_at_limit, status_of, verdict_status}
 use Rattle.bastion.specs.Run.{ReadsOnly, TellsIf, verdict_for}
 use Rattle.bastion.specs.Status.{IsLinked}
-use Rattle.bastion.specs.Talk.{IsSilent}
 use Rattle.bastion.specs.Works.{with_given}
 use Rattle.bastion.specs.WorldView.{SessionInputs, WorldView}
 use Rattle.bastion.specs.declared.outcome.Outcome.{Outcome}
@@ -252,7 +252,7 @@ module _ (caller : Caller) (inputs : Inputs) (old mid : WorldView) (ending : End
   abbrev written : SinkView
   written = record (old.logs) { given = grown (grown old.logs.given decided) connects }
 
-  asked_by : GivesFronts (with_line decided begun) left ending → a.logs ≡ written → Adds (Main a.dest ∷ []) old.inputs.dialer.asked mid.inputs.dialer.asked → IsAsked caller inputs (ending_status ending) old mid
+  asked_by : GivesFronts (with_line decided begun) left ending → a.logs ≡ written → Adds (Main a.dest ∷ []) old.inputs.dialer.asked mid.inputs.dialer.asked → IsAsked caller inputs ending (ending_status ending) old mid
   asked_by fronts logs asks =
       let Noted : SinkView → Type 0 = λ s. NotedIf (ending_line (services.PlugGw caller.port) caller.peer ending) s mid.logs in
       let both : written ≡ with_given old.logs (decided ++ connects) = ap (λ (g : Option (List ℕ)). record (old.logs) { given = g }) (by_both old.logs.given decided connects) in
@@ -261,43 +261,42 @@ module _ (caller : Caller) (inputs : Inputs) (old mid : WorldView) (ending : End
         permitted = a.permitted;
         dest = a.dest;
         target = a.target;
-        ending = ending;
         noted = subst Noted (logs ∙ both) a.noted;
         asked = asks;
         relayed = fronts_here fronts;
         status_is = refl;
       }
 
-  turned_down : GivesFronts (with_line decided begun) left ending → IsTurnedDown a.dest (with_line connects (with_line decided begun)) left ending → IsAsked caller inputs (ending_status ending) old mid
+  turned_down : GivesFronts (with_line decided begun) left ending → IsTurnedDown a.dest (with_line connects (with_line decided begun)) left ending → IsAsked caller inputs ending (ending_status ending) old mid
   turned_down fronts h =
       let adds : Adds (Main a.dest ∷ []) old.inputs.dialer.asked h.refused.asked = adds_one (Main a.dest) old.inputs.dialer.asked h.refused.asked h.refused.adds in
       asked_by fronts (ap (λ (d : Devices (Unit {0})). d.logs) h.same) (subst (λ (d : DialerView). Adds (Main a.dest ∷ []) old.inputs.dialer.asked d.asked) (sym h.refused.is) adds)
 
-  plugged : GivesFronts (with_line decided begun) left ending → IsPlugged a.dest (with_line connects (with_line decided begun)) left ending → IsAsked caller inputs (ending_status ending) old mid
+  plugged : GivesFronts (with_line decided begun) left ending → IsPlugged a.dest (with_line connects (with_line decided begun)) left ending → IsAsked caller inputs ending (ending_status ending) old mid
   plugged fronts h =
       let adds : Adds (Main a.dest ∷ []) old.inputs.dialer.asked h.comes.asked = adds_one (Main a.dest) old.inputs.dialer.asked h.comes.asked h.comes.adds in
       let up : Adds (Main a.dest ∷ []) old.inputs.dialer.asked h.asked.asked = subst (λ (d : DialerView). Adds (Main a.dest ∷ []) old.inputs.dialer.asked d.asked) (sym h.comes.is) adds in
       asked_by fronts (ap (λ (d : Devices (Unit {0})). d.logs) h.same) (subst (λ (d : DialerView). Adds (Main a.dest ∷ []) old.inputs.dialer.asked d.asked) (sym h.hangs.is) up)
 
-  ends_so : GivesFronts (with_line decided begun) left ending → Ends connects a.dest (with_line decided begun) left ending → IsUnasked caller inputs old mid ⊎ IsAsked caller inputs (ending_status ending) old mid
+  ends_so : GivesFronts (with_line decided begun) left ending → Ends connects a.dest (with_line decided begun) left ending → IsUnasked caller inputs old mid ⊎ IsAsked caller inputs ending (ending_status ending) old mid
   ends_so fronts (inl h) = inl (fails_second h)
   ends_so fronts (inr (inl h)) = inr (turned_down fronts h)
   ends_so fronts (inr (inr h)) = inr (plugged fronts h)
 
-  logs_so : LogsFirst decided (relayed no_rows) (plug_row connects a.dest) begun left ending a.session → IsUnasked caller inputs old mid ⊎ IsAsked caller inputs (ending_status ending) old mid
+  logs_so : LogsFirst decided (relayed no_rows) (plug_row connects a.dest) begun left ending a.session → IsUnasked caller inputs old mid ⊎ IsAsked caller inputs ending (ending_status ending) old mid
   logs_so (inl h) = inl (fails_first h)
   logs_so (inr h) =
       ends_so (plug_fronts connects a.dest (with_line decided begun) left ending h.rest) (plug_ends connects a.dest (with_line decided begun) left ending h.rest)
 
-  admitted_asks : IsUnasked caller inputs old mid ⊎ IsAsked caller inputs (ending_status ending) old mid
+  admitted_asks : IsUnasked caller inputs old mid ⊎ IsAsked caller inputs ending (ending_status ending) old mid
   admitted_asks = logs_so (logs_first decided (relayed no_rows) (plug_row connects a.dest) begun left ending a.session)
 
 -- ---- the headline
 
 -- what the headline says of a client
-pub record LinkedHeadline (caller : Caller) (inputs : Inputs) (status : ℕ) (old new : WorldView) : Type 0 where
-  pub asks : IsUnasked caller inputs old new ⊎ IsAsked caller inputs status old new
-  pub denials : IsSilent status old new ⊎ (IsPermitted (PlugGw caller) inputs status ⊎ IsDenied (PlugGw caller) (services.PlugGw caller.port) caller.peer inputs status old new)
+pub record LinkedHeadline (caller : Caller) (inputs : Inputs) (ending : Ending) (status : ℕ) (old new : WorldView) : Type 0 where
+  pub asks : AsksAtMost caller inputs ending status old new
+  pub denials : LogsDenial (PlugGw caller) (services.PlugGw caller.port) caller.peer inputs status old new
   pub untold : status ≡ 1 → new.output ≡ old.output
 
 linked_undenied : (verdict : Verdict) (line : ℕ) (status : ℕ) (old new : SessionInputs) → verdict ≡ Permit line → ((status ≡ 4) ⊎ (status ≡ 5)) ⊎ IsLinked verdict status old new → status ≢ 1
@@ -308,7 +307,7 @@ linked_undenied (Permit other) line status old new permitted (inr (inr six)) is 
 linked_undenied (Deny other) line status old new permitted (inr one) is = absurd (cc)
 
 admitted_headline : (caller : Caller) (inputs : Inputs) (ending : Ending) (old mid : WorldView) → IsAdmitted caller inputs.rules (linked_devices old) (linked_devices mid) ending
-    → ((ending_status ending ≡ 4) ⊎ (ending_status ending ≡ 5)) ⊎ IsLinked (verdict_for (PlugGw caller) inputs) (ending_status ending) old.inputs mid.inputs → LinkedHeadline caller inputs (ending_status ending) old mid
+    → ((ending_status ending ≡ 4) ⊎ (ending_status ending ≡ 5)) ⊎ IsLinked (verdict_for (PlugGw caller) inputs) (ending_status ending) old.inputs mid.inputs → LinkedHeadline caller inputs ending (ending_status ending) old mid
 admitted_headline caller inputs ending old mid a by =
     let undenied : ending_status ending ≢ 1 = linked_undenied (verdict_for (PlugGw caller) inputs) a.line (ending_status ending) old.inputs mid.inputs a.permitted by in
     record {
@@ -321,7 +320,7 @@ admitted_headline caller inputs ending old mid a by =
 denied_asks : (caller : Caller) (inputs : Inputs) (line : ℕ) (old mid : WorldView) → verdict_for (PlugGw caller) inputs ≡ Deny line → mid.inputs.dialer ≡ old.inputs.dialer → mid.output ≡ old.output → IsUnasked caller inputs old mid
 denied_asks caller inputs line old mid denied dialer output = record { why = inl (line, denied); dialer = waits_same old.inputs.dialer mid.inputs.dialer dialer; output = output }
 
-turned_headline : (caller : Caller) (inputs : Inputs) (line : ℕ) (ending : Ending) (old mid : WorldView) → verdict_for (PlugGw caller) inputs ≡ Deny line → TurnedSo caller line (linked_devices old) (linked_devices mid) ending → LinkedHeadline caller inputs (ending_status ending) old mid
+turned_headline : (caller : Caller) (inputs : Inputs) (line : ℕ) (ending : Ending) (old mid : WorldView) → verdict_for (PlugGw caller) inputs ≡ Deny line → TurnedSo caller line (linked_devices old) (linked_devices mid) ending → LinkedHeadline caller inputs ending (ending_status ending) old mid
 turned_headline caller inputs line ending old mid denied (inl cut) =
     let output : mid.output ≡ old.output = ap (λ (d : Devices (Unit {0})). d.outlet) cut.0 in
     let four : ending_status ending ≡ 4 = ap ending_status cut.1 in
@@ -339,36 +338,19 @@ turned_headline caller inputs line ending old mid denied (inr whole) =
     }
 
 linked_by : (caller : Caller) (inputs : Inputs) (ending : Ending) (old mid : WorldView) → IsAdmitted caller inputs.rules (linked_devices old) (linked_devices mid) ending ⊎ IsTurnedOff caller inputs.rules (linked_devices old) (linked_devices mid) ending
-    → ((ending_status ending ≡ 4) ⊎ (ending_status ending ≡ 5)) ⊎ IsLinked (verdict_for (PlugGw caller) inputs) (ending_status ending) old.inputs mid.inputs → LinkedHeadline caller inputs (ending_status ending) old mid
+    → ((ending_status ending ≡ 4) ⊎ (ending_status ending ≡ 5)) ⊎ IsLinked (verdict_for (PlugGw caller) inputs) (ending_status ending) old.inputs mid.inputs → LinkedHeadline caller inputs ending (ending_status ending) old mid
 linked_by caller inputs ending old mid (inl a) by = admitted_headline caller inputs ending old mid a by
 linked_by caller inputs ending old mid (inr t) by = turned_headline caller inputs t.line ending old mid t.denied t.so
 
-pub linked_headline : (caller : Caller) (inputs : Inputs) (out : Outcome) (old mid new : WorldView) → Linked caller inputs out old mid → TellsIf (fault_line_of out) mid new → LinkedHeadline caller inputs (status_of out) old new
+pub linked_headline : (caller : Caller) (inputs : Inputs) (out : Outcome) (old mid new : WorldView) → (h : Linked caller inputs out old mid) → TellsIf (fault_line_of out) mid new → LinkedHeadline caller inputs h.ending (status_of out) old new
 linked_headline caller inputs out old mid new h tells =
     let same : new ≡ mid = untold_more out h.ending mid new h.comes tells in
     let status : status_of out ≡ ending_status h.ending = ap status_of h.comes ∙ ended_status h.ending in
     let By : ℕ → Type 0 = λ s. ((s ≡ 4) ⊎ (s ≡ 5)) ⊎ IsLinked (verdict_for (PlugGw caller) inputs) s old.inputs mid.inputs in
-    let so : LinkedHeadline caller inputs (ending_status h.ending) old mid = linked_by caller inputs h.ending old mid (linked_so caller inputs out old mid h) (subst By status (linked_status caller inputs out old mid h)) in
-    subst (λ (w : WorldView). LinkedHeadline caller inputs (status_of out) old w) (sym same) (subst (λ (s : ℕ). LinkedHeadline caller inputs s old mid) (sym status) so)
+    let so : LinkedHeadline caller inputs h.ending (ending_status h.ending) old mid = linked_by caller inputs h.ending old mid (linked_so caller inputs out old mid h) (subst By status (linked_status caller inputs out old mid h)) in
+    subst (λ (w : WorldView). LinkedHeadline caller inputs h.ending (status_of out) old w) (sym same) (subst (λ (s : ℕ). LinkedHeadline caller inputs h.ending s old mid) (sym status) so)
 
 -- ---- a run in which no count rose
-
--- from before the table was read
-asked_from : (caller : Caller) (inputs : Inputs) (status : ℕ) (old middle new : WorldView) → middle.inputs ≡ old.inputs → middle.output ≡ old.output → middle.logs ≡ old.logs → IsAsked caller inputs status middle new → IsAsked caller inputs status old new
-asked_from caller inputs status old middle new ins output logs h =
-    let Noted : SinkView → Type 0 = λ s. NotedIf (ending_line (services.PlugGw caller.port) caller.peer h.ending) (with_given s (linking_text caller h.line h.dest)) new.logs in
-    let Gives : SessionInputs → SinkView → SinkView → Type 0 = λ i o l. GivesFronts (linked_devices (record old { inputs = i; output = o; logs = l })) (linked_devices new) h.ending in
-    record {
-      line = h.line;
-      permitted = h.permitted;
-      dest = h.dest;
-      target = h.target;
-      ending = h.ending;
-      noted = subst Noted logs h.noted;
-      asked = subst (λ (i : SessionInputs). Adds (Main h.dest ∷ []) i.dialer.asked new.inputs.dialer.asked) ins h.asked;
-      relayed = subst (λ (l : SinkView). Gives old.inputs old.output l) logs (subst (λ (o : SinkView). Gives old.inputs o middle.logs) output (subst (λ (i : SessionInputs). Gives i middle.output middle.logs) ins h.relayed));
-      status_is = h.status_is;
-    }
 
 put_ends : (ending : Ending) → (ending_status ending ≡ 4 → ⊥) → (ending_status ending ≡ 5 → ⊥) → (ending_status ending ≡ 1 → ⊥) → (ending ≡ endings.Done) ⊎ (ending ≡ endings.Spent)
 put_ends endings.Done four five one = inl refl
@@ -382,28 +364,27 @@ put_ends endings.Idle four five one = absurd (four refl)
 put_ends endings.NoRoute four five one = absurd (four refl)
 put_ends endings.NoMemory four five one = absurd (five refl)
 
-put_through : (caller : Caller) (inputs : Inputs) (status : ℕ) (old new : WorldView) → Quiet old new → (status ≡ 4 → ⊥) → (status ≡ 5 → ⊥) → status ≢ 1 → IsAsked caller inputs status old new → IsPutThrough caller inputs status old new
-put_through caller inputs status old new q four five one h =
-    let line : Option (List ℕ) = ending_line (services.PlugGw caller.port) caller.peer h.ending in
+put_through : (caller : Caller) (inputs : Inputs) (course : Course) (status : ℕ) (old middle new : WorldView) → Quiet old new → middle.logs ≡ old.logs → (status ≡ 4 → ⊥) → (status ≡ 5 → ⊥) → status ≢ 1 → IsAsked caller inputs course.ending status middle new → IsPutThrough caller inputs course status old middle new
+put_through caller inputs course status old middle new q logs four five one h =
+    let line : Option (List ℕ) = ending_line (services.PlugGw caller.port) caller.peer course.ending in
     let text : List ℕ = linking_text caller h.line h.dest in
+    let noted : NotedIf line (with_given old.logs text) new.logs = subst (λ (s : SinkView). NotedIf line (with_given s text) new.logs) logs h.noted in
     record {
       asked = h;
-      ends = put_ends h.ending (λ is. four (h.status_is ∙ is)) (λ is. five (h.status_is ∙ is)) (λ is. one (h.status_is ∙ is));
-      logs =
-          noted_whole line (with_given old.logs text) new.logs (q.logs old.logs.faults new.logs.faults (omega (arith)) (omega (arith))) h.noted
-          ∙ by_both old.logs.given text (unwrap_or line []);
+      ends = put_ends course.ending (λ is. four (h.status_is ∙ is)) (λ is. five (h.status_is ∙ is)) (λ is. one (h.status_is ∙ is));
+      logs = noted_whole line (with_given old.logs text) new.logs (q.logs old.logs.faults new.logs.faults (omega (arith)) (omega (arith))) noted ∙ by_both old.logs.given text (unwrap_or line []);
     }
 
 -- the log didn't fail
 unfailed : {A : Type 0} (caller : Caller) (inputs : Inputs) (old middle new : WorldView) → Quiet old new → middle.logs ≡ old.logs → FailsAtLog caller inputs middle new → A
 unfailed caller inputs old middle new q logs h = absurd (q.logs middle.logs.faults new.logs.faults (same_from old.logs middle.logs logs) (omega (arith)) h.within.rose)
 
-denied_whole : (caller : Caller) (inputs : Inputs) (line : ℕ) (status : ℕ) (old middle new : WorldView) → middle.logs ≡ old.logs → middle.output ≡ old.output → verdict_for (PlugGw caller) inputs ≡ Deny line → status ≡ 1 → (h : LinkedHeadline caller inputs status middle new)
-    → IsSilent status middle new ⊎ (IsPermitted (PlugGw caller) inputs status ⊎ IsDenied (PlugGw caller) (services.PlugGw caller.port) caller.peer inputs status middle new)
+denied_whole : (caller : Caller) (inputs : Inputs) (line : ℕ) (status : ℕ) (old middle new : WorldView) → middle.logs ≡ old.logs → middle.output ≡ old.output → verdict_for (PlugGw caller) inputs ≡ Deny line → status ≡ 1 → (ending : Ending) → (h : LinkedHeadline caller inputs ending status middle new)
+    → LogsDenial (PlugGw caller) (services.PlugGw caller.port) caller.peer inputs status middle new
     → complete.IsWhole (decision_text (Deny line) (services.PlugGw caller.port) caller.peer) [] 1 status old new
-denied_whole caller inputs line status old middle new logs output denied one h (inl silent) = absurd (silent.undenied one)
-denied_whole caller inputs line status old middle new logs output denied one h (inr (inl permitted)) = absurd (permitted.undenied one)
-denied_whole caller inputs line status old middle new logs output denied one h (inr (inr d)) =
+denied_whole caller inputs line status old middle new logs output denied one ending h (inl silent) = absurd (silent.undenied one)
+denied_whole caller inputs line status old middle new logs output denied one ending h (inr (inl permitted)) = absurd (permitted.undenied one)
+denied_whole caller inputs line status old middle new logs output denied one ending h (inr (inr d)) =
     let Text : Verdict → List ℕ = λ v. decision_text v (services.PlugGw caller.port) caller.peer in
     let same : Deny d.line ≡ Deny line = sym d.denied ∙ denied in
     record {
@@ -426,25 +407,23 @@ never_one : (status : ℕ) → (status ≡ 0) ⊎ (status ≡ 6) → status ≢ 
 never_one status (inl zero) is = omega (arith, zero, is)
 never_one status (inr six) is = omega (arith, six, is)
 
-permit_whole : (caller : Caller) (inputs : Inputs) (line : ℕ) (status : ℕ) (old middle new : WorldView) → Quiet old new → (status ≡ 4 → ⊥) → middle.inputs ≡ old.inputs → middle.output ≡ old.output → middle.logs ≡ old.logs → verdict_for (PlugGw caller) inputs ≡ Permit line
-    → IsUnasked caller inputs middle new ⊎ IsAsked caller inputs status middle new → (status ≡ 0) ⊎ (status ≡ 6) → IsPutThrough caller inputs status old new
-permit_whole caller inputs line status old middle new q never ins output logs permitted (inl unasked) held = absurd (not_unasked caller inputs line old middle new q logs permitted unasked.why)
-permit_whole caller inputs line status old middle new q never ins output logs permitted (inr asked) held =
-    put_through caller inputs status old new q never (never_five status held) (never_one status held) (asked_from caller inputs status old middle new ins output logs asked)
+permit_whole : (caller : Caller) (inputs : Inputs) (course : Course) (line : ℕ) (status : ℕ) (old middle new : WorldView) → Quiet old new → (status ≡ 4 → ⊥) → middle.logs ≡ old.logs → verdict_for (PlugGw caller) inputs ≡ Permit line → AsksAtMost caller inputs course.ending status middle new
+    → (status ≡ 0) ⊎ (status ≡ 6) → IsPutThrough caller inputs course status old middle new
+permit_whole caller inputs course line status old middle new q never logs permitted (inl unasked) held = absurd (not_unasked caller inputs line old middle new q logs permitted unasked.why)
+permit_whole caller inputs course line status old middle new q never logs permitted (inr asked) held = put_through caller inputs course status old middle new q logs never (never_five status held) (never_one status held) asked
 
 held_so : (line : ℕ) (status : ℕ) (old new : SessionInputs) → IsLinked (Permit line) status old new → (status ≡ 0) ⊎ (status ≡ 6)
 held_so line status old new (inl zero) = inl zero
 held_so line status old new (inr six) = inr six.0
 
-whole_by : (verdict : Verdict) (caller : Caller) (inputs : Inputs) (status : ℕ) (old middle mid new : WorldView) → verdict_for (PlugGw caller) inputs ≡ verdict → Quiet old new → (status ≡ 4 → ⊥) → middle.inputs ≡ old.inputs → middle.output ≡ old.output → middle.logs ≡ old.logs
-    → LinkedHeadline caller inputs status middle new → ((status ≡ 4) ⊎ (status ≡ 5)) ⊎ IsLinked verdict status middle.inputs mid.inputs → (status ≡ 5) ⊎ IsLinkedWhole verdict caller inputs status old new
-whole_by verdict caller inputs status old middle mid new is q never ins output logs h (inl (inl four)) = absurd (never four)
-whole_by verdict caller inputs status old middle mid new is q never ins output logs h (inl (inr five)) = inl five
-whole_by (Permit line) caller inputs status old middle mid new is q never ins output logs h (inr held) =
-    inr (permit_whole caller inputs line status old middle new q never ins output logs is h.asks (held_so line status middle.inputs mid.inputs held))
-whole_by (Deny line) caller inputs status old middle mid new is q never ins output logs h (inr one) = inr (denied_whole caller inputs line status old middle new logs output is one h h.denials)
+whole_by : (verdict : Verdict) (caller : Caller) (inputs : Inputs) (course : Course) (status : ℕ) (old middle mid new : WorldView) → verdict_for (PlugGw caller) inputs ≡ verdict → Quiet old new → (status ≡ 4 → ⊥) → middle.output ≡ old.output → middle.logs ≡ old.logs
+    → LinkedHeadline caller inputs course.ending status middle new → ((status ≡ 4) ⊎ (status ≡ 5)) ⊎ IsLinked verdict status middle.inputs mid.inputs → (status ≡ 5) ⊎ IsLinkedWhole verdict caller inputs course status old middle new
+whole_by verdict caller inputs course status old middle mid new is q never output logs h (inl (inl four)) = absurd (never four)
+whole_by verdict caller inputs course status old middle mid new is q never output logs h (inl (inr five)) = inl five
+whole_by (Permit line) caller inputs course status old middle mid new is q never output logs h (inr held) = inr (permit_whole caller inputs course line status old middle new q never logs is h.asks (held_so line status middle.inputs mid.inputs held))
+whole_by (Deny line) caller inputs course status old middle mid new is q never output logs h (inr one) = inr (denied_whole caller inputs line status old middle new logs output is one course.ending h h.denials)
 
-pub linked_whole : (name : List ℕ) (caller : Caller) (inputs : Inputs) (out : Outcome) (old middle mid new : WorldView) → Quiet old new → (status_of out ≡ 4 → ⊥) → ReadsOnly name false old middle → Linked caller inputs out middle mid → TellsIf (fault_line_of out) mid new
-    → (status_of out ≡ 5) ⊎ IsLinkedWhole (verdict_for (PlugGw caller) inputs) caller inputs (status_of out) old new
-linked_whole name caller inputs out old middle mid new q never only h tells =
-    whole_by (verdict_for (PlugGw caller) inputs) caller inputs (status_of out) old middle mid new refl q never only.inputs only.output only.logs (linked_headline caller inputs out middle mid new h tells) (linked_status caller inputs out middle mid h)
+pub linked_whole : (name : List ℕ) (caller : Caller) (inputs : Inputs) (course : Course) (out : Outcome) (old middle mid new : WorldView) → Quiet old new → (status_of out ≡ 4 → ⊥) → ReadsOnly name false old middle → Linked caller inputs out middle mid
+    → LinkedHeadline caller inputs course.ending (status_of out) middle new → (status_of out ≡ 5) ⊎ IsLinkedWhole (verdict_for (PlugGw caller) inputs) caller inputs course (status_of out) old middle new
+linked_whole name caller inputs course out old middle mid new q never only h so =
+    whole_by (verdict_for (PlugGw caller) inputs) caller inputs course (status_of out) old middle mid new refl q never only.output only.logs so (linked_status caller inputs out middle mid h)

@@ -31,10 +31,11 @@ use Rattle.session_acts.specs.Stored.{kept}
 use Rattle.session_acts.specs.World.{Devices, at_first}
 use Rattle.spool_slots.specs.declared.slot_why.SlotWhy.{SlotWhy}
 use Rattle.spool_slots.specs.declared.slot_why.SlotWhy.TheVariants as whys
-use Rattle.bastion.specs.Complete.{IsMailedWhole, IsTakenWhole, IsWhole, closing_text}
-use Rattle.bastion.specs.Headline.{IsDenied, IsPermitted}
+use Rattle.bastion.specs.Basis.{Course, no_course, of_session}
+use Rattle.bastion.specs.Complete.{HasEnded, IsMailedWhole, IsTakenWhole, IsWhole, closing_text}
+use Rattle.bastion.specs.Headline.{IsDenied, IsPermitted, LogsDenial}
 use Rattle.bastion.specs.Inputs.{Inputs}
-use Rattle.bastion.specs.MailKept.{IsShutOut, IsUnheard, OfMail}
+use Rattle.bastion.specs.MailKept.{IsShutOut, IsTakenIn, IsUnheard, OfMail}
 use Rattle.bastion.specs.Mailing.{MailServed, Mailed, SlotsUnread, mailed_devices, slot_fault}
 use Rattle.bastion.specs.Outcome.{fault_line_of, status_of, verdict_status}
 use Rattle.bastion.specs.Run.{ReadsOnly, TellsIf}
@@ -53,9 +54,9 @@ use Rattle.slot_bytes.specs.Layout.{Mail}
 use Rattle.bastion.proofs.MailSpoolLemmas.{opened_spool, session_spool, unread_spool}
 
 -- what the headline says of a client, by its inputs
-abbrev pub MailHeadline : Peer → Inputs → ℕ → WorldView → WorldView → Type 0
-MailHeadline peer inputs status old new =
-    IsUnheard status old new ⊎ ((IsShutOut peer inputs old new ⊎ OfMail peer inputs status old new) × (IsPermitted (Smap peer) inputs status ⊎ IsDenied (Smap peer) services.Smap peer inputs status old new))
+pub record MailHeadline (peer : Peer) (inputs : Inputs) (course : Course) (status : ℕ) (old new : WorldView) : Type 0 where
+  pub taken : IsTakenIn peer inputs course status old new
+  pub denials : LogsDenial (Smap peer) services.Smap peer inputs status old new
 
 -- ---- no session was held
 
@@ -154,9 +155,12 @@ module _ (peer : Peer) (inputs : Inputs) (out : Outcome) (old mid new : WorldVie
         let session = let_in.behind.session in
         ap (λ (d : Devices (Unit {0})). d.logs.given) (sym session.leaves) ∙ all_gain logged_gains deeds (at_first (with_line text begun) session.names) session.last (held_deeds session.held) ∙ by_both old.logs.given text (gives logged deeds)
 
+    abbrev let_course : Course
+    let_course = of_session deeds h.ending
+
     -- with what the world had before the last line was told
     abbrev Held : SessionInputs → SinkView → Type 0
-    Held i o = OfMail peer inputs (status_of out) old (record new { inputs = i; output = o })
+    Held i o = OfMail peer inputs let_course (status_of out) old (record new { inputs = i; output = o })
 
     let_held : Held mid.inputs mid.output
     let_held = record {
@@ -166,8 +170,8 @@ module _ (peer : Peer) (inputs : Inputs) (out : Outcome) (old mid new : WorldVie
       opened = h.opened;
       store = h.store;
       logs = h.serves.logs;
-      ending = h.ending;
       session = let_in.behind.session;
+      deeds = refl;
       replies = let_in.behind.replies;
       asked = let_in.behind.asked;
       due = let_in.behind.due;
@@ -183,7 +187,7 @@ module _ (peer : Peer) (inputs : Inputs) (out : Outcome) (old mid new : WorldVie
       };
     }
 
-    pub let_mail : OfMail peer inputs (status_of out) old new
+    pub let_mail : OfMail peer inputs let_course (status_of out) old new
     let_mail = subst (λ (o : SinkView). Held new.inputs o) (sym later.output) (subst (λ (i : SessionInputs). Held i mid.output) (sym later.inputs) let_held)
 
     caused : Causes Alone (Permit let_in.line) h.ending starts leaves
@@ -207,21 +211,35 @@ module _ (peer : Peer) (inputs : Inputs) (out : Outcome) (old mid new : WorldVie
       undenied = subst (λ (o : Outcome). status_of o ≢ 1) (sym h.comes) (undenied_by h.ending caused);
     }
 
-  served_by : OfServed peer inputs.rules starts leaves h.serves.logs h.ending → MailHeadline peer inputs (status_of out) old new
-  served_by (inl cut) = inl (cut_unheard cut)
-  served_by (inr (inl shut)) = inr (inl (shut_out shut), inr (shut_denied shut))
-  served_by (inr (inr let_in)) = inr (inr (let_mail let_in), inl (let_permitted let_in))
+  -- what was done in the session, if one was held
+  abbrev pub course_by : OfServed peer inputs.rules starts leaves h.serves.logs h.ending → Course
+  course_by (inl cut) = no_course
+  course_by (inr (inl shut)) = no_course
+  course_by (inr (inr let_in)) = let_course let_in
 
-pub mail_headline : (peer : Peer) (inputs : Inputs) (out : Outcome) (old mid new : WorldView) → Mailed peer inputs out old mid → TellsIf (fault_line_of out) mid new → MailHeadline peer inputs (status_of out) old new
-mail_headline peer inputs out old mid new (inl u) tells = inl (unread_unheard out old mid new u (tells_later (fault_line_of out) mid new tells))
+  unheard : (course : Course) → IsUnheard (status_of out) old new → MailHeadline peer inputs course (status_of out) old new
+  unheard course h = record { taken = inl h; denials = inl h.silent }
+
+  served_by : (so : OfServed peer inputs.rules starts leaves h.serves.logs h.ending) → MailHeadline peer inputs (course_by so) (status_of out) old new
+  served_by (inl cut) = unheard no_course (cut_unheard cut)
+  served_by (inr (inl shut)) = record { taken = inr (inl (shut_out shut)); denials = inr (inr (shut_denied shut)) }
+  served_by (inr (inr let_in)) = record { taken = inr (inr (let_mail let_in)); denials = inr (inl (let_permitted let_in)) }
+
+abbrev pub mail_course : (peer : Peer) (inputs : Inputs) (out : Outcome) (old mid new : WorldView) → Mailed peer inputs out old mid → TellsIf (fault_line_of out) mid new → Course
+mail_course peer inputs out old mid new (inl u) tells = no_course
+mail_course peer inputs out old mid new (inr h) tells = course_by peer inputs out old mid new h tells (served_so peer inputs out old mid h)
+
+pub mail_headline : (peer : Peer) (inputs : Inputs) (out : Outcome) (old mid new : WorldView) → (h : Mailed peer inputs out old mid) → (tells : TellsIf (fault_line_of out) mid new)
+    → MailHeadline peer inputs (mail_course peer inputs out old mid new h tells) (status_of out) old new
+mail_headline peer inputs out old mid new (inl u) tells = let unheard = unread_unheard out old mid new u (tells_later (fault_line_of out) mid new tells) in record { taken = inl unheard; denials = inl unheard.silent }
 mail_headline peer inputs out old mid new (inr h) tells = served_by peer inputs out old mid new h tells (served_so peer inputs out old mid h)
 
 -- ---- a run in which no count rose
 
 module _ (name : List ℕ) (peer : Peer) (inputs : Inputs) (out : Outcome) (old middle mid new : WorldView) (q : Quiet old new) (never : status_of out ≡ 4 → ⊥) (only : ReadsOnly name false old middle) (h : MailServed peer inputs out middle mid)
     (tells : TellsIf (fault_line_of out) mid new) where
-  abbrev Whole : Verdict → Type 0
-  Whole verdict = (status_of out ≡ 5) ⊎ IsTakenWhole verdict name peer inputs (status_of out) old new
+  abbrev Whole : Course → Verdict → Type 0
+  Whole course verdict = (status_of out ≡ 5) ⊎ IsTakenWhole verdict peer inputs course (status_of out) old middle new
 
   abbrev from_here : Devices (Unit {0})
   from_here = mailed_devices middle nowhere h.first
@@ -229,36 +247,45 @@ module _ (name : List ℕ) (peer : Peer) (inputs : Inputs) (out : Outcome) (old 
   abbrev to_there : Devices (Unit {0})
   to_there = mailed_devices mid h.dialer h.store
 
-  mail_whole : (x : OfMail peer inputs (status_of out) middle new) → (x.ending ≡ endings.Done) ⊎ (x.ending ≡ endings.Spent) → IsMailedWhole name peer inputs (status_of out) old new
-  mail_whole x ends =
-      let closing : List ℕ = closing_text services.Smap peer x.ending false in
+  mail_whole : (course : Course) → (x : OfMail peer inputs course (status_of out) middle new) → HasEnded course → IsMailedWhole peer x.line inputs course (status_of out) old middle new
+  mail_whole course x ends =
+      let Says : List Deed → Type 0 = λ d. new.logs.given ≡ grown old.logs.given (decision_text (Permit x.line) services.Smap peer ++ gives logged d ++ closing_text services.Smap peer course.ending false) in
+      let closing : List ℕ = closing_text services.Smap peer course.ending false in
       let said : List ℕ = decision_text (Permit x.line) services.Smap peer ++ gives logged (deeds_of x.session.held) in
       let start : old.logs.faults ≤ middle.logs.faults = same_from old.logs middle.logs only.logs in
       let low : middle.logs.faults ≤ x.logs.faults = (session_keeps x.session).log_drops in
       let closed : new.logs.given ≡ grown x.logs.given closing =
-      concluded_whole services.Smap peer x.ending false (status_of out) x.logs new.logs (λ a b more high rose. q.logs a b (omega (arith, start, low, more)) high rose) x.concluded in
+      concluded_whole services.Smap peer course.ending false (status_of out) x.logs new.logs (λ a b more high rose. q.logs a b (omega (arith, start, low, more)) high rose) x.concluded in
       record {
-        middle = middle;
-        only = only;
         session = x;
         ends = ends;
-        logs = closed ∙ ap (λ (g : Option (List ℕ)). grown g closing) (x.logged_so ∙ ap (λ (s : SinkView). grown s.given said) only.logs) ∙ by_both old.logs.given said closing;
+        logs = subst Says x.deeds (closed ∙ ap (λ (g : Option (List ℕ)). grown g closing) (x.logged_so ∙ ap (λ (s : SinkView). grown s.given said) only.logs) ∙ by_both old.logs.given said closing);
       }
 
-  held_whole : (let_in : LetIn peer inputs.rules from_here to_there h.serves.logs h.ending) → (ending : Ending) → h.ending ≡ ending → Whole (Permit let_in.line)
-  unfolding let_mail let_held
-  held_whole let_in endings.Done is = inr (mail_whole (let_mail peer inputs out middle mid new h tells let_in) (inl is))
-  held_whole let_in endings.Spent is = inr (mail_whole (let_mail peer inputs out middle mid new h tells let_in) (inr is))
-  held_whole let_in endings.NoMemory is = inl (status_by peer inputs out middle mid new h tells endings.NoMemory is)
-  held_whole let_in (endings.Denied other) is =
-      let clash : Permit let_in.line ≡ Deny other = subst (λ (e : Ending). Causes Alone (Permit let_in.line) e from_here to_there) is (caused peer inputs out middle mid new h tells let_in) in
-      absurd (cc)
-  held_whole let_in endings.ClientFault is = absurd (never (status_by peer inputs out middle mid new h tells endings.ClientFault is))
-  held_whole let_in endings.ServerFault is = absurd (never (status_by peer inputs out middle mid new h tells endings.ServerFault is))
-  held_whole let_in endings.LogFault is = absurd (never (status_by peer inputs out middle mid new h tells endings.LogFault is))
-  held_whole let_in endings.AuthFault is = absurd (never (status_by peer inputs out middle mid new h tells endings.AuthFault is))
-  held_whole let_in endings.Idle is = absurd (never (status_by peer inputs out middle mid new h tells endings.Idle is))
-  held_whole let_in endings.NoRoute is = absurd (never (status_by peer inputs out middle mid new h tells endings.NoRoute is))
+  module _ (let_in : LetIn peer inputs.rules from_here to_there h.serves.logs h.ending) where
+    abbrev course : Course
+    course = let_course peer inputs out middle mid new h tells let_in
+
+    -- a session that came to an end
+    ended_whole : HasEnded course → Whole course (Permit let_in.line)
+    ended_whole ends =
+        let x = let_mail peer inputs out middle mid new h tells let_in in
+        let same : Permit x.line ≡ Permit let_in.line = sym x.permitted ∙ let_in.permitted in
+        inr (subst (λ (v : Verdict). IsTakenWhole v peer inputs course (status_of out) old middle new) same (mail_whole course x ends))
+
+    held_whole : (ending : Ending) → h.ending ≡ ending → Whole course (Permit let_in.line)
+    held_whole endings.Done is = ended_whole (inl is)
+    held_whole endings.Spent is = ended_whole (inr is)
+    held_whole endings.NoMemory is = inl (status_by peer inputs out middle mid new h tells endings.NoMemory is)
+    held_whole (endings.Denied other) is =
+        let clash : Permit let_in.line ≡ Deny other = subst (λ (e : Ending). Causes Alone (Permit let_in.line) e from_here to_there) is (caused peer inputs out middle mid new h tells let_in) in
+        absurd (cc)
+    held_whole endings.ClientFault is = absurd (never (status_by peer inputs out middle mid new h tells endings.ClientFault is))
+    held_whole endings.ServerFault is = absurd (never (status_by peer inputs out middle mid new h tells endings.ServerFault is))
+    held_whole endings.LogFault is = absurd (never (status_by peer inputs out middle mid new h tells endings.LogFault is))
+    held_whole endings.AuthFault is = absurd (never (status_by peer inputs out middle mid new h tells endings.AuthFault is))
+    held_whole endings.Idle is = absurd (never (status_by peer inputs out middle mid new h tells endings.Idle is))
+    held_whole endings.NoRoute is = absurd (never (status_by peer inputs out middle mid new h tells endings.NoRoute is))
 
   shut_whole : (shut : ShutOut peer inputs.rules from_here to_there h.serves.logs h.ending) → IsWhole (decision_text (Deny shut.line) services.Smap peer) (refusal_reply shut.line) 1 (status_of out) old new
   shut_whole shut =
@@ -272,10 +299,10 @@ module _ (name : List ℕ) (peer : Peer) (inputs : Inputs) (out : Outcome) (old 
         status_is = status_by peer inputs out middle mid new h tells (endings.Denied shut.line) shut.ends;
       }
 
-  whole_by : OfServed peer inputs.rules from_here to_there h.serves.logs h.ending → Whole (verdict_of inputs.rules peer)
+  whole_by : (so : OfServed peer inputs.rules from_here to_there h.serves.logs h.ending) → Whole (course_by peer inputs out middle mid new h tells so) (verdict_of inputs.rules peer)
   whole_by (inl cut) = absurd (never (status_by peer inputs out middle mid new h tells endings.LogFault cut.ends))
-  whole_by (inr (inl shut)) = subst Whole (sym shut.denied) (inr (shut_whole shut))
-  whole_by (inr (inr let_in)) = subst Whole (sym let_in.permitted) (held_whole let_in h.ending refl)
+  whole_by (inr (inl shut)) = subst (Whole no_course) (sym shut.denied) (inr (shut_whole shut))
+  whole_by (inr (inr let_in)) = subst (Whole (course let_in)) (sym let_in.permitted) (held_whole let_in h.ending refl)
 
-  pub served_whole : Whole (verdict_of inputs.rules peer)
+  pub served_whole : Whole (course_by peer inputs out middle mid new h tells (served_so peer inputs out middle mid h)) (verdict_of inputs.rules peer)
   served_whole = whole_by (served_so peer inputs out middle mid h)

@@ -1,5 +1,5 @@
 -- What `smap` does to the spool on its disks.
-use Rattle.std.proofs.Common.{◌≡◌, ◌∙◌, ℕ, refl, sym, ap, subst, inl, inr, ◌⊎◌, List, [], ◌∷◌, length, map}
+use Rattle.std.proofs.Common.{◌≡◌, ◌∙◌, ℕ, sym, ap, subst, inl, inr, List, [], length, map}
 use Rattle.client_service.specs.MailService.{MailsBehind, mail_gate_of}
 use Rattle.fw_disk.specs.DiskView.{DiskView}
 use Rattle.fw_types.specs.declared.peer.Peer.{Peer}

@@ -24,14 +24,14 @@ use Rattle.bastion.specs.declared.outcome.Device.TheVariants as device
 use Rattle.bastion.specs.declared.outcome.Outcome.{Outcome}
 use Rattle.bastion.specs.declared.outcome.Outcome.TheVariants.{Usage, Unread, Failed, NoMemory, Done, Decided, Ended}
 use Rattle.bastion.specs.declared.words.Command.{Command}
-use Rattle.bastion.specs.declared.words.Command.TheVariants.{Netacl, NetaclRun, Table, Authsrv, PlugGw, TnGw, FtpGw, Smap}
+use Rattle.bastion.specs.declared.words.Command.TheVariants.{Netacl, NetaclRun, Table, Authsrv, PlugGw, Gateway, Smap}
 use Rattle.bastion.specs.declared.words.Order.{Order}
 use Rattle.bastion.specs.declared.words.Order.TheVariants.{ByTable, Alone}
 use Rattle.bastion.proofs.AttendedLemmas.{attended_rose}
 use Rattle.bastion.proofs.DecidedLemmas.{after_rose, shown_rose}
 use Rattle.bastion.proofs.JobRoseLemmas.{job_rose}
 use Rattle.bastion.proofs.LaunchLemmas.{run_rose}
-use Rattle.bastion.proofs.GateStatusLemmas.{ftp_rose, telnet_rose}
+use Rattle.bastion.proofs.GateStatusLemmas.{gateway_rose}
 use Rattle.bastion.proofs.LinkingLemmas.{linked_rose}
 use Rattle.bastion.proofs.MailedLemmas.{mailed_rose}
 use Rattle.client_service.proofs.SinkLemmas.{rose_later}
@@ -82,26 +82,19 @@ ending_gate ending old new h = ending_link ending old new h
 
 pub rose_for : (command : Command) (outcome : Outcome) (old new : WorldView) → CountRose outcome old new → RoseFor command outcome old new
 rose_for (PlugGw caller) (Ended ending refused) old new h = ending_link ending old new h
-rose_for (TnGw peer) (Ended ending refused) old new h = ending_gate ending old new h
-rose_for (FtpGw peer) (Ended ending refused) old new h = ending_gate ending old new h
+rose_for (Gateway kind peer) (Ended ending refused) old new h = ending_gate ending old new h
 rose_for (PlugGw caller) Usage old new h = h
 rose_for (PlugGw caller) (Unread refusal) old new h = h
 rose_for (PlugGw caller) (Failed which) old new h = h
 rose_for (PlugGw caller) (NoMemory step) old new h = h
 rose_for (PlugGw caller) Done old new h = h
 rose_for (PlugGw caller) (Decided verdict) old new h = h
-rose_for (TnGw peer) Usage old new h = h
-rose_for (FtpGw peer) Usage old new h = h
-rose_for (TnGw peer) (Unread refusal) old new h = h
-rose_for (FtpGw peer) (Unread refusal) old new h = h
-rose_for (TnGw peer) (Failed which) old new h = h
-rose_for (FtpGw peer) (Failed which) old new h = h
-rose_for (TnGw peer) (NoMemory step) old new h = h
-rose_for (FtpGw peer) (NoMemory step) old new h = h
-rose_for (TnGw peer) Done old new h = h
-rose_for (FtpGw peer) Done old new h = h
-rose_for (TnGw peer) (Decided verdict) old new h = h
-rose_for (FtpGw peer) (Decided verdict) old new h = h
+rose_for (Gateway kind peer) Usage old new h = h
+rose_for (Gateway kind peer) (Unread refusal) old new h = h
+rose_for (Gateway kind peer) (Failed which) old new h = h
+rose_for (Gateway kind peer) (NoMemory step) old new h = h
+rose_for (Gateway kind peer) Done old new h = h
+rose_for (Gateway kind peer) (Decided verdict) old new h = h
 rose_for (Smap peer) Usage old new h = h
 rose_for (Smap peer) (Unread refusal) old new h = h
 rose_for (Smap peer) (Failed device.Table) old new h = h
@@ -127,8 +120,7 @@ works_rose (Table query) inputs outcome old new h =
     subst (λ (o : Outcome). CountRose o old new) (sym h.printed.is) (shown_rose (verdict_of inputs.rules query.peer) h.printed.printing _ old new h.printed.gives)
 works_rose (Authsrv client) inputs outcome old new h = attended_rose client inputs outcome old new h
 works_rose (PlugGw caller) inputs outcome old new h = linked_rose caller inputs outcome old new h
-works_rose (TnGw peer) inputs outcome old new h = telnet_rose peer inputs outcome old new h
-works_rose (FtpGw peer) inputs outcome old new h = ftp_rose peer inputs outcome old new h
+works_rose (Gateway kind peer) inputs outcome old new h = gateway_rose kind peer inputs outcome old new h
 works_rose (Smap peer) inputs outcome old new h = mailed_rose peer inputs outcome old new h
 
 -- ---- from where the work began to where the run did
@@ -217,26 +209,19 @@ slots_from name (Ended ending refused) old mid new only h = count_from name fals
 
 rose_from : (name : List ℕ) (command : Command) (outcome : Outcome) (old mid new : WorldView) → ReadsOnly name (needs_records command) old mid → RoseFor command outcome mid new → RoseFor command outcome old new
 rose_from name (PlugGw caller) (Ended ending refused) old mid new only h = link_only name false ending old mid new only h
-rose_from name (TnGw peer) (Ended ending refused) old mid new only h = gate_only name true ending old mid new only h
-rose_from name (FtpGw peer) (Ended ending refused) old mid new only h = gate_only name true ending old mid new only h
+rose_from name (Gateway kind peer) (Ended ending refused) old mid new only h = gate_only name true ending old mid new only h
 rose_from name (PlugGw caller) Usage old mid new only h = tt
 rose_from name (PlugGw caller) (Unread refusal) old mid new only h = tt
 rose_from name (PlugGw caller) (Failed which) old mid new only h = device_from name false which old mid new only h
 rose_from name (PlugGw caller) (NoMemory step) old mid new only h = tt
 rose_from name (PlugGw caller) Done old mid new only h = tt
 rose_from name (PlugGw caller) (Decided verdict) old mid new only h = tt
-rose_from name (TnGw peer) Usage old mid new only h = tt
-rose_from name (FtpGw peer) Usage old mid new only h = tt
-rose_from name (TnGw peer) (Unread refusal) old mid new only h = tt
-rose_from name (FtpGw peer) (Unread refusal) old mid new only h = tt
-rose_from name (TnGw peer) (Failed which) old mid new only h = device_from name true which old mid new only h
-rose_from name (FtpGw peer) (Failed which) old mid new only h = device_from name true which old mid new only h
-rose_from name (TnGw peer) (NoMemory step) old mid new only h = tt
-rose_from name (FtpGw peer) (NoMemory step) old mid new only h = tt
-rose_from name (TnGw peer) Done old mid new only h = tt
-rose_from name (FtpGw peer) Done old mid new only h = tt
-rose_from name (TnGw peer) (Decided verdict) old mid new only h = tt
-rose_from name (FtpGw peer) (Decided verdict) old mid new only h = tt
+rose_from name (Gateway kind peer) Usage old mid new only h = tt
+rose_from name (Gateway kind peer) (Unread refusal) old mid new only h = tt
+rose_from name (Gateway kind peer) (Failed which) old mid new only h = device_from name true which old mid new only h
+rose_from name (Gateway kind peer) (NoMemory step) old mid new only h = tt
+rose_from name (Gateway kind peer) Done old mid new only h = tt
+rose_from name (Gateway kind peer) (Decided verdict) old mid new only h = tt
 rose_from name (Smap peer) outcome old mid new only h = slots_from name outcome old mid new only h
 rose_from name (Netacl query) outcome old mid new only h = count_from name false outcome old mid new only h
 rose_from name (NetaclRun query) outcome old mid new only h = count_from name false outcome old mid new only h
@@ -288,8 +273,7 @@ disks_later old mid new later (inr disks) = inr (subst (λ (i : SessionInputs). 
 
 pub by_later : (command : Command) (old mid new : WorldView) → Later mid new → RoseBy command old mid → RoseBy command old new
 by_later (PlugGw caller) old mid new later h = links_later old mid new later h
-by_later (TnGw peer) old mid new later h = failed_later old mid new later h
-by_later (FtpGw peer) old mid new later h = failed_later old mid new later h
+by_later (Gateway kind peer) old mid new later h = failed_later old mid new later h
 by_later (Smap peer) old mid new later h = disks_later old mid new later h
 by_later (Netacl query) old mid new later h = some_later old mid new later h
 by_later (NetaclRun query) old mid new later h = some_later old mid new later h
@@ -300,8 +284,7 @@ by_later (Authsrv client) old mid new later h = some_later old mid new later h
 
 pub some_by : (command : Command) (old new : WorldView) → SomeRose old new → RoseBy command old new
 some_by (PlugGw caller) old new h = inl h
-some_by (TnGw peer) old new h = inl h
-some_by (FtpGw peer) old new h = inl h
+some_by (Gateway kind peer) old new h = inl h
 some_by (Smap peer) old new h = inl h
 some_by (Netacl query) old new h = h
 some_by (NetaclRun query) old new h = h
@@ -393,20 +376,13 @@ rose_some (PlugGw caller) (Failed which) old new h is = inl (count_some (Failed 
 rose_some (PlugGw caller) (NoMemory step) old new h is = inl (count_some (NoMemory step) old new h is)
 rose_some (PlugGw caller) Done old new h is = inl (count_some Done old new h is)
 rose_some (PlugGw caller) (Decided verdict) old new h is = inl (count_some (Decided verdict) old new h is)
-rose_some (TnGw peer) (Ended ending refused) old new h is = gate_some ending refused old new h is
-rose_some (FtpGw peer) (Ended ending refused) old new h is = gate_some ending refused old new h is
-rose_some (TnGw peer) Usage old new h is = inl (count_some Usage old new h is)
-rose_some (FtpGw peer) Usage old new h is = inl (count_some Usage old new h is)
-rose_some (TnGw peer) (Unread refusal) old new h is = inl (count_some (Unread refusal) old new h is)
-rose_some (FtpGw peer) (Unread refusal) old new h is = inl (count_some (Unread refusal) old new h is)
-rose_some (TnGw peer) (Failed which) old new h is = inl (count_some (Failed which) old new h is)
-rose_some (FtpGw peer) (Failed which) old new h is = inl (count_some (Failed which) old new h is)
-rose_some (TnGw peer) (NoMemory step) old new h is = inl (count_some (NoMemory step) old new h is)
-rose_some (FtpGw peer) (NoMemory step) old new h is = inl (count_some (NoMemory step) old new h is)
-rose_some (TnGw peer) Done old new h is = inl (count_some Done old new h is)
-rose_some (FtpGw peer) Done old new h is = inl (count_some Done old new h is)
-rose_some (TnGw peer) (Decided verdict) old new h is = inl (count_some (Decided verdict) old new h is)
-rose_some (FtpGw peer) (Decided verdict) old new h is = inl (count_some (Decided verdict) old new h is)
+rose_some (Gateway kind peer) (Ended ending refused) old new h is = gate_some ending refused old new h is
+rose_some (Gateway kind peer) Usage old new h is = inl (count_some Usage old new h is)
+rose_some (Gateway kind peer) (Unread refusal) old new h is = inl (count_some (Unread refusal) old new h is)
+rose_some (Gateway kind peer) (Failed which) old new h is = inl (count_some (Failed which) old new h is)
+rose_some (Gateway kind peer) (NoMemory step) old new h is = inl (count_some (NoMemory step) old new h is)
+rose_some (Gateway kind peer) Done old new h is = inl (count_some Done old new h is)
+rose_some (Gateway kind peer) (Decided verdict) old new h is = inl (count_some (Decided verdict) old new h is)
 rose_some (Smap peer) outcome old new h is = slots_some outcome old new h is
 rose_some (Netacl query) outcome old new h is = count_some outcome old new h is
 rose_some (NetaclRun query) outcome old new h is = count_some outcome old new h is

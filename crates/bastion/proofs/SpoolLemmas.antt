@@ -1,17 +1,13 @@
 -- From the queues of a rack to the places of its disks.
-use Rattle.std.proofs.Common.{arith, eq-eqb, ne_eqb, ◌≡◌, refl, sym, ap, subst, ◌∙◌, ℕ, zero, suc, ◌+◌, ◌<◌, ◌≤◌, inl, inr, ◌⊎◌, nat_eq, cond, Bool, List, [], ◌∷◌, ◌++◌, length, map, take, drop}
-use Rattle.std.specs.List.{AllByRecursion, sum_by}
-use Rattle.std.specs.List.Sorted.{IsNonDecreasingBy}
-use Rattle.std.proofs.lemmas.Bool.{cases_order}
+use Rattle.std.proofs.Common.{arith, ◌≡◌, refl, sym, ap, subst, ◌∙◌, ℕ, zero, suc, ◌+◌, List, [], ◌∷◌, ◌++◌, length, map}
+use Rattle.std.specs.List.{AllByRecursion}
 use Rattle.std.proofs.lemmas.List.{length-map}
 use Rattle.std.proofs.lemmas.List.Elements.{All-from_recursion, recursion_from_All}
 use Rattle.std.proofs.lemmas.List.Sorted.{All-permutation, IsPermutation-sym, sum_by-IsPermutation}
-use Rattle.std.proofs.lemmas.List.Sums.{sum_by-append, sum_by-cons}
 use Rattle.fw_disk.specs.DiskView.{DiskView}
 use Rattle.session_acts.specs.Stored.{AreKept, KeptMail}
 use Rattle.spool_rack.specs.Opening.{AreInOrder, AreSlotsOf, HeldView, all_of, held_broken, held_full, held_slot, queues_of}
 use Rattle.spool_rack.specs.Store.{Queues}
-use Rattle.spool_slots.specs.Opened.{number_of}
 use Rattle.spool_slots.specs.States.{BrokenView, FullView, SlotView}
 use Rattle.spool_slots.specs.declared.opening.Opened.{Opened}
 use Rattle.spool_slots.specs.declared.opening.Opened.TheVariants.{Free, Full, Aside}

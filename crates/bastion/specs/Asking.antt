@@ -1,5 +1,5 @@
 -- A client of `plug-gw`: for which destination the dialer is asked, and what goes over the link.
-use Rattle.std.specs.Prelude.{◌≡◌, ◌≢◌, ℕ, ◌⊎◌, true, List, [], ◌∷◌, ◌++◌, Some, Ok}
+use Rattle.std.specs.Prelude.{◌≡◌, ◌≢◌, ℕ, ◌⊎◌, true, List, [], ◌∷◌, ◌++◌, Some}
 use Rattle.client_service.specs.Conn.{NotedIf}
 use Rattle.client_service.specs.Decision.{decision_text}
 use Rattle.client_service.specs.Endings.{ending_line}
@@ -14,10 +14,10 @@ use Rattle.plug_gate.specs.Dialogue.{connect_text}
 use Rattle.plug_gate.specs.Laws.{GivesFronts}
 use Rattle.session_acts.specs.Laws.{Adds}
 use Rattle.client_service.specs.PlugService.{target_of}
-use Rattle.bastion.specs.Inputs.{HasInputs, Inputs, needs_records}
+use Rattle.bastion.specs.Inputs.{Inputs}
 use Rattle.bastion.specs.Linking.{linked_devices}
 use Rattle.bastion.specs.Outcome.{ending_status, fault_line_of, is_stopped, status_of}
-use Rattle.bastion.specs.Run.{ReadsOnly, verdict_for}
+use Rattle.bastion.specs.Run.{verdict_for}
 use Rattle.bastion.specs.Works.{with_given}
 use Rattle.bastion.specs.WorldView.{WorldView}
 use Rattle.bastion.specs.declared.outcome.Outcome.{Outcome}
@@ -54,12 +54,11 @@ pub record IsUnasked (caller : Caller) (inputs : Inputs) (old new : WorldView) :
 -- The first line that fits permits the peer, and names the target. Both lines stand whole in the log, and behind them at most
 -- the ending's. The dialer was asked for the target, once, and for nothing else. What the server was given is a front of what was taken of
 -- the client, and what the client was given a front of what was taken of the server.
-pub record IsAsked (caller : Caller) (inputs : Inputs) (status : ℕ) (old new : WorldView) : Type 0 where
+pub record IsAsked (caller : Caller) (inputs : Inputs) (ending : Ending) (status : ℕ) (old new : WorldView) : Type 0 where
   pub line : ℕ
   pub permitted : verdict_for (PlugGw caller) inputs ≡ Permit line
   pub dest : Dest
   pub target : target_of inputs.rules line ≡ Some dest
-  pub ending : Ending
   pub noted : NotedIf (ending_line (services.PlugGw caller.port) caller.peer ending) (with_given old.logs (linking_text caller line dest)) new.logs
   pub asked : Adds (Main dest ∷ []) old.inputs.dialer.asked new.inputs.dialer.asked
   pub relayed : GivesFronts (linked_devices old) (linked_devices new) ending
@@ -75,10 +74,6 @@ pub record IsUndecided (status : ℕ) (old new : WorldView) : Type 0 where
   pub output : new.output ≡ old.output
   pub status_is : status ≡ status_of outcome
 
--- by the inputs of the command
-pub record IsAskedBy (name : List ℕ) (caller : Caller) (status : ℕ) (old new : WorldView) : Type 0 where
-  pub inputs : Inputs
-  pub read : HasInputs name (PlugGw caller) (Ok inputs) old
-  pub middle : WorldView
-  pub only : ReadsOnly name (needs_records (PlugGw caller)) old middle
-  pub so : IsUnasked caller inputs middle new ⊎ IsAsked caller inputs status middle new
+-- not asked, or asked in a session with this ending
+abbrev pub AsksAtMost : Caller → Inputs → Ending → ℕ → WorldView → WorldView → Type 0
+AsksAtMost caller inputs ending status old new = IsUnasked caller inputs old new ⊎ IsAsked caller inputs ending status old new

@@ -1,5 +1,5 @@
 -- A client of a gateway, of `tn-gw` or of `ftp-gw`: what is the same of both.
-use Rattle.std.specs.Prelude.{◌≡◌, ℕ, ◌⊎◌, Bool, true, List, [], ◌++◌, Some, Ok}
+use Rattle.std.specs.Prelude.{◌≡◌, ℕ, ◌⊎◌, Bool, List, [], ◌++◌, Some}
 use Rattle.auth_machine.specs.Book.{BookView}
 use Rattle.auth_machine.specs.Port.{BookOrigin, book_port}
 use Rattle.client_service.specs.Decision.{decision_text}
@@ -8,7 +8,6 @@ use Rattle.fw_acts.specs.Acts.{Row, PlaceTable}
 use Rattle.fw_outside.specs.KeeperView.{KeeperView}
 use Rattle.fw_outside.specs.SinkView.{SinkView}
 use Rattle.fw_outside.specs.ToldList.{grown}
-use Rattle.fw_types.specs.declared.ending.Ending.{Ending}
 use Rattle.fw_types.specs.declared.peer.Peer.{Peer}
 use Rattle.gate_rules.specs.declared.service.Service.{Service}
 use Rattle.gate_rules.specs.declared.verdict.Verdict.TheVariants.{Permit}
@@ -19,11 +18,12 @@ use Rattle.session_acts.specs.Met.{acts}
 use Rattle.session_acts.specs.Session.{SessionAs, deeds_of}
 use Rattle.session_acts.specs.World.{Devices}
 use Rattle.tn_gate.specs.Dummies.{lent}
-use Rattle.bastion.specs.Asking.{FailsWithin, IsUndecided}
-use Rattle.bastion.specs.Inputs.{HasInputs, Inputs}
-use Rattle.bastion.specs.Run.{ReadsOnly, verdict_for}
+use Rattle.bastion.specs.Asking.{FailsWithin}
+use Rattle.bastion.specs.Basis.{Course}
+use Rattle.bastion.specs.Inputs.{Inputs}
+use Rattle.bastion.specs.Run.{verdict_for}
 use Rattle.bastion.specs.Serving.{book_at_first, most_entries, origin_of}
-use Rattle.bastion.specs.Talk.{IsConcluded, IsLegalTalk, IsToldOff, IsUnserved, was_refused}
+use Rattle.bastion.specs.Talk.{IsConcluded, IsLegalTalk, IsToldOff, was_refused}
 use Rattle.bastion.specs.WorldView.{WorldView}
 use Rattle.bastion.specs.declared.words.Command.{Command}
 
@@ -47,21 +47,21 @@ ends_at book logs world = record (gated_devices world book) { logs = logs }
 -- the line that permits, over the run's devices and a book of the records that the keeper had. What it asked and was answered
 -- is one legal history, and the keeper has the records after it. The log was given what the session's deeds log, and the client
 -- what they tell; the dialer was asked for what they ask for, in order, and for nothing else.
-pub record OfGateway {P : Type 0} (relays : Bool) (command : Command) (service : Service) (peer : Peer) (rows : ℕ → PlaceTable (acts BookOrigin) P) (first : ℕ → Row (acts BookOrigin) P) (inputs : Inputs) (status : ℕ) (old new : WorldView) : Type 0 where
+pub record OfGateway {P : Type 0} (relays : Bool) (command : Command) (service : Service) (peer : Peer) (rows : ℕ → PlaceTable (acts BookOrigin) P) (first : ℕ → Row (acts BookOrigin) P) (inputs : Inputs) (course : Course) (status : ℕ) (old new : WorldView) : Type 0 where
   pub before : KeeperView
   pub keeper : old.inputs.keeper ≡ Some before
   pub line : ℕ
   pub permitted : verdict_for command inputs ≡ Permit line
   pub book : BookView
   pub logs : SinkView
-  pub ending : Ending
-  pub session : SessionAs relays (rows line) (first line) (begins_at service inputs peer line before old) (ends_at book logs new) ending
+  pub session : SessionAs relays (rows line) (first line) (begins_at service inputs peer line before old) (ends_at book logs new) course.ending
+  pub deeds : deeds_of session.held ≡ course.deeds
   pub talk : IsLegalTalk inputs before (deeds_of session.held) book
   pub kept : new.inputs.keeper ≡ Some book.keeper
   pub asked : Adds (gives called (deeds_of session.held)) old.inputs.dialer.asked new.inputs.dialer.asked
   pub logged : logs.given ≡ grown old.logs.given (decision_text (Permit line) service peer ++ gives logged (deeds_of session.held))
   pub told : new.output.given ≡ grown old.output.given (gives told (deeds_of session.held))
-  pub concluded : IsConcluded service peer ending (was_refused (deeds_of session.held)) status logs new.logs
+  pub concluded : IsConcluded service peer course.ending (was_refused (deeds_of session.held)) status logs new.logs
 
 -- the rules deny the client, who is told so by these words, and no destination was asked for
 pub record IsBarred (command : Command) (service : Service) (peer : Peer) (words : ℕ → List ℕ) (inputs : Inputs) (old new : WorldView) : Type 0 where
@@ -81,24 +81,7 @@ pub record IsCutOff (command : Command) (service : Service) (peer : Peer) (input
   pub kept : new.inputs.keeper ≡ Some book.keeper
   pub status_is : status ≡ 4
 
--- what the command needs couldn't be had: no destination was asked for, the client was told nothing, and the keeper has what it
--- had
-pub record IsUnmet (status : ℕ) (old new : WorldView) : Type 0 where
-  pub undecided : IsUndecided status old new
-  pub unserved : IsUnserved status old new
-
 -- the log failed, the client is denied, or this is said of its session
-abbrev pub Comes : Command → Service → Peer → (ℕ → List ℕ) → (Inputs → ℕ → WorldView → WorldView → Type 0) → Inputs → ℕ → WorldView → WorldView → Type 0
-Comes command service peer words Of inputs status old new =
-    IsCutOff command service peer inputs status old new ⊎ (IsBarred command service peer words inputs old new ⊎ Of inputs status old new)
-
--- by the inputs of the command
-pub record IsGatedBy (name : List ℕ) (command : Command) (service : Service) (peer : Peer) (words : ℕ → List ℕ) (Of : Inputs → ℕ → WorldView → WorldView → Type 0) (status : ℕ) (old new : WorldView) : Type 0 where
-  pub inputs : Inputs
-  pub read : HasInputs name command (Ok inputs) old
-  pub middle : WorldView
-  pub only : ReadsOnly name true old middle
-  pub so : Comes command service peer words Of inputs status middle new
-
-abbrev pub IsGatedAs : List ℕ → Command → Service → Peer → (ℕ → List ℕ) → (Inputs → ℕ → WorldView → WorldView → Type 0) → ℕ → WorldView → WorldView → Type 0
-IsGatedAs name command service peer words Of status old new = IsUnmet status old new ⊎ IsGatedBy name command service peer words Of status old new
+abbrev pub Comes : Command → Service → Peer → (ℕ → List ℕ) → (Inputs → Course → ℕ → WorldView → WorldView → Type 0) → Inputs → Course → ℕ → WorldView → WorldView → Type 0
+Comes command service peer words Of inputs course status old new =
+    IsCutOff command service peer inputs status old new ⊎ (IsBarred command service peer words inputs old new ⊎ Of inputs course status old new)

@@ -3,7 +3,6 @@ use Rattle.std.specs.Prelude.{◌≡◌, ℕ, false, List, [], ◌∷◌, ◌++�
 use Rattle.auth_events.specs.Login.{login_in}
 use Rattle.auth_events.specs.declared.entry.Entry.{Entry}
 use Rattle.auth_machine.specs.Port.{BookOrigin}
-use Rattle.client_service.specs.Endings.{refusal_reply}
 use Rattle.fw_acts.specs.Acts.{Row, PlaceTable}
 use Rattle.ftp_gate.specs.Breaks.{CopiesCarry, CountsBreaks}
 use Rattle.ftp_gate.specs.Copied.{CopiesMarked}
@@ -32,10 +31,12 @@ use Rattle.session_acts.specs.Session.{Held, deeds_of}
 use Rattle.session_acts.specs.Talk.{Entered, answered, asked}
 use Rattle.session_acts.specs.World.{World}
 use Rattle.session_acts.specs.declared.cause.Cause.{Cause}
-use Rattle.bastion.specs.AtGateway.{IsGatedAs, OfGateway}
+use Rattle.bastion.specs.AtGateway.{OfGateway}
+use Rattle.bastion.specs.Basis.{Course}
 use Rattle.bastion.specs.Inputs.{Inputs}
 use Rattle.bastion.specs.WorldView.{WorldView}
-use Rattle.bastion.specs.declared.words.Command.TheVariants.{FtpGw}
+use Rattle.bastion.specs.declared.words.Command.TheVariants.{Gateway}
+use Rattle.bastion.specs.declared.words.GatewayKind.TheVariants as kinds
 
 -- the rows of its session, by the line that permits it
 abbrev pub serving_rows : Inputs → Peer → ℕ → PlaceTable (acts BookOrigin) Place
@@ -114,9 +115,6 @@ pub record IsUpheld (gate : Gate) (history : List Entry) {old new : World BookOr
   pub stops : (cause : Cause) → held.dialogue ≡ Err cause → StopsLast cause held
 
 -- a session of the gateway was held
-pub record OfFtp (peer : Peer) (inputs : Inputs) (status : ℕ) (old new : WorldView) : Type 0 where
-  pub at : OfGateway false (FtpGw peer) services.FtpGw peer (serving_rows inputs peer) (serving_row inputs peer) inputs status old new
+pub record OfFtp (peer : Peer) (inputs : Inputs) (course : Course) (status : ℕ) (old new : WorldView) : Type 0 where
+  pub at : OfGateway false (Gateway kinds.Ftp peer) services.FtpGw peer (serving_rows inputs peer) (serving_row inputs peer) inputs course status old new
   pub upheld : IsUpheld (gate_at inputs.rules at.line peer) at.book.history at.session.held
-
-abbrev pub IsServing : List ℕ → Peer → ℕ → WorldView → WorldView → Type 0
-IsServing name peer status old new = IsGatedAs name (FtpGw peer) services.FtpGw peer refusal_reply (OfFtp peer) status old new

@@ -31,12 +31,13 @@ use Rattle.tn_gate.specs.Ends.{EndsThere, HasEnd}
 use Rattle.tn_gate.specs.Gate.{Gate, asks_login, gate_at}
 use Rattle.tn_gate.specs.Laws.{AsksExactly, DenialsLogged, DialsCleared, LinesDialed}
 use Rattle.tn_gate.specs.Login.{LoginStandsIn, number_opened}
-use Rattle.tn_gate.specs.Texts.{refusal}
 use Rattle.tn_gate.specs.declared.place.Place.{Place}
-use Rattle.bastion.specs.AtGateway.{IsGatedAs, OfGateway, begins_at, ends_at}
+use Rattle.bastion.specs.AtGateway.{OfGateway, begins_at, ends_at}
+use Rattle.bastion.specs.Basis.{Course}
 use Rattle.bastion.specs.Inputs.{Inputs}
 use Rattle.bastion.specs.WorldView.{WorldView}
-use Rattle.bastion.specs.declared.words.Command.TheVariants.{TnGw}
+use Rattle.bastion.specs.declared.words.Command.TheVariants.{Gateway}
+use Rattle.bastion.specs.declared.words.GatewayKind.TheVariants as kinds
 
 -- the rows of its session, by the line that permits it; a relay is at its end
 abbrev pub telnet_rows : Inputs → Peer → ℕ → PlaceTable (acts BookOrigin) Place
@@ -88,10 +89,7 @@ pub record IsGuarded (gate : Gate) (history : List Entry) {old new : World BookO
 -- A session of the gateway was held. If a link came up, its server was given a front of what was taken of the client behind the
 -- lines that were heard, and the client, behind what it was told, a front of what was taken of the server; else nothing was
 -- given to a server, and nothing taken of one.
-pub record OfTelnet (peer : Peer) (inputs : Inputs) (status : ℕ) (old new : WorldView) : Type 0 where
-  pub at : OfGateway true (TnGw peer) services.TnGw peer (telnet_rows inputs peer) (telnet_row inputs peer) inputs status old new
+pub record OfTelnet (peer : Peer) (inputs : Inputs) (course : Course) (status : ℕ) (old new : WorldView) : Type 0 where
+  pub at : OfGateway true (Gateway kinds.Telnet peer) services.TnGw peer (telnet_rows inputs peer) (telnet_row inputs peer) inputs course status old new
   pub guarded : IsGuarded (gate_at inputs.rules at.line peer) at.book.history at.session.held
-  pub fronts : RelaysFronts (deeds_of at.session.held) (begins_at services.TnGw inputs peer at.line at.before old) (ends_at at.book at.logs new) at.ending
-
-abbrev pub IsGated : List ℕ → Peer → ℕ → WorldView → WorldView → Type 0
-IsGated name peer status old new = IsGatedAs name (TnGw peer) services.TnGw peer refusal (OfTelnet peer) status old new
+  pub fronts : RelaysFronts (deeds_of at.session.held) (begins_at services.TnGw inputs peer at.line at.before old) (ends_at at.book at.logs new) course.ending

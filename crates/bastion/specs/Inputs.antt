@@ -19,6 +19,7 @@ use Rattle.bastion.specs.declared.outcome.Refusal.{Refusal}
 use Rattle.bastion.specs.declared.outcome.Refusal.TheVariants.{Table, Rule, Record, Slot}
 use Rattle.bastion.specs.declared.words.Command.{Command}
 use Rattle.bastion.specs.declared.words.Command.TheVariants as commands
+use Rattle.bastion.specs.Gateways.{gateway_service}
 
 -- ---- what is needed
 
@@ -39,8 +40,7 @@ needs (commands.NetaclRun query) = RulesOf query.service ∷ []
 needs (commands.Table query) = RulesOf query.service ∷ []
 needs (commands.Authsrv client) = book_needs services.Authsrv
 needs (commands.PlugGw caller) = RulesOf (services.PlugGw caller.port) ∷ []
-needs (commands.TnGw peer) = book_needs services.TnGw
-needs (commands.FtpGw peer) = book_needs services.FtpGw
+needs (commands.Gateway kind peer) = book_needs (gateway_service kind)
 needs (commands.Smap peer) = RulesOf services.Smap ∷ []
 
 abbrev pub is_of_records : Need → Bool
@@ -96,9 +96,14 @@ abbrev pub inputs_by : NamedBytes → List Need → Result (List Line) TableFaul
 inputs_by loaded wanted (Ok lines) = needs_then lines loaded wanted (Ok no_inputs)
 inputs_by loaded wanted (Err fault) = Err (Table fault)
 
--- the inputs that a table's text and a keeper's records make for these needs, or what refuses them
-abbrev pub inputs_of : List Need → List ℕ → NamedBytes → Result Inputs Refusal
-inputs_of wanted text loaded = inputs_by loaded wanted (table_of text)
+-- what a run read: the lines of the table or the fault of the first one that can't be read, and all that the keeper had
+pub record Reading : Type 0 where
+  pub table : Result (List Line) TableFault
+  pub loaded : NamedBytes
+
+-- the inputs that a reading makes for a command, or what refuses them
+abbrev pub read_as : Command → Reading → Result Inputs Refusal
+read_as command reading = inputs_by reading.loaded (needs command) reading.table
 
 -- ---- where it is read
 
@@ -132,9 +137,9 @@ pub record IsAllOf (loaded : NamedBytes) (keeper : KeeperView) : Type 0 where
   pub ordered : Ascends entry_name loaded
   pub told : IfSome keeper.table (AreSame loaded)
 
--- these are the inputs of a command, or this refuses it: by the text under the table's name, where the files tell, and by
--- what the keeper has, where that is needed and come to
-pub record HasInputs (name : List ℕ) (command : Command) (read : Result Inputs Refusal) (world : WorldView) : Type 0 where
-  pub loaded : NamedBytes
-  pub of_table : OfText world.files.holds name (λ text. inputs_of (needs command) text loaded ≡ read)
-  pub of_keeper : needs_records command ≡ true → is_of_table read ≡ false → IfSome world.inputs.keeper (IsAllOf loaded)
+-- By this reading these are the inputs of a command, or this refuses it. The table is that of the text under its name, where the
+-- files tell what they hold; the records are all that the keeper has, where they are needed and come to.
+pub record HasInputs (name : List ℕ) (command : Command) (reading : Reading) (read : Result Inputs Refusal) (world : WorldView) : Type 0 where
+  pub of_table : OfText world.files.holds name (λ text. table_of text ≡ reading.table)
+  pub is : read_as command reading ≡ read
+  pub of_keeper : needs_records command ≡ true → is_of_table read ≡ false → IfSome world.inputs.keeper (IsAllOf reading.loaded)

@@ -1,9 +1,12 @@
+pub mod Account
 pub mod Asking
 pub mod AtGateway
+pub mod Basis
 pub mod Complete
 pub mod Deciding
 pub mod FtpGateway
 pub mod Gateway
+pub mod Gateways
 pub mod Gating
 pub mod HandedOn
 pub mod HandingOn

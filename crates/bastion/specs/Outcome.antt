@@ -20,7 +20,7 @@ use Rattle.bastion.specs.declared.outcome.Outcome.TheVariants.{Usage, Unread, Fa
 use Rattle.bastion.specs.declared.outcome.Refusal.{Refusal}
 use Rattle.bastion.specs.declared.outcome.Refusal.TheVariants.{Table, Rule, Record, Slot}
 use Rattle.bastion.specs.declared.words.Command.{Command}
-use Rattle.bastion.specs.declared.words.Command.TheVariants.{PlugGw, TnGw, FtpGw, Smap}
+use Rattle.bastion.specs.declared.words.Command.TheVariants.{PlugGw, Gateway, Smap}
 use Rattle.bastion.specs.declared.words.Order.{Order}
 use Rattle.bastion.specs.declared.words.Order.TheVariants.{ByTable, Alone}
 
@@ -174,8 +174,7 @@ JobRose post outcome old new = SlotsRose outcome old new
 -- only a session of the plug or of a gateway has a link, and only one of the mail gateway slots
 abbrev pub RoseFor : Command → Outcome → WorldView → WorldView → Type 0
 RoseFor (PlugGw caller) (Ended ending refused) old new = LinkRose ending old new
-RoseFor (TnGw peer) (Ended ending refused) old new = GateRose ending old new
-RoseFor (FtpGw peer) (Ended ending refused) old new = GateRose ending old new
+RoseFor (Gateway kind peer) (Ended ending refused) old new = GateRose ending old new
 RoseFor (Smap peer) outcome old new = SlotsRose outcome old new
 RoseFor command outcome old new = CountRose outcome old new
 

@@ -63,26 +63,33 @@ abbrev pub ruling_by : {A : Type 0} → (List Line → Result A RuleFault) → R
 ruling_by said (Ok lines) = or_rule_fault (said lines)
 ruling_by said (Err fault) = Err (Table fault)
 
--- what the lines of a table's text say, or the fault of the first one that can't be read
-unfoldable pub ruling_in : {A : Type 0} → (List Line → Result A RuleFault) → List ℕ → Result A Refusal
-ruling_in said text = ruling_by said (table_of text)
+-- one table says this: that of the text under the name, where the files tell it
+pub record IsSaid {A : Type 0} (said : List Line → Result A RuleFault) (name : List ℕ) (answer : Result A Refusal) (files : FilesView) : Type 0 where
+  pub table : Result (List Line) TableFault
+  pub of_text : OfText files.holds name (λ text. table_of text ≡ table)
+  pub is : ruling_by said table ≡ answer
 
--- a line of the text under this name can't be read, and the files are as before
-pub record Misread {A : Type 0} (said : List ℕ → Result A Refusal) (name : List ℕ) (refusal : Refusal) (old new : FilesView) : Type 0 where
+-- it was found, and the files are as before
+pub record Found {A : Type 0} (said : List Line → Result A RuleFault) (name : List ℕ) (x : A) (old new : FilesView) : Type 0 where
+  pub by : IsSaid said name (Ok x) old
+  pub asks : AsksTable name old new
+
+-- a line of the table can't be read, and the files are as before
+pub record Misread {A : Type 0} (said : List Line → Result A RuleFault) (name : List ℕ) (refusal : Refusal) (old new : FilesView) : Type 0 where
   pub of_line : is_of_line refusal ≡ true
-  pub of_text : OfText old.holds name (λ text. said text ≡ Err refusal)
+  pub by : IsSaid said name (Err refusal) old
   pub asks : AsksTable name old new
 
 -- why something isn't found in the table of this name
-abbrev pub Unfound : {A : Type 0} → (List ℕ → Result A Refusal) → List ℕ → Outcome → FilesView → FilesView → Type 0
+abbrev pub Unfound : {A : Type 0} → (List Line → Result A RuleFault) → List ℕ → Outcome → FilesView → FilesView → Type 0
 Unfound said name (Unread refusal) old new = Misread said name refusal old new
 Unfound said name (Failed device.Table) old new = FilesFailed name old new
 Unfound said name (NoMemory step) old new = LacksEarly name step old new
 Unfound said name _ old new = ⊥
 
 -- what finding something in the table of this name answers and leaves
-abbrev pub Finds : {A : Type 0} → (List ℕ → Result A Refusal) → List ℕ → Result A Outcome → FilesView → FilesView → Type 0
-Finds said name (Ok x) old new = OfTable name (λ text. said text ≡ Ok x) old new
+abbrev pub Finds : {A : Type 0} → (List Line → Result A RuleFault) → List ℕ → Result A Outcome → FilesView → FilesView → Type 0
+Finds said name (Ok x) old new = Found said name x old new
 Finds said name (Err outcome) old new = Unfound said name outcome old new
 
 -- a fault of the source or of memory is told as one of the files or of memory

@@ -1,4 +1,5 @@
 -- What a run of a command line comes to, and what it leaves.
+use mathlib.Core.Logic.{inl, inr}
 use Rattle.std.specs.Prelude.{◌≡◌, ℕ, ◌⊎◌, Bool, true, false, not, List, Option, Some, None, Result, Ok, Err}
 use Rattle.fw_outside.specs.Counts.{Rose}
 use Rattle.fw_outside.specs.FilesView.{FilesView, MissesFile}
@@ -9,7 +10,9 @@ use Rattle.fw_outside.specs.declared.failed.Failed as sink
 use Rattle.fw_types.specs.declared.peer.Peer.{Peer}
 use Rattle.gate_rules.specs.Verdict.{verdict_of}
 use Rattle.gate_rules.specs.declared.verdict.Verdict.{Verdict}
-use Rattle.bastion.specs.Inputs.{HasInputs, Inputs, is_of_line, needs_records}
+use Rattle.bastion.specs.Basis.{Basis}
+use Rattle.bastion.specs.Basis.Basis.{Nothing, Refused, Given}
+use Rattle.bastion.specs.Inputs.{HasInputs, Inputs, Reading, is_of_line, needs_records}
 use Rattle.bastion.specs.Jobs.{DoesJob}
 use Rattle.bastion.specs.Outcome.{RoseIn, fault_line_of, status_of, verdict_status}
 use Rattle.bastion.specs.Words.{LineView}
@@ -22,7 +25,7 @@ use Rattle.bastion.specs.declared.outcome.Refusal.{Refusal}
 use Rattle.bastion.specs.declared.outcome.Step.{Step}
 use Rattle.bastion.specs.declared.outcome.Step.TheVariants as steps
 use Rattle.bastion.specs.declared.words.Command.{Command}
-use Rattle.bastion.specs.declared.words.Command.TheVariants.{Netacl, NetaclRun, Table, Authsrv, PlugGw, TnGw, FtpGw, Smap}
+use Rattle.bastion.specs.declared.words.Command.TheVariants.{Netacl, NetaclRun, Table, Authsrv, PlugGw, Gateway, Smap}
 use Rattle.bastion.specs.declared.words.Order.{Order}
 use Rattle.bastion.specs.declared.words.Order.TheVariants.{ByTable, Alone}
 
@@ -56,7 +59,8 @@ pub record ReadsOnly (name : List ℕ) (records : Bool) (old new : WorldView) : 
 
 -- the first thing that can't be read refuses
 pub record Refuses (name : List ℕ) (command : Command) (refusal : Refusal) (old new : WorldView) : Type 0 where
-  pub read : HasInputs name command (Err refusal) old
+  pub reading : Reading
+  pub read : HasInputs name command reading (Err refusal) old
   pub only : ReadsOnly name (not (is_of_line refusal)) old new
 
 -- the files took a source of the table back that had failed, which is counted
@@ -97,8 +101,7 @@ peer_of (NetaclRun query) = query.peer
 peer_of (Table query) = query.peer
 peer_of (Authsrv client) = client.peer
 peer_of (PlugGw caller) = caller.peer
-peer_of (TnGw peer) = peer
-peer_of (FtpGw peer) = peer
+peer_of (Gateway kind peer) = peer
 peer_of (Smap peer) = peer
 
 -- whom the rules don't decide of
@@ -111,8 +114,9 @@ verdict_for command inputs = verdict_of inputs.rules (peer_of command)
 
 -- the rules permit the peer
 pub record LacksPrint (name : List ℕ) (command : Command) (old new : WorldView) : Type 0 where
+  pub reading : Reading
   pub inputs : Inputs
-  pub read : HasInputs name command (Ok inputs) old
+  pub read : HasInputs name command reading (Ok inputs) old
   pub permitted : verdict_status (verdict_for command inputs) ≡ 0
   pub only : ReadsOnly name (needs_records command) old new
 
@@ -135,8 +139,9 @@ Stops name command _ old new = ⊥
 -- ---- or the work was done
 
 pub record Worked (name : List ℕ) (command : Command) (outcome : Outcome) (old new : WorldView) : Type 0 where
+  pub reading : Reading
   pub inputs : Inputs
-  pub read : HasInputs name command (Ok inputs) old
+  pub read : HasInputs name command reading (Ok inputs) old
   pub middle : WorldView
   pub only : ReadsOnly name (needs_records command) old middle
   pub works : Works command inputs outcome middle new
@@ -150,6 +155,15 @@ pub record Unused (outcome : Outcome) (old new : WorldView) : Type 0 where
 abbrev pub DoesFor : List ℕ → Command → Outcome → WorldView → WorldView → Type 0
 DoesFor name command outcome old new = Stops name command outcome old new ⊎ Worked name command outcome old new
 
+-- what it went by for that: what refused, or the inputs of the work
+abbrev pub stopped_by : (name : List ℕ) (command : Command) (outcome : Outcome) (old new : WorldView) → Stops name command outcome old new → Basis
+stopped_by name command (Unread refusal) old new stops = Refused stops.reading refusal
+stopped_by name command outcome old new stops = Nothing
+
+abbrev pub went_by : (name : List ℕ) (command : Command) (outcome : Outcome) (old new : WorldView) → DoesFor name command outcome old new → Basis
+went_by name command outcome old new (inl stops) = stopped_by name command outcome old new stops
+went_by name command outcome old new (inr worked) = Given worked.reading worked.inputs worked.middle
+
 -- or a job that needs none
 abbrev pub DoesOrder : Post → List ℕ → Order → Outcome → WorldView → WorldView → Type 0
 DoesOrder post name (ByTable command) outcome old new = DoesFor name command outcome old new
@@ -158,6 +172,15 @@ DoesOrder post name (Alone job) outcome old new = DoesJob post job outcome old n
 abbrev pub DoesLine : Post → Option LineView → Outcome → WorldView → WorldView → Type 0
 DoesLine post None outcome old new = Unused outcome old new
 DoesLine post (Some line) outcome old new = DoesOrder post line.table line.order outcome old new
+
+-- what a job goes by, and words that are no command, is nothing that is read
+abbrev pub order_went_by : (post : Post) (name : List ℕ) (order : Order) (outcome : Outcome) (old new : WorldView) → DoesOrder post name order outcome old new → Basis
+order_went_by post name (ByTable command) outcome old new does = went_by name command outcome old new does
+order_went_by post name (Alone job) outcome old new does = Nothing
+
+abbrev pub line_went_by : (post : Post) (line : Option LineView) (outcome : Outcome) (old new : WorldView) → DoesLine post line outcome old new → Basis
+line_went_by post None outcome old new does = Nothing
+line_went_by post (Some line) outcome old new does = order_went_by post line.table line.order outcome old new does
 
 -- ---- the whole run
 

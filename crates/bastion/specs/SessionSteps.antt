@@ -17,7 +17,7 @@ use Rattle.gate_rules.specs.Reading.{RuleBook}
 use Rattle.gate_rules.specs.Verdict.{verdict_of}
 use Rattle.gate_rules.specs.declared.service.Service.{Service}
 use Rattle.bastion.specs.Gating.{devices_over}
-use Rattle.bastion.specs.Inputs.{HasInputs, Inputs, book_needs, needs}
+use Rattle.bastion.specs.Inputs.{HasInputs, Inputs, Reading, book_needs, needs}
 use Rattle.bastion.specs.Run.{ReadsOnly, Stops}
 use Rattle.bastion.specs.Serving.{Serves, UntouchedAt, book_at_first, devices_at, most_entries, origin_of}
 use Rattle.bastion.specs.WorldView.{WorldView}
@@ -96,14 +96,15 @@ pub record OpenedBy (server_rules : ServerRules) (rules : RuleBook) (book : Book
   pub opened : Opened server_rules.policy book old new
 
 -- the inputs of each command that needs a book for this service
-abbrev pub HasBookInputs : List ℕ → Service → Result Inputs Refusal → WorldView → Type 0
-HasBookInputs name service read world = (command : Command) → needs command ≡ book_needs service → HasInputs name command read world
+abbrev pub HasBookInputs : List ℕ → Service → Reading → Result Inputs Refusal → WorldView → Type 0
+HasBookInputs name service reading read world = (command : Command) → needs command ≡ book_needs service → HasInputs name command reading read world
 
 -- The inputs of the service were read, and the book is of their records. The keeper is in it.
 pub record Opens (name : List ℕ) (service : Service) (rules : RuleBook) (book : BookView) (old new : WorldView) : Type 0 where
+  pub reading : Reading
   pub inputs : Inputs
   pub rules_are : rules ≡ inputs.rules
-  pub read : HasBookInputs name service (Ok inputs) old
+  pub read : HasBookInputs name service reading (Ok inputs) old
   pub middle : WorldView
   pub only : ReadsOnly name true old middle
   pub before : KeeperView

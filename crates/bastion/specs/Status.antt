@@ -10,7 +10,9 @@ use Rattle.fw_outside.specs.DialerView.{DialerView, LinkView}
 use Rattle.fw_outside.specs.SourceView.{SourceView}
 use Rattle.gate_rules.specs.declared.verdict.Verdict.{Verdict}
 use Rattle.gate_rules.specs.declared.verdict.Verdict.TheVariants.{Permit, Deny}
-use Rattle.bastion.specs.Inputs.{HasInputs, Inputs}
+use Rattle.bastion.specs.Basis.{Basis}
+use Rattle.bastion.specs.Basis.Basis.{Nothing, Refused, Given}
+use Rattle.bastion.specs.Inputs.{Inputs}
 use Rattle.bastion.specs.Jobs.{AreFormatted}
 use Rattle.bastion.specs.Outcome.{DiskRose, KeeperRose, MailersRose, verdict_status}
 use Rattle.bastion.specs.Run.{verdict_for}
@@ -18,9 +20,9 @@ use Rattle.bastion.specs.Serving.{most_entries}
 use Rattle.bastion.specs.Spool.{AreOpened, HasBadSlot, LeavesAside, LeavesSlots}
 use Rattle.bastion.specs.Words.{LineView}
 use Rattle.bastion.specs.WorldView.{Post, SessionInputs, WorldView}
-use Rattle.bastion.specs.declared.outcome.Refusal.{Refusal}
 use Rattle.bastion.specs.declared.words.Command.{Command}
-use Rattle.bastion.specs.declared.words.Command.TheVariants.{Netacl, NetaclRun, Table, Authsrv, PlugGw, TnGw, FtpGw, Smap}
+use Rattle.bastion.specs.declared.words.Command.TheVariants.{Netacl, NetaclRun, Table, Authsrv, PlugGw, Gateway, Smap}
+use Rattle.bastion.specs.declared.words.GatewayKind.TheVariants as kinds
 use Rattle.bastion.specs.declared.words.Job.{Job}
 use Rattle.bastion.specs.declared.words.Job.TheVariants.{Drill, SpoolInit, Smapd}
 use Rattle.bastion.specs.declared.words.Order.{Order}
@@ -47,11 +49,10 @@ abbrev pub DisksRose : List DiskView → List DiskView → Type 0
 DisksRose old new = (slot : ℕ) × DiskRose slot old new
 
 -- a device's own count rose: the dialer's, too, where the command has a link; but a link that is refused is no failure of a
--- session of `tn-gw` or `ftp-gw`, which goes on; and those of the disks of a command that calls them
+-- session of a gateway, which goes on; and those of the disks of a command that calls them
 abbrev pub RoseBy : Command → WorldView → WorldView → Type 0
 RoseBy (PlugGw caller) old new = SomeRose old new ⊎ LinksRose old.inputs.dialer new.inputs.dialer
-RoseBy (TnGw peer) old new = SomeRose old new ⊎ LinksFailed old.inputs.dialer new.inputs.dialer
-RoseBy (FtpGw peer) old new = SomeRose old new ⊎ LinksFailed old.inputs.dialer new.inputs.dialer
+RoseBy (Gateway kind peer) old new = SomeRose old new ⊎ LinksFailed old.inputs.dialer new.inputs.dialer
 RoseBy (Smap peer) old new = SomeRose old new ⊎ DisksRose old.inputs.disks new.inputs.disks
 RoseBy command old new = SomeRose old new
 
@@ -115,32 +116,31 @@ IsTaken (Deny line) status old new = status ≡ 1
 abbrev pub IsMailed : Verdict → ℕ → SessionInputs → SessionInputs → Type 0
 IsMailed verdict status old new = ((status ≡ 3) × ((slot : ℕ) × (at : ℕ) × HasBadSlot slot at old.disks new.disks)) ⊎ (AreOpened old.disks × IsTaken verdict status old new)
 
--- 3 where something can't be read; 0 or 1 as the rules permit or deny the peer
-abbrev pub IsBy : Command → Result Inputs Refusal → ℕ → SessionInputs → SessionInputs → Type 0
-IsBy command (Err refusal) status old new = status ≡ 3
-IsBy (Netacl query) (Ok inputs) status old new = status ≡ verdict_status (verdict_for (Netacl query) inputs)
-IsBy (NetaclRun query) (Ok inputs) status old new = status ≡ verdict_status (verdict_for (NetaclRun query) inputs)
-IsBy (Table query) (Ok inputs) status old new = status ≡ verdict_status (verdict_for (Table query) inputs)
-IsBy (Authsrv client) (Ok inputs) status old new = IsServed client.console (verdict_for (Authsrv client) inputs) status old new
-IsBy (PlugGw caller) (Ok inputs) status old new = IsLinked (verdict_for (PlugGw caller) inputs) status old new
-IsBy (TnGw peer) (Ok inputs) status old new = IsPassed (verdict_for (TnGw peer) inputs) status old new
-IsBy (FtpGw peer) (Ok inputs) status old new = IsPassed (verdict_for (FtpGw peer) inputs) status old new
-IsBy (Smap peer) (Ok inputs) status old new = IsMailed (verdict_for (Smap peer) inputs) status old new
-
--- the status is by the inputs of the command, or by what can't be read
-pub record ByInputs (name : List ℕ) (command : Command) (status : ℕ) (old new : WorldView) : Type 0 where
-  pub read : Result Inputs Refusal
-  pub inputs : HasInputs name command read old
-  pub is : IsBy command read status old.inputs new.inputs
+-- 0 or 1 as the rules permit or deny the peer
+abbrev pub IsBy : Command → Inputs → ℕ → SessionInputs → SessionInputs → Type 0
+IsBy (Netacl query) inputs status old new = status ≡ verdict_status (verdict_for (Netacl query) inputs)
+IsBy (NetaclRun query) inputs status old new = status ≡ verdict_status (verdict_for (NetaclRun query) inputs)
+IsBy (Table query) inputs status old new = status ≡ verdict_status (verdict_for (Table query) inputs)
+IsBy (Authsrv client) inputs status old new = IsServed client.console (verdict_for (Authsrv client) inputs) status old new
+IsBy (PlugGw caller) inputs status old new = IsLinked (verdict_for (PlugGw caller) inputs) status old new
+IsBy (Gateway kind peer) inputs status old new = IsPassed (verdict_for (Gateway kind peer) inputs) status old new
+IsBy (Smap peer) inputs status old new = IsMailed (verdict_for (Smap peer) inputs) status old new
 
 -- a device failed, which its own count shows
 pub record ByCount (command : Command) (status : ℕ) (old new : WorldView) : Type 0 where
   pub is : status ≡ 4
   pub rose : RoseBy command old new
 
--- the status of a command is 4, for a count that rose; 5, for want of memory; or by its inputs
-abbrev pub IsStatusFor : List ℕ → Command → ℕ → WorldView → WorldView → Type 0
-IsStatusFor name command status old new = (ByCount command status old new ⊎ (status ≡ 5)) ⊎ ByInputs name command status old new
+-- 4, for a count that rose, or 5, for want of memory
+abbrev pub IsOutside : Command → ℕ → WorldView → WorldView → Type 0
+IsOutside command status old new = ByCount command status old new ⊎ (status ≡ 5)
+
+-- so is the status of a command, where what it needs couldn't be had; 3 where something can't be read; else it is by the inputs, or
+-- so
+abbrev pub IsStatusFor : Command → Basis → ℕ → WorldView → WorldView → Type 0
+IsStatusFor command Nothing status old new = IsOutside command status old new
+IsStatusFor command (Refused reading refusal) status old new = status ≡ 3
+IsStatusFor command (Given reading inputs ready) status old new = IsOutside command status old new ⊎ IsBy command inputs status old.inputs new.inputs
 
 -- 0 where a drill has its counts, 3 where a line of it can't be read
 abbrev pub drill_status : {A B : Type 0} → Result A B → ℕ
@@ -157,14 +157,14 @@ IsStatusOfJob post (Drill drill) status old new = (((status ≡ 4) × SomeRose o
 IsStatusOfJob post Smapd status old new = (((status ≡ 4) × RoseInJob post Smapd old new) ⊎ (status ≡ 5)) ⊎ IsRoundStatus status old.inputs.disks new.inputs.disks
 IsStatusOfJob post SpoolInit status old new = ((status ≡ 4) × (SomeRose old new ⊎ DisksRose old.inputs.disks new.inputs.disks)) ⊎ (status ≡ 0)
 
-abbrev pub IsStatusOf : Post → List ℕ → Order → ℕ → WorldView → WorldView → Type 0
-IsStatusOf post name (ByTable command) status old new = IsStatusFor name command status old new
-IsStatusOf post name (Alone job) status old new = IsStatusOfJob post job status old new
+abbrev pub IsStatusOf : Post → Order → Basis → ℕ → WorldView → WorldView → Type 0
+IsStatusOf post (ByTable command) basis status old new = IsStatusFor command basis status old new
+IsStatusOf post (Alone job) basis status old new = IsStatusOfJob post job status old new
 
 -- 2 is for words that are no command
-abbrev pub IsStatus : Post → Option LineView → ℕ → WorldView → WorldView → Type 0
-IsStatus post None status old new = status ≡ 2
-IsStatus post (Some line) status old new = IsStatusOf post line.table line.order status old new
+abbrev pub IsStatus : Post → Option LineView → Basis → ℕ → WorldView → WorldView → Type 0
+IsStatus post None basis status old new = status ≡ 2
+IsStatus post (Some line) basis status old new = IsStatusOf post line.order basis status old new
 
 -- ---- the disks
 
@@ -215,7 +215,7 @@ pub record TakesOver (status : ℕ) (old new : SourceView) : Type 0 where
 
 abbrev pub TakesFor : Command → ℕ → SourceView → SourceView → Type 0
 TakesFor (PlugGw caller) status old new = TakesOver status old new
-TakesFor (TnGw peer) status old new = TakesOver status old new
+TakesFor (Gateway kinds.Telnet peer) status old new = TakesOver status old new
 TakesFor command status old new = TakesIn status old new
 
 -- a job without a table takes nothing

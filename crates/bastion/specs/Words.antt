@@ -12,7 +12,9 @@ use Rattle.gate_rules.specs.Service.{service_of}
 use Rattle.gate_rules.specs.declared.service.Service.{Service}
 use Rattle.gate_rules.specs.declared.service.Service.TheVariants as service
 use Rattle.bastion.specs.declared.words.Command.{Command}
-use Rattle.bastion.specs.declared.words.Command.TheVariants.{Netacl, NetaclRun, Table, Authsrv, PlugGw, TnGw, FtpGw, Smap}
+use Rattle.bastion.specs.declared.words.Command.TheVariants.{Netacl, NetaclRun, Table, Authsrv, PlugGw, Gateway, Smap}
+use Rattle.bastion.specs.declared.words.GatewayKind.{GatewayKind}
+use Rattle.bastion.specs.declared.words.GatewayKind.TheVariants as kinds
 use Rattle.bastion.specs.declared.words.Query.{Query}
 use Rattle.bastion.specs.declared.words.Caller.{Caller}
 use Rattle.bastion.specs.declared.words.Client.{Client}
@@ -120,6 +122,10 @@ abbrev pub caller_in : List (List ℕ) → Option Caller
 caller_in (port ∷ words) = caller_of (numbered_port port) (peer_in words)
 caller_in [] = None
 
+abbrev pub gateway_of : GatewayKind → Option Peer → Option Command
+gateway_of kind (Some peer) = Some (Gateway kind peer)
+gateway_of kind None = None
+
 -- `netacl [-run] DAEMON ADDR [NAME]`, `table SERVICE ADDR [NAME]`, `authsrv [-console] ADDR [NAME]`,
 -- `plug-gw PORT ADDR [NAME]`, `tn-gw ADDR [NAME]`, `ftp-gw ADDR [NAME]` and `smap ADDR [NAME]`
 abbrev pub command_in : List (List ℕ) → Option Command
@@ -128,8 +134,8 @@ command_in (name ∷ words) =
     else if bytes_eq name (codes "table") then option_map Table (table_in words)
     else if bytes_eq name (codes "authsrv") then option_map Authsrv (client_in words)
     else if bytes_eq name (codes "plug-gw") then option_map PlugGw (caller_in words)
-    else if bytes_eq name (codes "tn-gw") then option_map TnGw (peer_in words)
-    else if bytes_eq name (codes "ftp-gw") then option_map FtpGw (peer_in words)
+    else if bytes_eq name (codes "tn-gw") then gateway_of kinds.Telnet (peer_in words)
+    else if bytes_eq name (codes "ftp-gw") then gateway_of kinds.Ftp (peer_in words)
     else if bytes_eq name (codes "smap") then option_map Smap (peer_in words)
     else None
 command_in [] = None

@@ -7,7 +7,6 @@ use Rattle.fw_outside.specs.declared.failed.Failed as sink
 use Rattle.fw_outside.specs.declared.started.Started.{Started}
 use Rattle.fw_outside.specs.declared.started.Started.TheVariants as program
 use Rattle.gate_rules.specs.Verdict.{verdict_of}
-use Rattle.gate_rules.specs.declared.service.Service.TheVariants as services
 use Rattle.gate_rules.specs.declared.verdict.Verdict.{Verdict}
 use Rattle.gate_rules.specs.declared.verdict.Verdict.TheVariants.{Permit, Deny}
 use Rattle.bastion.specs.Gating.{Gated}
@@ -23,7 +22,8 @@ use Rattle.bastion.specs.declared.outcome.Device.TheVariants as device
 use Rattle.bastion.specs.declared.outcome.Outcome.{Outcome}
 use Rattle.bastion.specs.declared.outcome.Outcome.TheVariants.{Failed, Decided}
 use Rattle.bastion.specs.declared.words.Command.{Command}
-use Rattle.bastion.specs.declared.words.Command.TheVariants.{Netacl, NetaclRun, Table, Authsrv, PlugGw, TnGw, FtpGw, Smap}
+use Rattle.bastion.specs.declared.words.Command.TheVariants.{Netacl, NetaclRun, Table, Authsrv, PlugGw, Gateway, Smap}
+use Rattle.bastion.specs.Gateways.{gateway_service}
 use Rattle.bastion.specs.declared.words.Query.{Query}
 
 -- the sink has taken these bytes whole
@@ -112,6 +112,5 @@ Works (NetaclRun query) inputs outcome old new =
 Works (Table query) inputs outcome old new = Shown (verdict_of inputs.rules query.peer) (report_text inputs.rules (verdict_of inputs.rules query.peer)) outcome old new
 Works (Authsrv client) inputs outcome old new = Attended client inputs outcome old new
 Works (PlugGw caller) inputs outcome old new = Linked caller inputs outcome old new
-Works (TnGw peer) inputs outcome old new = Gated services.TnGw peer inputs outcome old new
-Works (FtpGw peer) inputs outcome old new = Gated services.FtpGw peer inputs outcome old new
+Works (Gateway kind peer) inputs outcome old new = Gated (gateway_service kind) peer inputs outcome old new
 Works (Smap peer) inputs outcome old new = Mailed peer inputs outcome old new

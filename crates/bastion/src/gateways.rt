@@ -4,12 +4,12 @@ ghost use Rattle.client_service.specs.Conn.{Conn, IsServed, Untouched};
 ghost use Rattle.bastion.specs.Gating.{devices_over};
 ghost use Rattle.bastion.specs.Run.{DoesFor};
 ghost use Rattle.bastion.specs.SessionSteps.{PassesOver};
-ghost use Rattle.bastion.specs.declared.words.Command.TheVariants.{FtpGw, TnGw};
+ghost use Rattle.bastion.specs.Gateways.{gateway_service};
+ghost use Rattle.bastion.specs.declared.words.Command.TheVariants.{Gateway};
 ghost use Rattle.gate_rules.specs.Verdict.{verdict_of};
-ghost use Rattle.gate_rules.specs.declared.service.Service.TheVariants as services;
 
 use crate::book::{end_over, open_for};
-use crate::{Kit, Outcome, World};
+use crate::{GatewayKind, Kit, Outcome, World};
 use auth_machine::Book;
 use client_service::conn;
 use fw_types::{Ending, Peer};
@@ -78,31 +78,21 @@ where
     end_over(book, ending, world)
 }
 
-/// A client of the Telnet gateway.
-pub(crate) fn telnet<H, T>(
-    rt: &H,
-    alloc: Global,
-    name: &[u8],
-    peer: &Peer,
-    world: &mut World<T>,
-) -> Outcome
-where
-    H: Threads + Sync,
-    T: Kit,
-    requires keeper { IsSome world.old.inputs.keeper }
-    ensures { DoesFor name.now (TnGw peer.now) result world.old world.new }
+fn service_of(kind: GatewayKind) -> Service
+    ensures { result ≡ gateway_service kind }
 {
-    match open_for(alloc, name, &Service::TnGw, world) {
-        Ok((rules, book)) => pass_over(rt, alloc, &Service::TnGw, &rules, peer, book, world),
-        Err(outcome) => outcome,
+    match kind {
+        GatewayKind::Telnet => Service::TnGw,
+        GatewayKind::Ftp => Service::FtpGw,
     }
 }
 
-/// A client of the FTP gateway.
-pub(crate) fn ftp<H, T>(
+/// A client of a gateway.
+pub(crate) fn through<H, T>(
     rt: &H,
     alloc: Global,
     name: &[u8],
+    kind: GatewayKind,
     peer: &Peer,
     world: &mut World<T>,
 ) -> Outcome
@@ -110,10 +100,11 @@ where
     H: Threads + Sync,
     T: Kit,
     requires keeper { IsSome world.old.inputs.keeper }
-    ensures { DoesFor name.now (FtpGw peer.now) result world.old world.new }
+    ensures { DoesFor name.now (Gateway kind peer.now) result world.old world.new }
 {
-    match open_for(alloc, name, &Service::FtpGw, world) {
-        Ok((rules, book)) => pass_over(rt, alloc, &Service::FtpGw, &rules, peer, book, world),
+    let service = service_of(kind);
+    match open_for(alloc, name, &service, world) {
+        Ok((rules, book)) => pass_over(rt, alloc, &service, &rules, peer, book, world),
         Err(outcome) => outcome,
     }
 }

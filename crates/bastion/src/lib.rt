@@ -10,7 +10,8 @@
 //! command asks for one; a server of `ftp-gw` is given what its client's commands are passed as, without those that are denied;
 //! each message that `smap` tells its client to be kept stands whole in the slot of the number that it tells;
 //! and each status but 5, want of memory, has its cause: in the words, in a limit, in the count of a device that rose,
-//! or, where the devices tell what they hold, in the table's text, the records and the slots. [`conn`] serves one client.
+//! or, where the devices tell what they hold, in the table's text, the records and the slots. All that is said of what was
+//! read is said of one table and of one list of records. [`conn`] serves one client.
 //!
 //! A server takes the steps before its sessions one by one: [`after_options`], [`any_twice`], [`word_or`] and [`places_in`]
 //! of its words, then [`read_table`], [`read_rules`], [`read_policy`], [`open_book`] and [`open_rack`], and [`tell`].
@@ -49,6 +50,6 @@ pub use reading::{read_policy, read_rules, read_table};
 pub use running::run;
 pub use server_rules::ServerRules;
 pub use words::{
-    Caller, Client, Command, CommandLine, Job, Order, Query, after_options, any_twice, places,
-    places_in, read_order, table_named, word_or,
+    Caller, Client, Command, CommandLine, GatewayKind, Job, Order, Query, after_options, any_twice,
+    places, places_in, read_order, table_named, word_or,
 };

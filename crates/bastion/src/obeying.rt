@@ -9,7 +9,7 @@ ghost use Rattle.bastion.specs.declared.words.Command.TheVariants.{Netacl, Netac
 
 use crate::authsrv::attend;
 use crate::deciding::{decide, show};
-use crate::gateways::{ftp, telnet};
+use crate::gateways::through;
 use crate::jobs::do_job;
 use crate::mailing::take_mail;
 use crate::plug::plug;
@@ -72,8 +72,7 @@ where
         Command::Table(query) => table(alloc, name, query, world),
         Command::Authsrv(client) => attend(rt, alloc, name, client, world),
         Command::PlugGw(caller) => plug(rt, alloc, name, caller, world),
-        Command::TnGw(peer) => telnet(rt, alloc, name, peer, world),
-        Command::FtpGw(peer) => ftp(rt, alloc, name, peer, world),
+        Command::Gateway { kind, peer } => through(rt, alloc, name, *kind, peer, world),
         Command::Smap(peer) => take_mail(rt, alloc, name, peer, world),
     }
 }

@@ -2,7 +2,7 @@
 ghost use Rattle.std.specs.Prelude.{◌≡◌, IfOk, Ok};
 ghost use Rattle.client_service.specs.PlugService.{AreRulesOf};
 ghost use Rattle.auth_machine.specs.Policy.{policy_of};
-ghost use Rattle.bastion.specs.Reading.{Finds, ReadsLines, ReadsTable, reading_fault, ruling_in, server_rules_of};
+ghost use Rattle.bastion.specs.Reading.{Finds, ReadsLines, ReadsTable, reading_fault, server_rules_of};
 ghost use Rattle.gate_rules.specs.Reading.{rules_of};
 
 use crate::server_rules::ServerRules;
@@ -93,7 +93,7 @@ fn find_rules<F: Files>(
     name: &[u8],
     service: &Service,
 ) -> Result<Rules, Outcome>
-    ensures found { Finds (ruling_in (rules_of service.now)) name.now result (F.files_view files.old) (F.files_view
+    ensures found { Finds (rules_of service.now) name.now result (F.files_view files.old) (F.files_view
         files.new) }
     ensures ruled { IfOk result (AreRulesOf service.now) }
 {
@@ -110,7 +110,7 @@ pub(crate) fn rules_for<T: Kit>(
     service: &Service,
     world: &mut World<T>,
 ) -> Result<Rules, Outcome>
-    ensures found { Finds (ruling_in (rules_of service.now)) name.now result world.old.files world.new.files }
+    ensures found { Finds (rules_of service.now) name.now result world.old.files world.new.files }
     ensures ruled { IfOk result (AreRulesOf service.now) }
     ensures output { world.new.output ≡ world.old.output }
     ensures logs { world.new.logs ≡ world.old.logs }
@@ -126,7 +126,7 @@ fn find_server_rules<F: Files>(
     name: &[u8],
     service: &Service,
 ) -> Result<ServerRules, Outcome>
-    ensures { Finds (ruling_in (server_rules_of service.now)) name.now result (F.files_view files.old) (F.files_view
+    ensures { Finds (server_rules_of service.now) name.now result (F.files_view files.old) (F.files_view
         files.new) }
 {
     match read_table(alloc, files, name) {
@@ -142,7 +142,7 @@ pub(crate) fn server_rules_for<T: Kit>(
     service: &Service,
     world: &mut World<T>,
 ) -> Result<ServerRules, Outcome>
-    ensures found { Finds (ruling_in (server_rules_of service.now)) name.now result world.old.files world.new.files }
+    ensures found { Finds (server_rules_of service.now) name.now result world.old.files world.new.files }
     ensures output { world.new.output ≡ world.old.output }
     ensures logs { world.new.logs ≡ world.old.logs }
     ensures inputs { world.new.inputs ≡ world.old.inputs }

@@ -1,9 +1,8 @@
 //! The call that the program makes.
-ghost use Rattle.std.specs.Prelude.{◌≡◌, ◌≤◌, ◌<◌, ◌↔◌, length, map, IsSome, None, Some};
-ghost use Rattle.bastion.specs.Complete.{IsComplete};
+ghost use Rattle.std.specs.Prelude.{◌≡◌, ◌≤◌, ◌<◌, length, map, IsSome, None, Some};
+ghost use Rattle.bastion.specs.Account.{Account};
 ghost use Rattle.bastion.specs.Headline.{Headline};
-ghost use Rattle.bastion.specs.Run.{Run};
-ghost use Rattle.bastion.specs.Status.{IsStatus, LeavesDisks, LeavesMailers, RoseOf, TakesBy};
+ghost use Rattle.bastion.specs.Status.{LeavesDisks, LeavesMailers, TakesBy};
 ghost use Rattle.bastion.specs.Words.{line_of};
 ghost use Rattle.bastion.specs.WorldView.{post_of};
 
@@ -43,25 +42,20 @@ where
     requires keeper { IsSome world.old.inputs.keeper }
     requires slots { length world.old.inputs.disks ≤ 64 }
     requires some { 0 < length mailers.old.items }
-    // What the run came to and did; a failure that it names was counted; its line in the log, and its status.
-    ensures ran { Run (post_of (map (λ m. mailer_view m) mailers.old.items) (map (λ m. mailer_view m) mailers.new.items))
+    // All of this holds at once, by one reading of the table and of the records, and by what one session did: what the run came
+    // to and did, with its line in the log and its status (`ran`); the headline; that the status is what the reading says,
+    // unless a device failed or there was no memory (`status`; 2 is for words that are no command); and that where no count
+    // rose, all that the reading calls for was logged and printed whole, or there was no memory (`complete`).
+    ensures account { Account (post_of (map (λ m. mailer_view m) mailers.old.items) (map (λ m. mailer_view m) mailers.new.items))
         (line_of words.now) result world.old world.new }
-    // The replies that a client is told are those of a legal history, destinations are asked for as the table permits, a
-    // denial's line stands in the log, and each message that is answered as kept stands whole in its slot; what `smap` and
-    // `smapd` did to the spool on the disks are events of its law.
+    // The headline by itself. The replies that a client is told are those of a legal history, destinations are asked for as the
+    // table permits, a denial's line stands in the log, and each message that is answered as kept stands whole in its slot; what
+    // `smap` and `smapd` did to the spool on the disks are events of its law.
     ensures headline { Headline (post_of (map (λ m. mailer_view m) mailers.old.items) (map (λ m. mailer_view m) mailers.new.items))
-        (line_of words.now) result world.old world.new }
-    // 2 is for words that are no command; for a command the status is what its inputs say, unless a device failed or
-    // there was no memory; 4 is only for a device whose own count rose.
-    ensures status { IsStatus (post_of (map (λ m. mailer_view m) mailers.old.items) (map (λ m. mailer_view m) mailers.new.items))
         (line_of words.now) result world.old world.new }
     // At most 2^40 bytes are taken of the input; after so many the status is 6, or 4 where a link or its client failed
     // first.
     ensures taken { TakesBy (line_of words.now) result world.old.inputs.input world.new.inputs.input }
-    // Where no count rose, all that the inputs call for was logged and printed whole, and the status is by them; or there
-    // was no memory.
-    ensures complete { ¬ (RoseOf (post_of (map (λ m. mailer_view m) mailers.old.items) (map (λ m. mailer_view m) mailers.new.items)) (line_of words.now) world.old world.new)
-        → IsComplete (post_of (map (λ m. mailer_view m) mailers.old.items) (map (λ m. mailer_view m) mailers.new.items)) (line_of words.now) result world.old world.new }
     // `spool-init` ends with 0 only after each disk is a free slot, whatever a crash leaves of it. Behind `smap` a slot that
     // was opened with a message has it, and behind `smapd` one that was opened set aside. Any other command leaves the disks as they were, their counts too.
     ensures disks { LeavesDisks (line_of words.now) result world.old.inputs.disks world.new.inputs.disks }

@@ -4,7 +4,7 @@ ghost use Rattle.std.specs.Str.{bytes_eq};
 ghost use Rattle.fw_types.specs.Number.{in_range, number_of};
 ghost use Rattle.gate_rules.specs.Label.{label_of};
 ghost use Rattle.bastion.specs.Places.{places_of};
-ghost use Rattle.bastion.specs.Words.{after_options, any_twice, caller_in, caller_of, command_in, drill_by, drill_in, is_option_pair, is_option_name, is_option_word, line_of, order_in, order_of, places_in, slots_in, slots_or, lone_in, name_in, netacl_by, netacl_in, peer_by, peer_in, query_of, run_in, stands, table_in, table_named, client_in, client_of, word_after, word_or};
+ghost use Rattle.bastion.specs.Words.{after_options, any_twice, caller_in, caller_of, command_in, gateway_of, drill_by, drill_in, is_option_pair, is_option_name, is_option_word, line_of, order_in, order_of, places_in, slots_in, slots_or, lone_in, name_in, netacl_by, netacl_in, peer_by, peer_in, query_of, run_in, stands, table_in, table_named, client_in, client_of, word_after, word_or};
 
 use crate::Places;
 use drill_lines::Drill;
@@ -35,6 +35,15 @@ pub struct Caller {
     pub peer: Peer,
 }
 
+/// A gateway to the servers that its clients name.
+#[derive(Clone, Copy, Debug, PartialEq, Eq)]
+pub enum GatewayKind {
+    /// `tn-gw`, to servers of Telnet.
+    Telnet,
+    /// `ftp-gw`, to servers of FTP.
+    Ftp,
+}
+
 /// What the words of a command line ask for that goes by the table.
 #[derive(Drop)]
 pub enum Command {
@@ -48,10 +57,8 @@ pub enum Command {
     Authsrv(Client),
     /// `plug-gw PORT ADDR [NAME]`: link a peer to the server that the table names for this port.
     PlugGw(Caller),
-    /// `tn-gw ADDR [NAME]`: link a peer to the destination that it asks for, where the table permits it.
-    TnGw(Peer),
-    /// `ftp-gw ADDR [NAME]`: link a peer to the FTP server that it asks for, where the table permits it.
-    FtpGw(Peer),
+    /// `tn-gw ADDR [NAME]` or `ftp-gw ADDR [NAME]`: link a peer to the destination that it asks for, where the table permits it.
+    Gateway { kind: GatewayKind, peer: Peer },
     /// `smap ADDR [NAME]`: take a peer's mail into the slots.
     Smap(Peer),
 }
@@ -306,6 +313,13 @@ fn caller_in(words: &[Octets]) -> Option<Caller>
     }
 }
 
+fn gateway_of(kind: GatewayKind, peer: Option<Peer>) -> Option<Command>
+    ensures { result ≡ gateway_of kind peer }
+{
+    let peer = peer?;
+    Some(Command::Gateway { kind, peer })
+}
+
 fn command_in(words: &[Octets]) -> Option<Command>
     ensures { result ≡ command_in words.now }
 {
@@ -324,10 +338,10 @@ fn command_in(words: &[Octets]) -> Option<Command>
                 return caller_in(words).map(Command::PlugGw);
             }
             if is_word(name, b"tn-gw") {
-                return peer_in(words).map(Command::TnGw);
+                return gateway_of(GatewayKind::Telnet, peer_in(words));
             }
             if is_word(name, b"ftp-gw") {
-                return peer_in(words).map(Command::FtpGw);
+                return gateway_of(GatewayKind::Ftp, peer_in(words));
             }
             if is_word(name, b"smap") {
                 return peer_in(words).map(Command::Smap);

@@ -15,10 +15,10 @@ use Rattle.gate_rules.specs.Reading.{RuleBook}
 use Rattle.gate_rules.specs.declared.service.Service.{Service}
 use Rattle.spool_rack.specs.Opening.{IsRackOf}
 use Rattle.spool_rack.specs.Store.{StoreView}
-use Rattle.bastion.specs.Inputs.{IsAllOf, OfText, is_of_line}
+use Rattle.bastion.specs.Inputs.{IsAllOf, is_of_line}
 use Rattle.bastion.specs.Mailing.{with_disks}
 use Rattle.bastion.specs.Outcome.{DeviceRose, KeeperRose, SlotsRose, fault_line_of, status_of}
-use Rattle.bastion.specs.Reading.{Finds, is_early, ruling_in}
+use Rattle.bastion.specs.Reading.{Finds, IsSaid, is_early}
 use Rattle.bastion.specs.Run.{AsksTable, ReadsOnly, TellsIf}
 use Rattle.bastion.specs.Serving.{book_at_first, most_entries}
 use Rattle.bastion.specs.SessionSteps.{Opened, Unopened}
@@ -32,10 +32,10 @@ use Rattle.bastion.specs.declared.outcome.Refusal.TheVariants.{Table, Rule, Reco
 use Rattle.bastion.specs.declared.outcome.Step.{Step}
 use Rattle.bastion.specs.declared.outcome.Step.TheVariants as steps
 use Rattle.bastion.specs.declared.words.Command.{Command}
-use Rattle.bastion.specs.declared.words.Command.TheVariants.{TnGw}
+use Rattle.bastion.specs.declared.words.Command.TheVariants.{Gateway}
+use Rattle.bastion.specs.declared.words.GatewayKind.TheVariants as kinds
 use Rattle.bastion.proofs.DoesLemmas.{AskedFiles}
 use Rattle.bastion.proofs.LeftLemmas.{Later, Left, only_left, some_there, stops_left, tells_later}
-use Rattle.bastion.proofs.ReadingLemmas.{of_text}
 use Rattle.bastion.proofs.RoseLemmas.{stops_rose}
 use Rattle.bastion_ready.specs.Inputs.{HasInputs, HasSite, IsSaidOf, ServerInputs, SiteRules, inputs_by, is_of_table, origin_of, site_rules_of, whose, with_records}
 use Rattle.bastion_ready.specs.Ready.{AreBack, CannotRead, IsCounted, IsReady, IsReadyFor, IsRefused, IsStatus, IsStatusFor, Lacks, OpensBehind, OpensBookAlone, OpensBoth, OpensNotBoth, OpensSite, Refuses, SlotsStop, SlotsUnreadBehind, Stops, StopsBehind, StopsFor, StopsSite}
@@ -64,21 +64,22 @@ no_records refusal of_line come = absurd (cc)
 
 -- what the table says of the services of this line, or the first line that can't be read
 abbrev pub SiteFound : ServerLine → Result SiteRules Outcome → FilesView → FilesView → Type 0
-SiteFound line result old new = Finds (ruling_in (site_rules_of (services_of line.plan.posts))) line.table result old new
+SiteFound line result old new = Finds (site_rules_of (services_of line.plan.posts)) line.table result old new
 
-pub found_for : (line : ServerLine) (services : List Service) (name : List ℕ) (result : Result SiteRules Outcome) (old new : FilesView) → services ≡ services_of line.plan.posts → name ≡ line.table → Finds (ruling_in (site_rules_of services)) name result old new → SiteFound line result old new
+pub found_for : (line : ServerLine) (services : List Service) (name : List ℕ) (result : Result SiteRules Outcome) (old new : FilesView) → services ≡ services_of line.plan.posts → name ≡ line.table → Finds (site_rules_of services) name result old new → SiteFound line result old new
 found_for line services name result old new are is found =
-    subst (λ (n : List ℕ). Finds (ruling_in (site_rules_of (services_of line.plan.posts))) n result old new) is
-    (subst (λ (s : List Service). Finds (ruling_in (site_rules_of s)) name result old new) are found)
+    subst (λ (n : List ℕ). Finds (site_rules_of (services_of line.plan.posts)) n result old new) is
+    (subst (λ (s : List Service). Finds (site_rules_of s) name result old new) are found)
 
 pub said_for : (line : ServerLine) (services : List Service) (site : SiteRules) → services ≡ services_of line.plan.posts → IsSaidOf services site → IsSaidOf (services_of line.plan.posts) site
 said_for line services site are said = subst (λ (s : List Service). IsSaidOf s site) are said
 
-refuses_line : (line : ServerLine) (refusal : Refusal) (world : WorldView) → is_of_line refusal ≡ true → OfText world.files.holds line.table (λ text. ruling_in (site_rules_of (services_of line.plan.posts)) text ≡ Err refusal)
-    → HasInputs line (Err refusal) world
+refuses_line : (line : ServerLine) (refusal : Refusal) (world : WorldView) → is_of_line refusal ≡ true → IsSaid (site_rules_of (services_of line.plan.posts)) line.table (Err refusal) world.files → HasInputs line (Err refusal) world
 refuses_line line refusal world of_line said = record {
+  table = said.table;
   loaded = [];
-  of_table = of_text world.files.holds line.table (λ text h. ap (inputs_by []) h) said;
+  of_table = said.of_text;
+  is = ap (inputs_by []) said.is;
   of_keeper = λ come. no_records refusal of_line come;
 }
 
@@ -92,7 +93,7 @@ early_refuses line (Slot slot at) old new early h = absurd (cc)
 -- what can't be found stops the server
 pub unfound_stops : (line : ServerLine) (outcome : Outcome) (old new : WorldView) → SiteFound line (Err outcome) old.files new.files → AskedFiles old new → StopsFor line outcome old new
 unfound_stops line (Unread refusal) old new h asked = early_refuses line refusal old new h.of_line (record {
-  read = refuses_line line refusal old h.of_line h.of_text;
+  read = refuses_line line refusal old h.of_line h.by;
   only = subst (λ (b : Bool). ReadsOnly line.table (not b) old new) (sym h.of_line) (only_files line old new h.asks asked);
 })
 unfound_stops line (Failed device.Table) old new h asked = record { failed = h; output = asked.output; logs = asked.logs; inputs = asked.inputs }
@@ -125,16 +126,18 @@ kept_loaded keeper before loaded after is are = let all : IsAllOf loaded before 
 
 -- what the table says, and the records that the keeper has or the first that can't be read
 read_inputs : (line : ServerLine) (site : SiteRules) (records : Result (List Fields) (List ℕ × ℕ)) (before after : KeeperView) (world : WorldView) → world.inputs.keeper ≡ Some before
-    → OfText world.files.holds line.table (λ text. ruling_in (site_rules_of (services_of line.plan.posts)) text ≡ Ok site) → ReadsAs records before after → HasInputs line (with_records site records) world
+    → IsSaid (site_rules_of (services_of line.plan.posts)) line.table (Ok site) world.files → ReadsAs records before after → HasInputs line (with_records site records) world
 read_inputs line site records before after world keeper said read = record {
+  table = said.table;
   loaded = read.loaded;
-  of_table = of_text world.files.holds line.table (λ text h. ap (inputs_by read.loaded) h ∙ ap (with_records site) read.is) said;
+  of_table = said.of_text;
+  is = ap (inputs_by read.loaded) said.is ∙ ap (with_records site) read.is;
   of_keeper = λ come. kept_loaded world.inputs.keeper before read.loaded after keeper read.are;
 }
 
 module _ (line : ServerLine) (site : SiteRules) (old mid : WorldView) (found : SiteFound line (Ok site) old.files mid.files) (asked : AskedFiles old mid) where
   site_old : HasSite line old
-  site_old = record { site = site; of_table = found.of_text }
+  site_old = record { site = site; said = found.by }
 
   unopened_stops : (outcome : Outcome) (new : WorldView) → Unopened outcome mid new → StopsFor line outcome old new
   unopened_stops (Failed device.Records) new h = record {
@@ -149,7 +152,7 @@ module _ (line : ServerLine) (site : SiteRules) (old mid : WorldView) (found : S
     logs = ap (λ (w : WorldView). w.logs) h.is ∙ asked.logs;
   }
   unopened_stops (Unread (Record user at)) new h = record {
-    read = read_inputs line site (Err (user, at)) h.before h.after old (old_keeper old mid h.before asked h.keeper) found.of_text h.bad;
+    read = read_inputs line site (Err (user, at)) h.before h.after old (old_keeper old mid h.before asked h.keeper) found.by h.bad;
     only = calls_then line old mid new h.before h.after found.asks asked h.keeper h.called h.is;
   }
   unopened_stops (NoMemory steps.Records) new h = record { site = site_old; only = calls_then line old mid new h.before h.after found.asks asked h.keeper h.called h.is }
@@ -160,7 +163,7 @@ module _ (line : ServerLine) (site : SiteRules) (old mid : WorldView) (found : S
   opened_inputs book = record { site = site; records = book.origin.records }
 
   opened_read : (book : BookView) (new : WorldView) → Opened site.policy book mid new → HasInputs line (Ok (opened_inputs book)) old
-  opened_read book new o = read_inputs line site (Ok book.origin.records) o.before book.keeper old (old_keeper old mid o.before asked o.keeper) found.of_text o.records
+  opened_read book new o = read_inputs line site (Ok book.origin.records) o.before book.keeper old (old_keeper old mid o.before asked o.keeper) found.by o.records
 
   opened_only : (book : BookView) (new : WorldView) → Opened site.policy book mid new → ReadsOnly line.table true old (with_keeper book.keeper mid)
   opened_only book new o = calls_then line old mid (with_keeper book.keeper mid) o.before book.keeper found.asks asked o.keeper o.called refl
@@ -242,7 +245,7 @@ lacks_start (Some line) world is = inl refl
 
 -- a command that needs what a server does
 abbrev any_command : Command
-any_command = TnGw (record { addr = None; name = None })
+any_command = Gateway kinds.Telnet (record { addr = None; name = None })
 
 same_left : (old new : WorldView) → new ≡ old → Left old new
 same_left old new is = subst (λ (w : WorldView). Left old w) (sym is) (record { out = refl; input = refl; clock = refl; dialer = refl; disks = refl; output = refl; logs = refl; keeper = λ there. there; table = refl })

@@ -5,7 +5,7 @@ use Rattle.auth_machine.specs.Opening.{records_in}
 use Rattle.auth_machine.specs.Policy.{PolicyView, policy_of}
 use Rattle.auth_records.specs.Spelling.{Fields}
 use Rattle.bastion.specs.Inputs.{IsAllOf, OfText, is_of_line}
-use Rattle.bastion.specs.Reading.{ruling_in}
+use Rattle.bastion.specs.Reading.{IsSaid, ruling_by}
 use Rattle.bastion.specs.WorldView.{WorldView}
 use Rattle.bastion.specs.declared.outcome.Refusal.{Refusal}
 use Rattle.bastion.specs.declared.outcome.Refusal.TheVariants.{Record}
@@ -14,7 +14,9 @@ use Rattle.fw_outside.specs.KeeperView.{NamedBytes}
 use Rattle.gate_rules.specs.Reading.{RuleBook, rules_of}
 use Rattle.gate_rules.specs.declared.fault.RuleFault.{RuleFault}
 use Rattle.gate_rules.specs.declared.service.Service.{Service}
+use Rattle.netperm_table.specs.Table.{table_of}
 use Rattle.netperm_table.specs.declared.line.Line.{Line}
+use Rattle.netperm_table.specs.declared.table_fault.TableFault.{TableFault}
 
 -- ---- what the table says
 
@@ -75,23 +77,25 @@ abbrev pub inputs_by : NamedBytes → Result SiteRules Refusal → Result Server
 inputs_by loaded (Ok site) = with_records site (records_in loaded)
 inputs_by loaded (Err refusal) = Err refusal
 
--- the inputs that a table's text and a keeper's records make for these services, or what refuses them
-abbrev pub inputs_of : List Service → List ℕ → NamedBytes → Result ServerInputs Refusal
-inputs_of services text loaded = inputs_by loaded (ruling_in (site_rules_of services) text)
+-- the inputs that a table, as it was read, and a keeper's records make for these services, or what refuses them
+abbrev pub inputs_of : List Service → Result (List Line) TableFault → NamedBytes → Result ServerInputs Refusal
+inputs_of services table loaded = inputs_by loaded (ruling_by (site_rules_of services) table)
 
 -- a line of the table refuses, before the records are come to
 abbrev pub is_of_table : Result ServerInputs Refusal → Bool
 is_of_table (Ok inputs) = false
 is_of_table (Err refusal) = is_of_line refusal
 
--- these are the inputs of a server, or this refuses it: by the text under the table's name, where the files tell, and by what
--- the keeper has, where that is come to
+-- By one table and one list of records these are the inputs of a server, or this refuses it. The table is that of the text under
+-- its name, where the files tell what they hold; the records are all that the keeper has, where they are come to.
 pub record HasInputs (line : ServerLine) (read : Result ServerInputs Refusal) (world : WorldView) : Type 0 where
+  pub table : Result (List Line) TableFault
   pub loaded : NamedBytes
-  pub of_table : OfText world.files.holds line.table (λ text. inputs_of (services_of line.plan.posts) text loaded ≡ read)
+  pub of_table : OfText world.files.holds line.table (λ text. table_of text ≡ table)
+  pub is : inputs_of (services_of line.plan.posts) table loaded ≡ read
   pub of_keeper : is_of_table read ≡ false → IfSome world.inputs.keeper (IsAllOf loaded)
 
 -- what the table says of a server's services can be read: by the text under the table's name, where the files tell
 pub record HasSite (line : ServerLine) (world : WorldView) : Type 0 where
   pub site : SiteRules
-  pub of_table : OfText world.files.holds line.table (λ text. ruling_in (site_rules_of (services_of line.plan.posts)) text ≡ Ok site)
+  pub said : IsSaid (site_rules_of (services_of line.plan.posts)) line.table (Ok site) world.files

@@ -5,7 +5,7 @@ use Rattle.auth_machine.specs.Policy.{PolicyView}
 use Rattle.bastion.specs.Inputs.{is_of_line}
 use Rattle.bastion.specs.Mailing.{OpensRack, SlotsUnread}
 use Rattle.bastion.specs.Outcome.{DeviceRose, SlotsRose, fault_line_of, status_of}
-use Rattle.bastion.specs.Reading.{Finds, ruling_in}
+use Rattle.bastion.specs.Reading.{Finds}
 use Rattle.bastion.specs.Run.{AsksTable, FilesUnread, ReadsOnly, TellsIf, Unused}
 use Rattle.bastion.specs.Serving.{book_at_first, most_entries}
 use Rattle.bastion.specs.SessionSteps.{Opened, Unopened}
@@ -196,7 +196,7 @@ pub record OpensBehind (doors : List Door) (rules : List (Service × RuleBook)) 
 pub record OpensSite (name : List ℕ) (services : List Service) (rules : List (Service × RuleBook)) (book : BookView) (old new : WorldView) : Type 0 where
   pub site : SiteRules
   pub middle : WorldView
-  pub found : Finds (ruling_in (site_rules_of services)) name (Ok site) old.files middle.files
+  pub found : Finds (site_rules_of services) name (Ok site) old.files middle.files
   pub said : IsSaidOf services site
   pub output : middle.output ≡ old.output
   pub logs : middle.logs ≡ old.logs
@@ -213,7 +213,7 @@ StopsBehind (Err first) outcome old new = (outcome ≡ first) × (new ≡ old)
 pub record StopsSite (name : List ℕ) (services : List Service) (outcome : Outcome) (old new : WorldView) : Type 0 where
   pub read : Result SiteRules Outcome
   pub middle : WorldView
-  pub found : Finds (ruling_in (site_rules_of services)) name read old.files middle.files
+  pub found : Finds (site_rules_of services) name read old.files middle.files
   pub output : middle.output ≡ old.output
   pub logs : middle.logs ≡ old.logs
   pub inputs : middle.inputs ≡ old.inputs

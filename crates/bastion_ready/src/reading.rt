@@ -1,6 +1,6 @@
 //! From the files to what the table says of a server's services.
 ghost use Rattle.std.specs.Prelude.{◌≡◌, ◌++◌, ◌∷◌, [], IfErr, IfOk, OnOk, Ok, Err};
-ghost use Rattle.bastion.specs.Reading.{Finds, ReadsLines, ruling_in};
+ghost use Rattle.bastion.specs.Reading.{Finds, ReadsLines};
 ghost use Rattle.bastion_ready.specs.Inputs.{AddsRules, IsSaidOf, rules_of_each, site_rules_of};
 ghost use Rattle.bastion.specs.declared.outcome.Outcome.TheVariants.{NoMemory};
 ghost use Rattle.bastion.specs.declared.outcome.Step.TheVariants as steps;
@@ -122,7 +122,7 @@ fn find_site<F: Files>(
     name: &[u8],
     services: &[Service],
 ) -> Result<SiteRules, Outcome>
-    ensures found { Finds (ruling_in (site_rules_of services.now)) name.now result (F.files_view files.old)
+    ensures found { Finds (site_rules_of services.now) name.now result (F.files_view files.old)
         (F.files_view files.new) }
     ensures said { IfOk result (IsSaidOf services.now) }
 {
@@ -139,7 +139,7 @@ pub(crate) fn site_for<T: Kit>(
     services: &[Service],
     world: &mut World<T>,
 ) -> Result<SiteRules, Outcome>
-    ensures found { Finds (ruling_in (site_rules_of services.now)) name.now result world.old.files world.new.files }
+    ensures found { Finds (site_rules_of services.now) name.now result world.old.files world.new.files }
     ensures said { IfOk result (IsSaidOf services.now) }
     ensures output { world.new.output ≡ world.old.output }
     ensures logs { world.new.logs ≡ world.old.logs }

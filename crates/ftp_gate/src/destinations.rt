@@ -47,6 +47,7 @@ fn line_of_denial(line: u32, denial: &Denial) -> u32
         Denial::Unknown
         | Denial::Wrong
         | Denial::Disabled
+        | Denial::Expired { .. }
         | Denial::Sleeping { .. }
         | Denial::Busy { .. }
         | Denial::Exhausted

@@ -7,6 +7,7 @@
 use bastion::{
     Command, CommandLine, Device, Job, Mailer, Order, Outcome, Places, Step, World, places, run,
 };
+use binding::{Binding, Parted, part};
 use fw_memory::MemDice;
 use fw_outside::{Dice, Sink};
 use fw_real::{Paths, Reading, Records, Salts, StandardInput, SystemClock, Writing};
@@ -22,6 +23,7 @@ use std::process::ExitCode;
 use std::sync::Wait;
 use std::thread::Threads;
 
+mod binding;
 mod process;
 mod serving;
 mod spool;
@@ -32,8 +34,8 @@ usage: fwtk [-t FILE] netacl [-run] DAEMON ADDRESS [NAME]
        fwtk [-t FILE] [-r FILE] authsrv [-console] ADDRESS [NAME]
        fwtk [-t FILE] plug-gw PORT ADDRESS [NAME]
        fwtk [-t FILE] [-r FILE] tn-gw ADDRESS [NAME]
-       fwtk [-t FILE] [-r FILE] ftp-gw ADDRESS [NAME]
-       fwtk [-t FILE] [-r FILE] [-s FOLDER] [-n SLOTS] [-m PROGRAM] serve WORKERS SERVICE@PORT ..
+       fwtk [-t FILE] [-r FILE] [-b ADDRESS] [-p LOW-HIGH] ftp-gw ADDRESS [NAME]
+       fwtk [-t FILE] [-r FILE] [-s FOLDER] [-n SLOTS] [-m PROGRAM] [-b ADDRESS] [-p LOW-HIGH] serve WORKERS SERVICE@PORT ..
        fwtk [-t FILE] [-s FOLDER] [-n SLOTS] smap ADDRESS [NAME]
        fwtk [-s FOLDER] [-n SLOTS] [-m PROGRAM] smapd
        fwtk [-s FOLDER] [-n SLOTS] spool-init
@@ -44,6 +46,8 @@ usage: fwtk [-t FILE] netacl [-run] DAEMON ADDRESS [NAME]
   -s FOLDER  the folder of the mail's slots, spool in the current directory by default
   -n SLOTS  how many slots there are, 1 to 64, 8 by default
   -m PROGRAM  the program that mail is handed to, /usr/lib/sendmail by default
+  -b ADDRESS  the address at which serve listens, all by default, and at which ftp-gw waits for data
+  -p LOW-HIGH  the ports at which data is waited for, any that the system picks by default
 fwtk(8) lists the exit statuses; netacl(8), authsrv(8), plug-gw(8), tn-gw(8), ftp-gw(8), serve(8), smap(8), smapd(8),
 netperm-table(5) and spool(5) have the rest.
 ";
@@ -143,13 +147,22 @@ impl<'a> Needs<'a> {
     }
 }
 
+// The dialer of a process whose client's connection has these ends.
+fn dialer_for(
+    rt: HostRuntime,
+    binding: &Binding,
+    hosts: Option<ClientHosts>,
+) -> TcpDialer<HostRuntime> {
+    TcpDialer::new(rt, rt.alloc(), binding.hosts(hosts)).with_doors_at(binding.ports())
+}
+
 fn run_with<H, D>(
     threads: &H,
     rt: HostRuntime,
     words: &[Octets],
     needs: &Needs,
     output: LinkSink<StandardOutput>,
-    hosts: Option<ClientHosts>,
+    dialer: TcpDialer<HostRuntime>,
     dice: D,
 ) -> Result<u8, Outcome>
 where
@@ -168,7 +181,7 @@ where
         clock: SystemClock::new(rt),
         dice,
         keeper: Some(keeper),
-        dialer: TcpDialer::new(rt, rt.alloc(), hosts),
+        dialer,
         launcher: Programs::new(rt, rt.alloc()),
         disks,
     };
@@ -176,12 +189,12 @@ where
 }
 
 fn obey<H: Threads + Wait + Sync>(threads: &H, rt: HostRuntime) -> Result<u8, Stop> {
-    let words = read_words(&rt)?;
+    let Parted { binding, words } = part(rt.alloc(), read_words(&rt)?)?;
     if is_server(&words) {
-        return Ok(serve_words(threads, rt, &words)?);
+        return Ok(serve_words(threads, rt, binding.site(), &words)?);
     }
     let stdout = StandardOutput::of(rt.stdout());
-    let hosts = stdout.hosts();
+    let dialer = dialer_for(rt, &binding, stdout.hosts());
     let mut output = LinkSink::new(stdout);
     if let Some(text) = answer(&words) {
         return match output.give(text) {
@@ -191,10 +204,10 @@ fn obey<H: Threads + Wait + Sync>(threads: &H, rt: HostRuntime) -> Result<u8, St
     }
     let needs = Needs::of(&words);
     if !needs.salts {
-        return Ok(run_with(threads, rt, &words, &needs, output, hosts, MemDice::new(0))?);
+        return Ok(run_with(threads, rt, &words, &needs, output, dialer, MemDice::new(0))?);
     }
     match Salts::new(&rt) {
-        Ok(salts) => Ok(run_with(threads, rt, &words, &needs, output, hosts, salts)?),
+        Ok(salts) => Ok(run_with(threads, rt, &words, &needs, output, dialer, salts)?),
         Err(_) => Err(Stop::NoRandomBytes),
     }
 }

@@ -13,7 +13,7 @@ use fw_real::{Paths, Reading, Records, StandardInput, SystemClock, Writing};
 use fw_types::{NoMemory, Octets, append, append_u32};
 use fwtk_serve::serve;
 use gate_rules::Service;
-use real_doors::{Closer, Doors, HostNames, SystemPacer, TcpAcceptor, open_doors};
+use real_doors::{Closer, Doors, HostNames, Site, SystemPacer, TcpAcceptor, open_doors};
 use real_links::{LinkSink, Programs, StandardOutput, TcpDialer};
 use std::alloc::Global;
 use std::fs;
@@ -90,9 +90,10 @@ fn end_with_input<H: Threads>(
 fn open_until_end<H: Threads>(
     threads: &H,
     rt: HostRuntime,
+    site: Site,
     posts: &[(Service, u16)],
 ) -> Result<Vec<TcpAcceptor>, NoMemory> {
-    let Doors { doors, closer } = open_doors(rt, posts, host_names(&rt)?)?;
+    let Doors { doors, closer } = open_doors(rt, site, posts, host_names(&rt)?)?;
     tell_closed(&rt, &doors);
     end_with_input(threads, rt, closer)?;
     Ok(doors)
@@ -101,13 +102,14 @@ fn open_until_end<H: Threads>(
 fn serve_doors<H: Threads + Wait + Sync>(
     threads: &H,
     rt: HostRuntime,
+    site: Site,
     ready: Ready<Records, SlotDisk>,
     mailers: &mut Vec<Box<dyn Mailer>>,
 ) -> Result<u8, NoMemory>
     requires may { All MayServe ready.rules.items }
     requires some { 0 < length mailers.old.items }
 {
-    let doors = open_until_end(threads, rt, &ready.doors)?;
+    let doors = open_until_end(threads, rt, site, &ready.doors)?;
     let Ready {
         doors: _,
         rules,
@@ -174,11 +176,12 @@ fn make_ready(
     ready(rt.alloc(), words, &mut world)
 }
 
-/// Serves the clients of these words, until standard input ends or no door is left: the exit status. The files of the slots are
+/// Serves the clients of these words, who come to this site, until standard input ends or no door is left: the exit status. The files of the slots are
 /// opened only for a server of mail.
 pub fn serve_words<H: Threads + Wait + Sync>(
     threads: &H,
     rt: HostRuntime,
+    site: Site,
     words: &[Octets],
 ) -> Result<u8, Outcome> {
     let places = places_in(words);
@@ -188,7 +191,7 @@ pub fn serve_words<H: Threads + Wait + Sync>(
     let keeper = Records::new(rt, places.db)?;
     let disks = disks_of(rt, &places, slots)?;
     match make_ready(rt, words, keeper, disks) {
-        Ok(ready) => Ok(serve_doors(threads, rt, ready, &mut mailers)?),
+        Ok(ready) => Ok(serve_doors(threads, rt, site, ready, &mut mailers)?),
         Err(status) => Ok(status),
     }
 }

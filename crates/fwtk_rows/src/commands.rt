@@ -1,7 +1,7 @@
 //! Rows whose words are read and not run.
 
 use arrayvec::ArrayVec;
-use bastion::{Caller, Command, Job, Order, Query, places, read_order, table_named};
+use bastion::{Caller, Command, GatewayKind, Job, Order, Query, places, read_order, table_named};
 use format_of_rows::{Row, TABLE};
 use fw_types::{NoMemory, Octets, Peer};
 use gate_rules::Service;
@@ -51,8 +51,14 @@ fn add_command(alloc: Global, out: &mut Vec<u8>, command: &Command) -> Result<()
         Command::Table(query) => add_query(out, b"table ", query),
         Command::Authsrv(client) if client.console => add_client(out, b"console ", &client.peer),
         Command::PlugGw(caller) => add_caller(alloc, out, caller),
-        Command::TnGw(peer) => add_client(out, b"tn-gw ", peer),
-        Command::FtpGw(peer) => add_client(out, b"ftp-gw ", peer),
+        Command::Gateway {
+            kind: GatewayKind::Telnet,
+            peer,
+        } => add_client(out, b"tn-gw ", peer),
+        Command::Gateway {
+            kind: GatewayKind::Ftp,
+            peer,
+        } => add_client(out, b"ftp-gw ", peer),
         Command::Smap(peer) => add_client(out, b"smap ", peer),
         Command::Authsrv(client) => add_client(out, b"authsrv ", &client.peer),
     }

@@ -3,7 +3,7 @@ ghost use Rattle.client_service.specs.Conn.{IsServed};
 
 use auth_machine::{Book, OpenFault, Policy};
 use auth_port::FaultyPort;
-use bastion::{Command, Order, Outcome, conn, read_order, table_named};
+use bastion::{Command, GatewayKind, Order, Outcome, conn, read_order, table_named};
 use fw_memory::{Calls, MemFiles, MemKeeper, MemSource};
 use fw_outside::Files;
 use fw_types::{Ending, Octets, Peer};
@@ -31,8 +31,22 @@ fn client_of(words: &[Octets]) -> Option<(Service, Peer)> {
         Some(Order::ByTable(Command::Authsrv(client))) if !client.console => {
             Some((Service::Authsrv, client.peer))
         }
-        Some(Order::ByTable(Command::TnGw(peer))) => Some((Service::TnGw, peer)),
-        Some(Order::ByTable(Command::FtpGw(peer))) => Some((Service::FtpGw, peer)),
+        Some(
+            Order::ByTable(
+                Command::Gateway {
+                    kind: GatewayKind::Telnet,
+                    peer,
+                },
+            ),
+        ) => Some((Service::TnGw, peer)),
+        Some(
+            Order::ByTable(
+                Command::Gateway {
+                    kind: GatewayKind::Ftp,
+                    peer,
+                },
+            ),
+        ) => Some((Service::FtpGw, peer)),
         _ => None,
     }
 }

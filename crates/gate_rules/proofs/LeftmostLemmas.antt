@@ -28,6 +28,7 @@ use Rattle.gate_rules.specs.Service.{plug_port}
 use Rattle.gate_rules.specs.Settings.{set_to, value_alone, value_of}
 use Rattle.gate_rules.specs.Why.{is_shown}
 use Rattle.gate_rules.proofs.OptionsBuilderLemmas.{after_drop}
+use Rattle.gate_rules.proofs.HoursLemmas.{hosts_and_hours_stay}
 use Rattle.gate_rules.proofs.StaysLemmas.{Stays, good_stays, unshown_stays, same_stays, mapped_stays, patterns_stay, NoOption, SomeOption, further, split, hosts_stay}
 
 -- lists of options
@@ -239,7 +240,7 @@ tested_stays false rest longer stays = same_stays _ _ BadWord
 
 operation_hosts_stay : (words more : List Word) → Stays (operation_hosts words) (operation_hosts (words ++ more))
 operation_hosts_stay [] more = unshown_stays _ MissingValue (operation_hosts more) refl
-operation_hosts_stay (w ∷ words) more = hosts_stay (w ∷ words) more
+operation_hosts_stay (w ∷ words) more = hosts_and_hours_stay (w ∷ words) more
 
 operation_at_stays : (words more : List Word) → Stays (operation_at words) (operation_at (words ++ more))
 operation_at_stays [] more = unshown_stays _ MissingValue (operation_at more) refl

@@ -1,4 +1,6 @@
 pub mod BucketLemmas
+pub mod HoursExamples
+pub mod HoursLemmas
 pub mod IndexLemmas
 pub mod LawLemmas
 pub mod LeftmostLemmas

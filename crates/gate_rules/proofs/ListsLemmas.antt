@@ -15,6 +15,7 @@ use Rattle.gate_rules.specs.declared.fault.Why.{Why}
 use Rattle.gate_rules.specs.declared.fault.Why.TheVariants.{BadPattern, NoHosts, TooMany}
 use Rattle.gate_rules.specs.Faults.{nothing_fault}
 use Rattle.gate_rules.specs.Lists.{alone, is_pattern, is_verb_word, patterns_of, verb_in, verbs_of}
+use Rattle.gate_rules.specs.Operation.{hosts_unless}
 
 -- all were tested
 pub all_at_end : {X : Type 0} (p : X → Bool) (few : List X) (i : ℕ) → length few ≤ i → list_all p (drop i few) ≡ list_all p few → list_all p few ≡ true
@@ -114,3 +115,8 @@ pub alone_fault : (hosts : Result (List Written) Why) (words : List Word) → re
 alone_fault (Err why) words = refl
 alone_fault (Ok hosts) [] = refl
 alone_fault (Ok hosts) (word ∷ words) = refl
+
+pub unless_fault : (hosts : Result (List Written) Why) (fault : Option Why) → result_err (hosts_unless hosts fault) ≡ option_or (result_err hosts) fault
+unless_fault (Err why) fault = refl
+unless_fault (Ok hosts) None = refl
+unless_fault (Ok hosts) (Some why) = refl

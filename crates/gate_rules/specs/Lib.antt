@@ -1,6 +1,7 @@
 pub mod Attribute
 pub mod Bucket
 pub mod Faults
+pub mod Hours
 pub mod Index
 pub mod Label
 pub mod Lists
@@ -11,5 +12,6 @@ pub mod Reading
 pub mod Service
 pub mod Settings
 pub mod SharedOptions
+pub mod Times
 pub mod Verdict
 pub mod Why

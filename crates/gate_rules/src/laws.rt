@@ -10,6 +10,8 @@ ghost use Rattle.gate_rules.specs.declared.parsed_option.ParsedOption.{ParsedOpt
 ghost use Rattle.gate_rules.specs.declared.rule.Rule.{Rule};
 ghost use Rattle.gate_rules.specs.declared.service.Service.{Service};
 ghost use Rattle.gate_rules.specs.declared.setting.Assigned.{Assigned};
+ghost use Rattle.gate_rules.specs.declared.hours.Hours.{Hours};
+ghost use Rattle.gate_rules.specs.Hours.{hours_of_operation};
 ghost use Rattle.gate_rules.specs.Lists.{is_pattern, mapped, patterns_of};
 ghost use Rattle.gate_rules.specs.Options.{options_after, option_at, width_at};
 ghost use Rattle.gate_rules.specs.Reading.{is_of, rules_of, effect_of};
@@ -58,6 +60,11 @@ pub fn options_follow_one_another()
         option_at service word words ≡ Ok option
         → options_after service 0 (word ∷ words) ≡ mapped (λ more.
         option ∷ more) (options_after service 0 (drop (width_at service word words) words)) }
+{}
+
+/// Hours are minutes of a day.
+pub fn hours_are_of_one_day()
+    ensures { (line : Line) (hours : Hours) → hours_of_operation line ≡ Some hours → (hours.from < 1440) × (hours.to < 1440) }
 {}
 
 /// The first rule whose host list matches decides.

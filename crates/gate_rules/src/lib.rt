@@ -4,13 +4,15 @@
 //! line that can't be read with the cause of its leftmost bad word. [`Rules::verdict`] is decided by the first line
 //! whose host list matches the peer. [`Rules::options`] gives the options of a permit line, [`destination`] whether
 //! they let a client go to a destination, and [`Rules::setting`] the value and the line of the first line that sets a
-//! setting.
+//! setting. Of a line about operations [`hosts_of_operation`] gives the hosts, and [`hours_of_operation`] the hours in
+//! which it is open.
 #![tactic(auto)]
 
 mod attribute;
 pub mod bucket_laws;
 mod fault;
 mod gathered;
+mod hours;
 mod index;
 mod label;
 pub mod laws;
@@ -20,6 +22,7 @@ mod lists;
 mod merging;
 mod operation;
 mod operation_hosts;
+mod operation_hours;
 mod option_check;
 mod option_kind;
 mod options;
@@ -35,8 +38,10 @@ mod verdict;
 mod words;
 
 pub use fault::{RuleFault, RulesFault, Why};
+pub use hours::Hours;
 pub use label::Label;
 pub use operation_hosts::hosts_of_operation;
+pub use operation_hours::hours_of_operation;
 pub use options::{Options, destination};
 pub use rule::Rule;
 pub use rules::Rules;

@@ -11,7 +11,7 @@ use host_pattern::{PatternList, Word};
 use netperm_table::Line;
 use std::alloc::Global;
 
-fn is_about_operations(line: &Line) -> bool
+pub(crate) fn is_about_operations(line: &Line) -> bool
     ensures { result ≡ is_about_operations line.now }
 {
     is_of(line, b"authsrv") && is_operation(line.attribute.bytes())

@@ -1,12 +1,12 @@
 -- Bodies of an octet: how they begin, and whom they can't match.
-use Rattle.std.proofs.Common.{◌≡◌, ◌≢◌, ℕ, zero, suc, cond, ◌+◌, ◌<◌, ◌^◌, Bool, true, false, ◌&&◌, List, [], ◌∷◌, ◌++◌, length, get_or, take, drop, refl, sym, ◌∙◌, ap, arith, inl, inr}
-use Rattle.std.specs.Prelude.{IsTrue, ◌==◌, nat_lt, Option, Some, None}
+use Rattle.std.proofs.Common.{◌≡◌, ◌≢◌, ℕ, zero, suc, cond, ◌+◌, ◌<◌, ◌^◌, Bool, true, false, ◌&&◌, ◌||◌, List, [], ◌∷◌, ◌++◌, length, get_or, take, drop, append_assoc, refl, sym, ◌∙◌, ap, arith, inl, inr}
+use Rattle.std.specs.Prelude.{IsTrue, ◌⊎◌, ◌==◌, is_some, nat_lt, Option, Some, None}
 use Rattle.std.specs.Char.{is_ascii_digit}
 use Rattle.std.specs.Fmt.{decimal}
 use Rattle.std.specs.List.{list_all, position}
 use Rattle.std.specs.Str.{bytes_eq}
 use Rattle.std.specs.Str.Parse.{digits_value}
-use Rattle.std.proofs.lemmas.Bool.{and_parts, cases_eq, eq-eqb, eqb-true, false_from_ne_true, lt-ltb, ltb-true, ne_eqb}
+use Rattle.std.proofs.lemmas.Bool.{and_parts, cases_eq, eq-eqb, eqb-true, false_from_ne_true, lt-ltb, ltb-true, ne_eqb, or_left, or_right}
 use Rattle.std.proofs.lemmas.Bool.Decides.{nat_tests}
 use Rattle.std.proofs.lemmas.Fmt.{decimal_injective, decimal_is_IsNumeral}
 use Rattle.std.proofs.lemmas.List.{drop_more, length-append, take-append-drop}
@@ -19,13 +19,16 @@ use Rattle.fw_types.specs.Quad.{dotted, octet_of}
 use Rattle.fw_types.specs.declared.peer.Peer.{Peer}
 use Rattle.host_pattern.specs.declared.bucket.Bucket.{Bucket}
 use Rattle.host_pattern.specs.declared.bucket.Bucket.TheVariants.{Octet, Every}
-use Rattle.host_pattern.specs.Bucket.{bucket_of, bucket_with, list_reaches, octet_before}
+use Rattle.host_pattern.specs.declared.mask.Masked.{Masked}
+use Rattle.host_pattern.specs.Bucket.{bucket_of, bucket_with, list_reaches, octet_before, octet_masked, octet_of_body}
 use Rattle.host_pattern.specs.Glob.{glob}
+use Rattle.host_pattern.specs.Mask.{masked_of}
 use Rattle.host_pattern.specs.Party.{body_matches, is_for_addresses, is_stars}
 use Rattle.host_pattern.specs.Pattern.{Written}
 use Rattle.host_pattern.specs.PatternList.{list_matches}
 use Rattle.host_pattern.proofs.BucketLemmas.{all_digits}
 use Rattle.host_pattern.proofs.ListLemmas.{next_decides}
+use Rattle.host_pattern.proofs.MaskLaws.{mask_needs_address, mask_needs_octet, masked_has_colon, masked_kind, spelled, two_quads}
 use Rattle.host_pattern.proofs.PartyLaws.{addresses, known}
 
 -- a body of an octet: its decimal, a period and a rest
@@ -34,6 +37,13 @@ pub record Begins (body : List ℕ) (octet : ℕ) : Type 0 where
   pub kind : IsTrue (is_for_addresses body)
   pub rest : List ℕ
   pub is : body ≡ decimal octet ++ 46 ∷ rest
+
+-- an address that begins with an octet, and a mask that begins with 255
+pub record BeginsMasked (body : List ℕ) (octet : ℕ) : Type 0 where
+  pub masked : Masked
+  pub is : masked_of body ≡ Some masked
+  pub narrow : get_or masked.mask 0 0 ≡ 255
+  pub first : get_or masked.address 0 0 ≡ octet
 
 octet_is : (t : List ℕ) (n : ℕ) → octet_of t ≡ Some n → (n < 256) × (t ≡ decimal n)
 octet_is t n h =
@@ -70,17 +80,23 @@ begins_before body octet (Some i) kind at h =
           ∙ ap (λ back. decimal octet ++ back) (drop_more body i 0 found.0 ∙ ap (λ b. b ∷ drop (i + 1) body) dot);
     }
 
-pub begins : (body : List ℕ) (octet : ℕ) → bucket_of body ≡ Octet octet → Begins body octet
+begins_masked : (body : List ℕ) (octet : ℕ) (masked : Option Masked) → masked_of body ≡ masked → octet_masked masked ≡ Some octet → BeginsMasked body octet
+begins_masked body octet None is h = absurd (cc)
+begins_masked body octet (Some masked) is h =
+    let read = cond_some (get_or masked.mask 0 0 == 255) (get_or masked.address 0 0) octet h in
+    record { masked = masked; is = is; narrow = eqb-true (get_or masked.mask 0 0) 255 read.0; first = read.1 }
+
+pub begins : (body : List ℕ) (octet : ℕ) → bucket_of body ≡ Octet octet → Begins body octet ⊎ BeginsMasked body octet
 unfolding bucket_of
-begins body octet h = by (is_for_addresses body) refl h
+begins body octet h = by (is_for_addresses body) refl (some (octet_of_body body) h)
   where
     some : (o : Option ℕ) → bucket_with o ≡ Octet octet → o ≡ Some octet
     some None e = absurd (cc)
     some (Some n) e = cc
 
-    by : (kind : Bool) → is_for_addresses body ≡ kind → cond kind (bucket_with (octet_before (position is_dot body) body)) Every ≡ Octet octet → Begins body octet
-    by false kind e = absurd (cc)
-    by true kind e = begins_before body octet (position is_dot body) kind refl (some _ e)
+    by : (kind : Bool) → is_for_addresses body ≡ kind → cond kind (octet_before (position is_dot body) body) (octet_masked (masked_of body)) ≡ Some octet → Begins body octet ⊎ BeginsMasked body octet
+    by false kind e = inr (begins_masked body octet (masked_of body) refl e)
+    by true kind e = inl (begins_before body octet (position is_dot body) kind refl e)
 
 -- Which addresses the body can match
 
@@ -115,24 +131,31 @@ no_stars : (body : List ℕ) (octet : ℕ) → Begins body octet → is_stars bo
 no_stars body octet is = rw is.is (dot_in (decimal octet) is.rest)
 
 pub needs_address : (body : List ℕ) (octet : ℕ) (party : Peer) → bucket_of body ≡ Octet octet → party.addr ≡ None → body_matches body party ≡ false
-needs_address body octet party h none =
-    let is = begins body octet h in
-    addresses body party is.kind (no_stars body octet is) none
+needs_address body octet party h none = elim (begins body octet h) [
+  | inl is ↦ addresses body party is.kind (no_stars body octet is) none
+  | inr is ↦ mask_needs_address body party (masked_has_colon body is.masked is.is) none
+]
 
 other_front : (octet first : ℕ) (r s : List ℕ) → octet < 256 → first < 256 → first ≢ octet → glob (decimal octet ++ 46 ∷ r) (decimal first ++ 46 ∷ s) ≡ false
 other_front octet first r s small wide ne = false_from_ne_true (glob (decimal octet ++ 46 ∷ r) (decimal first ++ 46 ∷ s)) (λ h.
     let same = same_front (decimal octet) (decimal first) r s (all_digits octet (omega arith)) (all_digits first (omega arith)) h in
     ne (sym (decimal_injective octet first (omega arith) (omega arith) same)))
 
-pub needs_octet : (body : List ℕ) (octet : ℕ) (party : Peer) (first second third fourth : ℕ) → bucket_of body ≡ Octet octet
+begins_otherwise : (body : List ℕ) (octet : ℕ) (party : Peer) (first second third fourth : ℕ) → Begins body octet
     → party.addr ≡ Some (first ∷ second ∷ third ∷ fourth ∷ []) → first < 256 → first ≢ octet → body_matches body party ≡ false
 unfolding body_matches
-needs_octet body octet party first second third fourth h addr small ne =
-    let is = begins body octet h in
+begins_otherwise body octet party first second third fourth is addr small ne =
     let stars : is_stars body ≡ false = no_stars body octet is in
     let rest : List ℕ = dotted (second ∷ third ∷ fourth ∷ []) in
     let globs : glob body (decimal first ++ 46 ∷ rest) ≡ false = rw is.is (other_front octet first is.rest rest is.small small ne) in
     rw (known body is.kind, stars, is.kind, addr) globs
+
+pub needs_octet : (body : List ℕ) (octet : ℕ) (party : Peer) (first second third fourth : ℕ) → bucket_of body ≡ Octet octet
+    → party.addr ≡ Some (first ∷ second ∷ third ∷ fourth ∷ []) → first < 256 → first ≢ octet → body_matches body party ≡ false
+needs_octet body octet party first second third fourth h addr small ne = elim (begins body octet h) [
+  | inl is ↦ begins_otherwise body octet party first second third fourth is addr small ne
+  | inr is ↦ mask_needs_octet body is.masked party first (second ∷ third ∷ fourth ∷ []) is.is is.narrow addr small (λ same. ne (same ∙ is.first))
+]
 
 -- Which bodies are of an octet
 
@@ -161,8 +184,32 @@ bodies octet rest small kind =
     let octet_there : octet_of (take (length digits) (digits ++ 46 ∷ rest)) ≡ Some octet = ap octet_of front ∙ octet_of-decimal octet small in
     rw (kind, place, octet_there) refl
 
-pub octets : (body : List ℕ) (octet : ℕ) → bucket_of body ≡ Octet octet → (octet < 256) × IsTrue (is_for_addresses body) × ((rest : List ℕ) × (body ≡ decimal octet ++ 46 ∷ rest))
-octets body octet h = let is = begins body octet h in (is.small, is.kind, (is.rest, is.is))
+pub masked_bodies : (body : List ℕ) (masked : Masked) → masked_of body ≡ Some masked → get_or masked.mask 0 0 ≡ 255 → bucket_of body ≡ Octet (get_or masked.address 0 0)
+unfolding bucket_of
+masked_bodies body masked is narrow =
+    let kind = masked_kind body (masked_has_colon body masked is) in
+    rw (kind.2, is, narrow) refl
+
+abbrev OfOctet : List ℕ → ℕ → Type 0
+OfOctet body octet = (octet < 256) × IsTrue (is_for_addresses body || is_some (octet_masked (masked_of body))) × ((rest : List ℕ) × (body ≡ decimal octet ++ 46 ∷ rest))
+
+of_masked : (body : List ℕ) (octet : ℕ) → BeginsMasked body octet → OfOctet body octet
+of_masked body octet is =
+    let quads = two_quads body is.masked is.is in
+    let first : quads.address.a ≡ octet = sym (ap (λ addr. get_or addr 0 0) quads.address.value) ∙ is.first in
+    let later : List ℕ = dotted (quads.address.b ∷ quads.address.c ∷ quads.address.d ∷ []) in
+    let front : quads.front ≡ decimal octet ++ 46 ∷ later = rw (← first) (spelled quads.front is.masked.address quads.address ∙ ap dotted quads.address.value) in
+    let narrow : is_some (octet_masked (masked_of body)) ≡ true = rw (is.is, is.narrow) refl in (
+      rw (← first) quads.address.fit.0,
+      or_right (is_for_addresses body) (is_some (octet_masked (masked_of body))) narrow,
+      (later ++ 58 ∷ quads.back, quads.is ∙ ap (λ text. text ++ 58 ∷ quads.back) front ∙ append_assoc (decimal octet) (46 ∷ later) (58 ∷ quads.back)),
+    )
+
+pub octets : (body : List ℕ) (octet : ℕ) → bucket_of body ≡ Octet octet → (octet < 256) × IsTrue (is_for_addresses body || is_some (octet_masked (masked_of body))) × ((rest : List ℕ) × (body ≡ decimal octet ++ 46 ∷ rest))
+octets body octet h = elim (begins body octet h) [
+  | inl is ↦ (is.small, or_left (is_for_addresses body) (is_some (octet_masked (masked_of body))) is.kind, (is.rest, is.is))
+  | inr is ↦ of_masked body octet is
+]
 
 -- Lists
 

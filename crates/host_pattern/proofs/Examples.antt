@@ -1,12 +1,14 @@
 -- The definitions, computed.
 use Rattle.std.proofs.Common.{◌≡◌, List, [], ◌∷◌, true, false, Some, None, Ok, Err, refl}
 use Rattle.std.specs.Prelude.{codes}
+use Rattle.std.specs.Fmt.{digits}
 use Rattle.fw_types.specs.declared.peer.Peer.{Peer}
-use Rattle.host_pattern.specs.declared.fault.PatternFault.TheVariants.{Empty, BadByte}
+use Rattle.host_pattern.specs.declared.fault.PatternFault.TheVariants.{Empty, BadByte, BadMask}
 use Rattle.host_pattern.specs.declared.fault.ListFault.TheVariants as fault
-use Rattle.host_pattern.specs.declared.bucket.Bucket.TheVariants.{Every}
+use Rattle.host_pattern.specs.declared.bucket.Bucket.TheVariants.{Octet, Every}
 use Rattle.host_pattern.specs.Bucket.{bucket_of}
 use Rattle.host_pattern.specs.Glob.{glob}
+use Rattle.host_pattern.specs.Mask.{agree, masked_of}
 use Rattle.host_pattern.specs.Party.{body_matches}
 use Rattle.host_pattern.specs.Pattern.{Written, parsed}
 use Rattle.host_pattern.specs.PatternList.{list_matches, patterns_tested, list_parsed}
@@ -93,5 +95,57 @@ unfolding bucket_of
 no_period = refl
 
 name_everywhere : bucket_of (codes "10.relay.org") ≡ Every
-unfolding bucket_of
+unfolding bucket_of masked_of
 name_everywhere = refl
+
+within_mask : body_matches (codes "192.33.112.0:255.255.255.0") by_address ≡ true
+unfolding body_matches masked_of digits
+within_mask = refl
+
+outside_mask : body_matches (codes "192.33.113.0:255.255.255.0") by_address ≡ false
+unfolding body_matches masked_of digits
+outside_mask = refl
+
+-- bits that the mask lacks count nowhere, not in the pattern's address either
+no_bit : body_matches (codes "10.0.0.1:0.0.0.0") by_address ≡ true
+unfolding body_matches masked_of digits
+no_bit = refl
+
+mask_with_a_hole : body_matches (codes "192.7.112.9:255.0.255.0") by_address ≡ true
+unfolding body_matches masked_of digits
+mask_with_a_hole = refl
+
+-- 112 is 0111 0000, and the mask has the lower half of the octet alone
+half_an_octet : agree (255 ∷ 255 ∷ 15 ∷ 0 ∷ []) (192 ∷ 33 ∷ 0 ∷ 0 ∷ []) (192 ∷ 33 ∷ 112 ∷ 7 ∷ []) ≡ true
+half_an_octet = refl
+
+other_half : agree (255 ∷ 255 ∷ 240 ∷ 0 ∷ []) (192 ∷ 33 ∷ 0 ∷ 0 ∷ []) (192 ∷ 33 ∷ 112 ∷ 7 ∷ []) ≡ false
+other_half = refl
+
+three_octets : parsed (codes "10.0.0.0:255.0.0") ≡ Err BadMask
+unfolding parsed masked_of digits
+three_octets = refl
+
+two_colons : parsed (codes "!1.2.3.4:1.2.3.4:") ≡ Err BadMask
+unfolding parsed masked_of digits
+two_colons = refl
+
+padded_mask : parsed (codes "1.2.3.4:255.00.0.0") ≡ Err BadMask
+unfolding parsed masked_of digits
+padded_mask = refl
+
+star_in_mask : parsed (codes "1.2.3.*:255.0.0.0") ≡ Err BadMask
+unfolding parsed masked_of digits
+star_in_mask = refl
+
+byte_before_mask : parsed (codes "a:/") ≡ Err (BadByte 2)
+unfolding parsed masked_of digits
+byte_before_mask = refl
+
+octet_of_mask : bucket_of (codes "10.0.0.0:255.0.0.0") ≡ Octet 10
+unfolding bucket_of masked_of digits
+octet_of_mask = refl
+
+every_octet_of_mask : bucket_of (codes "10.0.0.0:254.255.255.0") ≡ Every
+unfolding bucket_of masked_of digits
+every_octet_of_mask = refl

@@ -3,6 +3,7 @@ pub mod BucketLemmas
 pub mod Examples
 pub mod GlobLaws
 pub mod ListLemmas
+pub mod MaskLaws
 pub mod PartyLaws
 pub mod PartyLemmas
 pub mod PatternLemmas

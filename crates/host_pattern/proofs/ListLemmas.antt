@@ -5,7 +5,8 @@ use Rattle.std.proofs.lemmas.Bool.{cases_eq, cases_lt, le-ltb, lt-ltb, ne_eqb}
 use Rattle.std.proofs.lemmas.List.{drop_more, drop_all, drop-map, length-map}
 use Rattle.fw_types.specs.declared.peer.Peer.{Peer}
 use Rattle.host_pattern.specs.declared.fault.PatternFault.{PatternFault}
-use Rattle.host_pattern.specs.declared.fault.PatternFault.TheVariants.{Empty, TooLong}
+use Rattle.host_pattern.specs.declared.fault.PatternFault.TheVariants.{Empty, TooLong, BadMask}
+use Rattle.host_pattern.specs.Mask.{is_well_masked}
 use Rattle.host_pattern.specs.declared.word.Word.{Word}
 use Rattle.host_pattern.specs.Pattern.{Written, read_as, begins_negated, body_of, is_body_byte, parsed, unless_bad, written}
 use Rattle.host_pattern.specs.PatternList.{bad, good, matches, list_matches, list_parsed, patterns_tested, unless_any_bad}
@@ -95,8 +96,12 @@ is_read_as : (t : List ℕ) (p : Written) → parsed t ≡ Ok p → read_as t �
 unfolding parsed
 is_read_as t p e = by (length (body_of t) == 0) e
   where
+    well : (v : Bool) → cond v (Ok (read_as t)) (Err BadMask) ≡ Ok p → read_as t ≡ p
+    well true e = cc
+    well false e = absurd (cc)
+
     last : (at : Option ℕ) → unless_bad at (read_as t) ≡ Ok p → read_as t ≡ p
-    last None e = cc
+    last None e = well (is_well_masked (body_of t)) e
     last (Some at) e = absurd (cc)
 
     long : (v : Bool) → cond v (Err TooLong) (unless_bad (position (λ b. not (is_body_byte b)) (body_of t)) (read_as t)) ≡ Ok p → read_as t ≡ p

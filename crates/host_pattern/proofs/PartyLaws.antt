@@ -5,10 +5,11 @@ use Rattle.std.proofs.lemmas.Bool.Decides.{nat_tests}
 use Rattle.std.specs.Char.{to_ascii_lowercase}
 use Rattle.fw_types.specs.HostName.{is_address_byte}
 use Rattle.fw_types.specs.declared.peer.Peer.{Peer}
+use Rattle.host_pattern.specs.Mask.{has_colon}
 use Rattle.host_pattern.specs.Party.{is_unknown, is_stars, is_for_addresses, body_matches}
 
 -- stars are for addresses, too
-stars_for_addresses : (body : List ℕ) → IsTrue (is_stars body) → is_for_addresses body ≡ true
+pub stars_for_addresses : (body : List ℕ) → IsTrue (is_stars body) → is_for_addresses body ≡ true
 stars_for_addresses [] h = refl
 stars_for_addresses (b ∷ body) h =
     let parts = and_parts _ _ h in
@@ -26,11 +27,11 @@ pub everyone : (body : List ℕ) (party : Peer) → IsTrue (is_stars body) → I
 unfolding body_matches
 everyone body party h = rw (known body (stars_for_addresses body h), h) refl
 
-pub names : (body : List ℕ) (party : Peer) → is_unknown body ≡ false → is_for_addresses body ≡ false → party.name ≡ None → body_matches body party ≡ false
+pub names : (body : List ℕ) (party : Peer) → is_unknown body ≡ false → is_for_addresses body ≡ false → has_colon body ≡ false → party.name ≡ None → body_matches body party ≡ false
 unfolding body_matches
-names body party u a n =
+names body party u a m n =
     let s : is_stars body ≡ false = false_from_ne_true (is_stars body) (λ h. both_ways _ a (stars_for_addresses body h)) in
-    rw (u, s, a, n) refl
+    rw (u, s, a, m, n) refl
 
 pub addresses : (body : List ℕ) (party : Peer) → IsTrue (is_for_addresses body) → is_stars body ≡ false → party.addr ≡ None → body_matches body party ≡ false
 unfolding body_matches

@@ -6,9 +6,10 @@ use Rattle.fw_types.specs.HostName.{is_address_byte}
 use Rattle.fw_types.specs.Quad.{dotted}
 use Rattle.fw_types.specs.declared.peer.Peer.{Peer}
 use Rattle.host_pattern.specs.Glob.{glob}
+use Rattle.host_pattern.specs.Mask.{fits_masked, has_colon, masked_of}
 
 -- The kinds of body, of which the first that fits counts: `unknown` in any case; stars alone; digits, periods and stars;
--- any other body is one for names.
+-- an address and a mask, joined by a colon; any other body is one for names.
 
 abbrev pub is_unknown : List ℕ → Bool
 is_unknown body = bytes_eq (str_to_ascii_lowercase body) (codes "unknown")
@@ -35,4 +36,5 @@ body_matches body party =
     if is_unknown body then is_none party.name
     else if is_stars body then true
     else if is_for_addresses body then globs_address body party.addr
+    else if has_colon body then fits_masked (masked_of body) party.addr
     else globs_name body party.name

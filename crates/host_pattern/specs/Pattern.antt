@@ -3,20 +3,21 @@ use Rattle.std.specs.Prelude.{ℕ, List, [], ◌∷◌, length, position, Bool, 
 use Rattle.std.specs.List.{list_all}
 use Rattle.fw_types.specs.Bytes.{is_name_byte}
 use Rattle.host_pattern.specs.declared.fault.PatternFault.{PatternFault}
-use Rattle.host_pattern.specs.declared.fault.PatternFault.TheVariants.{Empty, TooLong, BadByte}
+use Rattle.host_pattern.specs.declared.fault.PatternFault.TheVariants.{Empty, TooLong, BadByte, BadMask}
+use Rattle.host_pattern.specs.Mask.{is_well_masked}
 
 -- a pattern as it is written: whether it begins with `!`, and the rest
 pub record Written : Type 0 where
   pub negated : Bool
   pub body : List ℕ
 
--- a letter, a digit, a period, a dash, an underscore or a star
+-- a letter, a digit, a period, a dash, an underscore, a star or a colon
 abbrev pub is_body_byte : ℕ → Bool
-is_body_byte b = is_name_byte b || b == 42
+is_body_byte b = is_name_byte b || b == 42 || b == 58
 
--- 1 to 255 of them
+-- 1 to 255 of them, which are an address and a mask where a colon is among them
 abbrev pub is_body : List ℕ → Bool
-is_body body = nat_lt 0 (length body) && nat_le (length body) 255 && list_all is_body_byte body
+is_body body = nat_lt 0 (length body) && nat_le (length body) 255 && list_all is_body_byte body && is_well_masked body
 
 abbrev pub begins_negated : List ℕ → Bool
 begins_negated [] = false
@@ -26,8 +27,11 @@ abbrev pub body_of : List ℕ → List ℕ
 body_of [] = []
 body_of (b ∷ rest) = if b == 33 then rest else b ∷ rest
 
+abbrev pub unless_bad_mask : Written → Result Written PatternFault
+unless_bad_mask pattern = if is_well_masked pattern.body then Ok pattern else Err BadMask
+
 abbrev pub unless_bad : Option ℕ → Written → Result Written PatternFault
-unless_bad None pattern = Ok pattern
+unless_bad None pattern = unless_bad_mask pattern
 unless_bad (Some at) pattern = Err (BadByte at)
 
 abbrev pub with_body : Bool → List ℕ → Result Written PatternFault

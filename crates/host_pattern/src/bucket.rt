@@ -3,8 +3,9 @@ ghost use Rattle.std.specs.Prelude.{◌≡◌, ◌==◌, Some};
 ghost use Rattle.std.specs.List.{position};
 ghost use Rattle.fw_types.specs.Number.{number_of};
 ghost use Rattle.fw_types.specs.Quad.{octet_of};
-ghost use Rattle.host_pattern.specs.Bucket.{bucket_of, is_padded, octet_before};
+ghost use Rattle.host_pattern.specs.Bucket.{bucket_of, is_padded, octet_before, octet_masked, octet_of_body};
 
+use crate::mask::{Masked, masked_of};
 use crate::party::is_for_addresses;
 use fw_types::read_number;
 
@@ -67,15 +68,35 @@ fn octet_before(body: &[u8]) -> Option<u8>
     }
 }
 
+// The first octet of the address, where the mask begins with 255.
+fn octet_masked(masked: Option<Masked>) -> Option<u8>
+    ensures { result ≡ octet_masked masked }
+{
+    let Masked { address, mask } = masked?;
+    if mask[0] == 255 {
+        Some(address[0])
+    } else {
+        None
+    }
+}
+
+// The octet with which the addresses begin that the body can match.
+fn octet_of_body(body: &[u8]) -> Option<u8>
+    ensures { result ≡ octet_of_body body.now }
+{
+    if is_for_addresses(body) {
+        octet_before(body)
+    } else {
+        octet_masked(masked_of(body))
+    }
+}
+
 // The bucket to which a body belongs.
 #[tactic(auto, unfolding(crate::specs::Bucket::bucket_of))]
 pub(crate) fn bucket_of(body: &[u8]) -> Bucket
     ensures { result ≡ bucket_of body.now }
 {
-    if !is_for_addresses(body) {
-        return Bucket::Every;
-    }
-    match octet_before(body) {
+    match octet_of_body(body) {
         Some(octet) => Bucket::Octet(octet),
         None => Bucket::Every,
     }

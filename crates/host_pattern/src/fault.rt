@@ -16,6 +16,9 @@ pub enum PatternFault {
     /// The body's byte at this place, counted from 0, is the first that may not stand there.
     #[error("byte {at} of the pattern may not stand there")]
     BadByte { at: usize },
+    /// The body has a colon, and isn't an address and a mask: two dotted quads joined by it.
+    #[error("the colon of the pattern joins no address and mask")]
+    BadMask,
 }
 
 /// Why words are no list of patterns: the first of these that applies, or want of memory.

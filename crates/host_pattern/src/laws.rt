@@ -1,12 +1,16 @@
 //! What the definitions of `specs/` come to. Each function states one law and does nothing.
-ghost use Rattle.std.specs.Prelude.{◌≡◌, ◌≢◌, ◌<◌, ℕ, List, [], ◌∷◌, ◌++◌, Bool, true, false, not, ◌==◌, nat_eq, IsTrue, Ok, Some, None, is_ok};
+ghost use Rattle.std.specs.Prelude.{◌≡◌, ◌≢◌, ◌↔◌, ◌<◌, ℕ, List, [], ◌∷◌, ◌++◌, Bool, true, false, not, ◌||◌, ◌==◌, nat_eq, slice_index, IsTrue, Ok, Some, None, is_ok, is_some};
 ghost use Rattle.std.specs.Fmt.{decimal};
+ghost use Rattle.std.specs.Int.{bit_at};
 ghost use Rattle.std.specs.List.{list_all, starts_with, ends_with};
 ghost use Rattle.std.specs.Str.{bytes_eq};
+ghost use Rattle.fw_types.specs.Quad.{dotted};
 ghost use Rattle.fw_types.specs.declared.peer.Peer.{Peer};
 ghost use Rattle.host_pattern.specs.declared.bucket.Bucket.TheVariants.{Octet};
-ghost use Rattle.host_pattern.specs.Bucket.{bucket_of, list_reaches};
+ghost use Rattle.host_pattern.specs.declared.mask.Masked.{Masked};
+ghost use Rattle.host_pattern.specs.Bucket.{bucket_of, list_reaches, octet_masked};
 ghost use Rattle.host_pattern.specs.Glob.{glob, is_plain};
+ghost use Rattle.host_pattern.specs.Mask.{agree, has_colon, masked_of, octets_agree};
 ghost use Rattle.host_pattern.specs.Party.{is_unknown, is_stars, is_for_addresses, body_matches};
 ghost use Rattle.host_pattern.specs.Pattern.{Written, is_body, body_of, parsed, written};
 ghost use Rattle.host_pattern.specs.PatternList.{list_matches};
@@ -34,7 +38,31 @@ pub fn stars_match_everyone()
 /// A body for names matches no party without a name.
 pub fn names_need_a_name()
     ensures { (body : List ℕ) (party : Peer) → is_unknown body ≡ false → is_for_addresses body ≡ false →
-        party.name ≡ None → body_matches body party ≡ false }
+        has_colon body ≡ false → party.name ≡ None → body_matches body party ≡ false }
+{}
+
+/// A body with a colon matches no party without an address.
+pub fn masks_need_an_address()
+    ensures { (body : List ℕ) (party : Peer) → IsTrue (has_colon body) → party.addr ≡ None
+        → body_matches body party ≡ false }
+{}
+
+/// An address and a mask match a party whose address equals that one in every bit that the mask has.
+pub fn masks_compare_their_bits()
+    ensures { (body : List ℕ) (masked : Masked) (party : Peer) (addr : List ℕ) → masked_of body ≡ Some masked →
+        party.addr ≡ Some addr → body_matches body party ≡ agree masked.mask masked.address addr }
+{}
+
+/// Two octets agree under a mask's octet exactly if each bit that is set in the mask is the same in both.
+pub fn octets_agree_bit_by_bit()
+    ensures { (mask one other : ℕ) → IsTrue (octets_agree mask one other)
+        ↔ ((i : ℕ) → bit_at mask i ≡ 1 → bit_at one i ≡ bit_at other i) }
+{}
+
+/// They are written as two dotted quads joined by a colon.
+pub fn masks_are_two_quads()
+    ensures { (body : List ℕ) (masked : Masked) → masked_of body ≡ Some masked
+        → body ≡ dotted masked.address ++ 58 ∷ dotted masked.mask }
 {}
 
 /// A body for addresses, other than stars alone, matches no party without an address.
@@ -49,9 +77,16 @@ pub fn bodies_of_an_octet()
         → bucket_of (decimal octet ++ 46 ∷ rest) ≡ Octet octet }
 {}
 
-/// And no other body does.
+/// So does an address that begins with the octet and has a mask that begins with 255.
+pub fn masks_of_an_octet()
+    ensures { (body : List ℕ) (masked : Masked) → masked_of body ≡ Some masked → slice_index masked.mask 0 ≡ 255
+        → bucket_of body ≡ Octet (slice_index masked.address 0) }
+{}
+
+/// And no other body does: each begins with the octet's decimal and a period, and is of one of these two kinds.
 pub fn octets_of_a_body()
-    ensures { (body : List ℕ) (octet : ℕ) → bucket_of body ≡ Octet octet → (octet < 256) × IsTrue (is_for_addresses body)
+    ensures { (body : List ℕ) (octet : ℕ) → bucket_of body ≡ Octet octet →
+        (octet < 256) × IsTrue (is_for_addresses body || is_some (octet_masked (masked_of body)))
         × ((rest : List ℕ) × (body ≡ decimal octet ++ 46 ∷ rest)) }
 {}
 
@@ -87,7 +122,7 @@ pub fn others_are_passed()
         list_matches (p ∷ ps) party ≡ list_matches ps party }
 {}
 
-/// The patterns are the texts whose body is 1 to 255 letters, digits, `.`, `-`, `_` and `*`.
+/// The patterns are the texts whose body is 1 to 255 letters, digits, `.`, `-`, `_` and `*`, or an address and a mask.
 pub fn patterns_are_these()
     ensures { (text : List ℕ) → is_ok (parsed text) ≡ is_body (body_of text) }
 {}

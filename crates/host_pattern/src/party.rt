@@ -3,6 +3,7 @@ ghost use Rattle.std.specs.Prelude.{◌≡◌, ◌||◌, ◌==◌, IsTrue};
 ghost use Rattle.fw_types.specs.HostName.{is_address_byte};
 ghost use Rattle.host_pattern.specs.Party.{is_unknown, is_stars, is_for_addresses, globs_address, globs_name, body_matches};
 
+use crate::mask::{fits_masked, has_colon, masked_of};
 use crate::walk::{globs, only_stars};
 use arrayvec::ArrayVec;
 use fw_types::{HostName, Peer, dotted_quad, lower_copy_of};
@@ -58,6 +59,8 @@ pub(crate) fn body_matches(body: &[u8], party: &Peer) -> bool
         true
     } else if is_for_addresses(body) {
         globs_address(body, &party.addr)
+    } else if has_colon(body) {
+        fits_masked(masked_of(body), &party.addr)
     } else {
         globs_name(body, &party.name)
     }

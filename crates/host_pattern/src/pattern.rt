@@ -5,6 +5,7 @@ ghost use Rattle.host_pattern.specs.Party.{body_matches};
 
 use crate::bucket::{Bucket, bucket_of};
 use crate::fault::PatternFault;
+use crate::mask::is_well_masked;
 use crate::party::body_matches;
 use crate::steps::Steps;
 use arrayvec::ArrayVec;
@@ -15,7 +16,7 @@ use std::sync::ledger::Ledger;
 const LONGEST: usize = 255;
 
 /// A pattern for hosts, as it was written: an optional `!`, and a body of 1 to 255 letters, digits, `.`, `-`, `_` and
-/// `*`.
+/// `*`, or an address and a mask, two dotted quads joined by a colon.
 #[derive(Drop)]
 pub struct Pattern {
     negated: bool,
@@ -36,7 +37,7 @@ impl Model for Pattern {
 fn is_body_byte(byte: u8) -> bool
     ensures { result ≡ is_body_byte byte }
 {
-    is_name_byte(byte) || byte == b'*'
+    is_name_byte(byte) || byte == b'*' || byte == b':'
 }
 
 /// The place of the first byte that may not stand in a body.
@@ -70,7 +71,8 @@ pub(crate) fn check_body(body: &[u8]) -> Result<(), PatternFault>
     }
     match bad_place(body) {
         Some(at) => Err(PatternFault::BadByte { at }),
-        None => Ok(()),
+        None if is_well_masked(body) => Ok(()),
+        None => Err(PatternFault::BadMask),
     }
 }
 
@@ -89,7 +91,8 @@ impl Pattern {
     /// # Errors
     ///
     /// The first that applies: `Empty` where nothing but perhaps a leading `!` stands, `TooLong` where more than 255
-    /// bytes follow, `BadByte` at the first that is no letter, digit, `.`, `-`, `_` or `*`.
+    /// bytes follow, `BadByte` at the first that is no letter, digit, `.`, `-`, `_`, `*` or `:`, `BadMask` where a colon
+    /// stands among them that doesn't join two dotted quads.
     #[tactic(auto, unfolding(crate::specs::Pattern::parsed))]
     pub fn parse(text: &[u8]) -> Result<Pattern, PatternFault>
         ensures { result ≡ parsed text.now }

@@ -19,6 +19,7 @@ fn call_laws() {
     auth_records::laws::plain_data();
     otp_md5::laws::passwords();
     authsrv_lines::laws::inverse();
+    authsrv_lines::laws::asked_again();
 }
 
 /// Compares the rows of these files, prints what comes of it, and tells whether all is as it is to be.

@@ -15,18 +15,18 @@ pub(crate) struct Entrance {
     is_closed: AtomicBool,
 }
 
-// A listener at all addresses of this host. That it listens at this port is the system's word.
-fn listen(system: &HostRuntime, port: u16) -> io::Result<TcpListener> {
-    let at = SocketAddrV4::new(Ipv4Addr::UNSPECIFIED, port);
+// A listener at this address of the host, or with zeros at all. That it listens there and at this port is the system's word.
+fn listen(system: &HostRuntime, host: [u8; 4], port: u16) -> io::Result<TcpListener> {
+    let at = SocketAddrV4::new(Ipv4Addr::from_octets(host), port);
     TcpListener::bind(system, SocketAddr::V4(at))
 }
 
 impl Entrance {
-    /// An open entrance at this port.
-    pub(crate) fn open(system: &HostRuntime, port: u16) -> io::Result<Entrance>
+    /// An open entrance at this port of this address, or with zeros of all addresses.
+    pub(crate) fn open(system: &HostRuntime, host: [u8; 4], port: u16) -> io::Result<Entrance>
         ensures { IfOk result (λ entrance. entrance.port ≡ port) }
     {
-        let listener = listen(system, port)?;
+        let listener = listen(system, host, port)?;
         let handle = TcpStream::from(listener.as_fd().try_clone_to_owned()?);
         Ok(Entrance {
             port,

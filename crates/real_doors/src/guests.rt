@@ -9,7 +9,7 @@ use acceptors::Caller;
 use fw_real::{Reading, Salts, StandardInput, SystemClock, Writing};
 use fw_types::Peer;
 use gate_rules::Service;
-use real_links::{LinkSink, StandardOutput, TcpDialer};
+use real_links::{DoorPorts, LinkSink, StandardOutput, TcpDialer};
 use std::io::{self, Stderr};
 use std::net::{SocketAddr, TcpStream};
 use std::time::Duration;
@@ -79,11 +79,12 @@ fn with_sessions(service: &Service) -> Option<Service>
     }
 }
 
-/// The client who came, with new devices; or nothing where the system refuses one, or the service has no sessions.
+/// The client who came, with new devices, of which the doors are at these ports; or nothing where the system refuses one, or the service has no sessions.
 pub(crate) fn caller(
     rt: HostRuntime,
     service: &Service,
     names: &HostNames,
+    ports: DoorPorts,
     arrival: Arrival,
 ) -> Option<TcpCaller>
     ensures { IfSome result (λ caller. Greets service.now names.now (visit_of caller)) }
@@ -99,7 +100,7 @@ pub(crate) fn caller(
         from: Reading::new(from),
         to: LinkSink::new(to),
         logs: Writing::new(rt.stderr()),
-        dialer: TcpDialer::new(rt, rt.alloc(), hosts),
+        dialer: TcpDialer::new(rt, rt.alloc(), hosts).with_doors_at(ports),
         clock: SystemClock::new(rt),
         dice,
     })

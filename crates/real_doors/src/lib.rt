@@ -17,6 +17,6 @@ mod tcp_acceptor;
 pub use closer::Closer;
 pub use guests::TcpCaller;
 pub use host_names::HostNames;
-pub use opening::{Doors, open_doors};
+pub use opening::{Doors, Site, open_doors};
 pub use system_pacer::SystemPacer;
 pub use tcp_acceptor::TcpAcceptor;

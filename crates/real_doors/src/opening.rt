@@ -7,6 +7,7 @@ use crate::entrance::Entrance;
 use crate::{Closer, HostNames, TcpAcceptor};
 use fw_types::NoMemory;
 use gate_rules::Service;
+use real_links::DoorPorts;
 use std::alloc::Global;
 use std::sync::Arc;
 
@@ -17,10 +18,19 @@ pub struct Doors {
     pub closer: Closer,
 }
 
+/// Where a server listens: at which address of this host, with zeros at all, and at which ports the doors for data links
+/// are.
+#[derive(Clone, Copy, Debug, PartialEq, Eq)]
+pub struct Site {
+    pub host: [u8; 4],
+    pub ports: DoorPorts,
+}
+
 // The listeners of a server, and the names of hosts.
 #[derive(Drop)]
 struct Building {
     rt: HostRuntime,
+    site: Site,
     names: Arc<HostNames, Global>,
     entrances: Vec<Arc<Entrance, Global>>,
 }
@@ -37,7 +47,14 @@ fn door_at(
     ensures at { IfOk result IsAtItsPort }
 {
     let names = Arc::try_clone(&building.names)?;
-    Ok(TcpAcceptor::new(building.rt, service.twin(), port, entrance, names))
+    Ok(TcpAcceptor::new(
+        building.rt,
+        service.twin(),
+        port,
+        building.site.ports,
+        entrance,
+        names,
+    ))
 }
 
 // Another handle of the listener, if it is at this port.
@@ -71,7 +88,7 @@ impl Building {
     fn open_new(&mut self, port: u16) -> Result<Option<Arc<Entrance, Global>>, NoMemory>
         ensures { IfOk result (λ found. IfSome found (λ entrance. (arc_value entrance).port ≡ port)) }
     {
-        let Ok(entrance) = Entrance::open(&self.rt, port) else {
+        let Ok(entrance) = Entrance::open(&self.rt, self.site.host, port) else {
             return Ok(None);
         };
         let entrance = Arc::new(self.rt.alloc(), entrance)?;
@@ -91,10 +108,11 @@ impl Building {
     }
 }
 
-/// A door for each place, which is a service and a port of this host, in their order. Those of one port share a listener.
-/// One whose port can't be opened fails at each call.
+/// A door for each place, which is a service and a port of this host, in their order, at the site's address. Those of one
+/// port share a listener. One whose port can't be opened fails at each call.
 pub fn open_doors(
     rt: HostRuntime,
+    site: Site,
     places: &[(Service, u16)],
     names: HostNames,
 ) -> Result<Doors, NoMemory>
@@ -103,6 +121,7 @@ pub fn open_doors(
 {
     let mut building = Building {
         rt,
+        site,
         names: Arc::new(rt.alloc(), names)?,
         entrances: Vec::new(rt.alloc()),
     };

@@ -14,7 +14,7 @@ use crate::{HostNames, SystemPacer};
 use acceptors::{Acceptor, Knock, Pacer};
 use fw_real::{Reading, Salts, StandardInput, SystemClock, Writing};
 use gate_rules::Service;
-use real_links::{LinkSink, StandardOutput, TcpDialer};
+use real_links::{DoorPorts, LinkSink, StandardOutput, TcpDialer};
 use std::alloc::Global;
 use std::io::Stderr;
 use std::net::{SocketAddr, TcpStream};
@@ -32,6 +32,7 @@ pub struct TcpAcceptor {
     rt: HostRuntime,
     service: Service,
     port: u16,
+    ports: DoorPorts,
     entrance: Option<Arc<Entrance, Global>>,
     names: Arc<HostNames, Global>,
     came: u64,
@@ -42,12 +43,13 @@ pub struct TcpAcceptor {
 }
 
 impl TcpAcceptor {
-    /// A door for this service at this port, where a listener is open there; without one it fails at each call. Nothing is
-    /// counted yet.
+    /// A door for this service at this port, where a listener is open there; without one it fails at each call. Its clients'
+    /// doors for data links are at these ports. Nothing is counted yet.
     pub(crate) fn new(
         rt: HostRuntime,
         service: Service,
         port: u16,
+        ports: DoorPorts,
         entrance: Option<Arc<Entrance, Global>>,
         names: Arc<HostNames, Global>,
     ) -> TcpAcceptor
@@ -59,6 +61,7 @@ impl TcpAcceptor {
             rt,
             service,
             port,
+            ports,
             entrance,
             names,
             came: 0,
@@ -93,7 +96,7 @@ impl TcpAcceptor {
             Greets self.now.service (arc_value self.now.names) (visit_of caller)) }
     {
         let arrival = arrived(socket, from)?;
-        caller(self.rt, &self.service, &self.names, arrival)
+        caller(self.rt, &self.service, &self.names, self.ports, arrival)
     }
 
     // Waits once. Nothing where nobody came in, and the next may.

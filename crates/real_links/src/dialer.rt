@@ -12,7 +12,8 @@ ghost use Rattle.real_links.specs.TcpDialerView.{tcp_dialer_view};
 use crate::door::{Opened, open_door, wait_at};
 use crate::link::{Link, link_over, open};
 use crate::names::{can_be_looked_up, without_last_period};
-use crate::{Address, ClientHosts, LinkSink, LinkSource, TcpDoor};
+use crate::wait::coming;
+use crate::{Address, ClientHosts, DoorPorts, LinkSink, LinkSource, TcpDoor};
 use fw_outside::{Dialed, Dialer, Mark};
 use fw_types::{Dest, Host, HostName};
 use std::alloc::Global;
@@ -48,6 +49,7 @@ pub struct TcpDialer<R> {
     net: R,
     alloc: Global,
     hosts: Option<ClientHosts>,
+    ports: DoorPorts,
     waits: u32,
     came: u64,
     refusals: u64,
@@ -68,6 +70,7 @@ impl<R> TcpDialer<R> {
             net,
             alloc,
             hosts,
+            ports: DoorPorts::any(),
             waits: 3600,
             came: 0,
             refusals: 0,
@@ -75,6 +78,26 @@ impl<R> TcpDialer<R> {
             link_idles: 0,
             data_faults: 0,
             data_idles: 0,
+        }
+    }
+
+    /// The same, whose doors are at these ports.
+    pub fn with_doors_at(self, ports: DoorPorts) -> TcpDialer<R>
+        ensures view { tcp_dialer_view result ≡ tcp_dialer_view self }
+        ensures hosts { result.hosts ≡ self.hosts }
+    {
+        TcpDialer {
+            net: self.net,
+            alloc: self.alloc,
+            hosts: self.hosts,
+            ports,
+            waits: self.waits,
+            came: self.came,
+            refusals: self.refusals,
+            link_faults: self.link_faults,
+            link_idles: self.link_idles,
+            data_faults: self.data_faults,
+            data_idles: self.data_idles,
         }
     }
 
@@ -201,7 +224,7 @@ impl<R: Net> TcpDialer<R> {
     fn open_at(&self, hosts: ClientHosts) -> Option<(TcpDoor<R::Listener>, [u8; 4], u16)>
         ensures { IfSome result (λ opened. hosts ≡ record { here = opened.1; there = opened.0.client }) }
     {
-        let Opened { door, port } = open_door(&self.net, hosts).ok()?;
+        let Opened { door, port } = open_door(&self.net, hosts, self.ports)?;
         let here = hosts.here;
         Some((door, here, port))
     }
@@ -222,7 +245,7 @@ impl<R: Net + Clock> TcpDialer<R> {
         ensures client { IfSome result (λ link. link.from.to.host ≡ door.now.client) }
         ensures new { IfSome result (IsNewLink self.now.waits) }
     {
-        let connected = wait_at(&self.net, door, self.waits)?;
+        let connected = wait_at(&self.net, door, coming(self.waits))?;
         link_over(self.alloc, connected, self.waits).ok()
     }
 }
@@ -333,7 +356,7 @@ where
         }
     }
 
-    /// Waits as long as a link waits, at most. A connection from any address but the client's is closed.
+    /// Waits as long as a link waits, and 60 seconds at most. A connection from any address but the client's is closed.
     fn accept(
         &mut self,
         door: &mut TcpDoor<R::Listener>,
@@ -381,7 +404,7 @@ where
         self.count_data_idle(from.idles() > 0);
     }
 
-    /// A link takes as long to come up at most, for each address that is tried.
+    /// A link takes as long to come up, and 60 seconds at most, for each address that is tried.
     fn patience(&mut self, seconds: u32) {
         self.waits = seconds;
     }

@@ -3,7 +3,7 @@ ghost use Rattle.std.specs.Prelude.{◌≡◌, true, IfOk, IfSome};
 
 use crate::link::Connected;
 use crate::wait::time_of;
-use crate::{Address, ClientHosts};
+use crate::{Address, ClientHosts, DoorPorts};
 use std::net::{Ipv4Addr, Net, OpenListener, SocketAddr, SocketAddrV4, TcpListener};
 use std::time::{Clock, Duration, Instant};
 use std::{io, thread};
@@ -25,11 +25,11 @@ pub(crate) struct Opened<L> {
     pub(crate) port: u16,
 }
 
-/// Opens a door for the client, at the address where it came in, and at a port that the system picks.
-pub(crate) fn open_door<R: Net>(net: &R, hosts: ClientHosts) -> io::Result<Opened<R::Listener>>
+// Opens a door for the client, at the address where it came in, and at this port, which for 0 the system picks.
+fn open_door_at<R: Net>(net: &R, hosts: ClientHosts, port: u16) -> io::Result<Opened<R::Listener>>
     ensures { IfOk result (λ opened. opened.door.client ≡ hosts.there) }
 {
-    let at = SocketAddrV4::new(Ipv4Addr::from_octets(hosts.here), 0);
+    let at = SocketAddrV4::new(Ipv4Addr::from_octets(hosts.here), port);
     let listener = TcpListener::bind(net, SocketAddr::V4(at))?;
     listener.set_nonblocking(true)?;
     let port = listener.local_addr()?.port();
@@ -38,6 +38,22 @@ pub(crate) fn open_door<R: Net>(net: &R, hosts: ClientHosts) -> io::Result<Opene
         door: TcpDoor { listener, client },
         port,
     })
+}
+
+/// Opens a door for the client, at the address where it came in, and at the first of these ports at which that can be done.
+pub(crate) fn open_door<R: Net>(
+    net: &R,
+    hosts: ClientHosts,
+    ports: DoorPorts,
+) -> Option<Opened<R::Listener>>
+    ensures { IfSome result (λ opened. opened.door.client ≡ hosts.there) }
+{
+    for port in ports.first..=ports.last {
+        if let Ok(opened) = open_door_at(net, hosts, port) {
+            return Some(opened);
+        }
+    }
+    None
 }
 
 // Who is at the listener, if somebody is. Its address is the system's word.

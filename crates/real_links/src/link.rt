@@ -1,7 +1,7 @@
 ghost use Rattle.std.specs.Prelude.{◌≡◌, IfOk};
 ghost use Rattle.real_links.specs.NewLinks.{IsNewLink};
 
-use crate::wait::{set_wait, time_of};
+use crate::wait::{coming, set_wait, time_of};
 use crate::{Address, LinkSink, LinkSource};
 use std::alloc::Global;
 use std::io::{self, BufReader, Read, Write};
@@ -52,7 +52,7 @@ pub(crate) fn link_over<S: Read + Write + OpenStream + Drop>(
     })
 }
 
-/// A link to this address, which waits so many seconds, as long as it may take to come up.
+/// A link to this address, which waits so many seconds. It may take as long to come up, and 60 seconds at most.
 pub(crate) fn open<R: Net>(
     net: &R,
     alloc: Global,
@@ -62,5 +62,5 @@ pub(crate) fn open<R: Net>(
     ensures to { IfOk result (λ link. link.from.to ≡ to) }
     ensures new { IfOk result (IsNewLink seconds) }
 {
-    link_over(alloc, connect(net, to, seconds)?, seconds)
+    link_over(alloc, connect(net, to, coming(seconds))?, seconds)
 }

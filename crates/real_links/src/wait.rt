@@ -1,4 +1,5 @@
 //! How long a socket waits.
+ghost use Rattle.std.specs.Prelude.{◌≡◌, min};
 
 use std::io;
 use std::net::OpenStream;
@@ -11,6 +12,16 @@ pub(crate) fn time_of(seconds: u32) -> Duration {
     } else {
         Duration::from_secs(u64::from(seconds))
     }
+}
+
+// How many seconds a link may take to come up at most.
+const COMING: u32 = 60;
+
+/// How many seconds a link may take to come up that waits so many: as many, and 60 at most.
+pub(crate) fn coming(seconds: u32) -> u32
+    ensures { result ≡ min seconds 60 }
+{
+    seconds.min(COMING)
 }
 
 /// Sets how many seconds a read and a write of the socket wait at most. All its handles wait so.

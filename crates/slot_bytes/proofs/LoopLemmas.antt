@@ -3,7 +3,7 @@ use Rattle.std.proofs.Common.{◌≡◌, ℕ, zero, suc, ◌+◌, ◌-◌, ◌<�
 use Rattle.std.specs.List.{AllByRecursion}
 use Rattle.std.proofs.lemmas.List.{drop_more, append-nil}
 use Rattle.byte_reader.specs.Reading.{Read, ◌>>=◌}
-use Rattle.slot_bytes.specs.Layout.{IsTextFrom, counted, each_counted}
+use Rattle.slot_bytes.specs.Layout.{IsTextFrom, all_waiting, counted, each_counted, place_at, places_from}
 use Rattle.slot_bytes.specs.Reading.{long_text_at, rcpts_at}
 use Rattle.slot_bytes.specs.Views.{behind}
 
@@ -47,3 +47,17 @@ put_step out texts i all lt e =
 
 pub fits_at : (texts : Texts) (i : ℕ) → i < length texts → AllByRecursion (IsTextFrom 1 256) (drop i texts) → IsTextFrom 1 256 (get_or texts i []) × AllByRecursion (IsTextFrom 1 256) (drop (i + 1) texts)
 fits_at texts i lt all = let h = rw (drop_more texts i [] lt) at all in (h.0, h.1)
+
+pub waiting_step : (out : List ℕ) (texts : Texts) (i : ℕ) (all : List ℕ) → i < length texts → out ++ all_waiting (drop i texts) ≡ all
+    → (out ++ 0 ∷ []) ++ all_waiting (drop (i + 1) texts) ≡ all
+waiting_step out texts i all lt e =
+    append_assoc out (0 ∷ []) (all_waiting (drop (i + 1) texts))
+    ∙ ap (λ (l : Texts). out ++ all_waiting l) (sym (drop_more texts i [] lt)) ∙ e
+
+-- ---- places
+
+pub places_step : (done marks : List ℕ) (i : ℕ) (all : List ℕ) → i < length marks → done ++ places_from i (drop i marks) ≡ all
+    → (done ++ place_at i (get_or marks i 0)) ++ places_from (i + 1) (drop (i + 1) marks) ≡ all
+places_step done marks i all lt e =
+    append_assoc done (place_at i (get_or marks i 0)) (places_from (i + 1) (drop (i + 1) marks))
+    ∙ ap (λ (l : List ℕ). done ++ places_from i l) (sym (drop_more marks i 0 lt)) ∙ e

@@ -6,8 +6,8 @@ use Rattle.byte_reader.specs.Reading.{IsBytes, Read}
 use Rattle.byte_reader.specs.Exact.{StopsAtFirstBad, Begins, InRange}
 use Rattle.byte_reader.proofs.ReaderLemmas.{cut_either}
 use Rattle.byte_reader.proofs.FieldLemmas.{chosen}
-use Rattle.slot_bytes.specs.Layout.{Mail, IsMail, behind_marks, slot_bytes}
-use Rattle.slot_bytes.specs.Reading.{Head, Reading, whole_at, mail_of, kept_or_bad, free_or_short, reads}
+use Rattle.slot_bytes.specs.Layout.{Mail, IsMail, AreMarks, done_of, mark_count, tagged_head, slot_bytes}
+use Rattle.slot_bytes.specs.Reading.{Head, Reading, done_in, done_or_none, head_at, whole_at, mail_of, kept_or_bad, free_or_short, reads}
 use Rattle.slot_bytes.specs.Reading.Reading.{Free, Whole, Aside, Bad}
 use Rattle.slot_bytes.specs.Files.{IsFreeFile, IsKeptFile, IsSlotFile, BeginsSlot, IsLongestBeginning}
 use Rattle.std.specs.Prelude.{IfErr}
@@ -15,19 +15,20 @@ use Rattle.slot_bytes.specs.declared.slot.Slot.{Slot}
 use Rattle.slot_bytes.specs.declared.fault.SlotFault.{SlotFault}
 use Rattle.slot_bytes.specs.declared.fault.SlotFault.TheVariants as faults
 use Rattle.slot_bytes.specs.SlotView.{IsSlotRead, FirstBad}
-use Rattle.slot_bytes.proofs.HeadLemmas.{FitsWhole, spell_whole, reads_whole}
+use Rattle.slot_bytes.proofs.HeadLemmas.{FitsWhole, spell_whole, reads_head, reads_whole}
 
 -- ---- messages and what is read
 
 abbrev Kept : Type 0
 Kept = Head × List ℕ
 
-abbrev pub kept_of : ℕ → ℕ → Mail → Kept
-kept_of gate aside m = (record { gate = gate; aside = aside; version = 49; len = length m.body; from = m.from; rcpts = m.rcpts }, m.body)
+abbrev pub kept_of : ℕ → ℕ → ℕ → List ℕ → Mail → Kept
+kept_of version gate aside marks m = (record { gate = gate; aside = aside; version = version; len = length m.body; marks = marks; from = m.from; rcpts = m.rcpts }, m.body)
 
-pub kept_fits : (gate aside : ℕ) (m : Mail) → InRange 1 255 gate → InRange 0 255 aside → IsMail m → FitsWhole (kept_of gate aside m)
-kept_fits gate aside m open_gate mark fits = (
-  record { gate = open_gate; aside = mark; version = (lit≤ tt, lit≤ tt); len = fits.small; envelope = fits.envelope },
+pub kept_fits : (version gate aside : ℕ) (marks : List ℕ) (m : Mail) → InRange 1 255 gate → InRange 0 255 aside → AreMarks version (length m.rcpts) marks → IsMail m
+    → FitsWhole (kept_of version gate aside marks m)
+kept_fits version gate aside marks m open_gate mark are fits = (
+  record { gate = open_gate; aside = mark; version = are.known; len = fits.small; marks = are.each; envelope = fits.envelope },
   record { len = refl; bytes = fits.bytes },
 )
 
@@ -37,16 +38,17 @@ mail_fits x fits =
     record { envelope = fits.0.envelope; small = omega (arith, len, fits.0.len); bytes = fits.1.bytes }
 
 -- its bytes are the slot's
-pub kept_bytes : (x : Kept) → FitsWhole x → spell_whole x ≡ slot_bytes x.0.gate x.0.aside (mail_of x)
+pub kept_bytes : (x : Kept) → FitsWhole x → spell_whole x ≡ slot_bytes x.0.version x.0.gate x.0.aside x.0.marks (mail_of x)
 kept_bytes x fits =
     let len : x.0.len ≡ length x.1 = sym fits.1.len in
-    let version : x.0.version ≡ 49 = omega (arith, fits.0.version.0, fits.0.version.1) in
-    ap (λ (v : ℕ). (x.0.gate ∷ x.0.aside ∷ behind_marks v x.0.len x.0.from x.0.rcpts) ++ x.1) version
-    ∙ ap (λ (n : ℕ). (x.0.gate ∷ x.0.aside ∷ behind_marks 49 n x.0.from x.0.rcpts) ++ x.1) len
+    ap (λ (n : ℕ). (x.0.gate ∷ x.0.aside ∷ tagged_head x.0.version n x.0.marks x.0.from x.0.rcpts) ++ x.1) len
 
-pub whole_again : (gate aside : ℕ) (m : Mail) (rest : List ℕ) → InRange 1 255 gate → InRange 0 255 aside → IsMail m
-    → whole_at (slot_bytes gate aside m ++ rest) ≡ Ok (kept_of gate aside m, rest)
-whole_again gate aside m rest open_gate mark fits = reads_whole.again (kept_of gate aside m) rest (kept_fits gate aside m open_gate mark fits)
+pub marks_fit : (x : Kept) → FitsWhole x → AreMarks x.0.version (length (mail_of x).rcpts) x.0.marks
+marks_fit x fits = record { known = fits.0.version; each = fits.0.marks }
+
+pub whole_again : (version gate aside : ℕ) (marks : List ℕ) (m : Mail) (rest : List ℕ) → InRange 1 255 gate → InRange 0 255 aside → AreMarks version (length m.rcpts) marks → IsMail m
+    → whole_at (slot_bytes version gate aside marks m ++ rest) ≡ Ok (kept_of version gate aside marks m, rest)
+whole_again version gate aside marks m rest open_gate mark are fits = reads_whole.again (kept_of version gate aside marks m) rest (kept_fits version gate aside marks m open_gate mark are fits)
 
 -- ---- what is written is read again
 
@@ -58,11 +60,15 @@ pub reads_open : (gate : ℕ) (rest : List ℕ) → nat_eq gate 0 ≡ false → 
 unfolding reads
 reads_open gate rest is = rw is refl
 
-pub reads_again : (gate aside : ℕ) (m : Mail) (rest : List ℕ) → InRange 1 255 gate → InRange 0 255 aside → IsMail m
-    → reads (slot_bytes gate aside m ++ rest) ≡ cond (nat_eq aside 0) (Whole m) (Aside m)
-reads_again gate aside m rest open_gate mark fits =
-    let more : List ℕ = ((aside ∷ behind_marks 49 (length m.body) m.from m.rcpts) ++ m.body) ++ rest in
-    reads_open gate more (shut gate open_gate.0) ∙ ap (kept_or_bad (length (gate ∷ more))) (whole_again gate aside m rest open_gate mark fits)
+pub reads_again : (version gate aside : ℕ) (marks : List ℕ) (m : Mail) (rest : List ℕ) → InRange 1 255 gate → InRange 0 255 aside → AreMarks version (length m.rcpts) marks → IsMail m
+    → reads (slot_bytes version gate aside marks m ++ rest) ≡ cond (nat_eq aside 0) (Whole m) (Aside m)
+reads_again version gate aside marks m rest open_gate mark are fits =
+    let more : List ℕ = ((aside ∷ tagged_head version (length m.body) marks m.from m.rcpts) ++ m.body) ++ rest in
+    reads_open gate more (shut gate open_gate.0) ∙ ap (kept_or_bad (length (gate ∷ more))) (whole_again version gate aside marks m rest open_gate mark are fits)
+
+pub done_again : (version gate aside : ℕ) (marks : List ℕ) (m : Mail) (rest : List ℕ) → InRange 1 255 gate → InRange 0 255 aside → AreMarks version (length m.rcpts) marks → IsMail m
+    → done_in (slot_bytes version gate aside marks m ++ rest) ≡ done_of marks
+done_again version gate aside marks m rest open_gate mark are fits = ap done_or_none (whole_again version gate aside marks m rest open_gate mark are fits)
 
 pub reads_free : (bytes : List ℕ) → IsFreeFile bytes → reads bytes ≡ Free
 unfolding reads
@@ -91,8 +97,8 @@ begins_kept : (front : List ℕ) → Begins Kept FitsWhole spell_whole front →
 begins_kept front b =
     let x = b.0 in
     let fits : FitsWhole x = b.1 in
-    let parts : front ++ b.2 ≡ slot_bytes x.0.gate x.0.aside (mail_of x) ++ [] = sym b.3 ∙ kept_bytes x fits ∙ sym (append-nil (slot_bytes x.0.gate x.0.aside (mail_of x))) in
-    let is : IsKeptFile (front ++ b.2) = record { gate = x.0.gate; aside = x.0.aside; m = mail_of x; rest = []; open_gate = fits.0.gate; mark = fits.0.aside; mail = mail_fits x fits; parts = parts } in
+    let parts : front ++ b.2 ≡ slot_bytes x.0.version x.0.gate x.0.aside x.0.marks (mail_of x) ++ [] = sym b.3 ∙ kept_bytes x fits ∙ sym (append-nil (slot_bytes x.0.version x.0.gate x.0.aside x.0.marks (mail_of x))) in
+    let is : IsKeptFile (front ++ b.2) = record { version = x.0.version; gate = x.0.gate; aside = x.0.aside; marks = x.0.marks; m = mail_of x; rest = []; open_gate = fits.0.gate; mark = fits.0.aside; are_marks = marks_fit x fits; mail = mail_fits x fits; parts = parts } in
     (b.2, inr is)
 
 stopped : (gate : ℕ) (tail : List ℕ) (left : ℕ) → nat_eq gate 0 ≡ false → whole_at (gate ∷ tail) ≡ Err left → StopsAtFirstBad Kept FitsWhole spell_whole (gate ∷ tail) left
@@ -102,15 +108,15 @@ stopped gate tail left is err st n (more, inl free) le =
     omega (arith, ap length st.parts, length-append st.front st.tail, st.len)
 stopped gate tail left is err st n (more, inr kept) le =
     let bytes : List ℕ = gate ∷ tail in
-    let slot : List ℕ = slot_bytes kept.gate kept.aside kept.m in
+    let slot : List ℕ = slot_bytes kept.version kept.gate kept.aside kept.marks kept.m in
     let cut : take n bytes ++ drop n bytes ≡ bytes = take-append-drop n bytes in
     elim (cut_either (take n bytes) more slot kept.rest kept.parts) [
       | inl r ↦
           let all : bytes ≡ slot ++ (r.0 ++ drop n bytes) = sym cut ∙ ap (λ (w : List ℕ). w ++ drop n bytes) r.1 ∙ append_assoc slot r.0 (drop n bytes) in
-          let good : whole_at bytes ≡ Ok (kept_of kept.gate kept.aside kept.m, r.0 ++ drop n bytes) = ap whole_at all ∙ whole_again kept.gate kept.aside kept.m (r.0 ++ drop n bytes) kept.open_gate kept.mark kept.mail in
+          let good : whole_at bytes ≡ Ok (kept_of kept.version kept.gate kept.aside kept.marks kept.m, r.0 ++ drop n bytes) = ap whole_at all ∙ whole_again kept.version kept.gate kept.aside kept.marks kept.m (r.0 ++ drop n bytes) kept.open_gate kept.mark kept.are_marks kept.mail in
           absurd (cc (good, err))
       | inr r ↦
-          let more_left : left ≤ length (drop n bytes) = st.longest (take n bytes) (drop n bytes) (sym cut) (kept_of kept.gate kept.aside kept.m, kept_fits kept.gate kept.aside kept.m kept.open_gate kept.mark kept.mail, r.0, r.1) in
+          let more_left : left ≤ length (drop n bytes) = st.longest (take n bytes) (drop n bytes) (sym cut) (kept_of kept.version kept.gate kept.aside kept.marks kept.m, kept_fits kept.version kept.gate kept.aside kept.marks kept.m kept.open_gate kept.mark kept.are_marks kept.mail, r.0, r.1) in
           omega (arith, length-drop n bytes)
     ]
 
@@ -165,7 +171,7 @@ not_bad false m at e = absurd cc
 pub bad_none : (bytes : List ℕ) (at : ℕ) → reads bytes ≡ Bad at → IsSlotFile bytes → ⊥
 bad_none bytes at e (inl free) = let good = reads_free bytes free in absurd (cc (good, e))
 bad_none bytes at e (inr kept) =
-    let good : reads bytes ≡ cond (nat_eq kept.aside 0) (Whole kept.m) (Aside kept.m) = ap reads kept.parts ∙ reads_again kept.gate kept.aside kept.m kept.rest kept.open_gate kept.mark kept.mail in
+    let good : reads bytes ≡ cond (nat_eq kept.aside 0) (Whole kept.m) (Aside kept.m) = ap reads kept.parts ∙ reads_again kept.version kept.gate kept.aside kept.marks kept.m kept.rest kept.open_gate kept.mark kept.are_marks kept.mail in
     not_bad (nat_eq kept.aside 0) kept.m at (sym good ∙ e)
 
 -- ---- bytes that are no slot file are bad
@@ -181,8 +187,8 @@ open_some : (bytes : List ℕ) (read : Read Kept) → IsBytes bytes → whole_at
 open_some bytes (Err left) fits e = inr (length bytes - left, refl)
 open_some bytes (Ok x) fits e =
     let s : FitsWhole x.0 × (bytes ≡ spell_whole x.0 ++ x.1) = reads_whole.sound bytes x fits e in
-    let parts : bytes ≡ slot_bytes x.0.0.gate x.0.0.aside (mail_of x.0) ++ x.1 = s.1 ∙ ap (λ (w : List ℕ). w ++ x.1) (kept_bytes x.0 s.0) in
-    let is : IsKeptFile bytes = record { gate = x.0.0.gate; aside = x.0.0.aside; m = mail_of x.0; rest = x.1; open_gate = s.0.0.gate; mark = s.0.0.aside; mail = mail_fits x.0 s.0; parts = parts } in
+    let parts : bytes ≡ slot_bytes x.0.0.version x.0.0.gate x.0.0.aside x.0.0.marks (mail_of x.0) ++ x.1 = s.1 ∙ ap (λ (w : List ℕ). w ++ x.1) (kept_bytes x.0 s.0) in
+    let is : IsKeptFile bytes = record { version = x.0.0.version; gate = x.0.0.gate; aside = x.0.0.aside; marks = x.0.0.marks; m = mail_of x.0; rest = x.1; open_gate = s.0.0.gate; mark = s.0.0.aside; are_marks = marks_fit x.0 s.0; mail = mail_fits x.0 s.0; parts = parts } in
     inl (inr is)
 
 either_some : (bytes : List ℕ) (b : Bool) (one other : Reading) → (b ≡ true → IsSlotOr bytes one) → (b ≡ false → IsSlotOr bytes other) → IsSlotOr bytes (cond b one other)
@@ -214,3 +220,13 @@ pub slot_first_bad : (bytes : List ℕ) (r : Result Slot SlotFault) → IsBytes 
 slot_first_bad bytes (Ok slot) fits e = tt
 slot_first_bad bytes (Err (faults.Bad at)) fits e = bad_longest bytes at fits e
 slot_first_bad bytes (Err faults.NoMemory) fits e = tt
+
+-- ---- how many marks there are
+
+few_of : (version n k : ℕ) → k ≡ mark_count version n → n ≤ 1000 → k ≤ 1000
+few_of version n k e few = grind (arith, nat_tests)
+
+pub head_few : (bytes : List ℕ) (x : Head) (rest : List ℕ) → IsBytes bytes → head_at bytes ≡ Ok (x, rest) → length x.marks ≤ 1000
+head_few bytes x rest fits e =
+    let s = reads_head.sound bytes (x, rest) fits e in
+    few_of x.version (length x.rcpts) (length x.marks) s.0.marks.len s.0.envelope.few

@@ -1,7 +1,7 @@
 -- Reading a slot file from left to right.
 use Rattle.std.specs.Prelude.{ℕ, zero, suc, ◌+◌, ◌-◌, ◌*◌, ◌==◌, List, [], ◌∷◌, length, Ok, Err, if◌then◌else◌}
 use Rattle.byte_reader.specs.Reading.{Read, ◌>>=◌, byte_at, bytes_at, short_at}
-use Rattle.slot_bytes.specs.Layout.{Mail}
+use Rattle.slot_bytes.specs.Layout.{Mail, mark_count, done_of}
 
 -- ---- fields
 
@@ -41,36 +41,39 @@ pub record Head : Type 0 where
   pub aside : ℕ
   pub version : ℕ
   pub len : ℕ
+  pub marks : List ℕ
   pub from : List ℕ
   pub rcpts : List (List ℕ)
 
--- the first six bytes behind an open gate: the gate, the mark of what is set aside, `FWS` and the version
-pub record Marks : Type 0 where
+-- the first six bytes of a file with an open gate: the gate, whether it is set aside, `FWS` and the version's digit
+pub record Preamble : Type 0 where
   pub gate : ℕ
   pub aside : ℕ
   pub version : ℕ
 
-unfoldable pub marks_at : List ℕ → Read Marks
-marks_at bytes = do
+unfoldable pub preamble_at : List ℕ → Read Preamble
+preamble_at bytes = do
   gate ← byte_at 1 255 bytes
   aside ← byte_at 0 255 gate.1
   f ← byte_at 70 70 aside.1
   w ← byte_at 87 87 f.1
   s ← byte_at 83 83 w.1
-  version ← byte_at 49 49 s.1
+  version ← byte_at 49 50 s.1
   Ok (record { gate = gate.0; aside = aside.0; version = version.0 }, version.1)
 
-abbrev pub head_of : Marks → ℕ → List ℕ → List (List ℕ) → Head
-head_of marks len from rcpts = record { gate = marks.gate; aside = marks.aside; version = marks.version; len = len; from = from; rcpts = rcpts }
+abbrev pub head_of : Preamble → ℕ → List ℕ → List ℕ → List (List ℕ) → Head
+head_of start len marks from rcpts =
+    record { gate = start.gate; aside = start.aside; version = start.version; len = len; marks = marks; from = from; rcpts = rcpts }
 
 unfoldable pub head_at : List ℕ → Read Head
 head_at bytes = do
-  marks ← marks_at bytes
-  len ← body_len_at marks.1
+  start ← preamble_at bytes
+  len ← body_len_at start.1
   n ← short_at 1 1000 len.1
-  from ← long_text_at 0 256 n.1
+  marks ← bytes_at (mark_count start.0.version n.0) n.1
+  from ← long_text_at 0 256 marks.1
   rcpts ← rcpts_at n.0 from.1
-  Ok (head_of marks.0 len.0 from.0 rcpts.0, rcpts.1)
+  Ok (head_of start.0 len.0 marks.0 from.0 rcpts.0, rcpts.1)
 
 -- the head, and the body behind it
 unfoldable pub whole_at : List ℕ → Read (Head × List ℕ)
@@ -81,7 +84,7 @@ whole_at bytes = do
 
 -- ---- the file
 
--- what a slot file is read as
+-- what a slot file is read as, whatever the marks of its recipients
 pub data Reading : Type 0 where
   Free : Reading
   Whole : Mail → Reading
@@ -91,12 +94,16 @@ pub data Reading : Type 0 where
 abbrev pub mail_of : Head × List ℕ → Mail
 mail_of x = record { from = x.0.from; rcpts = x.0.rcpts; body = x.1 }
 
--- behind an open gate, in a file of this length
+-- a head and a body as a reading
+abbrev pub slot_in : Head × List ℕ → Reading
+slot_in x = if x.0.aside == 0 then Whole (mail_of x) else Aside (mail_of x)
+
+-- with an open gate, in a file of this length
 abbrev pub kept_or_bad : ℕ → Read (Head × List ℕ) → Reading
-kept_or_bad len (Ok x) = if x.0.0.aside == 0 then Whole (mail_of x.0) else Aside (mail_of x.0)
+kept_or_bad len (Ok x) = slot_in x.0
 kept_or_bad len (Err left) = Bad (len - left)
 
--- behind a closed gate
+-- with a closed gate
 abbrev pub free_or_short : List ℕ → Reading
 free_or_short [] = Bad 1
 free_or_short (aside ∷ rest) = Free
@@ -105,3 +112,14 @@ free_or_short (aside ∷ rest) = Free
 unfoldable pub reads : List ℕ → Reading
 reads [] = Bad 0
 reads (gate ∷ rest) = if gate == 0 then free_or_short rest else kept_or_bad (length (gate ∷ rest)) (whole_at (gate ∷ rest))
+
+-- ---- the marks
+
+-- the places of the recipients that are done, of what was read: none where nothing was
+abbrev pub done_or_none : Read (Head × List ℕ) → List ℕ
+done_or_none (Ok x) = done_of x.0.0.marks
+done_or_none (Err left) = []
+
+-- the places of the recipients that are done, in a file that is read as a message
+abbrev pub done_in : List ℕ → List ℕ
+done_in bytes = done_or_none (whole_at bytes)

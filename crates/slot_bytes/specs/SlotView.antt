@@ -20,8 +20,14 @@ kept_view x = (head_view x.0, x.1)
 -- what a slot is read as, seen as a reading
 abbrev pub slot_view : slots.Slot → Reading
 slot_view found.Free = readings.Free
-slot_view (found.Whole m) = readings.Whole (mail_view m)
-slot_view (found.Aside m) = readings.Aside (mail_view m)
+slot_view (found.Whole k) = readings.Whole (mail_view k.message)
+slot_view (found.Aside k) = readings.Aside (mail_view k.message)
+
+-- the places of the recipients that are done come with the message
+abbrev pub HasDone : slots.Slot → List ℕ → Type 0
+HasDone found.Free done = Unit {0}
+HasDone (found.Whole k) done = k.done ≡ done
+HasDone (found.Aside k) done = k.done ≡ done
 
 -- the answer is the reading, but for want of memory
 abbrev pub IsSlotRead : Result slots.Slot SlotFault → Reading → Type 0

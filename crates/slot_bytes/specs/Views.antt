@@ -1,13 +1,13 @@
 -- What reading sees of the parts of a slot.
 use Rattle.std.specs.Prelude.{◌≡◌, ℕ, List, ◌++◌, Result, Ok, Err}
 use Rattle.byte_reader.specs.Reading.{Read, ◌>>=◌}
-use Rattle.slot_bytes.specs.declared.fields.Marks as code_marks
+use Rattle.slot_bytes.specs.declared.fields.Preamble as code
 use Rattle.slot_bytes.specs.declared.fault.HeadFault.{HeadFault}
 use Rattle.slot_bytes.specs.declared.fault.HeadFault.TheVariants.{Bad, NoMemory}
-use Rattle.slot_bytes.specs.Reading.{Marks}
+use Rattle.slot_bytes.specs.Reading.{Preamble}
 
-abbrev pub marks_view : code_marks.Marks → Marks
-marks_view m = record { gate = m.gate; aside = m.aside; version = m.version }
+abbrev pub preamble_view : code.Preamble → Preamble
+preamble_view p = record { gate = p.gate; aside = p.aside; version = p.version }
 
 -- what a function that may want memory returned is what reading gives, seen by a view of what was read
 abbrev pub IsReadIfMemory : {X Y : Type 0} → (X → Y) → Result X HeadFault → Result Y ℕ → Type 0

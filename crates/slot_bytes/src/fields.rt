@@ -1,31 +1,31 @@
 //! Fields of a slot's head, from the front of the bytes: what was read, and the bytes after it.
 ghost use Rattle.std.specs.Prelude.{◌≡◌, ◌≤◌, ◌<◌, length, IfOk};
 ghost use Rattle.byte_reader.specs.Reading.{IsReadAs};
-ghost use Rattle.slot_bytes.specs.Reading.{Marks, body_len_at, long_text_at, low_most, marks_at};
-ghost use Rattle.slot_bytes.specs.Views.{marks_view};
+ghost use Rattle.slot_bytes.specs.Reading.{body_len_at, long_text_at, low_most, preamble_at};
+ghost use Rattle.slot_bytes.specs.Views.{preamble_view};
 
 use byte_reader::{Stop, byte_of, bytes_of, short_of};
 
 /// What stands in front of the body's length.
 #[derive(Clone, Copy)]
-pub(crate) struct Marks {
+pub(crate) struct Preamble {
     pub(crate) gate: u8,
     pub(crate) aside: u8,
     pub(crate) version: u8,
 }
 
-#[tactic(auto, unfolding(crate::specs::Reading::marks_at))]
-pub(crate) fn marks_of(bytes: &[u8]) -> Result<(Marks, &[u8]), Stop>
-    ensures { IsReadAs (λ x. (marks_view x.0, x.1.now)) result (marks_at bytes.now) }
+#[tactic(auto, unfolding(crate::specs::Reading::preamble_at))]
+pub(crate) fn preamble_of(bytes: &[u8]) -> Result<(Preamble, &[u8]), Stop>
+    ensures { IsReadAs (λ x. (preamble_view x.0, x.1.now)) result (preamble_at bytes.now) }
 {
     let (gate, rest) = byte_of(1, 255, bytes)?;
     let (aside, rest) = byte_of(0, 255, rest)?;
     let (_, rest) = byte_of(b'F', b'F', rest)?;
     let (_, rest) = byte_of(b'W', b'W', rest)?;
     let (_, rest) = byte_of(b'S', b'S', rest)?;
-    let (version, rest) = byte_of(b'1', b'1', rest)?;
+    let (version, rest) = byte_of(b'1', b'2', rest)?;
     Ok((
-        Marks {
+        Preamble {
             gate,
             aside,
             version,

@@ -1,12 +1,13 @@
 //! Reading what stands in front of the body.
 ghost use Rattle.std.specs.Prelude.{◌≡◌, ◌++◌, ◌∷◌, [], OnOk};
+ghost use Rattle.slot_bytes.specs.Layout.{mark_count};
 ghost use Rattle.slot_bytes.specs.Reading.{head_at, rcpts_at};
 ghost use Rattle.slot_bytes.specs.Views.{IsReadIfMemory};
 ghost use Rattle.slot_bytes.specs.HeadView.{head_view};
 
 use crate::HeadFault;
-use crate::fields::{body_len_of, long_text_of, marks_of};
-use byte_reader::short_of;
+use crate::fields::{body_len_of, long_text_of, preamble_of};
+use byte_reader::{bytes_of, short_of};
 use fw_types::{NoMemory, Octets, OctetsList};
 use std::alloc::Global;
 
@@ -21,6 +22,8 @@ pub struct Head {
     pub version: u8,
     /// The body's length in bytes.
     pub len: u32,
+    /// A byte for each recipient, 0 while it waits; in version 1 none.
+    pub marks: Octets,
     pub from: Octets,
     pub rcpts: OctetsList,
 }
@@ -55,22 +58,32 @@ fn rcpts_of(alloc: Global, count: u16, bytes: &[u8]) -> Result<(OctetsList, &[u8
     Ok((list, rest))
 }
 
+// How many marks a version has.
+fn mark_count(version: u8, count: u16) -> u16
+    ensures { result ≡ mark_count version count }
+{
+    if version == b'1' { 0 } else { count }
+}
+
 /// Reads the head from the front of the bytes: what stands there, and the bytes after it.
 #[tactic(auto, unfolding(crate::specs::Reading::head_at))]
 pub fn read_head(alloc: Global, bytes: &[u8]) -> Result<(Head, &[u8]), HeadFault>
     ensures { IsReadIfMemory (λ x. (head_view x.0, x.1.now)) result (head_at bytes.now) }
 {
-    let (marks, rest) = marks_of(bytes)?;
+    let (start, rest) = preamble_of(bytes)?;
     let (len, rest) = body_len_of(rest)?;
     let (count, rest) = short_of(1, 1000, rest)?;
+    let (marks, rest) = bytes_of(mark_count(start.version, count) as usize, rest)?;
     let (from, rest) = long_text_of(0, 256, rest)?;
     let (rcpts, rest) = rcpts_of(alloc, count, rest)?;
+    let marks = Octets::copy(alloc, marks)?;
     let from = Octets::copy(alloc, from)?;
     let head = Head {
-        gate: marks.gate,
-        aside: marks.aside,
-        version: marks.version,
+        gate: start.gate,
+        aside: start.aside,
+        version: start.version,
         len,
+        marks,
         from,
         rcpts,
     };

@@ -1,16 +1,20 @@
 //! What holds of all slot files.
-ghost use Rattle.std.specs.Prelude.{◌≡◌, ◌==◌, ◌++◌, ◌⊎◌, ℕ, List, if◌then◌else◌};
+ghost use Rattle.std.specs.Prelude.{◌≡◌, ◌==◌, ◌++◌, ◌⊎◌, ℕ, List, length, if◌then◌else◌};
 ghost use Rattle.byte_reader.specs.Reading.{IsBytes};
 ghost use Rattle.byte_reader.specs.Exact.{InRange, IsStable};
-ghost use Rattle.slot_bytes.specs.Layout.{Mail, IsMail, slot_bytes};
-ghost use Rattle.slot_bytes.specs.Reading.{Head, head_at, reads};
+ghost use Rattle.slot_bytes.specs.Layout.{Mail, IsMail, AreMarks, done_of, slot_bytes};
+ghost use Rattle.slot_bytes.specs.Reading.{Head, done_in, head_at, reads};
 ghost use Rattle.slot_bytes.specs.Reading.Reading.{Free, Whole, Aside, Bad};
 ghost use Rattle.slot_bytes.specs.Files.{IsFreeFile, IsKeptFile, IsSlotFile, IsLongestBeginning};
 
-/// What is written is read again, whatever follows it.
+/// What is written in either version is read again, whatever follows it.
 pub fn again()
-    ensures kept { (gate aside : ℕ) (m : Mail) (rest : List ℕ) → InRange 1 255 gate → InRange 0 255 aside → IsMail m →
-        reads (slot_bytes gate aside m ++ rest) ≡ (if aside == 0 then Whole m else Aside m) }
+    ensures kept { (version gate aside : ℕ) (marks : List ℕ) (m : Mail) (rest : List ℕ) →
+        InRange 1 255 gate → InRange 0 255 aside → AreMarks version (length m.rcpts) marks → IsMail m →
+        reads (slot_bytes version gate aside marks m ++ rest) ≡ (if aside == 0 then Whole m else Aside m) }
+    ensures done { (version gate aside : ℕ) (marks : List ℕ) (m : Mail) (rest : List ℕ) →
+        InRange 1 255 gate → InRange 0 255 aside → AreMarks version (length m.rcpts) marks → IsMail m →
+        done_in (slot_bytes version gate aside marks m ++ rest) ≡ done_of marks }
     ensures free { (bytes : List ℕ) → IsFreeFile bytes → reads bytes ≡ Free }
 {}
 

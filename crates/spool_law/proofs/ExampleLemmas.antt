@@ -5,7 +5,7 @@ use Rattle.fw_disk.specs.Medium.{settled}
 use Rattle.fw_disk.specs.Laws.{AreBytes}
 use Rattle.fw_disk.specs.Moments.{EachImage}
 use Rattle.fw_disk.proofs.MediumLemmas.{settled_only}
-use Rattle.slot_bytes.specs.Layout.{Mail, IsMail}
+use Rattle.slot_bytes.specs.Layout.{Mail, IsMail, AreMarks}
 use Rattle.slot_bytes.specs.Reading.{reads}
 use Rattle.slot_bytes.specs.Reading.Reading.{Whole}
 use Rattle.slot_bytes.proofs.SlotLemmas.{reads_again, reads_free}
@@ -22,7 +22,7 @@ mail = record { from = []; rcpts = (97 ∷ []) ∷ []; body = [] }
 
 -- its slot from byte 1 on
 abbrev tail : List ℕ
-tail = 0 ∷ 70 ∷ 87 ∷ 83 ∷ 49 ∷ 0 ∷ 0 ∷ 0 ∷ 0 ∷ 0 ∷ 0 ∷ 0 ∷ 0 ∷ 0 ∷ 1 ∷ 0 ∷ 0 ∷ 0 ∷ 1 ∷ 97 ∷ []
+tail = 0 ∷ 70 ∷ 87 ∷ 83 ∷ 50 ∷ 0 ∷ 0 ∷ 0 ∷ 0 ∷ 0 ∷ 0 ∷ 0 ∷ 0 ∷ 0 ∷ 1 ∷ 0 ∷ 0 ∷ 0 ∷ 0 ∷ 1 ∷ 97 ∷ []
 
 abbrev pub example : List Event
 example =
@@ -42,7 +42,7 @@ at_each (b ∷ bytes) are (suc place) = at_each bytes are.1 place
 two_bytes : IsBytes tail
 two_bytes = (
   lit< tt,
-  (lit< tt, (lit< tt, (lit< tt, (lit< tt, (lit< tt, (lit< tt, (lit< tt, (lit< tt, (lit< tt, (lit< tt, (lit< tt, (lit< tt, (lit< tt, (lit< tt, (lit< tt, (lit< tt, (lit< tt, (lit< tt, (lit< tt, tt))))))))))))))))))),
+  (lit< tt, (lit< tt, (lit< tt, (lit< tt, (lit< tt, (lit< tt, (lit< tt, (lit< tt, (lit< tt, (lit< tt, (lit< tt, (lit< tt, (lit< tt, (lit< tt, (lit< tt, (lit< tt, (lit< tt, (lit< tt, (lit< tt, (lit< tt, tt)))))))))))))))))))),
 )
 
 is_mail : IsMail mail
@@ -58,7 +58,10 @@ is_mail = record {
 }
 
 reads_whole : reads (1 ∷ tail) ≡ Whole mail
-reads_whole = reads_again 1 0 mail [] (lit≤ tt, lit≤ tt) (lit≤ tt, lit≤ tt) is_mail
+reads_whole = reads_again 50 1 0 (0 ∷ []) mail [] (lit≤ tt, lit≤ tt) (lit≤ tt, lit≤ tt) waits is_mail
+  where
+    waits : AreMarks 50 1 (0 ∷ [])
+    waits = record { known = (lit≤ tt, lit≤ tt); each = record { len = refl; bytes = (lit< tt, tt) } }
 
 free_two : EachImage IsFree (settled (0 ∷ 0 ∷ []))
 free_two image is = subst IsFree (sym (settled_only (0 ∷ 0 ∷ []) image is)) (reads_free (0 ∷ 0 ∷ []) (record { long = lit≤ tt; gate = refl }))

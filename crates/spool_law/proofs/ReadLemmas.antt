@@ -3,7 +3,7 @@ use Rattle.std.proofs.Common.{◌≡◌, ℕ, zero, suc, ◌<◌, ◌≤◌, Boo
 use Rattle.byte_reader.specs.Reading.{IsBytes}
 use Rattle.byte_reader.specs.Exact.{InRange}
 use Rattle.fw_disk.specs.Laws.{AreBytes}
-use Rattle.slot_bytes.specs.Layout.{Mail, behind_marks, slot_bytes}
+use Rattle.slot_bytes.specs.Layout.{Mail, tagged_head, slot_bytes}
 use Rattle.slot_bytes.specs.Reading.{Reading, reads}
 use Rattle.slot_bytes.specs.Reading.Reading.{Free, Whole, Aside, Bad}
 use Rattle.slot_bytes.specs.Files.{IsFreeFile, IsKeptFile}
@@ -49,7 +49,7 @@ mark_not_free true x r e f = cc (e, f)
 mark_not_free false x r e f = cc (e, f)
 
 file_reads : (bytes : List ℕ) (k : IsKeptFile bytes) → reads bytes ≡ cond (nat_eq k.aside 0) (Whole k.m) (Aside k.m)
-file_reads bytes k = ap reads k.parts ∙ reads_again k.gate k.aside k.m k.rest k.open_gate k.mark k.mail
+file_reads bytes k = ap reads k.parts ∙ reads_again k.version k.gate k.aside k.marks k.m k.rest k.open_gate k.mark k.are_marks k.mail
 
 -- ---- free images
 
@@ -78,7 +78,7 @@ kept_file m image are kept =
 pub kept_long : (m : Mail) (image : List ℕ) → AreBytes image → IsKept m image → 2 ≤ length image
 kept_long m image are kept =
     let k = kept_file m image are kept in
-    let len : length image ≡ length (slot_bytes k.gate k.aside k.m ++ k.rest) = ap length k.parts in
+    let len : length image ≡ length (slot_bytes k.version k.gate k.aside k.marks k.m ++ k.rest) = ap length k.parts in
     omega (arith, len)
 
 -- what follows two bytes of a message, behind any other gate and mark
@@ -86,10 +86,10 @@ marks_any : (g a : ℕ) (rest : List ℕ) (m : Mail) → AreBytes (g ∷ a ∷ r
     → (h b : ℕ) → InRange 1 255 h → InRange 0 255 b → reads (h ∷ b ∷ rest) ≡ cond (nat_eq b 0) (Whole m) (Aside m)
 marks_any g a rest m are kept h b open_gate mark =
     let k = kept_file m (g ∷ a ∷ rest) are kept in
-    let tail : rest ≡ (behind_marks 49 (length k.m.body) k.m.from k.m.rcpts ++ k.m.body) ++ k.rest = ap (drop 2) k.parts in
+    let tail : rest ≡ (tagged_head k.version (length k.m.body) k.marks k.m.from k.m.rcpts ++ k.m.body) ++ k.rest = ap (drop 2) k.parts in
     let same : k.m ≡ m = mark_mail (nat_eq k.aside 0) k.m m (reads (g ∷ a ∷ rest)) (file_reads (g ∷ a ∷ rest) k) kept in
     ap (λ (t : List ℕ). reads (h ∷ b ∷ t)) tail
-    ∙ reads_again h b k.m k.rest open_gate mark k.mail
+    ∙ reads_again k.version h b k.marks k.m k.rest open_gate mark k.are_marks k.mail
     ∙ ap (λ (x : Mail). cond (nat_eq b 0) (Whole x) (Aside x)) same
 
 marks_kept : (g a : ℕ) (rest : List ℕ) (m : Mail) → AreBytes (g ∷ a ∷ rest) → IsKept m (g ∷ a ∷ rest)

@@ -1,6 +1,6 @@
 -- Each call as events of the spool.
 use Rattle.std.proofs.Common.{◌≡◌, ℕ, ◌+◌, ◌<◌, ◌≤◌, List, [], ◌∷◌, ◌++◌, length, Option, Some, None, Result, Ok, Err, refl, sym, ap, subst, ◌∙◌, ◌⊎◌, inl, inr}
-use Rattle.std.specs.Prelude.{IfSome, option_map}
+use Rattle.std.specs.Prelude.{IfSome, OnOk, OnErr, MatchResult, option_map}
 use Rattle.std.specs.List.{Contains}
 use Rattle.fw_outside.specs.declared.failed.Failed.{Failed}
 use Rattle.fw_disk.specs.Laws.{AreBytes}
@@ -138,3 +138,9 @@ pub runs_same : (k : Known) (a b spelled : SlotView) → a ≡ spelled → b ≡
 runs_same k a b spelled e f =
     let along : Runs k a.disk k spelled.disk = subst (λ (s : SlotView). Runs k s.disk k spelled.disk) (sym e) (runs_here k spelled.disk) in
     subst (λ (s : SlotView). Runs k a.disk k s.disk) (sym f) along
+
+pub runs_gate : (result : Result (Unit {0}) Failed) (k : Known) (l : Letter) (a b c : DiskView) → k.use_of ≡ Begun l → GoesOn a b → Now (IsStanding 0 0 l.mail) b
+    → OnOk result (HasSetByte 0 1 b c) → OnErr result (FailsToSet 0 1 b c)
+    → MatchResult result (λ u. Runs k a (used_for (Opened l) k) c) (λ e. Runs k a k c ⊎ Runs k a (used_for (Opened l) k) c)
+runs_gate (Ok u) k l a b c e g h s f = runs_finished k l a b c e g h s
+runs_gate (Err x) k l a b c e g h s f = runs_not_finished k l a b c e g h f

@@ -1,15 +1,16 @@
 -- Messages that are being written.
-use Rattle.std.proofs.Common.{◌≡◌, ℕ, ◌+◌, ◌*◌, ◌-◌, ◌<◌, ◌≤◌, lit≤, List, [], ◌∷◌, ◌++◌, length, take, drop, Option, Some, None, refl, sym, ap, subst, ◌∙◌, append_assoc, append-nil, length-append, length-drop, arith}
+use Rattle.std.proofs.Common.{◌≡◌, ℕ, ◌+◌, ◌*◌, ◌-◌, ◌<◌, ◌≤◌, lit≤, lit<, List, [], ◌∷◌, ◌++◌, length, take, drop, Option, Some, None, refl, sym, ap, subst, ◌∙◌, append_assoc, append-nil, length-append, length-drop, arith}
 use Rattle.std.specs.Prelude.{IfSome, option_map}
 use Rattle.std.specs.List.{AllByRecursion}
 use Rattle.std.proofs.Math.Seq.{take-append_seam, drop-append-add}
+use Rattle.std.proofs.lemmas.List.{length-map}
 use Rattle.byte_reader.specs.Reading.{IsBytes}
 use Rattle.byte_reader.specs.Exact.{two}
 use Rattle.fw_disk.specs.Medium.{Medium, laid_over, written_at}
 use Rattle.fw_disk.specs.DiskView.{Tape, DiskView, changed, length_told}
 use Rattle.fw_disk.specs.Moments.{Through, Now, EachImage}
 use Rattle.fw_disk.proofs.MomentLemmas.{through_here, through_then, through_now}
-use Rattle.slot_bytes.specs.Layout.{Mail, IsMail, IsEnvelope, IsTextFrom, behind_marks, counted, each_counted}
+use Rattle.slot_bytes.specs.Layout.{Mail, IsMail, IsEnvelope, IsTextFrom, AreMarks, all_waiting, tagged_head, counted, each_counted}
 use Rattle.spool_slots.specs.Images.{IsFreeImage}
 use Rattle.spool_slots.specs.Filled.{HasAdded}
 use Rattle.spool_slots.specs.Media.{IsShut, IsVacant, Pen, begun, longer, draft_head, IsDraft, IsFilling}
@@ -24,16 +25,16 @@ filling_shut pen view h = now_weaker (IsFilling pen) IsShut (λ m f. f.shut) vie
 pub filling_free : (pen : Pen) (view : DiskView) → Now (IsFilling pen) view → Now (EachImage IsFreeImage) view
 filling_free pen view h = shut_free_now view (filling_shut pen view h)
 
-head_long : (gate : ℕ) (m : Mail) → 18 ≤ length (draft_head gate m)
+head_long : (gate : ℕ) (m : Mail) → 16 ≤ length (draft_head gate m)
 head_long gate m = omega arith
 
-draft_long : (m : Mail) (pen : Pen) (medium : Medium) → IsDraft m pen medium → (18 ≤ pen.at) × (pen.at ≤ length medium.seen)
+draft_long : (m : Mail) (pen : Pen) (medium : Medium) → IsDraft m pen medium → (16 ≤ pen.at) × (pen.at ≤ length medium.seen)
 draft_long m pen medium d =
-    let at : 18 ≤ pen.at = omega (arith, d.place, length-append (draft_head d.gate m) d.written, head_long d.gate m) in
+    let at : 16 ≤ pen.at = omega (arith, d.place, length-append (draft_head d.gate m) d.written, head_long d.gate m) in
     let within : pen.at ≤ length medium.seen = omega (arith, d.place, ap length d.seen, length-append (draft_head d.gate m ++ d.written) d.rest) in
     (at, within)
 
-filling_long : (pen : Pen) (medium : Medium) → IsFilling pen medium → (18 ≤ pen.at) × (pen.at ≤ length medium.seen)
+filling_long : (pen : Pen) (medium : Medium) → IsFilling pen medium → (16 ≤ pen.at) × (pen.at ≤ length medium.seen)
 filling_long pen medium f = draft_long f.m pen medium f.draft
 
 told_within : (pen : Pen) (told : Option Tape) (faults : ℕ) → IfSome told (λ tape. IsFilling pen tape.now) → IfSome (length_told (record { told = told; faults = faults })) (λ len. pen.at ≤ len)
@@ -208,7 +209,7 @@ front_parts (g ∷ rest) long = (g, rest, refl)
 begun_mail : (from : List ℕ) (rcpts : List (List ℕ)) → IsEnvelope from rcpts → IsMail (begun from rcpts)
 begun_mail from rcpts is = record { envelope = is; small = lit≤ tt; bytes = tt }
 
-begun_draft : (from : List ℕ) (rcpts : List (List ℕ)) (head : List ℕ) (medium : Medium) → IsEnvelope from rcpts → head ≡ 0 ∷ behind_marks 49 0 from rcpts → IsVacant medium
+begun_draft : (from : List ℕ) (rcpts : List (List ℕ)) (head : List ℕ) (medium : Medium) → IsEnvelope from rcpts → head ≡ 0 ∷ tagged_head 50 0 (all_waiting rcpts) from rcpts → IsVacant medium
     → IsDraft (begun from rcpts) (first_pen head) (written_at 1 head medium)
 begun_draft from rcpts head medium is e v =
     let parts = front_parts medium.seen (omega (arith, v.long)) in
@@ -227,7 +228,7 @@ begun_draft from rcpts head medium is e v =
       place = omega (arith, ap length front, ap length nothing);
     }
 
-begun_filling : (from : List ℕ) (rcpts : List (List ℕ)) (head : List ℕ) (medium : Medium) → IsEnvelope from rcpts → head ≡ 0 ∷ behind_marks 49 0 from rcpts → IsVacant medium
+begun_filling : (from : List ℕ) (rcpts : List (List ℕ)) (head : List ℕ) (medium : Medium) → IsEnvelope from rcpts → head ≡ 0 ∷ tagged_head 50 0 (all_waiting rcpts) from rcpts → IsVacant medium
     → IsFilling (first_pen head) (written_at 1 head medium)
 begun_filling from rcpts head medium is e v = record {
   shut = shut_written medium 1 head (written_at 1 head medium).seen (lit≤ tt) v.shut;
@@ -235,14 +236,14 @@ begun_filling from rcpts head medium is e v = record {
   draft = begun_draft from rcpts head medium is e v;
 }
 
-pub begins : (from : List ℕ) (rcpts : List (List ℕ)) (head : List ℕ) (pen : Pen) (old new : DiskView) → IsEnvelope from rcpts → head ≡ 0 ∷ behind_marks 49 0 from rcpts
+pub begins : (from : List ℕ) (rcpts : List (List ℕ)) (head : List ℕ) (pen : Pen) (old new : DiskView) → IsEnvelope from rcpts → head ≡ 0 ∷ tagged_head 50 0 (all_waiting rcpts) from rcpts
     → pen ≡ record { at = 1 + length head; held = []; len = 0 }
     → new ≡ record old { told = option_map (changed (written_at 1 head)) old.told } → Now IsVacant old → Now (IsFilling pen) new
 begins from rcpts head pen old new is e p w h =
     subst (λ (x : Pen). Now (IsFilling x) new) (sym p)
     (after_change IsVacant (IsFilling (first_pen head)) (written_at 1 head) (λ medium v. begun_filling from rcpts head medium is e v) old new w h)
 
-pub begins_draft : (from : List ℕ) (rcpts : List (List ℕ)) (head : List ℕ) (pen : Pen) (old new : DiskView) → IsEnvelope from rcpts → head ≡ 0 ∷ behind_marks 49 0 from rcpts
+pub begins_draft : (from : List ℕ) (rcpts : List (List ℕ)) (head : List ℕ) (pen : Pen) (old new : DiskView) → IsEnvelope from rcpts → head ≡ 0 ∷ tagged_head 50 0 (all_waiting rcpts) from rcpts
     → pen ≡ record { at = 1 + length head; held = []; len = 0 }
     → new ≡ record old { told = option_map (changed (written_at 1 head)) old.told } → Now IsVacant old → Now (IsDraft (begun from rcpts) pen) new
 begins_draft from rcpts head pen old new is e p w h =
@@ -299,6 +300,15 @@ front_len piece rest pen pen' a b f = omega (arith, f.added.len, ap length f.par
 pub front_fits : (piece rest : List ℕ) (pen pen' : Pen) (a b : DiskView) → HasAddedFront piece rest pen a pen' b → pen.len + length piece ≤ 67108864 → pen'.len + length rest ≤ 67108864
 front_fits piece rest pen pen' a b f small = omega (arith, small, front_len piece rest pen pen' a b f)
 
+-- ---- the marks of a new message
+
+waiting_bytes : (rcpts : List (List ℕ)) → IsBytes (all_waiting rcpts)
+waiting_bytes [] = tt
+waiting_bytes (r ∷ rcpts) = (lit< tt, waiting_bytes rcpts)
+
+pub waiting_are : (rcpts : List (List ℕ)) → AreMarks 50 (length rcpts) (all_waiting rcpts)
+waiting_are rcpts = record { known = (lit≤ tt, lit≤ tt); each = record { len = length-map rcpts (λ rcpt. 0); bytes = waiting_bytes rcpts } }
+
 -- ---- the head is small
 
 each_small : (texts : List (List ℕ)) → AllByRecursion (IsTextFrom 1 256) texts → length (each_counted texts) ≤ 258 * length texts
@@ -307,10 +317,11 @@ each_small (text ∷ texts) all =
     let more : length (each_counted texts) ≤ 258 * length texts = each_small texts all.1 in
     omega (arith, more, all.0.high, length-append (two (length text)) text, length-append (counted text) (each_counted texts))
 
-pub head_small : (from : List ℕ) (rcpts : List (List ℕ)) (head : List ℕ) → IsEnvelope from rcpts → head ≡ 0 ∷ behind_marks 49 0 from rcpts → 1 + length head ≤ 300000
+pub head_small : (from : List ℕ) (rcpts : List (List ℕ)) (head : List ℕ) → IsEnvelope from rcpts → head ≡ 0 ∷ tagged_head 50 0 (all_waiting rcpts) from rcpts → 1 + length head ≤ 300000
 head_small from rcpts head is e =
     let each : length (each_counted rcpts) ≤ 258 * length rcpts = each_small rcpts is.each in
-    omega (arith, ap length e, each, is.few, is.from_fits.high, length-append from (each_counted rcpts))
+    let marks : length (all_waiting rcpts) ≡ length rcpts = length-map rcpts (λ rcpt. 0) in
+    omega (arith, ap length e, each, marks, is.few, is.from_fits.high, length-append (all_waiting rcpts ++ counted from) (each_counted rcpts), length-append (all_waiting rcpts) (counted from))
 
 -- ---- a slot that wasn't touched
 

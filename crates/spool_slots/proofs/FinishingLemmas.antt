@@ -8,17 +8,17 @@ use Rattle.fw_disk.specs.DiskView.{Tape, DiskView, HasSetByte, FailsToSet, lengt
 use Rattle.fw_disk.specs.Moments.{Through, Now, EachImage}
 use Rattle.fw_disk.proofs.MediumLemmas.{settled_image}
 use Rattle.fw_disk.proofs.MomentLemmas.{through_then}
-use Rattle.slot_bytes.specs.Layout.{Mail, IsMail, behind_marks, slot_bytes}
+use Rattle.slot_bytes.specs.Layout.{Mail, IsMail, AreMarks, all_waiting, tagged_head}
 use Rattle.slot_bytes.specs.Reading.{reads}
 use Rattle.slot_bytes.specs.Reading.Reading.{Free, Whole}
 use Rattle.spool_law.specs.Images.{IsReady}
 use Rattle.spool_slots.specs.Images.{IsFreeImage, IsFreeOrWhole}
 use Rattle.spool_slots.specs.Filled.{HasAdded, HasLaid}
-use Rattle.spool_slots.specs.Media.{HasByte, IsShut, Pen, begun, longer, draft_head, IsDraft, IsFilling, IsSettled, IsStanding, IsFull}
+use Rattle.spool_slots.specs.Media.{Frame, framed, HasByte, IsShut, Pen, begun, longer, draft_head, IsDraft, IsFilling, IsSettled, IsStanding, IsFull}
 use Rattle.spool_slots.specs.States.{Opens, OpensOrNot}
 use Rattle.spool_slots.proofs.ShutLemmas.{now_weaker, shut_gate, shut_written, through_free}
-use Rattle.spool_slots.proofs.FillingLemmas.{longer_nothing, filling_shut}
-use Rattle.spool_slots.proofs.StandingLemmas.{zero_or, kept_bytes, standing_images, gate_images, reads_closed, reads_whole, settles, set_settles, set_shows, set_moments, failed_moments}
+use Rattle.spool_slots.proofs.FillingLemmas.{longer_nothing, filling_shut, waiting_are}
+use Rattle.spool_slots.proofs.StandingLemmas.{zero_or, standing_images, gate_images, reads_closed, reads_whole, settles, set_settles, set_shows, set_moments, failed_moments}
 
 -- ---- the message stands behind the closed gate
 
@@ -27,17 +27,21 @@ record IsLast (m : Mail) (pen : Pen) (medium : Medium) : Type 0 where
   shut : IsShut medium
   draft : IsDraft m pen medium
 
+-- the frame of a draft, with what follows its body
+abbrev drafted : Mail → List ℕ → Frame
+drafted m rest = record { version = 50; marks = all_waiting m.rcpts; after = rest }
+
 laid_length : (gate len : ℕ) (m : Mail) (written rest : List ℕ)
-    → laid_over 6 (to_be_bytes w64 len) ((draft_head gate m ++ written) ++ rest) ≡ ((gate ∷ 0 ∷ behind_marks 49 len m.from m.rcpts) ++ written) ++ rest
+    → laid_over 6 (to_be_bytes w64 len) ((draft_head gate m ++ written) ++ rest) ≡ ((gate ∷ 0 ∷ tagged_head 50 len (all_waiting m.rcpts) m.from m.rcpts) ++ written) ++ rest
 laid_length gate len m written rest = refl
 
-last_seen : (m : Mail) (pen : Pen) (medium : Medium) (d : IsDraft m pen medium) → pen.held ≡ [] → (written_at 6 (to_be_bytes w64 pen.len) medium).seen ≡ kept_bytes d.gate 0 m d.rest
+last_seen : (m : Mail) (pen : Pen) (medium : Medium) (d : IsDraft m pen medium) → pen.held ≡ [] → (written_at 6 (to_be_bytes w64 pen.len) medium).seen ≡ framed d.gate 0 m (drafted m d.rest)
 last_seen m pen medium d none =
     let body : d.written ≡ m.body = sym (d.body ∙ ap (λ (l : List ℕ). d.written ++ l) none ∙ append-nil d.written) in
     ap (λ (l : List ℕ). laid_over 6 (to_be_bytes w64 pen.len) l) d.seen
     ∙ laid_length d.gate pen.len m d.written d.rest
-    ∙ ap (λ (n : ℕ). ((d.gate ∷ 0 ∷ behind_marks 49 n m.from m.rcpts) ++ d.written) ++ d.rest) d.len
-    ∙ ap (λ (w : List ℕ). ((d.gate ∷ 0 ∷ behind_marks 49 (length m.body) m.from m.rcpts) ++ w) ++ d.rest) body
+    ∙ ap (λ (n : ℕ). ((d.gate ∷ 0 ∷ tagged_head 50 n (all_waiting m.rcpts) m.from m.rcpts) ++ d.written) ++ d.rest) d.len
+    ∙ ap (λ (w : List ℕ). ((d.gate ∷ 0 ∷ tagged_head 50 (length m.body) (all_waiting m.rcpts) m.from m.rcpts) ++ w) ++ d.rest) body
 
 last_stands : (m : Mail) (pen : Pen) (medium : Medium) → pen.held ≡ [] → IsLast m pen medium
     → IsImage (written_at 6 (to_be_bytes w64 pen.len) medium) (written_at 6 (to_be_bytes w64 pen.len) medium).seen → IsStanding 0 0 m (synced_now (written_at 6 (to_be_bytes w64 pen.len) medium))
@@ -45,15 +49,16 @@ last_stands m pen medium none l sound =
     let d = l.draft in
     let after : Medium = written_at 6 (to_be_bytes w64 pen.len) medium in
     let shut : IsShut after = shut_written medium 6 (to_be_bytes w64 pen.len) after.seen (lit≤ tt) l.shut in
-    let spelled : after.seen ≡ kept_bytes d.gate 0 m d.rest = last_seen m pen medium d none in
+    let spelled : after.seen ≡ framed d.gate 0 m (drafted m d.rest) = last_seen m pen medium d none in
     let free = shut_gate after after.seen shut sound in
     let closed : d.gate ≡ 0 = ap (λ (s : List ℕ). get_or s 0 1) (sym spelled) ∙ free.gate in
     record {
-      rest = d.rest;
+      frame = drafted m d.rest;
       clean = refl;
       sound = settled_image after.seen sound.bytes;
+      are_marks = waiting_are m.rcpts;
       mail = d.mail;
-      seen = spelled ∙ ap (λ (g : ℕ). kept_bytes g 0 m d.rest) closed;
+      seen = spelled ∙ ap (λ (g : ℕ). framed g 0 m (drafted m d.rest)) closed;
     }
 
 told_both : (P Q R : Medium → Type 0) → ((m : Medium) → P m → Q m → R m) → (told : Option Tape) → IfSome told (λ tape. P tape.now) → IfSome told (λ tape. Q tape.now) → IfSome told (λ tape. R tape.now)
@@ -75,31 +80,31 @@ laid_faults pen pen' a b c s laid = ap (λ (v : DiskView). v.faults) laid.syncs.
 -- ---- opening the gate
 
 closed_image : (m : Mail) (medium : Medium) → IsStanding 0 0 m medium → EachImage (IsFreeOrWhole m) medium
-closed_image m medium s image is = inl (ap reads (standing_images 0 0 m medium s image is) ∙ reads_closed 0 m s.rest)
+closed_image m medium s image is = inl (ap reads (standing_images 0 0 m medium s image is) ∙ reads_closed 0 m s.frame)
 
 opened_image : (m : Mail) (medium : Medium) → IsStanding 0 0 m medium → EachImage (IsFreeOrWhole m) (written_at 0 (1 ∷ []) medium)
 opened_image m medium s image is =
     let x = gate_images 0 0 1 m medium s image is in
     elim (zero_or x.byte) [
-      | inl zero ↦ inl (ap reads (x.is ∙ ap (λ (b : ℕ). kept_bytes b 0 m s.rest) zero) ∙ reads_closed 0 m s.rest)
-      | inr some ↦ inr (ap reads x.is ∙ reads_whole x.byte m s.rest some x.fits s.mail)
+      | inl zero ↦ inl (ap reads (x.is ∙ ap (λ (b : ℕ). framed b 0 m s.frame) zero) ∙ reads_closed 0 m s.frame)
+      | inr some ↦ inr (ap reads x.is ∙ reads_whole x.byte m s.frame some x.fits s.are_marks s.mail)
     ]
 
 pub ready_image : (m : Mail) (medium : Medium) → IsStanding 0 0 m medium → EachImage (IsReady m) medium
 ready_image m medium s image is =
-    let e : image ≡ kept_bytes 0 0 m s.rest = standing_images 0 0 m medium s image is in
+    let e : image ≡ framed 0 0 m s.frame = standing_images 0 0 m medium s image is in
     record {
-      free = ap reads e ∙ reads_closed 0 m s.rest;
-      behind = ap (λ (l : List ℕ). reads (set l 0 1)) e ∙ reads_whole 1 m s.rest (lit≤ tt) (omega arith) s.mail;
+      free = ap reads e ∙ reads_closed 0 m s.frame;
+      behind = ap (λ (l : List ℕ). reads (set l 0 1)) e ∙ reads_whole 1 m s.frame (lit≤ tt) (omega arith) s.are_marks s.mail;
     }
 
 opened_settled : (m : Mail) (medium : Medium) → IsStanding 0 0 m medium → IsImage (written_at 0 (1 ∷ []) medium) (written_at 0 (1 ∷ []) medium).seen → IsSettled (Whole m) (synced_now (written_at 0 (1 ∷ []) medium))
 opened_settled m medium s sound =
-    let seen : (written_at 0 (1 ∷ []) medium).seen ≡ kept_bytes 1 0 m s.rest = ap (λ (l : List ℕ). laid_over 0 (1 ∷ []) l) s.seen in
+    let seen : (written_at 0 (1 ∷ []) medium).seen ≡ framed 1 0 m s.frame = ap (λ (l : List ℕ). laid_over 0 (1 ∷ []) l) s.seen in
     record {
       clean = refl;
       sound = settled_image (written_at 0 (1 ∷ []) medium).seen sound.bytes;
-      read = ap reads seen ∙ reads_whole 1 m s.rest (lit≤ tt) (omega arith) s.mail;
+      read = ap reads seen ∙ reads_whole 1 m s.frame (lit≤ tt) (omega arith) s.are_marks s.mail;
     }
 
 pub opened_whole : (m : Mail) (old new : DiskView) → HasSetByte 0 1 old new → Now (IsStanding 0 0 m) old → Now (IsSettled (Whole m)) new

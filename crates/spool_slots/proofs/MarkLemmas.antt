@@ -10,9 +10,9 @@ use Rattle.slot_bytes.specs.Layout.{Mail}
 use Rattle.slot_bytes.specs.Reading.{reads}
 use Rattle.slot_bytes.specs.Reading.Reading.{Free, Whole, Aside}
 use Rattle.spool_slots.specs.Images.{IsFreeImage, IsWholeImage, IsAsideImage, IsFreeOrWhole, IsFreeOrAside, IsWholeOrAside, HasMessageBehind}
-use Rattle.spool_slots.specs.Media.{HasByte, IsVacant, IsSettled, IsStanding, IsFull, IsAside}
+use Rattle.spool_slots.specs.Media.{Frame, framed, HasByte, IsVacant, IsSettled, IsStanding, IsFull, IsAside}
 use Rattle.spool_slots.proofs.ShutLemmas.{now_weaker, vacant_free}
-use Rattle.spool_slots.proofs.StandingLemmas.{zero_or, kept_bytes, IsOneByte, IsOpen, IsMarked, standing_images, standing_is, gate_images, mark_images, reads_closed, reads_whole, reads_aside, message_behind, whole_open, aside_marked, set_settles, set_shows, set_moments, failed_moments}
+use Rattle.spool_slots.proofs.StandingLemmas.{zero_or, IsOneByte, IsOpen, IsMarked, standing_images, standing_is, gate_images, mark_images, reads_closed, reads_whole, reads_aside, message_behind, whole_open, aside_marked, set_settles, set_shows, set_moments, failed_moments}
 
 -- ---- the file has two bytes
 
@@ -43,13 +43,13 @@ aside_gate view h = told_long IsAside 0 (λ m f. omega arith) view.told view.fau
 pub whole_image : (m : Mail) (medium : Medium) → IsSettled (Whole m) medium → EachImage (IsWholeImage m) medium
 whole_image m medium s image is =
     let o = whole_open m medium s in
-    ap reads (standing_images o.gate 0 m medium o.stands image is) ∙ reads_whole o.gate m o.stands.rest o.low o.high o.stands.mail
+    ap reads (standing_images o.gate 0 m medium o.stands image is) ∙ reads_whole o.gate m o.stands.frame o.low o.high o.stands.are_marks o.stands.mail
 
 aside_image : (m : Mail) (medium : Medium) → IsSettled (Aside m) medium → EachImage (IsAsideImage m) medium
 aside_image m medium s image is =
     let o = aside_marked m medium s in
     let p = o.is_open in
-    ap reads (standing_images p.gate o.aside m medium p.stands image is) ∙ reads_aside p.gate o.aside m p.stands.rest p.low p.high o.some o.small p.stands.mail
+    ap reads (standing_images p.gate o.aside m medium p.stands image is) ∙ reads_aside p.gate o.aside m p.stands.frame p.low p.high o.some o.small p.stands.are_marks p.stands.mail
 
 pub keeps_images : (m : Mail) (view : DiskView) → Now (IsSettled (Whole m)) view → Now (EachImage (IsWholeImage m)) view
 keeps_images m view h = now_weaker (IsSettled (Whole m)) (EachImage (IsWholeImage m)) (whole_image m) view h
@@ -60,12 +60,12 @@ keeps_aside_images m view h = now_weaker (IsSettled (Aside m)) (EachImage (IsAsi
 whole_behind : (m : Mail) (medium : Medium) → IsSettled (Whole m) medium → EachImage (HasMessageBehind m) medium
 whole_behind m medium s image is =
     let o = whole_open m medium s in
-    message_behind o.gate 0 m o.stands.rest image (standing_images o.gate 0 m medium o.stands image is)
+    message_behind o.gate 0 m o.stands.frame image o.stands.are_marks (standing_images o.gate 0 m medium o.stands image is)
 
 aside_behind : (m : Mail) (medium : Medium) → IsSettled (Aside m) medium → EachImage (HasMessageBehind m) medium
 aside_behind m medium s image is =
     let o = aside_marked m medium s in
-    message_behind o.is_open.gate o.aside m o.is_open.stands.rest image (standing_images o.is_open.gate o.aside m medium o.is_open.stands image is)
+    message_behind o.is_open.gate o.aside m o.is_open.stands.frame image o.is_open.stands.are_marks (standing_images o.is_open.gate o.aside m medium o.is_open.stands image is)
 
 -- ---- setting aside
 
@@ -74,21 +74,21 @@ marked_image m medium s image is =
     let o = whole_open m medium s in
     let x = mark_images o.gate 0 1 m medium o.stands image is in
     elim (zero_or x.byte) [
-      | inl zero ↦ inl (ap reads (x.is ∙ ap (λ (b : ℕ). kept_bytes o.gate b m o.stands.rest) zero) ∙ reads_whole o.gate m o.stands.rest o.low o.high o.stands.mail)
-      | inr some ↦ inr (ap reads x.is ∙ reads_aside o.gate x.byte m o.stands.rest o.low o.high some x.fits o.stands.mail)
+      | inl zero ↦ inl (ap reads (x.is ∙ ap (λ (b : ℕ). framed o.gate b m o.stands.frame) zero) ∙ reads_whole o.gate m o.stands.frame o.low o.high o.stands.are_marks o.stands.mail)
+      | inr some ↦ inr (ap reads x.is ∙ reads_aside o.gate x.byte m o.stands.frame o.low o.high some x.fits o.stands.are_marks o.stands.mail)
     ]
 
 marked_behind : (m : Mail) (medium : Medium) → IsSettled (Whole m) medium → EachImage (HasMessageBehind m) (written_at 1 (1 ∷ []) medium)
 marked_behind m medium s image is =
     let o = whole_open m medium s in
     let x = mark_images o.gate 0 1 m medium o.stands image is in
-    message_behind o.gate x.byte m o.stands.rest image x.is
+    message_behind o.gate x.byte m o.stands.frame image o.stands.are_marks x.is
 
 whole_or_aside : (m : Mail) (medium : Medium) → IsSettled (Whole m) medium → EachImage (IsWholeOrAside m) medium
 whole_or_aside m medium s image is = inl (whole_image m medium s image is)
 
 -- after the mark's byte is laid
-marked_seen : (gate : ℕ) (m : Mail) (medium : Medium) (s : IsStanding gate 0 m medium) → (written_at 1 (1 ∷ []) medium).seen ≡ kept_bytes gate 1 m s.rest
+marked_seen : (gate : ℕ) (m : Mail) (medium : Medium) (s : IsStanding gate 0 m medium) → (written_at 1 (1 ∷ []) medium).seen ≡ framed gate 1 m s.frame
 marked_seen gate m medium s = ap (λ (l : List ℕ). laid_over 1 (1 ∷ []) l) s.seen
 
 marked_settled : (m : Mail) (medium : Medium) → IsSettled (Whole m) medium → IsImage (written_at 1 (1 ∷ []) medium) (written_at 1 (1 ∷ []) medium).seen → IsSettled (Aside m) (synced_now (written_at 1 (1 ∷ []) medium))
@@ -97,7 +97,7 @@ marked_settled m medium s sound =
     record {
       clean = refl;
       sound = settled_image (written_at 1 (1 ∷ []) medium).seen sound.bytes;
-      read = ap reads (marked_seen o.gate m medium o.stands) ∙ reads_aside o.gate 1 m o.stands.rest o.low o.high (lit≤ tt) (omega arith) o.stands.mail;
+      read = ap reads (marked_seen o.gate m medium o.stands) ∙ reads_aside o.gate 1 m o.stands.frame o.low o.high (lit≤ tt) (omega arith) o.stands.are_marks o.stands.mail;
     }
 
 pub set_aside_ok : (m : Mail) (old new : DiskView) → HasSetByte 1 1 old new → Now (IsSettled (Whole m)) old → Now (IsSettled (Aside m)) new
@@ -121,29 +121,29 @@ failed_aside_behind m old new s h = through_now (EachImage (HasMessageBehind m))
 
 -- ---- releasing
 
-closed_seen : (gate aside : ℕ) (m : Mail) (medium : Medium) (s : IsStanding gate aside m medium) → (written_at 0 (0 ∷ []) medium).seen ≡ kept_bytes 0 aside m s.rest
+closed_seen : (gate aside : ℕ) (m : Mail) (medium : Medium) (s : IsStanding gate aside m medium) → (written_at 0 (0 ∷ []) medium).seen ≡ framed 0 aside m s.frame
 closed_seen gate aside m medium s = ap (λ (l : List ℕ). laid_over 0 (0 ∷ []) l) s.seen
 
-vacant_of : (seen : List ℕ) (aside : ℕ) (m : Mail) (rest : List ℕ) → seen ≡ kept_bytes 0 aside m rest → IsVacant (settled seen)
+vacant_of : (seen : List ℕ) (aside : ℕ) (m : Mail) (rest : Frame) → seen ≡ framed 0 aside m rest → IsVacant (settled seen)
 vacant_of seen aside m rest e = subst (λ (l : List ℕ). IsVacant (settled l)) (sym e) (record { shut = record { long = omega arith; unwritten = refl; gate = refl }; long = omega arith })
 
 released_full : (medium : Medium) → IsFull medium → IsImage (written_at 0 (0 ∷ []) medium) (written_at 0 (0 ∷ []) medium).seen → IsVacant (synced_now (written_at 0 (0 ∷ []) medium))
 released_full medium f sound =
     let o = whole_open f.m medium f.settled_as in
-    vacant_of (written_at 0 (0 ∷ []) medium).seen 0 f.m o.stands.rest (closed_seen o.gate 0 f.m medium o.stands)
+    vacant_of (written_at 0 (0 ∷ []) medium).seen 0 f.m o.stands.frame (closed_seen o.gate 0 f.m medium o.stands)
 
 released_aside : (medium : Medium) → IsAside medium → IsImage (written_at 0 (0 ∷ []) medium) (written_at 0 (0 ∷ []) medium).seen → IsVacant (synced_now (written_at 0 (0 ∷ []) medium))
 released_aside medium f sound =
     let o = aside_marked f.m medium f.settled_as in
-    vacant_of (written_at 0 (0 ∷ []) medium).seen o.aside f.m o.is_open.stands.rest (closed_seen o.is_open.gate o.aside f.m medium o.is_open.stands)
+    vacant_of (written_at 0 (0 ∷ []) medium).seen o.aside f.m o.is_open.stands.frame (closed_seen o.is_open.gate o.aside f.m medium o.is_open.stands)
 
 released_image : (m : Mail) (medium : Medium) → IsSettled (Whole m) medium → EachImage (IsFreeOrWhole m) (written_at 0 (0 ∷ []) medium)
 released_image m medium s image is =
     let o = whole_open m medium s in
     let x = gate_images o.gate 0 0 m medium o.stands image is in
     elim (zero_or x.byte) [
-      | inl zero ↦ inl (ap reads (x.is ∙ ap (λ (b : ℕ). kept_bytes b 0 m o.stands.rest) zero) ∙ reads_closed 0 m o.stands.rest)
-      | inr some ↦ inr (ap reads x.is ∙ reads_whole x.byte m o.stands.rest some x.fits o.stands.mail)
+      | inl zero ↦ inl (ap reads (x.is ∙ ap (λ (b : ℕ). framed b 0 m o.stands.frame) zero) ∙ reads_closed 0 m o.stands.frame)
+      | inr some ↦ inr (ap reads x.is ∙ reads_whole x.byte m o.stands.frame some x.fits o.stands.are_marks o.stands.mail)
     ]
 
 released_aside_image : (m : Mail) (medium : Medium) → IsSettled (Aside m) medium → EachImage (IsFreeOrAside m) (written_at 0 (0 ∷ []) medium)
@@ -151,21 +151,21 @@ released_aside_image m medium s image is =
     let o = aside_marked m medium s in
     let x = gate_images o.is_open.gate o.aside 0 m medium o.is_open.stands image is in
     elim (zero_or x.byte) [
-      | inl zero ↦ inl (ap reads (x.is ∙ ap (λ (b : ℕ). kept_bytes b o.aside m o.is_open.stands.rest) zero) ∙ reads_closed o.aside m o.is_open.stands.rest)
-      | inr some ↦ inr (ap reads x.is ∙ reads_aside x.byte o.aside m o.is_open.stands.rest some x.fits o.some o.small o.is_open.stands.mail)
+      | inl zero ↦ inl (ap reads (x.is ∙ ap (λ (b : ℕ). framed b o.aside m o.is_open.stands.frame) zero) ∙ reads_closed o.aside m o.is_open.stands.frame)
+      | inr some ↦ inr (ap reads x.is ∙ reads_aside x.byte o.aside m o.is_open.stands.frame some x.fits o.some o.small o.is_open.stands.are_marks o.is_open.stands.mail)
     ]
 
 released_behind : (m : Mail) (medium : Medium) → IsSettled (Whole m) medium → EachImage (HasMessageBehind m) (written_at 0 (0 ∷ []) medium)
 released_behind m medium s image is =
     let o = whole_open m medium s in
     let x = gate_images o.gate 0 0 m medium o.stands image is in
-    message_behind x.byte 0 m o.stands.rest image x.is
+    message_behind x.byte 0 m o.stands.frame image o.stands.are_marks x.is
 
 released_aside_behind : (m : Mail) (medium : Medium) → IsSettled (Aside m) medium → EachImage (HasMessageBehind m) (written_at 0 (0 ∷ []) medium)
 released_aside_behind m medium s image is =
     let o = aside_marked m medium s in
     let x = gate_images o.is_open.gate o.aside 0 m medium o.is_open.stands image is in
-    message_behind x.byte o.aside m o.is_open.stands.rest image x.is
+    message_behind x.byte o.aside m o.is_open.stands.frame image o.is_open.stands.are_marks x.is
 
 whole_or_free : (m : Mail) (medium : Medium) → IsSettled (Whole m) medium → EachImage (IsFreeOrWhole m) medium
 whole_or_free m medium s image is = inr (whole_image m medium s image is)

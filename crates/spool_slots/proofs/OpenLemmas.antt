@@ -125,7 +125,7 @@ free_file m s =
     elim (bad_some m.seen (all_bytes m.seen s.sound.bytes)) [
       | inl (inl free) ↦ free
       | inl (inr k) ↦
-          let kept : reads m.seen ≡ cond (nat_eq k.aside 0) (readings.Whole k.m) (readings.Aside k.m) = ap reads k.parts ∙ reads_again k.gate k.aside k.m k.rest k.open_gate k.mark k.mail in
+          let kept : reads m.seen ≡ cond (nat_eq k.aside 0) (readings.Whole k.m) (readings.Aside k.m) = ap reads k.parts ∙ reads_again k.version k.gate k.aside k.marks k.m k.rest k.open_gate k.mark k.are_marks k.mail in
           absurd (kept_no_free (nat_eq k.aside 0) k.m (sym kept ∙ s.read))
       | inr bad ↦ let e : reads m.seen ≡ readings.Bad bad.0 = bad.1 in absurd (cc (e, s.read))
     ]

@@ -11,13 +11,13 @@ use Rattle.fw_disk.specs.DiskView.{Tape, DiskView, HasSynced, HasSetByte, FailsT
 use Rattle.fw_disk.specs.Moments.{Through, Now, EachImage}
 use Rattle.fw_disk.proofs.MediumLemmas.{settled_image, settled_only, laid_within}
 use Rattle.fw_disk.proofs.MomentLemmas.{through_set, through_fails_to_set}
-use Rattle.slot_bytes.specs.Layout.{Mail, IsMail, behind_marks, slot_bytes}
+use Rattle.slot_bytes.specs.Layout.{Mail, IsMail, AreMarks}
 use Rattle.slot_bytes.specs.Reading.{Reading, reads}
 use Rattle.slot_bytes.specs.Reading.Reading.{Free, Whole, Aside, Bad}
 use Rattle.slot_bytes.specs.Files.{IsFreeFile, IsKeptFile}
 use Rattle.slot_bytes.proofs.SlotLemmas.{reads_free, reads_again, bad_some}
 use Rattle.spool_slots.specs.Images.{HasMessageBehind}
-use Rattle.spool_slots.specs.Media.{HasByte, IsSettled, IsStanding}
+use Rattle.spool_slots.specs.Media.{Frame, framed, HasByte, IsSettled, IsStanding}
 use Rattle.spool_slots.proofs.ShutLemmas.{now_weaker}
 
 pub less_or : (a b : ℕ) → (a < b) ⊎ (b ≤ a)
@@ -60,49 +60,46 @@ pub record IsOneByte (spell : ℕ → List ℕ) (image : List ℕ) : Type 0 wher
   pub fits : byte < 256
   pub is : image ≡ spell byte
 
-abbrev pub kept_bytes : ℕ → ℕ → Mail → List ℕ → List ℕ
-kept_bytes gate aside m rest = slot_bytes gate aside m ++ rest
-
-pub standing_images : (gate aside : ℕ) (m : Mail) (medium : Medium) (s : IsStanding gate aside m medium) (image : List ℕ) → IsImage medium image → image ≡ kept_bytes gate aside m s.rest
+pub standing_images : (gate aside : ℕ) (m : Mail) (medium : Medium) (s : IsStanding gate aside m medium) (image : List ℕ) → IsImage medium image → image ≡ framed gate aside m s.frame
 standing_images gate aside m medium s image is = settled_only medium.seen image (subst (λ (x : Medium). IsImage x image) s.clean is) ∙ s.seen
 
 -- the medium itself, spelled out
-pub standing_is : (gate aside : ℕ) (m : Mail) (medium : Medium) (s : IsStanding gate aside m medium) → medium ≡ settled (kept_bytes gate aside m s.rest)
+pub standing_is : (gate aside : ℕ) (m : Mail) (medium : Medium) (s : IsStanding gate aside m medium) → medium ≡ settled (framed gate aside m s.frame)
 standing_is gate aside m medium s = s.clean ∙ ap settled s.seen
 
 -- after a byte is written to the gate an image has any gate
-pub gate_images : (gate aside b : ℕ) (m : Mail) (medium : Medium) (s : IsStanding gate aside m medium) → EachImage (IsOneByte (λ x. kept_bytes x aside m s.rest)) (written_at 0 (b ∷ []) medium)
+pub gate_images : (gate aside b : ℕ) (m : Mail) (medium : Medium) (s : IsStanding gate aside m medium) → EachImage (IsOneByte (λ x. framed x aside m s.frame)) (written_at 0 (b ∷ []) medium)
 gate_images gate aside b m medium s image is =
-    let old : List ℕ = kept_bytes gate aside m s.rest in
+    let old : List ℕ = framed gate aside m s.frame in
     let spelled : IsImage (written_at 0 (b ∷ []) (settled old)) image = subst (λ (x : Medium). IsImage (written_at 0 (b ∷ []) x) image) (standing_is gate aside m medium s) is in
     record { byte = get_or image 0 0; fits = is.bytes 0; is = one_byte_image old image 0 b (omega arith) spelled }
 
 -- and after one to the mark any mark
-pub mark_images : (gate aside b : ℕ) (m : Mail) (medium : Medium) (s : IsStanding gate aside m medium) → EachImage (IsOneByte (λ x. kept_bytes gate x m s.rest)) (written_at 1 (b ∷ []) medium)
+pub mark_images : (gate aside b : ℕ) (m : Mail) (medium : Medium) (s : IsStanding gate aside m medium) → EachImage (IsOneByte (λ x. framed gate x m s.frame)) (written_at 1 (b ∷ []) medium)
 mark_images gate aside b m medium s image is =
-    let old : List ℕ = kept_bytes gate aside m s.rest in
+    let old : List ℕ = framed gate aside m s.frame in
     let spelled : IsImage (written_at 1 (b ∷ []) (settled old)) image = subst (λ (x : Medium). IsImage (written_at 1 (b ∷ []) x) image) (standing_is gate aside m medium s) is in
     record { byte = get_or image 1 0; fits = is.bytes 1; is = one_byte_image old image 1 b (omega arith) spelled }
 
 -- ---- what is read
 
-pub reads_closed : (aside : ℕ) (m : Mail) (rest : List ℕ) → reads (kept_bytes 0 aside m rest) ≡ Free
-reads_closed aside m rest = reads_free (kept_bytes 0 aside m rest) (record { long = omega arith; gate = refl })
+pub reads_closed : (aside : ℕ) (m : Mail) (rest : Frame) → reads (framed 0 aside m rest) ≡ Free
+reads_closed aside m rest = reads_free (framed 0 aside m rest) (record { long = omega arith; gate = refl })
 
-pub reads_whole : (gate : ℕ) (m : Mail) (rest : List ℕ) → 1 ≤ gate → gate < 256 → IsMail m → reads (kept_bytes gate 0 m rest) ≡ Whole m
-reads_whole gate m rest low high is = reads_again gate 0 m rest (low, omega (arith, high)) (omega arith, omega arith) is
+pub reads_whole : (gate : ℕ) (m : Mail) (f : Frame) → 1 ≤ gate → gate < 256 → AreMarks f.version (length m.rcpts) f.marks → IsMail m → reads (framed gate 0 m f) ≡ Whole m
+reads_whole gate m f low high are is = reads_again f.version gate 0 f.marks m f.after (low, omega (arith, high)) (omega arith, omega arith) are is
 
 marked : (b : Bool) (m : Mail) → b ≡ false → cond b (Whole m) (Aside m) ≡ Aside m
 marked true m e = absurd cc
 marked false m e = refl
 
-pub reads_aside : (gate aside : ℕ) (m : Mail) (rest : List ℕ) → 1 ≤ gate → gate < 256 → 1 ≤ aside → aside < 256 → IsMail m → reads (kept_bytes gate aside m rest) ≡ Aside m
-reads_aside gate aside m rest low high some small is =
-    reads_again gate aside m rest (low, omega (arith, high)) (omega arith, omega (arith, small)) is ∙ marked (nat_eq aside 0) m (grind (arith, nat_tests))
+pub reads_aside : (gate aside : ℕ) (m : Mail) (f : Frame) → 1 ≤ gate → gate < 256 → 1 ≤ aside → aside < 256 → AreMarks f.version (length m.rcpts) f.marks → IsMail m → reads (framed gate aside m f) ≡ Aside m
+reads_aside gate aside m f low high some small are is =
+    reads_again f.version gate aside f.marks m f.after (low, omega (arith, high)) (omega arith, omega (arith, small)) are is ∙ marked (nat_eq aside 0) m (grind (arith, nat_tests))
 
 -- the message stands behind every image
-pub message_behind : (gate aside : ℕ) (m : Mail) (rest image : List ℕ) → image ≡ kept_bytes gate aside m rest → HasMessageBehind m image
-message_behind gate aside m rest image e = record { rest = rest; parts = ap (λ (l : List ℕ). drop 2 l) e }
+pub message_behind : (gate aside : ℕ) (m : Mail) (f : Frame) (image : List ℕ) → AreMarks f.version (length m.rcpts) f.marks → image ≡ framed gate aside m f → HasMessageBehind m image
+message_behind gate aside m f image are e = record { version = f.version; marks = f.marks; rest = f.after; are_marks = are; parts = ap (λ (l : List ℕ). drop 2 l) e }
 
 -- ---- a clean disk with a message, and its bytes
 
@@ -128,7 +125,10 @@ aside_of true m n e = absurd cc
 aside_of false m n e = (refl, cc)
 
 kept_reads : (bytes : List ℕ) (k : IsKeptFile bytes) → reads bytes ≡ cond (nat_eq k.aside 0) (Whole k.m) (Aside k.m)
-kept_reads bytes k = ap reads k.parts ∙ reads_again k.gate k.aside k.m k.rest k.open_gate k.mark k.mail
+kept_reads bytes k = ap reads k.parts ∙ reads_again k.version k.gate k.aside k.marks k.m k.rest k.open_gate k.mark k.are_marks k.mail
+
+abbrev frame_of : (medium : Medium) → IsKeptFile medium.seen → Frame
+frame_of medium k = record { version = k.version; marks = k.marks; after = k.rest }
 
 kept_standing : (m : Mail) (medium : Medium) (aside : ℕ) (k : IsKeptFile medium.seen) → medium ≡ settled medium.seen → IsImage medium medium.seen → k.m ≡ m → k.aside ≡ aside → IsOpen m aside medium
 kept_standing m medium aside k clean sound e f = record {
@@ -136,11 +136,12 @@ kept_standing m medium aside k clean sound e f = record {
   low = k.open_gate.0;
   high = omega (arith, k.open_gate.1);
   stands = record {
-    rest = k.rest;
+    frame = frame_of medium k;
     clean = clean;
     sound = sound;
+    are_marks = subst (λ (x : Mail). AreMarks k.version (length x.rcpts) k.marks) e k.are_marks;
     mail = subst IsMail e k.mail;
-    seen = k.parts ∙ ap (λ (x : Mail). kept_bytes k.gate k.aside x k.rest) e ∙ ap (λ (a : ℕ). kept_bytes k.gate a m k.rest) f;
+    seen = k.parts ∙ ap (λ (x : Mail). framed k.gate k.aside x (frame_of medium k)) e ∙ ap (λ (a : ℕ). framed k.gate a m (frame_of medium k)) f;
   };
 }
 

@@ -7,7 +7,7 @@
 --   release              whole or free, or aside or free; after Ok free
 --   open                 an image that was possible at its start; after it what it reads as
 use Rattle.std.specs.Prelude.{◌≡◌, ℕ, List, ◌++◌, drop, length, ◌⊎◌}
-use Rattle.slot_bytes.specs.Layout.{Mail, behind_marks}
+use Rattle.slot_bytes.specs.Layout.{Mail, AreMarks, tagged_head}
 use Rattle.slot_bytes.specs.Reading.{reads}
 use Rattle.slot_bytes.specs.Reading.Reading.{Free, Whole, Aside, Bad}
 
@@ -29,10 +29,13 @@ IsWholeOrAside m image = IsWholeImage m image ⊎ IsAsideImage m image
 abbrev pub IsFreeOrAside : Mail → List ℕ → Type 0
 IsFreeOrAside m image = IsFreeImage image ⊎ IsAsideImage m image
 
--- the message stands behind the first two bytes, whatever these are
+-- the message follows the first two bytes, whatever these are, in either version and whatever the marks
 pub record HasMessageBehind (m : Mail) (image : List ℕ) : Type 0 where
+  pub version : ℕ
+  pub marks : List ℕ
   pub rest : List ℕ
-  pub parts : drop 2 image ≡ behind_marks 49 (length m.body) m.from m.rcpts ++ m.body ++ rest
+  pub are_marks : AreMarks version (length m.rcpts) marks
+  pub parts : drop 2 image ≡ tagged_head version (length m.body) marks m.from m.rcpts ++ m.body ++ rest
 
 -- some reading, so no bad bytes
 abbrev pub IsGoodImage : List ℕ → Type 0

@@ -1,7 +1,7 @@
 -- What the media of a slot's disk are while it is free, filled, and holds a message.
 use Rattle.std.specs.Prelude.{◌≡◌, ℕ, ◌≤◌, false, List, [], ◌∷◌, ◌++◌, length, get_or}
 use Rattle.fw_disk.specs.Medium.{Medium, IsImage, is_written, settled}
-use Rattle.slot_bytes.specs.Layout.{Mail, IsMail, behind_marks, slot_bytes}
+use Rattle.slot_bytes.specs.Layout.{Mail, IsMail, AreMarks, all_waiting, slot_bytes, tagged_head}
 use Rattle.slot_bytes.specs.Reading.{Reading, reads}
 use Rattle.slot_bytes.specs.Reading.Reading.{Whole, Aside}
 
@@ -41,9 +41,9 @@ begun from rcpts = record { from = from; rcpts = rcpts; body = [] }
 abbrev pub longer : Mail → List ℕ → Mail
 longer m piece = record { from = m.from; rcpts = m.rcpts; body = m.body ++ piece }
 
--- a gate, not set aside, and the head with the body's length still 0
+-- a gate, not set aside, and the head in version 2, with the body's length still 0 and each recipient waiting
 abbrev pub draft_head : ℕ → Mail → List ℕ
-draft_head gate m = gate ∷ 0 ∷ behind_marks 49 0 m.from m.rcpts
+draft_head gate m = gate ∷ 0 ∷ tagged_head 50 0 (all_waiting m.rcpts) m.from m.rcpts
 
 -- The bytes as read are that head, and the message's body but for what is held; the pen is at the body's end.
 pub record IsDraft (m : Mail) (pen : Pen) (medium : Medium) : Type 0 where
@@ -70,13 +70,24 @@ pub record IsSettled (reading : Reading) (m : Medium) : Type 0 where
   pub sound : IsImage m m.seen
   pub read : reads m.seen ≡ reading
 
--- so does one, with this gate and this mark, whatever follows the body
+-- what a file has beside its gate, its second byte and its message: the version's digit, the marks, and what follows the
+-- body
+pub record Frame : Type 0 where
+  pub version : ℕ
+  pub marks : List ℕ
+  pub after : List ℕ
+
+abbrev pub framed : ℕ → ℕ → Mail → Frame → List ℕ
+framed gate aside m frame = slot_bytes frame.version gate aside frame.marks m ++ frame.after
+
+-- so does one, with this gate and this second byte, in either version and whatever the marks and what follows the body
 pub record IsStanding (gate aside : ℕ) (m : Mail) (medium : Medium) : Type 0 where
-  pub rest : List ℕ
+  pub frame : Frame
   pub clean : medium ≡ settled medium.seen
   pub sound : IsImage medium medium.seen
+  pub are_marks : AreMarks frame.version (length m.rcpts) frame.marks
   pub mail : IsMail m
-  pub seen : medium.seen ≡ slot_bytes gate aside m ++ rest
+  pub seen : medium.seen ≡ framed gate aside m frame
 
 -- some message, whole
 pub record IsFull (medium : Medium) : Type 0 where

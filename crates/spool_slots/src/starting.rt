@@ -1,7 +1,7 @@
 //! Beginning a message.
 ghost use Rattle.std.specs.Prelude.{◌≡◌, ◌+◌, ◌∷◌, [], ℕ, List, length, MatchResult, IfOk, IfErr};
 ghost use Rattle.fw_disk.specs.Moments.{EachImage, Now, Through};
-ghost use Rattle.slot_bytes.specs.Layout.{IsEnvelope, behind_marks};
+ghost use Rattle.slot_bytes.specs.Layout.{IsEnvelope, all_waiting, tagged_head};
 ghost use Rattle.spool_law.specs.Events.{IsBegun};
 ghost use Rattle.spool_law.specs.Runs.{Known, Runs};
 ghost use Rattle.spool_slots.specs.Images.{IsFreeImage};
@@ -24,7 +24,7 @@ pub(crate) fn prepare(
     rcpts: &OctetsList,
 ) -> Result<(Vec<u8>, Pen), NoMemory>
     requires { IsEnvelope from.now rcpts.now }
-    ensures head { IfOk result (λ x. x.0.items ≡ 0 ∷ behind_marks 49 0 from.now rcpts.now) }
+    ensures head { IfOk result (λ x. x.0.items ≡ 0 ∷ tagged_head 50 0 (all_waiting rcpts.now) from.now rcpts.now) }
     ensures pen { IfOk result (λ x. x.1 ≡ record { at = 1 + length x.0.items; held = []; len = 0 }) }
 {
     let head = head_bytes(alloc, from, rcpts)?;
@@ -42,11 +42,11 @@ pub(crate) fn begin<D: Disk>(
 ) -> Result<Filling<D>, Broken<D>>
     requires vacant { Now IsVacant (D.disk_view disk) }
     requires pen { pen ≡ record { at = 1 + length head.now; held = []; len = 0 } }
-    requires head { (from : List ℕ) × (rcpts : List (List ℕ)) × IsEnvelope from rcpts × (head.now ≡ 0 ∷ behind_marks 49 0 from rcpts) }
+    requires head { (from : List ℕ) × (rcpts : List (List ℕ)) × IsEnvelope from rcpts × (head.now ≡ 0 ∷ tagged_head 50 0 (all_waiting rcpts) from rcpts) }
     ensures ok { IfOk result (λ filling. IsOnward number (D.disk_view disk) filling.number filling.disk) }
     ensures pen { IfOk result (λ filling. filling.pen ≡ pen) }
     ensures draft { IfOk result (λ filling. (from : List ℕ) (rcpts : List (List ℕ)) → IsEnvelope from rcpts
-        → head.now ≡ 0 ∷ behind_marks 49 0 from rcpts → Drafts (begun from rcpts) filling) }
+        → head.now ≡ 0 ∷ tagged_head 50 0 (all_waiting rcpts) from rcpts → Drafts (begun from rcpts) filling) }
     ensures images { MatchResult result
         (λ filling. Through (EachImage IsFreeImage) (D.disk_view disk) filling.disk)
         (λ broken. Through (EachImage IsFreeImage) (D.disk_view disk) broken.disk) }

@@ -1,6 +1,7 @@
 //! The kinds of row.
 
 use crate::decisions::{tell_decision, tell_destination, tell_rules, tell_service};
+use crate::hours::tell_hours;
 use crate::patterns::{tell_bucket, tell_list, tell_pattern, tell_single, tell_text, tell_words};
 use crate::sweeps::tell_sweep;
 use crate::tables::{tell_broken, tell_fault, tell_idle, tell_table};
@@ -42,6 +43,7 @@ impl Rows for Kinds {
             "rules" => tell_rules(alloc, asked, out),
             "decide" => tell_decision(alloc, asked, out),
             "goes" => tell_destination(alloc, asked, out),
+            "hours" => tell_hours(alloc, asked, out),
             "sweep" => tell_sweep(alloc, asked, out),
             _ => {
                 tell_plain(kind, asked, out);

@@ -3,6 +3,7 @@
 #![tactic(auto)]
 
 mod decisions;
+mod hours;
 mod kinds;
 mod options;
 mod patterns;

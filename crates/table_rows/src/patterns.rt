@@ -64,6 +64,7 @@ fn tell_pattern_fault(fault: PatternFault, out: &mut Told) {
             add_word(out, b"bad byte at");
             add_number(out, at as u64);
         }
+        PatternFault::BadMask => add_word(out, b"bad mask"),
     }
 }
 

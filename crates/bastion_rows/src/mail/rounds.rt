@@ -40,8 +40,8 @@ fn without(alloc: Global, mark: u8) -> Read {
 fn read_of(alloc: Global, slot: &Slot) -> Result<Read, NoMemory> {
     match slot {
         Slot::Free => Ok(without(alloc, b'f')),
-        Slot::Whole(message) => with(alloc, b'w', message),
-        Slot::Aside(message) => with(alloc, b'a', message),
+        Slot::Whole(kept) => with(alloc, b'w', &kept.message),
+        Slot::Aside(kept) => with(alloc, b'a', &kept.message),
     }
 }
 

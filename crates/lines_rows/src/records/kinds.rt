@@ -5,7 +5,7 @@ use crate::records::passwords::{tell_challenge, tell_count, tell_fold, tell_hex,
 use crate::records::policy::{policy_of, tell_operation, tell_settings};
 use crate::records::records::{base_of, tell_base, tell_good, tell_long, tell_record, tell_seed};
 use crate::records::replies::{tell_opened, tell_reply};
-use crate::records::requests::tell_line;
+use crate::records::requests::{tell_line, tell_wire};
 use auth_machine::Policy;
 use fw_types::NoMemory;
 use lines_of_rows::{Rows, Told, add};
@@ -31,6 +31,7 @@ fn tell_plain(kind: &str, asked: &[u8], out: &mut Told) {
         "challenge" => tell_challenge(asked, out),
         "count" => tell_count(asked, out),
         "line" => tell_line(asked, out),
+        "wire" => tell_wire(asked, out),
         "reply" => tell_reply(asked, out),
         "opened" => tell_opened(asked, out),
         "port" => tell_port(out),

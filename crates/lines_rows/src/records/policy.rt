@@ -5,7 +5,7 @@ use auth_machine::Policy;
 use fw_memory::{Calls, MemSource};
 use fw_types::{Host, Name, Octets};
 use gate_rules::{RulesFault, Verdict};
-use lines_of_rows::{Told, add, add_number, add_word, cut_word};
+use lines_of_rows::{Told, add, add_number, add_word, cut_word, number_of};
 use netperm_table::{Table, TableFault};
 use std::alloc::Global;
 
@@ -56,15 +56,18 @@ fn service_of(text: &[u8]) -> OpService {
     }
 }
 
-/// `operation USER GROUP SERVICE HOST => permit LINE`, or `deny`.
+/// `operation USER GROUP SERVICE HOST MOMENT => permit LINE`, or `deny`. Without a moment it is asked at 0.
 pub(crate) fn tell_operation(policy: &Policy, asked: &[u8], out: &mut Told) {
     let (user, rest) = cut_word(asked);
     let (group, rest) = cut_word(rest);
-    let (service, host) = cut_word(rest);
+    let (service, rest) = cut_word(rest);
+    let (host, moment) = cut_word(rest);
     let (Some(user), Some(host)) = (Name::read(user), Host::read(host)) else {
         return add(out, b"no user or no host");
     };
-    match policy.verdict(&user, &Name::read(group), service_of(service), &host) {
+    let service = service_of(service);
+    let verdict = policy.verdict(&user, &Name::read(group), service, &host, number_of(moment));
+    match verdict {
         Verdict::Permit { line } => {
             add(out, b"permit");
             add_number(out, u64::from(line));

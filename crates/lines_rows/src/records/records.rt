@@ -56,6 +56,14 @@ pub(crate) fn tell_standing(proto: Proto, enabled: bool, wiz: Wiz, out: &mut Tol
     add_word(out, wiz_word(wiz));
 }
 
+/// Tells the moments of the last right response and of the end.
+pub(crate) fn tell_dates(last: u64, expires: u64, out: &mut Told) {
+    add_word(out, b"last");
+    add_number(out, last);
+    add_word(out, b"expires");
+    add_number(out, expires);
+}
+
 fn tell_plain(plain: &Option<Plain>, out: &mut Told) {
     add_word(out, b"plain");
     match plain {
@@ -88,20 +96,28 @@ fn tell_fields(record: &Record, out: &mut Told) {
     add_number(out, u64::from(record.fails));
     add_word(out, b"since");
     add_number(out, record.since);
+    tell_dates(record.last, record.expires, out);
     tell_plain(&record.plain, out);
     tell_otp(&record.otp, out);
 }
 
-/// `record DIGITS => FIELDS`, where they are encoded to the same bytes again, or `bad at PLACE`.
+// Tells of a record that was read of these bytes.
+fn tell_read(alloc: Global, record: &Record, bytes: &[u8], out: &mut Told) -> Result<(), NoMemory> {
+    tell_fields(&record.twin(), out);
+    let written = encode(alloc, record)?;
+    if written.bytes() != bytes {
+        add_word(out, b"now");
+        add_hex(out, written.bytes());
+    }
+    Ok(())
+}
+
+/// `record DIGITS => FIELDS`, and behind them `now DIGITS` where the record is encoded to other bytes, as one of version 1 is,
+/// or `bad at PLACE`.
 pub(crate) fn tell_record(alloc: Global, asked: &[u8], out: &mut Told) -> Result<(), NoMemory> {
     let bytes = bytes_of(alloc, asked)?;
     match decode(&bytes) {
-        Ok(record) => {
-            tell_fields(&record.twin(), out);
-            if encode(alloc, &record)?.bytes() != bytes.as_slice() {
-                add_word(out, b"encoded otherwise");
-            }
-        }
+        Ok(record) => tell_read(alloc, &record, &bytes, out)?,
         Err(fault) => tell_bad(fault.at, out),
     }
     Ok(())

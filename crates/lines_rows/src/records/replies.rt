@@ -1,6 +1,6 @@
 //! What is told of the lines of replies.
 
-use crate::records::records::{tell_group, tell_long_name, tell_standing};
+use crate::records::records::{tell_dates, tell_group, tell_long_name, tell_standing};
 use arrayvec::ArrayVec;
 use auth_events::{Denial, Reply, Summary};
 use authsrv_lines::{denial_text, read_reply, reply_text};
@@ -9,6 +9,10 @@ use lines_of_rows::{Told, add, add_number, add_word, number_of};
 // Tells the kind of a denial that has a number.
 fn tell_numbers(denial: Denial, out: &mut Told) {
     match denial {
+        Denial::Expired { at } => {
+            add_word(out, b"Expired");
+            add_number(out, at);
+        }
         Denial::Sleeping { until } => {
             add_word(out, b"Sleeping");
             add_number(out, until);
@@ -65,6 +69,7 @@ fn tell_summary(summary: &Summary, out: &mut Told) {
     add_number(out, u64::from(summary.fails));
     add_word(out, b"number");
     add_number(out, u64::from(summary.number));
+    tell_dates(summary.last, summary.expires, out);
 }
 
 fn tell_fields(reply: &Reply, text: &[u8], out: &mut Told) {

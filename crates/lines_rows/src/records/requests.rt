@@ -3,7 +3,7 @@
 use crate::records::records::{proto_word, tell_long_name};
 use arrayvec::ArrayVec;
 use auth_events::{OpService, Request};
-use authsrv_lines::{Wire, read_request};
+use authsrv_lines::{Wire, read_request, wire_text};
 use fw_types::{Host, Name};
 use lines_of_rows::{Told, add, add_hex, add_number, add_word};
 
@@ -69,6 +69,10 @@ fn tell_request(request: &Request, out: &mut Told) {
             tell_named(b"proto", name, out);
             add_word(out, proto_word(*proto));
         }
+        Request::Expire { name, until } => {
+            tell_named(b"expire", name, out);
+            add_number(out, *until);
+        }
         Request::Otp {
             name,
             number,
@@ -96,4 +100,26 @@ pub(crate) fn tell_line(asked: &[u8], out: &mut Told) {
         Ok(Wire::Quit) => add(out, b"quit"),
         Err(fault) => add(out, fault.text()),
     }
+}
+
+// What a line asks for, if it is a request: for the end of the session `Close`.
+fn request_of(line: &[u8]) -> Option<Request> {
+    match read_request(line) {
+        Ok(Wire::Ask(request)) => Some(request),
+        Ok(Wire::Quit) => Some(Request::Close),
+        Ok(_) | Err(_) => None,
+    }
+}
+
+/// `wire LINE => LINE`: the line that a gateway asks for what a line asks for. `-` where it has none, with what is then in the
+/// buffer.
+pub(crate) fn tell_wire(asked: &[u8], out: &mut Told) {
+    let Some(request) = request_of(asked) else {
+        return add(out, b"no request");
+    };
+    let mut line = ArrayVec::new();
+    if !wire_text(&request, &mut line) {
+        add(out, b"-");
+    }
+    add(out, line.as_slice());
 }

@@ -2,7 +2,8 @@
 
 use crate::doors::names::names;
 use gate_rules::Service;
-use real_doors::{Doors, open_doors};
+use real_doors::{Doors, Site, open_doors};
+use real_links::DoorPorts;
 use std::io::{self, ErrorKind};
 
 const FIRST_PORT: u16 = 20100;
@@ -12,7 +13,11 @@ const LAST_PORT: u16 = 20199;
 /// Two doors of two services at this port.
 pub(crate) fn doors_at(rt: HostRuntime, port: u16) -> io::Result<Doors> {
     let places = [(Service::TnGw, port), (Service::Authsrv, port)];
-    match open_doors(rt, &places, names(rt)?) {
+    let site = Site {
+        host: [0; 4],
+        ports: DoorPorts::any(),
+    };
+    match open_doors(rt, site, &places, names(rt)?) {
         Ok(doors) => Ok(doors),
         Err(_) => Err(io::Error::from(ErrorKind::OutOfMemory)),
     }

@@ -77,8 +77,8 @@ fn count_full(
 
 fn count_slot(slot: &Slot, body: &[u8], counts: &mut Counts) {
     match slot {
-        Slot::Aside(message) => {
-            count_message(message, body, &mut counts.aside, &mut counts.bad);
+        Slot::Aside(kept) => {
+            count_message(&kept.message, body, &mut counts.aside, &mut counts.bad);
         }
         Slot::Free | Slot::Whole(_) => counts.add_bad(),
     }

@@ -3,7 +3,7 @@ ghost use Rattle.std.specs.Prelude.{◌≡◌, ◌∷◌, [], codes, IfOk};
 
 use fw_types::{NoMemory, Octets, OctetsList};
 use lines_of_rows::{Told, add, add_hex, add_number, add_word, cut_word, from_hex, number_of};
-use slot_bytes::{Message, Slot, SlotFault, head_bytes, length_bytes, read_slot};
+use slot_bytes::{Kept, Message, Slot, SlotFault, head_bytes, length_bytes, read_slot};
 use std::alloc::Global;
 use std::str;
 
@@ -24,16 +24,29 @@ pub(crate) fn tell_message(message: &Message, out: &mut Told) {
     add_hex(out, message.body.bytes());
 }
 
+// Tells a message, and in version 2 the places of the recipients that are done.
+fn tell_kept(kept: &Kept, out: &mut Told) {
+    tell_message(&kept.message, out);
+    if kept.version != 1 {
+        add_word(out, b"version");
+        add_number(out, u64::from(kept.version));
+        add_word(out, b"done");
+        for place in kept.done.as_slice() {
+            add_number(out, u64::from(*place));
+        }
+    }
+}
+
 fn tell_read(slot: &Slot, out: &mut Told) {
     match slot {
         Slot::Free => add(out, b"free"),
-        Slot::Whole(message) => {
+        Slot::Whole(kept) => {
             add(out, b"full");
-            tell_message(message, out);
+            tell_kept(kept, out);
         }
-        Slot::Aside(message) => {
+        Slot::Aside(kept) => {
             add(out, b"aside");
-            tell_message(message, out);
+            tell_kept(kept, out);
         }
     }
 }

@@ -16,7 +16,7 @@ overflow_sub-result c =
 pub returns-in-Ok-clause-found : goal.returns-in-Ok-clause-found
 returns-in-Ok-clause-found c =
     let read : whole c.args.bytes.now ≡ Ok (fields c.in-Ok.record) = c.in-Ok.ensures in
-    whole_sound c.args.bytes.now (fields c.in-Ok.record) (all_bytes c.args.bytes.now (λ i. omega (arith, c.type_inv.bytes i))) read
+    whole_sound c.args.bytes.now c.in-Ok.record (all_bytes c.args.bytes.now (λ i. omega (arith, c.type_inv.bytes i))) read
 
 pub returns-in-Ok-clause-only : goal.returns-in-Ok-clause-only
 returns-in-Ok-clause-only c = λ r is e.

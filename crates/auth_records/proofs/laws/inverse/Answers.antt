@@ -1,9 +1,11 @@
-use Rattle.auth_records.specs.Spelling.{fields}
-use Rattle.auth_records.proofs.WholeLemmas.{decoded_again, one_record, no_longer}
+use Rattle.auth_records.proofs.WholeLemmas.{decoded_again, decoded_sound, one_record, no_longer}
 use Rattle.auth_records.proofs.laws.inverse.Goals as goal
 
 pub returns-clause-read_again : goal.returns-clause-read_again
-returns-clause-read_again c = λ r fits. decoded_again (fields r) fits
+returns-clause-read_again c = decoded_again
+
+pub returns-clause-read_from : goal.returns-clause-read_from
+returns-clause-read_from c = decoded_sound
 
 pub returns-clause-one_record : goal.returns-clause-one_record
 returns-clause-one_record c = one_record

@@ -3,13 +3,21 @@ use Rattle.fw_outside.specs.Counts.{Rose}
 use Rattle.auth_events.specs.Port.{session_at}
 use Rattle.auth_events.specs.declared.entry.Entry.{Entry}
 use Rattle.auth_events.specs.declared.reply.Reply.{Reply}
+use Rattle.fw_types.specs.Keyed.{Ascends}
+use Rattle.auth_machine.proofs.OrderLemmas.{after_ascends}
 use Rattle.auth_machine.proofs.BookLemmas.{asked_with, called_with, kept_with, same_session, stands_lacking, stands_with, step_not_full, step_rose}
 use Rattle.auth_machine.specs.Answers.{full_of, is_unkept}
 use Rattle.auth_machine.specs.Book.{Asked, BookView, CalledByReply, KeeperAfterReply, Stands, edits_records, refused_after}
 use Rattle.auth_machine.specs.MachineState.{state_of}
-use Rattle.auth_machine.specs.State.{State}
+use Rattle.auth_machine.specs.State.{State, record_name}
 use Rattle.auth_machine.specs.Stepping.{Steps}
 use Rattle.auth_machine.proofs.book.Book.ask.Goals as goal
+
+-- the records stand in the order of their names
+pub step-requires : goal.step-requires
+step-requires g c =
+    let book : Stands c.self.inside.history.items c.self.inside.limit c.self.inside.refused c.self.inside.asks c.self.inside.origin.value (g.K.Keeper.keeper_view c.self.inside.at_opening.value) (g.K.Keeper.keeper_view c.self.inside.keeper) c.self.inside.policy (state_of c.self.inside.state) = c.self.invariant in
+    subst (λ (s : State). Ascends record_name s.records) (sym book.state_is) (after_ascends c.self.inside.origin.value c.self.inside.history.items book.sound.ordered book.legal)
 
 pub invariant_of-self-2 : goal.invariant_of-self-2
 invariant_of-self-2 g c =

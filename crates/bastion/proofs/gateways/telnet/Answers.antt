@@ -1,5 +1,0 @@
-use Rattle.bastion.proofs.ClientLemmas.{telnet_does}
-use Rattle.bastion.proofs.gateways.telnet.Goals as goal
-
-pub returns-in-Ok : goal.returns-in-Ok
-returns-in-Ok g c = telnet_does c.args.name.now c.args.peer.now c.in-Ok.rules c.in-Ok.book c.pass_over.result c.args.world.now c.open_for.new.world c.pass_over.new.world c.in-Ok.ensures.opens c.pass_over.ensures

@@ -1,0 +1,12 @@
+pub mod Dictionary
+pub mod SixWords
+pub mod Phrase
+pub mod Challenge
+pub mod Task
+pub mod Hearing
+pub mod Groups
+pub mod Indexed
+pub mod Listed
+pub mod Taking
+pub mod Gathering
+pub mod Laws

@@ -1,0 +1,4 @@
+pub mod AnswerLemmas
+pub mod PortLemmas
+pub mod StandingLemmas
+pub mod TextLemmas

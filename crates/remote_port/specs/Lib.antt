@@ -1,0 +1,7 @@
+pub mod Answers
+pub mod Link
+pub mod Remote
+pub mod Requests
+pub mod Talk
+pub mod Texts
+pub mod Treatment

@@ -1,0 +1,5 @@
+pub mod ReadingLemmas
+pub mod KeptLemmas
+pub mod FormLemmas
+pub mod UserLemmas
+mod Examples
