@@ -19,9 +19,12 @@ use Rattle.session_acts.proofs.ToldLemmas.{by_both, by_nothing}
 use Rattle.spool_rack.specs.Opening.{CameBack, IsRackFault}
 use Rattle.spool_slots.specs.declared.slot_why.SlotWhy.{SlotWhy}
 use Rattle.spool_slots.specs.declared.slot_why.SlotWhy.TheVariants as whys
-use Rattle.bastion.specs.Complete.{AllDone, IsComplete, IsDrilledWhole, IsFormattedWhole, IsJobComplete, IsLaunchedWhole, IsLinkedWhole, IsOrderComplete, IsRoundWhole, IsStartedWhole, IsTakenWhole, IsWhole}
+use Rattle.bastion.specs.Complete.{AllDone, IsComplete, IsDrilledWhole, IsFormattedWhole, IsJobComplete, IsLaunchedWhole, IsLinkedWhole, IsOrderComplete, IsReadWhole, IsRoundWhole, IsStartedWhole, IsTakenWhole, IsToldWhole, IsWhole}
+use Rattle.bastion.specs.Calculating.{Calculates, IsCalculated, IsSpelled, Spells}
 use Rattle.bastion.specs.Inputs.{HasInputs, Inputs}
-use Rattle.bastion.specs.Jobs.{AreFormatted, DoesJob, DrillsBy, Formats, TellsFormatted, drill_refused, formatted_text, printed}
+use Rattle.bastion.specs.SpellingView.{SpellingView}
+use Rattle.bastion.specs.declared.outcome.OtpRefusal.{OtpRefusal}
+use Rattle.bastion.specs.Jobs.{AreFormatted, DoesJob, DrillsBy, Formats, TellsFormatted, drill_refused, formatted_text}
 use Rattle.bastion.specs.Mailing.{Mailed, slot_fault}
 use Rattle.bastion.specs.Outcome.{DiskRose, fault_line_of, refusal_text, status_of, verdict_status}
 use Rattle.bastion.specs.Run.{DoesLine, DoesOrder, Run, Stops, TellsIf, Worked, verdict_for}
@@ -29,22 +32,23 @@ use Rattle.bastion.specs.Status.{IsPassed, IsServed, RoseBy, RoseInJob, RoseInOr
 use Rattle.client_service.specs.Decision.{decision_text}
 use Rattle.bastion.specs.Texts.{ended_text, print_text, program_of}
 use Rattle.bastion.specs.Words.{LineView}
-use Rattle.bastion.specs.Works.{LaunchesIf, PrintsAfter, PrintsEnd, StaysSo, announced, shown, with_given}
+use Rattle.bastion.specs.Works.{LaunchesIf, PrintsAfter, PrintsEnd, StaysSo, announced, shown, with_given, printed}
 use Rattle.bastion.specs.WorldView.{Post, SessionInputs, WorldView}
 use Rattle.bastion.specs.declared.outcome.Device.TheVariants as device
 use Rattle.bastion.specs.declared.outcome.Outcome.{Outcome}
 use Rattle.bastion.specs.declared.outcome.Outcome.TheVariants.{Usage, Unread, Failed, NoMemory, Done, Decided, Ended}
-use Rattle.bastion.specs.declared.outcome.Refusal.TheVariants.{Slot}
+use Rattle.bastion.specs.declared.outcome.Refusal.TheVariants.{Slot, Otp}
 use Rattle.bastion.specs.declared.words.Command.{Command}
 use Rattle.bastion.specs.declared.words.Command.TheVariants.{Netacl, NetaclRun, Table, Authsrv, PlugGw, TnGw, FtpGw, Smap}
 use Rattle.bastion.specs.declared.words.Job.{Job}
-use Rattle.bastion.specs.declared.words.Job.TheVariants.{Drill, SpoolInit, Smapd}
+use Rattle.bastion.specs.declared.words.Job.TheVariants.{Drill, SpoolInit, Smapd, OtpCalc, OtpHex}
 use Rattle.bastion.specs.declared.words.Order.{Order}
 use Rattle.bastion.specs.declared.words.Order.TheVariants.{ByTable, Alone}
 use Rattle.bastion.specs.declared.words.Caller.{Caller}
 use Rattle.bastion.specs.declared.words.Client.{Client}
 use Rattle.bastion.specs.declared.words.Query.{Query}
 use Rattle.bastion.proofs.AttendedLemmas.{attended_status}
+use Rattle.bastion.proofs.CalculatingLemmas.{ComesBy, calculated_comes, calculated_left, spelled_comes, spelled_left}
 use Rattle.bastion.proofs.FtpGatewayLemmas.{ftp_whole}
 use Rattle.bastion.proofs.GateStatusLemmas.{ftp_status, telnet_status}
 use Rattle.bastion.proofs.GatewayLemmas.{telnet_whole}
@@ -458,11 +462,49 @@ round_complete post outcome old mid new none h tells (Ok round) is None trouble_
     let later = tells_later (fault_line_of outcome) mid new tells in
     inr (inr (round_whole post outcome old mid new (λ rose. none (inl (some_later old mid new later (inr (inl (inl rose)))))) h tells round is trouble_is told.printing told.is told.gives))
 
+-- ---- a password
+
+-- what has no reading is told to the log
+unspelled_whole : (refusal : OtpRefusal) (outcome : Outcome) (old mid new : WorldView) → Quiet old new → outcome ≡ Unread (Otp refusal) → mid.logs ≡ old.logs → mid.output ≡ old.output → TellsIf (fault_line_of outcome) mid new
+    → IsToldWhole (Err refusal) (status_of outcome) old new
+unspelled_whole refusal outcome old mid new q is logs output tells =
+    let told = told_whole (codes "fault " ++ refusal_text (Otp refusal) ++ codes "\n") old mid new q logs output (subst (λ (o : Outcome). TellsIf (fault_line_of o) mid new) is tells) in
+    record { logs = told.0; output = told.1; status_is = ap status_of is }
+
+-- where no count rose, what was read was told, or there was no memory
+read_whole : (Reads : Result (List ℕ) OtpRefusal → WorldView → Type 0) (outcome : Outcome) (old mid new : WorldView) → (SomeRose old new → ⊥) → mid.logs ≡ old.logs → ComesBy Reads outcome old mid → TellsIf (fault_line_of outcome) mid new
+    → (status_of outcome ≡ 5) ⊎ IsReadWhole Reads (status_of outcome) old new
+read_whole Reads outcome old mid new none logs (inl (inl four)) tells =
+    absurd (none (some_later old mid new (tells_later (fault_line_of outcome) mid new tells) (count_some outcome old mid four.1 four.0)))
+read_whole Reads outcome old mid new none logs (inl (inr lacks)) tells = inl (ap status_of lacks)
+read_whole Reads outcome old mid new none logs (inr (inl told)) tells =
+    inr (record {
+      read = Ok told.text;
+      reads = told.reads;
+      told = printed_whole told.text outcome old mid new (quiet old new none) logs told.prints.printing told.prints.is told.prints.gives tells;
+    })
+read_whole Reads outcome old mid new none logs (inr (inr refused)) tells =
+    inr (record {
+      read = Err refused.refusal;
+      reads = refused.reads;
+      told = unspelled_whole refused.refusal outcome old mid new (quiet old new none) refused.is logs refused.output tells;
+    })
+
+calculated_complete : (file : List ℕ) (outcome : Outcome) (old mid new : WorldView) → (SomeRose old new → ⊥) → Calculates file outcome old mid → TellsIf (fault_line_of outcome) mid new → (status_of outcome ≡ 5) ⊎ IsReadWhole (IsCalculated file) (status_of outcome) old new
+calculated_complete file outcome old mid new none h tells =
+    read_whole (IsCalculated file) outcome old mid new none (calculated_left file outcome old mid h).logs (calculated_comes file outcome old mid h) tells
+
+spelled_complete : (spelling : SpellingView) (outcome : Outcome) (old mid new : WorldView) → (SomeRose old new → ⊥) → Spells spelling outcome old mid → TellsIf (fault_line_of outcome) mid new → (status_of outcome ≡ 5) ⊎ IsReadWhole (IsSpelled spelling) (status_of outcome) old new
+spelled_complete spelling outcome old mid new none h tells =
+    read_whole (IsSpelled spelling) outcome old mid new none (spelled_left spelling outcome old mid h).logs (spelled_comes spelling outcome old mid h) tells
+
 job_complete : (post : Post) → (job : Job) (outcome : Outcome) (old mid new : WorldView) → (RoseInJob post job old new → ⊥) → DoesJob post job outcome old mid → TellsIf (fault_line_of outcome) mid new → IsJobComplete post job (status_of outcome) old new
 job_complete post (Drill drill) outcome old mid new none (inl h) tells = inl (ap status_of h.is)
 job_complete post (Drill drill) outcome old mid new none (inr h) tells = inr (drill_complete drill (drilled drill) outcome old mid new (quiet old new none) h tells)
 job_complete post Smapd outcome old mid new none (inl u) tells = unread_complete post outcome old mid new none u.0 tells u.0.slot u.0.why u.0.fault u.0.comes
 job_complete post Smapd outcome old mid new none (inr h) tells = round_complete post outcome old mid new none h tells h.answer refl h.trouble refl h.tells
+job_complete post (OtpCalc file) outcome old mid new none h tells = calculated_complete file outcome old mid new none h tells
+job_complete post (OtpHex spelling) outcome old mid new none h tells = spelled_complete spelling outcome old mid new none h tells
 job_complete post SpoolInit outcome old mid new none h tells = init_complete post h.answer outcome old mid new none h.logs h.formats h.tells tells
 
 order_complete : (post : Post) → (name : List ℕ) (order : Order) (outcome : Outcome) (old mid new : WorldView) → (RoseInOrder post order old new → ⊥) → DoesOrder post name order outcome old mid → TellsIf (fault_line_of outcome) mid new

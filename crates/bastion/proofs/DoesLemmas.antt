@@ -59,6 +59,7 @@ lacks_early name command steps.Policy old new early is = is
 lacks_early name command steps.Drill old new early is = absurd (cc)
 lacks_early name command steps.Slots old new early is = absurd (cc)
 lacks_early name command steps.Round old new early is = absurd (cc)
+lacks_early name command steps.Dictionary old new early is = absurd (cc)
 
 -- what can't be found stops the command
 stops_by : {A : Type 0} (said : List ℕ → Result A Refusal) (name : List ℕ) (command : Command) (outcome : Outcome) (old new : WorldView) → Unfound said name outcome old.files new.files → AskedFiles old new

@@ -4,8 +4,8 @@ use Rattle.std.proofs.lemmas.List.{length-map}
 use Rattle.fw_disk.specs.DiskView.{DiskView}
 use Rattle.std.specs.Prelude.{Ok}
 use Rattle.fw_outside.specs.SinkView.{SinkView}
-use Rattle.bastion.specs.Jobs.{AreFormatted, FailsAt, Formats, Inits, IsFormatted, IsUnformatted, PrintsAlone, formatted_text, printed}
-use Rattle.bastion.specs.Works.{Prints}
+use Rattle.bastion.specs.Jobs.{AreFormatted, FailsAt, Formats, Inits, IsFormatted, IsUnformatted, PrintsAlone, formatted_text}
+use Rattle.bastion.specs.Works.{Prints, printed}
 use Rattle.bastion.specs.WorldView.{SessionInputs, WorldView}
 use Rattle.bastion.specs.declared.outcome.Outcome.{Outcome}
 

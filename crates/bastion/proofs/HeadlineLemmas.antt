@@ -397,6 +397,8 @@ worked_headline name (FtpGw peer) outcome old mid new h tells =
 job_stands : (post : Post) → (job : Job) (outcome : Outcome) (old mid new : WorldView) → DoesJob post job outcome old mid → TellsIf (fault_line_of outcome) mid new → HandsStand post job (status_of outcome) old new
 job_stands post (jobs.Drill drill) outcome old mid new h tells = tt
 job_stands post jobs.SpoolInit outcome old mid new h tells = tt
+job_stands post (jobs.OtpCalc file) outcome old mid new h tells = tt
+job_stands post (jobs.OtpHex spelling) outcome old mid new h tells = tt
 job_stands post jobs.Smapd outcome old mid new h tells = handed_on post outcome old mid new h tells
 
 order_headline : (post : Post) → (name : List ℕ) (order : Order) (outcome : Outcome) (old mid new : WorldView) → DoesOrder post name order outcome old mid → TellsIf (fault_line_of outcome) mid new → HeadlineOf post name order (status_of outcome) old new

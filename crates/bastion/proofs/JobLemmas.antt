@@ -6,16 +6,19 @@ use Rattle.drill_lines.specs.declared.plan.Drill as drills
 use Rattle.drill_lines.specs.declared.drill_fault.DrillFault.{DrillFault}
 use Rattle.drill_lines.specs.declared.drill_fault.DrillFault.TheVariants as faults
 use Rattle.drill_lines.specs.declared.tally.Tally.{Tally}
+use Rattle.fw_outside.specs.FilesView.{FilesView}
 use Rattle.fw_outside.specs.SinkView.{Gives}
 use Rattle.fw_outside.specs.declared.failed.Failed as sink
-use Rattle.bastion.specs.Jobs.{AreFormatted, DoesJob, DrillsBy, Formats, TellsFormatted, drill_refused, printed}
+use Rattle.bastion.specs.Jobs.{AreFormatted, DoesJob, DrillsBy, Formats, TellsFormatted, drill_refused}
 use Rattle.bastion.specs.Outcome.{DiskRose, status_of}
-use Rattle.bastion.specs.Status.{DisksRose, IsStatusOfJob, JobLeavesDisks, SomeRose, drill_status}
-use Rattle.bastion.specs.Works.{Prints}
+use Rattle.bastion.specs.Status.{DisksRose, IsStatusOfJob, JobLeavesDisks, SomeRose, TakesInJob, drill_status}
+use Rattle.bastion.specs.Works.{Prints, printed}
 use Rattle.bastion.specs.WorldView.{Post, SessionInputs, WorldView}
 use Rattle.bastion.specs.declared.outcome.Outcome.{Outcome}
 use Rattle.bastion.specs.declared.words.Job.{Job}
-use Rattle.bastion.specs.declared.words.Job.TheVariants.{Drill, SpoolInit, Smapd}
+use Rattle.bastion.specs.declared.words.Job.TheVariants.{Drill, SpoolInit, Smapd, OtpCalc, OtpHex}
+use Rattle.bastion.proofs.CalculatingLemmas.{calculated_left, calculated_takes, spelled_left, spelled_takes}
+use Rattle.bastion.proofs.CalculatedLemmas.{calculated_status, spelled_status}
 use Rattle.bastion.proofs.HandedLemmas.{handed_disks, handed_left, handed_status}
 use Rattle.bastion.proofs.JobRoseLemmas.{fails_rose}
 use Rattle.bastion.proofs.LeftLemmas.{Later}
@@ -68,29 +71,28 @@ pub job_status : (post : Post) → (job : Job) (outcome : Outcome) (old mid new 
 job_status post (Drill drill) outcome old mid new (inl h) later = inl (inr (ap status_of h.is))
 job_status post (Drill drill) outcome old mid new (inr h) later = drill_comes drill (drilled drill) outcome old mid new later h
 job_status post Smapd outcome old mid new h later = handed_status post outcome old mid new h later
+job_status post (OtpCalc file) outcome old mid new h later = calculated_status file outcome old mid new h later
+job_status post (OtpHex spelling) outcome old mid new h later = spelled_status spelling outcome old mid new h later
 job_status post SpoolInit outcome old mid new h later = init_status h.answer _ outcome old mid new later h.formats h.tells
 
 -- ---- what is left
 
--- but for the output and the disks nothing was touched that isn't told
+-- but for the output, the disks and the input nothing was touched that isn't told, and as many sources of files are out
 pub record JobLeft (old new : WorldView) : Type 0 where
-  pub files : new.files ≡ old.files
-  pub input : new.inputs.input ≡ old.inputs.input
+  pub out : new.files.out ≡ old.files.out
   pub dialer : new.inputs.dialer ≡ old.inputs.dialer
   pub keeper : new.inputs.keeper ≡ old.inputs.keeper
 
 left_same : (old new : WorldView) → new ≡ old → JobLeft old new
 left_same old new is = record {
-  files = ap (λ (w : WorldView). w.files) is;
-  input = ap (λ (w : WorldView). w.inputs.input) is;
+  out = ap (λ (w : WorldView). w.files.out) is;
   dialer = ap (λ (w : WorldView). w.inputs.dialer) is;
   keeper = ap (λ (w : WorldView). w.inputs.keeper) is;
 }
 
 drill_left : (drill : drills.Drill) (read : Result Tally DrillFault) (outcome : Outcome) (old new : WorldView) → DrillsBy drill read outcome old new → JobLeft old new
 drill_left drill (Ok tally) outcome old new h = record {
-  files = h.files;
-  input = ap (λ (i : SessionInputs). i.input) h.inputs;
+  out = ap (λ (f : FilesView). f.out) h.files;
   dialer = ap (λ (i : SessionInputs). i.dialer) h.inputs;
   keeper = ap (λ (i : SessionInputs). i.keeper) h.inputs;
 }
@@ -99,13 +101,34 @@ drill_left drill (Err fault) outcome old new h = left_same old new h.same
 pub job_left : (post : Post) → (job : Job) (outcome : Outcome) (old new : WorldView) → DoesJob post job outcome old new → JobLeft old new
 job_left post (Drill drill) outcome old new (inl h) = left_same old new h.same
 job_left post (Drill drill) outcome old new (inr h) = drill_left drill (drilled drill) outcome old new h
-job_left post Smapd outcome old new h = let left = handed_left post outcome old new h in record { files = left.0; input = left.1; dialer = left.2; keeper = left.3 }
+job_left post Smapd outcome old new h =
+    let left = handed_left post outcome old new h in
+    record { out = ap (λ (f : FilesView). f.out) left.0; dialer = left.2; keeper = left.3 }
+job_left post (OtpCalc file) outcome old new h =
+    let left = calculated_left file outcome old new h in
+    record { out = left.out; dialer = left.dialer; keeper = left.keeper }
+job_left post (OtpHex spelling) outcome old new h =
+    let left = spelled_left spelling outcome old new h in
+    record { out = left.out; dialer = left.dialer; keeper = left.keeper }
 job_left post SpoolInit outcome old new h = record {
-  files = h.files;
-  input = ap (λ (i : SessionInputs). i.input) h.inputs;
+  out = ap (λ (f : FilesView). f.out) h.files;
   dialer = ap (λ (i : SessionInputs). i.dialer) h.inputs;
   keeper = ap (λ (i : SessionInputs). i.keeper) h.inputs;
 }
+
+-- ---- the input
+
+drill_takes : (drill : drills.Drill) (read : Result Tally DrillFault) (outcome : Outcome) (old new : WorldView) → DrillsBy drill read outcome old new → new.inputs.input ≡ old.inputs.input
+drill_takes drill (Ok tally) outcome old new h = ap (λ (i : SessionInputs). i.input) h.inputs
+drill_takes drill (Err fault) outcome old new h = ap (λ (w : WorldView). w.inputs.input) h.same
+
+pub job_takes : (post : Post) → (job : Job) (outcome : Outcome) (old new : WorldView) → DoesJob post job outcome old new → TakesInJob job old.inputs.input new.inputs.input
+job_takes post (Drill drill) outcome old new (inl h) = ap (λ (w : WorldView). w.inputs.input) h.same
+job_takes post (Drill drill) outcome old new (inr h) = drill_takes drill (drilled drill) outcome old new h
+job_takes post Smapd outcome old new h = (handed_left post outcome old new h).1
+job_takes post SpoolInit outcome old new h = ap (λ (i : SessionInputs). i.input) h.inputs
+job_takes post (OtpCalc file) outcome old new h = calculated_takes file outcome old new h
+job_takes post (OtpHex spelling) outcome old new h = spelled_takes spelling outcome old new h
 
 -- ---- the disks
 
@@ -122,4 +145,6 @@ pub job_disks : (post : Post) → (job : Job) (outcome : Outcome) (old new : Wor
 job_disks post (Drill drill) outcome old new (inl h) = ap (λ (w : WorldView). w.inputs.disks) h.same
 job_disks post (Drill drill) outcome old new (inr h) = drill_disks drill (drilled drill) outcome old new h
 job_disks post Smapd outcome old new h = handed_disks post outcome old new h
+job_disks post (OtpCalc file) outcome old new h = (calculated_left file outcome old new h).disks
+job_disks post (OtpHex spelling) outcome old new h = (spelled_left spelling outcome old new h).disks
 job_disks post SpoolInit outcome old new h = λ is. init_disks h.answer _ outcome old new h.formats h.tells is

@@ -9,16 +9,17 @@ use Rattle.drill_lines.specs.declared.tally.Tally.{Tally}
 use Rattle.fw_disk.specs.DiskView.{DiskView}
 use Rattle.fw_outside.specs.SinkView.{Gives}
 use Rattle.fw_outside.specs.declared.failed.Failed as sink
-use Rattle.bastion.specs.Jobs.{DoesJob, Drills, DrillsBy, FailsAt, Formats, TellsFormatted, drill_refused, printed}
-use Rattle.bastion.specs.Outcome.{DiskRose, JobRose, SlotsRose}
-use Rattle.bastion.specs.Works.{Prints}
+use Rattle.bastion.specs.Jobs.{DoesJob, Drills, DrillsBy, FailsAt, Formats, TellsFormatted, drill_refused}
+use Rattle.bastion.specs.Outcome.{CountRose, DiskRose, JobRose, SlotsRose}
+use Rattle.bastion.specs.Works.{Prints, printed}
 use Rattle.bastion.specs.WorldView.{Post, WorldView}
 use Rattle.bastion.specs.declared.outcome.Device.TheVariants as device
 use Rattle.bastion.specs.declared.outcome.Outcome.{Outcome}
 use Rattle.bastion.specs.declared.outcome.Outcome.TheVariants.{Usage, Unread, Failed, NoMemory, Done, Decided, Ended}
+use Rattle.bastion.proofs.CalculatingLemmas.{calculated_rose, spelled_rose}
 use Rattle.bastion.proofs.HandedRoseLemmas.{handed_rose}
 use Rattle.bastion.specs.declared.words.Job.{Job}
-use Rattle.bastion.specs.declared.words.Job.TheVariants.{Drill, SpoolInit, Smapd}
+use Rattle.bastion.specs.declared.words.Job.TheVariants.{Drill, SpoolInit, Smapd, OtpCalc, OtpHex}
 use Rattle.client_service.proofs.SinkLemmas.{cut_rose}
 
 printed_rose : (printing : Result (Unit {0}) sink.Failed) (text : List ℕ) (old new : WorldView) → Gives printing text old.output new.output → SlotsRose (printed printing) old new
@@ -59,11 +60,31 @@ slots_job post (Failed device.Log) old new h = h
 slots_job post (Failed device.Records) old new h = h
 slots_job post (Failed device.Program) old new h = h
 slots_job post (Failed device.Mailer) old new h = absurd h
+slots_job post (Failed device.Dictionary) old new h = h
+slots_job post (Failed device.Input) old new h = h
 slots_job post (Failed (device.Disk slot)) old new h = h
 slots_job post (NoMemory step) old new h = h
 slots_job post Done old new h = h
 slots_job post (Decided verdict) old new h = h
 slots_job post (Ended ending refused) old new h = h
+
+-- and what counts for every run counts for a session over slots
+count_slots : (outcome : Outcome) (old new : WorldView) → CountRose outcome old new → SlotsRose outcome old new
+count_slots Usage old new h = h
+count_slots (Unread refusal) old new h = h
+count_slots (Failed device.Table) old new h = h
+count_slots (Failed device.Output) old new h = h
+count_slots (Failed device.Log) old new h = h
+count_slots (Failed device.Records) old new h = h
+count_slots (Failed device.Program) old new h = h
+count_slots (Failed device.Mailer) old new h = absurd h
+count_slots (Failed device.Dictionary) old new h = h
+count_slots (Failed device.Input) old new h = h
+count_slots (Failed (device.Disk slot)) old new h = absurd h
+count_slots (NoMemory step) old new h = h
+count_slots Done old new h = h
+count_slots (Decided verdict) old new h = h
+count_slots (Ended ending refused) old new h = h
 
 drill_job : (drill : drills.Drill) (outcome : Outcome) (old new : WorldView) → Drills drill outcome old new → SlotsRose outcome old new
 drill_job drill outcome old new (inl h) = subst (λ (o : Outcome). SlotsRose o old new) (sym h.is) tt
@@ -73,3 +94,5 @@ pub job_rose : (post : Post) → (job : Job) (outcome : Outcome) (old new : Worl
 job_rose post (Drill drill) outcome old new h = slots_job post outcome old new (drill_job drill outcome old new h)
 job_rose post SpoolInit outcome old new h = slots_job post outcome old new (init_rose h.answer _ outcome old new h.formats h.tells)
 job_rose post Smapd outcome old new h = handed_rose post outcome old new h
+job_rose post (OtpCalc file) outcome old new h = slots_job post outcome old new (count_slots outcome old new (calculated_rose file outcome old new h))
+job_rose post (OtpHex spelling) outcome old new h = slots_job post outcome old new (count_slots outcome old new (spelled_rose spelling outcome old new h))

@@ -88,6 +88,7 @@ lacks_left name command steps.Policy old new h = only_left name false old new h
 lacks_left name command steps.Drill old new h = absurd h
 lacks_left name command steps.Slots old new h = absurd h
 lacks_left name command steps.Round old new h = absurd h
+lacks_left name command steps.Dictionary old new h = absurd h
 lacks_left name command steps.Records old new h = only_left name (needs_records command) old new h
 
 pub stops_left : (name : List ℕ) (command : Command) (outcome : Outcome) (old new : WorldView) → Stops name command outcome old new → Left old new

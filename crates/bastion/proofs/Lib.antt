@@ -1,5 +1,7 @@
 pub mod AtGatewayLemmas
 pub mod AttendedLemmas
+pub mod CalculatedLemmas
+pub mod CalculatingLemmas
 pub mod ClientLemmas
 pub mod CompleteLemmas
 pub mod DecidedLemmas

@@ -10,7 +10,7 @@ use Rattle.bastion.specs.declared.outcome.Outcome.{Outcome}
 use Rattle.bastion.specs.declared.outcome.Outcome.TheVariants.{Unread, Failed, NoMemory}
 use Rattle.bastion.specs.declared.outcome.Refusal.TheVariants.{Table, Rule}
 use Rattle.bastion.specs.Inputs.{OfHeld, OfText, OfTextOr}
-use Rattle.bastion.specs.Reading.{Finds, OfTable, ReadsLines, ReadsTable, or_rule_fault, ruling_by, ruling_in}
+use Rattle.bastion.specs.Reading.{Finds, OfFile, ReadsLines, ReadsTable, or_rule_fault, ruling_by, ruling_in}
 
 of_held : {P Q : List ℕ → Type 0} (missing gone : Type 0) (text : Option (List ℕ)) → (missing → gone) → ((bytes : List ℕ) → P bytes → Q bytes) → OfHeld missing text P → OfHeld gone text Q
 of_held missing gone None without more h = without h
@@ -24,7 +24,7 @@ of_text_or missing gone (Some files) name without more h = of_held missing gone 
 pub of_text : {P Q : List ℕ → Type 0} (holds : Option (List (List ℕ × List ℕ))) (name : List ℕ) → ((text : List ℕ) → P text → Q text) → OfText holds name P → OfText holds name Q
 of_text holds name more h = of_text_or ⊥ ⊥ holds name (λ none. none) more h
 
-of_table : {P Q : List ℕ → Type 0} (name : List ℕ) (old new : FilesView) → ((text : List ℕ) → P text → Q text) → OfTable name P old new → OfTable name Q old new
+of_table : {P Q : List ℕ → Type 0} (name : List ℕ) (old new : FilesView) → ((text : List ℕ) → P text → Q text) → OfFile name P old new → OfFile name Q old new
 of_table name old new more h = record { of_text = of_text old.holds name more h.of_text; asks = h.asks }
 
 module _ {A : Type 0} where
@@ -37,7 +37,7 @@ module _ {A : Type 0} where
   said_of_fault said text fault h = ap (ruling_by said) h
 
   -- what the lines say is what the table says
-  pub finds_by_lines : (said : List Line → Result A RuleFault) (name : List ℕ) (lines : List Line) (result : Result A Outcome) (old new : FilesView) → OfTable name (λ text. table_of text ≡ Ok lines) old new → ReadsLines (said lines) result → Finds (ruling_in said) name result old new
+  pub finds_by_lines : (said : List Line → Result A RuleFault) (name : List ℕ) (lines : List Line) (result : Result A Outcome) (old new : FilesView) → OfFile name (λ text. table_of text ≡ Ok lines) old new → ReadsLines (said lines) result → Finds (ruling_in said) name result old new
   finds_by_lines said name lines (Ok x) old new read is =
       of_table name old new (λ text h. said_of_lines said text lines h ∙ ap or_rule_fault is) read
   finds_by_lines said name lines (Err (Unread (Rule fault))) old new read is = record {

@@ -59,6 +59,8 @@ stops_rose name command (Failed device.Output) old new h = absurd h
 stops_rose name command (Failed device.Log) old new h = absurd h
 stops_rose name command (Failed device.Program) old new h = absurd h
 stops_rose name command (Failed device.Mailer) old new h = absurd h
+stops_rose name command (Failed device.Dictionary) old new h = absurd h
+stops_rose name command (Failed device.Input) old new h = absurd h
 stops_rose name command (Failed (device.Disk slot)) old new h = absurd h
 stops_rose name command (Ended ending refused) old new h = absurd h
 stops_rose name command outcome old new h = tt
@@ -110,6 +112,8 @@ rose_for (Smap peer) (Failed device.Log) old new h = h
 rose_for (Smap peer) (Failed device.Records) old new h = h
 rose_for (Smap peer) (Failed device.Program) old new h = h
 rose_for (Smap peer) (Failed device.Mailer) old new h = absurd h
+rose_for (Smap peer) (Failed device.Dictionary) old new h = h
+rose_for (Smap peer) (Failed device.Input) old new h = h
 rose_for (Smap peer) (Failed (device.Disk slot)) old new h = absurd h
 rose_for (Smap peer) (NoMemory step) old new h = h
 rose_for (Smap peer) Done old new h = h
@@ -152,6 +156,10 @@ device_from name records device.Records old mid new only h = keeper_from records
 device_from name records device.Program old mid new only h =
     subst (λ (l : LauncherView). Rose l.faults new.inputs.launcher.faults) (calls_launcher records old.inputs mid.inputs only.inputs) h
 device_from name records device.Mailer old mid new only h = absurd h
+device_from name records device.Dictionary old mid new only h =
+    subst (λ (f : FilesView). Rose f.missing new.files.missing ⊎ Rose f.read_faults new.files.read_faults) only.files.is h
+device_from name records device.Input old mid new only h =
+    subst (λ (s : SourceView). Rose s.faults new.inputs.input.faults ⊎ Rose s.idles new.inputs.input.idles) (only_left name records old mid only).input h
 device_from name records (device.Disk slot) old mid new only h = absurd h
 
 client_from : (old mid : WorldView) (new : WorldView) → mid.inputs.input ≡ old.inputs.input → mid.output ≡ old.output
@@ -207,6 +215,8 @@ slots_from name (Failed device.Log) old mid new only h = device_from name false 
 slots_from name (Failed device.Records) old mid new only h = device_from name false device.Records old mid new only h
 slots_from name (Failed device.Program) old mid new only h = device_from name false device.Program old mid new only h
 slots_from name (Failed device.Mailer) old mid new only h = absurd h
+slots_from name (Failed device.Dictionary) old mid new only h = device_from name false device.Dictionary old mid new only h
+slots_from name (Failed device.Input) old mid new only h = device_from name false device.Input old mid new only h
 slots_from name (Failed (device.Disk slot)) old mid new only h = subst (λ (i : SessionInputs). DiskRose slot i.disks new.inputs.disks) only.inputs h
 slots_from name Usage old mid new only h = tt
 slots_from name (Unread refusal) old mid new only h = tt
@@ -335,6 +345,8 @@ device_some device.Log old new h = inr (inl (inr h))
 device_some device.Records old new h = inr (inr (inr (inl h)))
 device_some device.Program old new h = inr (inr (inr (inr h)))
 device_some device.Mailer old new h = absurd h
+device_some device.Dictionary old new h = inl h
+device_some device.Input old new h = inr (inr (inl h))
 device_some (device.Disk slot) old new h = absurd h
 
 verdict_four : {A : Type 0} (verdict : Verdict) → verdict_status verdict ≡ 4 → A
@@ -377,6 +389,8 @@ slots_some (Failed device.Log) old new h is = inl (device_some device.Log old ne
 slots_some (Failed device.Records) old new h is = inl (device_some device.Records old new h)
 slots_some (Failed device.Program) old new h is = inl (device_some device.Program old new h)
 slots_some (Failed device.Mailer) old new h is = absurd h
+slots_some (Failed device.Dictionary) old new h is = inl (device_some device.Dictionary old new h)
+slots_some (Failed device.Input) old new h is = inl (device_some device.Input old new h)
 slots_some (Failed (device.Disk slot)) old new h is = inr (slot, h)
 slots_some Usage old new h is = inl (count_some Usage old new h is)
 slots_some (Unread refusal) old new h is = inl (count_some (Unread refusal) old new h is)

@@ -26,7 +26,7 @@ use Rattle.bastion.specs.declared.words.Order.{Order}
 use Rattle.bastion.specs.declared.words.Order.TheVariants.{ByTable, Alone}
 use Rattle.bastion.proofs.AttendedLemmas.{attended_status, attended_takes, takes_same}
 use Rattle.bastion.proofs.DecidedLemmas.{ByVerdict, after_status, shown_status}
-use Rattle.bastion.proofs.JobLemmas.{job_disks, job_left, job_status}
+use Rattle.bastion.proofs.JobLemmas.{job_disks, job_left, job_status, job_takes}
 use Rattle.bastion.proofs.LaunchLemmas.{run_left, run_status_by}
 use Rattle.bastion.proofs.GateStatusLemmas.{ftp_status, ftp_takes, telnet_status, telnet_takes}
 use Rattle.bastion.proofs.LinkingLemmas.{linked_status, linked_takes}
@@ -201,7 +201,7 @@ order_back post name (ByTable command) outcome old new (inr h) =
     record { out = ap (λ (f : FilesView). f.out) works.0 ∙ left.out; keeper = λ there. works.1 (left.keeper there) }
 order_back post name (Alone job) outcome old new h =
     let left = job_left post job outcome old new h in
-    record { out = ap (λ (f : FilesView). f.out) left.files; keeper = λ there. subst (λ (k : Option KeeperView). IsSome k) (sym left.keeper) there }
+    record { out = left.out; keeper = λ there. subst (λ (k : Option KeeperView). IsSome k) (sym left.keeper) there }
 
 does_back : (post : Post) → (line : Option LineView) (outcome : Outcome) (old new : WorldView) → DoesLine post line outcome old new → GivesBackAll old new
 does_back post None outcome old new h = record { out = ap (λ (w : WorldView). w.files.out) h.is; keeper = λ there. subst (λ (w : WorldView). IsSome w.inputs.keeper) (sym h.is) there }
@@ -241,7 +241,7 @@ order_takes post name (ByTable command) outcome old new (inl h) =
 order_takes post name (ByTable command) outcome old new (inr h) =
     let left = only_left name (needs_records command) old h.middle h.only in
     subst (λ (s : SourceView). TakesFor command (status_of outcome) s new.inputs.input) left.input (works_takes command h.inputs outcome h.middle new h.works)
-order_takes post name (Alone job) outcome old new h = (job_left post job outcome old new h).input
+order_takes post name (Alone job) outcome old new h = job_takes post job outcome old new h
 
 does_takes : (post : Post) → (line : Option LineView) (outcome : Outcome) (old new : WorldView) → DoesLine post line outcome old new → TakesBy line (status_of outcome) old.inputs.input new.inputs.input
 does_takes post None outcome old new h = takes_same (status_of outcome) old.inputs.input new.inputs.input (ap (λ (w : WorldView). w.inputs.input) h.is)

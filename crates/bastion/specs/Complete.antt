@@ -37,6 +37,7 @@ use Rattle.smapd_queue.specs.declared.round.RoundFault.{RoundFault}
 use Rattle.smapd_queue.specs.declared.round.Trouble.{Trouble}
 use Rattle.bastion.specs.HandingOn.{round_text}
 use Rattle.bastion.specs.HandedOn.{HandsRound}
+use Rattle.bastion.specs.Calculating.{IsCalculated, IsSpelled}
 use Rattle.bastion.specs.Jobs.{AreFormatted, drill_refused, formatted_text}
 use Rattle.bastion.specs.Outcome.{fault_line_of, refusal_text, status_of, verdict_status}
 use Rattle.bastion.specs.Run.{ReadsOnly, verdict_for}
@@ -48,8 +49,9 @@ use Rattle.bastion.specs.Texts.{ended_text, print_text, program_of}
 use Rattle.bastion.specs.Words.{LineView}
 use Rattle.bastion.specs.WorldView.{Post, WorldView}
 use Rattle.bastion.specs.declared.outcome.Outcome.TheVariants.{Ended}
+use Rattle.bastion.specs.declared.outcome.OtpRefusal.{OtpRefusal}
 use Rattle.bastion.specs.declared.outcome.Refusal.{Refusal}
-use Rattle.bastion.specs.declared.outcome.Refusal.TheVariants.{Slot}
+use Rattle.bastion.specs.declared.outcome.Refusal.TheVariants.{Slot, Otp}
 use Rattle.bastion.specs.declared.words.Caller.{Caller}
 use Rattle.bastion.specs.declared.words.Client.{Client}
 use Rattle.bastion.specs.declared.words.Command.{Command}
@@ -220,9 +222,21 @@ pub record IsRoundWhole (post : Post) (status : ℕ) (old new : WorldView) : Typ
   pub held : HandsRound post answer trouble old new
   pub whole : IsWhole (lines_of held.hands.hands.turns) (round_text round) 0 status old new
 
+-- a text is printed, or what has no reading is told to the log
+abbrev pub IsToldWhole : Result (List ℕ) OtpRefusal → ℕ → WorldView → WorldView → Type 0
+IsToldWhole (Ok text) status old new = IsWhole [] text 0 status old new
+IsToldWhole (Err refusal) status old new = IsWhole (codes "fault " ++ refusal_text (Otp refusal) ++ codes "\n") [] 3 status old new
+
+pub record IsReadWhole (Reads : Result (List ℕ) OtpRefusal → WorldView → Type 0) (status : ℕ) (old new : WorldView) : Type 0 where
+  pub read : Result (List ℕ) OtpRefusal
+  pub reads : Reads read old
+  pub told : IsToldWhole read status old new
+
 abbrev pub IsJobComplete : Post → Job → ℕ → WorldView → WorldView → Type 0
 IsJobComplete post (jobs.Drill drill) status old new = (status ≡ 5) ⊎ IsDrilledWhole drill (drilled drill) status old new
 IsJobComplete post jobs.SpoolInit status old new = IsFormattedWhole status old new
+IsJobComplete post (jobs.OtpCalc file) status old new = (status ≡ 5) ⊎ IsReadWhole (IsCalculated file) status old new
+IsJobComplete post (jobs.OtpHex spelling) status old new = (status ≡ 5) ⊎ IsReadWhole (IsSpelled spelling) status old new
 IsJobComplete post jobs.Smapd status old new = (status ≡ 5) ⊎ (IsBadWhole status old new ⊎ IsRoundWhole post status old new)
 
 -- or there was no memory

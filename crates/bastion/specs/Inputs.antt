@@ -16,7 +16,7 @@ use Rattle.netperm_table.specs.declared.line.Line.{Line}
 use Rattle.netperm_table.specs.declared.table_fault.TableFault.{TableFault}
 use Rattle.bastion.specs.WorldView.{WorldView}
 use Rattle.bastion.specs.declared.outcome.Refusal.{Refusal}
-use Rattle.bastion.specs.declared.outcome.Refusal.TheVariants.{Table, Rule, Record, Slot}
+use Rattle.bastion.specs.declared.outcome.Refusal.TheVariants.{Table, Rule, Record, Slot, Otp}
 use Rattle.bastion.specs.declared.words.Command.{Command}
 use Rattle.bastion.specs.declared.words.Command.TheVariants as commands
 
@@ -122,6 +122,7 @@ is_of_line (Table fault) = true
 is_of_line (Rule fault) = true
 is_of_line (Record name at) = false
 is_of_line (Slot slot at) = false
+is_of_line (Otp refusal) = false
 
 abbrev pub is_of_table : Result Inputs Refusal → Bool
 is_of_table (Ok inputs) = false

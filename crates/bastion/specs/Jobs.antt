@@ -1,4 +1,5 @@
--- The work of the commands that need no table: `drill` and `spool-init`; that of `smapd` has a file of its own.
+-- The work of the commands that need no table: `drill` and `spool-init`; that of `smapd`, and that of `otp-calc` and `otp-hex`, have
+-- files of their own.
 use Rattle.std.specs.Prelude.{◌≡◌, ℕ, zero, suc, ◌⊎◌, List, ◌∷◌, ◌++◌, length, codes, Result, Ok, Err}
 use Rattle.std.specs.Fmt.{decimal}
 use Rattle.drill_lines.specs.Drill.{drilled, tally_text}
@@ -10,24 +11,19 @@ use Rattle.fw_disk.specs.DiskView.{DiskView}
 use Rattle.fw_disk.specs.Moments.{EachImage, Now}
 use Rattle.fw_outside.specs.Counts.{Rose}
 use Rattle.fw_outside.specs.SinkView.{SinkView}
-use Rattle.fw_outside.specs.declared.failed.Failed as sink
 use Rattle.spool_slots.specs.Images.{IsFreeImage}
 use Rattle.spool_slots.specs.States.{HasCleared, StillTells}
+use Rattle.bastion.specs.Calculating.{Calculates, Spells}
 use Rattle.bastion.specs.HandingOn.{HandsMail}
-use Rattle.bastion.specs.Works.{Prints}
+use Rattle.bastion.specs.Works.{Prints, printed}
 use Rattle.bastion.specs.WorldView.{Post, WorldView}
 use Rattle.bastion.specs.declared.outcome.Device.TheVariants as device
 use Rattle.bastion.specs.declared.outcome.Outcome.{Outcome}
-use Rattle.bastion.specs.declared.outcome.Outcome.TheVariants.{Unread, Failed, NoMemory, Done}
+use Rattle.bastion.specs.declared.outcome.Outcome.TheVariants.{Unread, Failed, NoMemory}
 use Rattle.bastion.specs.declared.outcome.Refusal.TheVariants as refusals
 use Rattle.bastion.specs.declared.outcome.Step.TheVariants as steps
 use Rattle.bastion.specs.declared.words.Job.{Job}
 use Rattle.bastion.specs.declared.words.Job.TheVariants as jobs
-
--- what comes of a text that the output took, or not
-abbrev pub printed : Result (Unit {0}) sink.Failed → Outcome
-printed (Ok done) = Done
-printed (Err failed) = Failed device.Output
 
 -- ---- `drill`
 
@@ -110,3 +106,5 @@ abbrev pub DoesJob : Post → Job → Outcome → WorldView → WorldView → Ty
 DoesJob post (jobs.Drill drill) outcome old new = Drills drill outcome old new
 DoesJob post jobs.SpoolInit outcome old new = Inits outcome old new
 DoesJob post jobs.Smapd outcome old new = HandsMail post outcome old new
+DoesJob post (jobs.OtpCalc file) outcome old new = Calculates file outcome old new
+DoesJob post (jobs.OtpHex spelling) outcome old new = Spells spelling outcome old new

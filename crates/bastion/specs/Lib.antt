@@ -1,7 +1,9 @@
 pub mod Asking
 pub mod AtGateway
+pub mod Calculating
 pub mod Complete
 pub mod Deciding
+pub mod FilesAsked
 pub mod FtpGateway
 pub mod Gateway
 pub mod Gating
@@ -19,6 +21,7 @@ pub mod Reading
 pub mod Run
 pub mod Serving
 pub mod SessionSteps
+pub mod SpellingView
 pub mod Spool
 pub mod Status
 pub mod TableReport

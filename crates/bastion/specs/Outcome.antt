@@ -1,5 +1,5 @@
 -- What a run comes to: its status, its line in the log, and whose count has risen. Three tables, by cases.
-use Rattle.std.specs.Prelude.{ℕ, zero, suc, ◌⊎◌, Bool, true, false, List, ◌∷◌, ◌++◌, Option, Some, None, unwrap_or, codes, if◌then◌else◌}
+use Rattle.std.specs.Prelude.{ℕ, zero, suc, ◌⊎◌, Bool, true, false, List, [], ◌∷◌, ◌++◌, Option, Some, None, unwrap_or, codes, if◌then◌else◌}
 use Rattle.std.specs.Fmt.{decimal}
 use Rattle.fw_disk.specs.DiskView.{DiskView}
 use Rattle.fw_mail.specs.MailerView.{MailerView}
@@ -11,14 +11,20 @@ use Rattle.gate_rules.specs.declared.verdict.Verdict.{Verdict}
 use Rattle.gate_rules.specs.declared.verdict.Verdict.TheVariants.{Permit, Deny}
 use Rattle.gate_rules.specs.Why as rule
 use Rattle.netperm_table.specs.Fault as table
+use Rattle.otp_words.specs.declared.dict_fault.DictFault.{DictFault}
+use Rattle.otp_words.specs.declared.dict_fault.DictFault.TheVariants as dictionary
+use Rattle.otp_words.specs.declared.words_fault.WordsFault.{WordsFault}
+use Rattle.otp_words.specs.declared.words_fault.WordsFault.TheVariants as spelled
 use Rattle.bastion.specs.Words.{LineView}
 use Rattle.bastion.specs.WorldView.{Post, WorldView}
 use Rattle.bastion.specs.declared.outcome.Device.{Device}
 use Rattle.bastion.specs.declared.outcome.Device.TheVariants as device
 use Rattle.bastion.specs.declared.outcome.Outcome.{Outcome}
 use Rattle.bastion.specs.declared.outcome.Outcome.TheVariants.{Usage, Unread, Failed, NoMemory, Done, Decided, Ended}
+use Rattle.bastion.specs.declared.outcome.OtpRefusal.{OtpRefusal}
+use Rattle.bastion.specs.declared.outcome.OtpRefusal.TheVariants as otp
 use Rattle.bastion.specs.declared.outcome.Refusal.{Refusal}
-use Rattle.bastion.specs.declared.outcome.Refusal.TheVariants.{Table, Rule, Record, Slot}
+use Rattle.bastion.specs.declared.outcome.Refusal.TheVariants.{Table, Rule, Record, Slot, Otp}
 use Rattle.bastion.specs.declared.words.Command.{Command}
 use Rattle.bastion.specs.declared.words.Command.TheVariants.{PlugGw, TnGw, FtpGw, Smap}
 use Rattle.bastion.specs.declared.words.Order.{Order}
@@ -73,6 +79,8 @@ device_text device.Log = codes "log"
 device_text device.Records = codes "records"
 device_text device.Program = codes "program"
 device_text device.Mailer = codes "mailer"
+device_text device.Dictionary = codes "dictionary"
+device_text device.Input = codes "input"
 device_text (device.Disk slot) = codes "disk " ++ decimal slot
 
 -- a line, by its number, and what is wrong with it
@@ -87,11 +95,31 @@ record_text name at = name ++ codes " at " ++ decimal at
 abbrev pub slot_text : ℕ → ℕ → List ℕ
 slot_text slot at = decimal slot ++ codes " at " ++ decimal at
 
+-- a line of a dictionary, or its length; faults of the source and of memory have no text here
+abbrev pub dictionary_text : DictFault → List ℕ
+dictionary_text (dictionary.BadWord line) = codes "line " ++ decimal line
+dictionary_text (dictionary.Twice line) = codes "line " ++ decimal line
+dictionary_text dictionary.Long = codes "long"
+dictionary_text (dictionary.Short words) = codes "short"
+dictionary_text dictionary.ReadFault = []
+dictionary_text dictionary.NoMemory = []
+
+abbrev pub words_text : WordsFault → List ℕ
+words_text spelled.Count = codes "count"
+words_text (spelled.NoWord at) = codes "word " ++ decimal at
+words_text spelled.Check = codes "check"
+
+abbrev pub otp_text : OtpRefusal → List ℕ
+otp_text (otp.Dictionary fault) = codes "dictionary " ++ dictionary_text fault
+otp_text otp.Challenge = codes "challenge"
+otp_text (otp.Words fault) = codes "words " ++ words_text fault
+
 abbrev pub refusal_text : Refusal → List ℕ
 refusal_text (Table fault) = codes "table" ++ line_text (unwrap_or (table.line_of fault) 0) (table.table_why_text fault)
 refusal_text (Rule fault) = codes "rule" ++ line_text fault.line (rule.why_text fault.why)
 refusal_text (Record name at) = codes "record " ++ record_text name at
 refusal_text (Slot slot at) = codes "slot " ++ slot_text slot at
+refusal_text (Otp refusal) = otp_text refusal
 
 -- what went wrong, where something did; what a session ended with has a line of its own, but for its limit
 abbrev pub fault_line_of : Outcome → Option (List ℕ)
@@ -110,7 +138,8 @@ abbrev pub KeeperRose : Option KeeperView → Option KeeperView → Type 0
 KeeperRose (Some old) (Some new) = Rose old.faults new.faults
 KeeperRose _ _ = ⊥
 
--- the device's own count rose; the files count names without a source, and sources that failed; those of the disks and the
+-- the device's own count rose; the files count names without a source, and sources that failed; the input how often it failed, and how
+-- often nothing came in time; those of the disks and the
 -- mailers are said apart, of what calls them
 abbrev pub DeviceRose : Device → WorldView → WorldView → Type 0
 DeviceRose device.Table old new = Rose old.files.missing new.files.missing ⊎ Rose old.files.read_faults new.files.read_faults
@@ -119,6 +148,8 @@ DeviceRose device.Log old new = Rose old.logs.faults new.logs.faults
 DeviceRose device.Records old new = KeeperRose old.inputs.keeper new.inputs.keeper
 DeviceRose device.Program old new = Rose old.inputs.launcher.faults new.inputs.launcher.faults
 DeviceRose device.Mailer old new = ⊥
+DeviceRose device.Dictionary old new = Rose old.files.missing new.files.missing ⊎ Rose old.files.read_faults new.files.read_faults
+DeviceRose device.Input old new = Rose old.inputs.input.faults new.inputs.input.faults ⊎ Rose old.inputs.input.idles new.inputs.input.idles
 DeviceRose (device.Disk slot) old new = ⊥
 
 -- what a session that ended with status 4 has counted: of the client, its source failed, or nothing came of it in time, or

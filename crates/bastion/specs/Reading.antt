@@ -11,6 +11,7 @@ use Rattle.gate_rules.specs.declared.fault.RuleFault.{RuleFault}
 use Rattle.gate_rules.specs.declared.service.Service.{Service}
 use Rattle.auth_machine.specs.Policy.{PolicyView, policy_of}
 use Rattle.bastion.specs.Inputs.{OfText, is_of_line}
+pub use Rattle.bastion.specs.FilesAsked.{OfFile}
 use Rattle.bastion.specs.Run.{AsksTable, FilesFailed}
 use Rattle.bastion.specs.declared.outcome.Device.TheVariants as device
 use Rattle.bastion.specs.declared.outcome.Outcome.{Outcome}
@@ -28,6 +29,7 @@ is_early steps.Records = false
 is_early steps.Slots = false
 is_early steps.Drill = false
 is_early steps.Round = false
+is_early steps.Dictionary = false
 is_early _ = true
 
 -- memory was wanting for what is read of the table, and the table was asked for
@@ -35,15 +37,10 @@ pub record LacksEarly (name : List ℕ) (step : Step) (old new : FilesView) : Ty
   pub early : is_early step ≡ true
   pub asks : AsksTable name old new
 
--- a fact of the text under a name, where the files tell it; it was asked for
-pub record OfTable (name : List ℕ) (P : List ℕ → Type 0) (old new : FilesView) : Type 0 where
-  pub of_text : OfText old.holds name P
-  pub asks : AsksTable name old new
-
 -- what reading a table answers and leaves
 abbrev pub ReadsTable : List ℕ → Result (List Line) Outcome → FilesView → FilesView → Type 0
-ReadsTable name (Ok lines) old new = OfTable name (λ text. table_of text ≡ Ok lines) old new
-ReadsTable name (Err (Unread (Table fault))) old new = OfTable name (λ text. table_of text ≡ Err fault) old new
+ReadsTable name (Ok lines) old new = OfFile name (λ text. table_of text ≡ Ok lines) old new
+ReadsTable name (Err (Unread (Table fault))) old new = OfFile name (λ text. table_of text ≡ Err fault) old new
 ReadsTable name (Err (Failed device.Table)) old new = FilesFailed name old new
 ReadsTable name (Err (NoMemory step)) old new = LacksEarly name step old new
 ReadsTable name (Err _) old new = ⊥
@@ -82,7 +79,7 @@ Unfound said name _ old new = ⊥
 
 -- what finding something in the table of this name answers and leaves
 abbrev pub Finds : {A : Type 0} → (List ℕ → Result A Refusal) → List ℕ → Result A Outcome → FilesView → FilesView → Type 0
-Finds said name (Ok x) old new = OfTable name (λ text. said text ≡ Ok x) old new
+Finds said name (Ok x) old new = OfFile name (λ text. said text ≡ Ok x) old new
 Finds said name (Err outcome) old new = Unfound said name outcome old new
 
 -- a fault of the source or of memory is told as one of the files or of memory

@@ -1,7 +1,7 @@
 -- What a run of a command line comes to, and what it leaves.
 use Rattle.std.specs.Prelude.{◌≡◌, ℕ, ◌⊎◌, Bool, true, false, not, List, Option, Some, None, Result, Ok, Err}
 use Rattle.fw_outside.specs.Counts.{Rose}
-use Rattle.fw_outside.specs.FilesView.{FilesView, MissesFile}
+use Rattle.fw_outside.specs.FilesView.{FilesView}
 use Rattle.fw_outside.specs.KeeperView.{IsCalled, KeeperFailed, KeeperView}
 use Rattle.fw_outside.specs.SinkView.{Gives}
 use Rattle.fw_outside.specs.ToldList.{AddsOne}
@@ -9,6 +9,7 @@ use Rattle.fw_outside.specs.declared.failed.Failed as sink
 use Rattle.fw_types.specs.declared.peer.Peer.{Peer}
 use Rattle.gate_rules.specs.Verdict.{verdict_of}
 use Rattle.gate_rules.specs.declared.verdict.Verdict.{Verdict}
+pub use Rattle.bastion.specs.FilesAsked.{AsksTable, FilesFailed, TookBackFailed}
 use Rattle.bastion.specs.Inputs.{HasInputs, Inputs, is_of_line, needs_records}
 use Rattle.bastion.specs.Jobs.{DoesJob}
 use Rattle.bastion.specs.Outcome.{RoseIn, fault_line_of, status_of, verdict_status}
@@ -27,12 +28,6 @@ use Rattle.bastion.specs.declared.words.Order.{Order}
 use Rattle.bastion.specs.declared.words.Order.TheVariants.{ByTable, Alone}
 
 -- ---- nothing was done: what the command needs couldn't be had
-
--- the files were asked for the table, by its name, and for nothing else
-pub record AsksTable (name : List ℕ) (old new : FilesView) : Type 0 where
-  pub asked : Option (List (List ℕ))
-  pub adds : AddsOne name old.asked asked
-  pub is : new ≡ record old { asked = asked }
 
 -- the keeper was called once
 pub record CallsKeeper (old new : SessionInputs) : Type 0 where
@@ -58,18 +53,6 @@ pub record ReadsOnly (name : List ℕ) (records : Bool) (old new : WorldView) : 
 pub record Refuses (name : List ℕ) (command : Command) (refusal : Refusal) (old new : WorldView) : Type 0 where
   pub read : HasInputs name command (Err refusal) old
   pub only : ReadsOnly name (not (is_of_line refusal)) old new
-
--- the files took a source of the table back that had failed, which is counted
-pub record TookBackFailed (name : List ℕ) (old new : FilesView) : Type 0 where
-  pub asked : Option (List (List ℕ))
-  pub adds : AddsOne name old.asked asked
-  pub count : ℕ
-  pub rose : Rose old.read_faults count
-  pub is : new ≡ record old { asked = asked; read_faults = count }
-
--- or they gave none
-abbrev pub FilesFailed : List ℕ → FilesView → FilesView → Type 0
-FilesFailed name old new = MissesFile name old new ⊎ TookBackFailed name old new
 
 -- the files failed, and nothing else happened
 pub record FilesUnread (name : List ℕ) (old new : WorldView) : Type 0 where
@@ -123,6 +106,7 @@ Lacks name command steps.Records old new = ReadsOnly name (needs_records command
 Lacks name command steps.Slots old new = ⊥
 Lacks name command steps.Drill old new = ⊥
 Lacks name command steps.Round old new = ⊥
+Lacks name command steps.Dictionary old new = ⊥
 Lacks name command step old new = ReadsOnly name false old new
 
 abbrev pub Stops : List ℕ → Command → Outcome → WorldView → WorldView → Type 0

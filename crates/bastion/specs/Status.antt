@@ -10,6 +10,7 @@ use Rattle.fw_outside.specs.DialerView.{DialerView, LinkView}
 use Rattle.fw_outside.specs.SourceView.{SourceView}
 use Rattle.gate_rules.specs.declared.verdict.Verdict.{Verdict}
 use Rattle.gate_rules.specs.declared.verdict.Verdict.TheVariants.{Permit, Deny}
+use Rattle.bastion.specs.Calculating.{IsCalculated, IsSpelled}
 use Rattle.bastion.specs.Inputs.{HasInputs, Inputs}
 use Rattle.bastion.specs.Jobs.{AreFormatted}
 use Rattle.bastion.specs.Outcome.{DiskRose, KeeperRose, MailersRose, verdict_status}
@@ -18,11 +19,12 @@ use Rattle.bastion.specs.Serving.{most_entries}
 use Rattle.bastion.specs.Spool.{AreOpened, HasBadSlot, LeavesAside, LeavesSlots}
 use Rattle.bastion.specs.Words.{LineView}
 use Rattle.bastion.specs.WorldView.{Post, SessionInputs, WorldView}
+use Rattle.bastion.specs.declared.outcome.OtpRefusal.{OtpRefusal}
 use Rattle.bastion.specs.declared.outcome.Refusal.{Refusal}
 use Rattle.bastion.specs.declared.words.Command.{Command}
 use Rattle.bastion.specs.declared.words.Command.TheVariants.{Netacl, NetaclRun, Table, Authsrv, PlugGw, TnGw, FtpGw, Smap}
 use Rattle.bastion.specs.declared.words.Job.{Job}
-use Rattle.bastion.specs.declared.words.Job.TheVariants.{Drill, SpoolInit, Smapd}
+use Rattle.bastion.specs.declared.words.Job.TheVariants.{Drill, SpoolInit, Smapd, OtpCalc, OtpHex}
 use Rattle.bastion.specs.declared.words.Order.{Order}
 use Rattle.bastion.specs.declared.words.Order.TheVariants.{ByTable, Alone}
 
@@ -58,6 +60,8 @@ RoseBy command old new = SomeRose old new
 -- the disks' counts are among them for a job that calls the disks, and the mailers' for `smapd`
 abbrev pub RoseInJob : Post → Job → WorldView → WorldView → Type 0
 RoseInJob post (Drill drill) old new = SomeRose old new
+RoseInJob post (OtpCalc file) old new = SomeRose old new
+RoseInJob post (OtpHex spelling) old new = SomeRose old new
 RoseInJob post SpoolInit old new = SomeRose old new ⊎ DisksRose old.inputs.disks new.inputs.disks
 RoseInJob post Smapd old new = SomeRose old new ⊎ (DisksRose old.inputs.disks new.inputs.disks ⊎ MailersRose post.before post.after)
 
@@ -151,10 +155,18 @@ drill_status (Err fault) = 3
 abbrev pub IsRoundStatus : ℕ → List DiskView → List DiskView → Type 0
 IsRoundStatus status old new = ((status ≡ 3) × ((slot : ℕ) × (at : ℕ) × HasBadSlot slot at old new)) ⊎ ((status ≡ 0) × AreOpened old)
 
--- `drill` and `smapd` take memory, `spool-init` none
+-- 0 where a text is printed, 3 where what is needed for it has no reading
+pub record IsByReading (Reads : Result (List ℕ) OtpRefusal → WorldView → Type 0) (status : ℕ) (old : WorldView) : Type 0 where
+  pub read : Result (List ℕ) OtpRefusal
+  pub reads : Reads read old
+  pub is : status ≡ drill_status read
+
+-- all jobs but `spool-init` take memory
 abbrev pub IsStatusOfJob : Post → Job → ℕ → WorldView → WorldView → Type 0
 IsStatusOfJob post (Drill drill) status old new = (((status ≡ 4) × SomeRose old new) ⊎ (status ≡ 5)) ⊎ (status ≡ drill_status (drilled drill))
 IsStatusOfJob post Smapd status old new = (((status ≡ 4) × RoseInJob post Smapd old new) ⊎ (status ≡ 5)) ⊎ IsRoundStatus status old.inputs.disks new.inputs.disks
+IsStatusOfJob post (OtpCalc file) status old new = (((status ≡ 4) × SomeRose old new) ⊎ (status ≡ 5)) ⊎ IsByReading (IsCalculated file) status old
+IsStatusOfJob post (OtpHex spelling) status old new = (((status ≡ 4) × SomeRose old new) ⊎ (status ≡ 5)) ⊎ IsByReading (IsSpelled spelling) status old
 IsStatusOfJob post SpoolInit status old new = ((status ≡ 4) × (SomeRose old new ⊎ DisksRose old.inputs.disks new.inputs.disks)) ⊎ (status ≡ 0)
 
 abbrev pub IsStatusOf : Post → List ℕ → Order → ℕ → WorldView → WorldView → Type 0
@@ -174,6 +186,8 @@ abbrev pub JobLeavesDisks : Job → ℕ → List DiskView → List DiskView → 
 JobLeavesDisks (Drill drill) status old new = new ≡ old
 JobLeavesDisks SpoolInit status old new = status ≡ 0 → AreFormatted (length old) old new
 JobLeavesDisks Smapd status old new = LeavesAside old new
+JobLeavesDisks (OtpCalc file) status old new = new ≡ old
+JobLeavesDisks (OtpHex spelling) status old new = new ≡ old
 
 -- behind `smap` a slot that was opened with a message has it; any other command by the table calls no disk
 abbrev pub CommandLeavesDisks : Command → List DiskView → List DiskView → Type 0
@@ -188,6 +202,8 @@ abbrev pub JobLeavesMailers : Post → Job → Type 0
 JobLeavesMailers post Smapd = Unit {0}
 JobLeavesMailers post (Drill drill) = post.after ≡ post.before
 JobLeavesMailers post SpoolInit = post.after ≡ post.before
+JobLeavesMailers post (OtpCalc file) = post.after ≡ post.before
+JobLeavesMailers post (OtpHex spelling) = post.after ≡ post.before
 
 abbrev pub OrderLeavesMailers : Post → Order → Type 0
 OrderLeavesMailers post (ByTable command) = post.after ≡ post.before
@@ -218,10 +234,14 @@ TakesFor (PlugGw caller) status old new = TakesOver status old new
 TakesFor (TnGw peer) status old new = TakesOver status old new
 TakesFor command status old new = TakesIn status old new
 
--- a job without a table takes nothing
+-- of the jobs without a table `otp-calc` alone takes anything
+abbrev pub TakesInJob : Job → SourceView → SourceView → Type 0
+TakesInJob (OtpCalc file) old new = TookAtMost old new
+TakesInJob job old new = new ≡ old
+
 abbrev pub TakesOf : Order → ℕ → SourceView → SourceView → Type 0
 TakesOf (ByTable command) status old new = TakesFor command status old new
-TakesOf (Alone job) status old new = new ≡ old
+TakesOf (Alone job) status old new = TakesInJob job old new
 
 abbrev pub TakesBy : Option LineView → ℕ → SourceView → SourceView → Type 0
 TakesBy None status old new = TakesIn status old new

@@ -11,6 +11,7 @@ use Rattle.gate_rules.specs.Label.{label_of}
 use Rattle.gate_rules.specs.Service.{service_of}
 use Rattle.gate_rules.specs.declared.service.Service.{Service}
 use Rattle.gate_rules.specs.declared.service.Service.TheVariants as service
+use Rattle.bastion.specs.SpellingView.{SpellingView}
 use Rattle.bastion.specs.declared.words.Command.{Command}
 use Rattle.bastion.specs.declared.words.Command.TheVariants.{Netacl, NetaclRun, Table, Authsrv, PlugGw, TnGw, FtpGw, Smap}
 use Rattle.bastion.specs.declared.words.Query.{Query}
@@ -149,12 +150,24 @@ abbrev pub lone_in : Job → List (List ℕ) → Option Job
 lone_in job [] = Some job
 lone_in job (word ∷ more) = None
 
--- a command by the table, or `drill START N`, `spool-init` or `smapd`, which need none
+-- `FILE`
+abbrev pub calc_in : List (List ℕ) → Option (List ℕ)
+calc_in (file ∷ []) = Some file
+calc_in _ = None
+
+-- `FILE W1 W2 W3 W4 W5 W6`
+abbrev pub hex_in : List (List ℕ) → Option SpellingView
+hex_in (file ∷ first ∷ second ∷ third ∷ fourth ∷ fifth ∷ last ∷ []) = Some (record { file = file; words = first ∷ second ∷ third ∷ fourth ∷ fifth ∷ last ∷ [] })
+hex_in _ = None
+
+-- a command by the table, or `drill START N`, `spool-init`, `smapd`, `otp-calc FILE` or `otp-hex FILE W1 .. W6`, which need none
 abbrev pub order_in : List (List ℕ) → Option Order
 order_in (name ∷ words) =
     if bytes_eq name (codes "drill") then option_map Alone (option_map jobs.Drill (drill_in words))
     else if bytes_eq name (codes "spool-init") then option_map Alone (lone_in jobs.SpoolInit words)
     else if bytes_eq name (codes "smapd") then option_map Alone (lone_in jobs.Smapd words)
+    else if bytes_eq name (codes "otp-calc") then option_map Alone (option_map jobs.OtpCalc (calc_in words))
+    else if bytes_eq name (codes "otp-hex") then option_map Alone (option_map jobs.OtpHex (hex_in words))
     else option_map ByTable (command_in (name ∷ words))
 order_in [] = None
 

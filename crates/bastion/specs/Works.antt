@@ -21,7 +21,7 @@ use Rattle.bastion.specs.Texts.{ended_text, print_text, program_of}
 use Rattle.bastion.specs.WorldView.{WorldView}
 use Rattle.bastion.specs.declared.outcome.Device.TheVariants as device
 use Rattle.bastion.specs.declared.outcome.Outcome.{Outcome}
-use Rattle.bastion.specs.declared.outcome.Outcome.TheVariants.{Failed, Decided}
+use Rattle.bastion.specs.declared.outcome.Outcome.TheVariants.{Failed, Done, Decided}
 use Rattle.bastion.specs.declared.words.Command.{Command}
 use Rattle.bastion.specs.declared.words.Command.TheVariants.{Netacl, NetaclRun, Table, Authsrv, PlugGw, TnGw, FtpGw, Smap}
 use Rattle.bastion.specs.declared.words.Query.{Query}
@@ -40,6 +40,11 @@ announced (Deny line) (Err failed) = Decided (Deny line)
 abbrev pub shown : Verdict → Result (Unit {0}) sink.Failed → Outcome
 shown verdict (Ok done) = Decided verdict
 shown verdict (Err failed) = Failed device.Output
+
+-- and of a text without a verdict
+abbrev pub printed : Result (Unit {0}) sink.Failed → Outcome
+printed (Ok done) = Done
+printed (Err failed) = Failed device.Output
 
 -- the output was given a text, and what that answered gives the outcome
 pub record Prints (said : Result (Unit {0}) sink.Failed → Outcome) (text : List ℕ) (outcome : Outcome) (old new : SinkView) : Type 0 where

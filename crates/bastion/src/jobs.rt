@@ -1,12 +1,14 @@
-//! The commands that need no table: `drill`, `spool-init` and `smapd`.
+//! The commands that need no table: `drill`, `spool-init`, `smapd`, `otp-calc` and `otp-hex`.
 ghost use Rattle.std.specs.Prelude.{◌≡◌, ◌≢◌, ◌≤◌, ◌<◌, length, map, IfErr, IfOk, Ok, Err};
 ghost use Rattle.drill_lines.specs.Drill.{drilled, tally_text};
 ghost use Rattle.drill_lines.specs.declared.drill_fault.DrillFault.TheVariants as faults;
 ghost use Rattle.fw_outside.specs.SinkView.{Gives};
 ghost use Rattle.bastion.specs.Status.{JobLeavesMailers};
 ghost use Rattle.bastion.specs.WorldView.{post_of};
-ghost use Rattle.bastion.specs.Jobs.{DoesJob, Drills, Formats, Inits, IsFormatted, IsUnformatted, PrintsAlone, drill_refused, formatted_text, printed};
+ghost use Rattle.bastion.specs.Works.{printed};
+ghost use Rattle.bastion.specs.Jobs.{DoesJob, Drills, Formats, Inits, IsFormatted, IsUnformatted, PrintsAlone, drill_refused, formatted_text};
 
+use crate::calculating::{calculate, spell};
 use crate::handing_on::hand_mail;
 use crate::mailing::disk_count;
 use crate::outcome::append_usize;
@@ -40,8 +42,8 @@ fn drill_refused(fault: DrillFault) -> Outcome
     }
 }
 
-// Prints a text.
-fn print_alone<T: Kit>(text: &[u8], world: &mut World<T>) -> Outcome
+/// Prints a text.
+pub(crate) fn print_alone<T: Kit>(text: &[u8], world: &mut World<T>) -> Outcome
     ensures { PrintsAlone text.now result world.old world.new }
 {
     printed(world.print(text))
@@ -113,19 +115,21 @@ fn init_spool<T: Kit>(world: &mut World<T>) -> Outcome
 /// Does a job.
 pub(crate) fn do_job<T: Kit>(
     alloc: Global,
-    job: Job,
+    job: &Job,
     mailers: &mut Vec<Box<dyn Mailer>>,
     world: &mut World<T>,
 ) -> Outcome
     requires few { length world.old.inputs.disks ≤ 64 }
     requires some { 0 < length mailers.old.items }
     ensures does { DoesJob (post_of (map (λ m. mailer_view m) mailers.old.items) (map (λ m. mailer_view m) mailers.new.items))
-        job result world.old world.new }
-    ensures mailers { JobLeavesMailers (post_of (map (λ m. mailer_view m) mailers.old.items) (map (λ m. mailer_view m) mailers.new.items)) job }
+        job.now result world.old world.new }
+    ensures mailers { JobLeavesMailers (post_of (map (λ m. mailer_view m) mailers.old.items) (map (λ m. mailer_view m) mailers.new.items)) job.now }
 {
     match job {
-        Job::Drill(numbers) => run_drill(alloc, numbers, world),
+        Job::Drill(numbers) => run_drill(alloc, *numbers, world),
         Job::SpoolInit => init_spool(world),
         Job::Smapd => hand_mail(alloc, mailers, world),
+        Job::OtpCalc(file) => calculate(alloc, file, world),
+        Job::OtpHex(spelling) => spell(alloc, spelling, world),
     }
 }

@@ -18,6 +18,7 @@
 
 mod authsrv;
 mod book;
+mod calculating;
 mod deciding;
 mod gateways;
 mod handing_on;
@@ -25,12 +26,14 @@ mod jobs;
 mod kit;
 mod mailing;
 mod obeying;
+mod otp_texts;
 mod outcome;
 mod place_names;
 mod plug;
 mod reading;
 mod running;
 mod server_rules;
+mod spelling;
 mod starting;
 mod table_report;
 mod texts;
@@ -43,11 +46,12 @@ pub use fw_mail::Mailer;
 pub use kit::{Kit, World};
 pub use mailing::open_rack;
 pub use obeying::tell;
-pub use outcome::{Device, Outcome, Refusal, Step, ending_status};
+pub use outcome::{Device, OtpRefusal, Outcome, Refusal, Step, ending_status};
 pub use place_names::Places;
 pub use reading::{read_policy, read_rules, read_table};
 pub use running::run;
 pub use server_rules::ServerRules;
+pub use spelling::{FileName, Spelling};
 pub use words::{
     Caller, Client, Command, CommandLine, Job, Order, Query, after_options, any_twice, places,
     places_in, read_order, table_named, word_or,

@@ -99,7 +99,7 @@ where
 {
     match order {
         Order::ByTable(command) => work(rt, alloc, name, command, world),
-        Order::Alone(job) => do_job(alloc, *job, mailers, world),
+        Order::Alone(job) => do_job(alloc, job, mailers, world),
     }
 }
 

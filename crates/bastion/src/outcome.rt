@@ -6,11 +6,13 @@ ghost use Rattle.bastion.specs.declared.outcome.Outcome.TheVariants as outcomes;
 ghost use Rattle.bastion.specs.declared.outcome.Step.TheVariants as steps;
 ghost use Rattle.bastion.specs.Outcome.{device_text, ending_status, fault_line_of, is_at_limit, line_text, record_text, refusal_text, slot_text, status_of, verdict_status};
 
+use crate::otp_texts::append_otp;
 use arrayvec::ArrayVec;
 use client_service::LogLine;
 use fw_types::{Ending, Name, NoMemory, append, append_decimal, append_u32};
 use gate_rules::{RuleFault, Verdict};
 use netperm_table::TableFault;
+use otp_words::{DictFault, WordsFault};
 use std::alloc::AllocFailed;
 
 /// A device that a run was given, as a fault names it.
@@ -28,6 +30,10 @@ pub enum Device {
     Program,
     /// Who takes messages on.
     Mailer,
+    /// The files with the dictionary.
+    Dictionary,
+    /// Standard input.
+    Input,
     /// The disk of the slot with this number.
     Disk(usize),
 }
@@ -53,6 +59,19 @@ pub enum Step {
     Drill,
     /// Reading a message that is handed on, or handing it over.
     Round,
+    /// Reading the dictionary.
+    Dictionary,
+}
+
+/// Why no password is told.
+#[derive(Clone, Copy, Debug, PartialEq, Eq)]
+pub enum OtpRefusal {
+    /// The dictionary can't be read.
+    Dictionary(DictFault),
+    /// The input has no challenge and pass phrase.
+    Challenge,
+    /// The words are no password.
+    Words(WordsFault),
 }
 
 /// The first thing that a command needs and that can't be read.
@@ -66,6 +85,8 @@ pub enum Refusal {
     Record { name: Name, at: usize },
     /// The slot of this number: `at` is the place of its first bad byte.
     Slot { slot: u32, at: u64 },
+    /// What `otp-calc` and `otp-hex` need.
+    Otp(OtpRefusal),
 }
 
 /// What a run comes to.
@@ -99,6 +120,8 @@ fn append_device(out: &mut LogLine, device: Device)
         Device::Records => append(out, b"records"),
         Device::Program => append(out, b"program"),
         Device::Mailer => append(out, b"mailer"),
+        Device::Dictionary => append(out, b"dictionary"),
+        Device::Input => append(out, b"input"),
         Device::Disk(slot) => {
             append(out, b"disk ");
             append_usize(out, slot);
@@ -181,6 +204,7 @@ fn append_refusal(out: &mut LogLine, refusal: &Refusal)
             append(out, b"slot ");
             append_slot(out, *slot, *at);
         }
+        Refusal::Otp(refusal) => append_otp(out, *refusal),
     }
 }
 

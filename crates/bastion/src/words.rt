@@ -4,9 +4,12 @@ ghost use Rattle.std.specs.Str.{bytes_eq};
 ghost use Rattle.fw_types.specs.Number.{in_range, number_of};
 ghost use Rattle.gate_rules.specs.Label.{label_of};
 ghost use Rattle.bastion.specs.Places.{places_of};
-ghost use Rattle.bastion.specs.Words.{after_options, any_twice, caller_in, caller_of, command_in, drill_by, drill_in, is_option_pair, is_option_name, is_option_word, line_of, order_in, order_of, places_in, slots_in, slots_or, lone_in, name_in, netacl_by, netacl_in, peer_by, peer_in, query_of, run_in, stands, table_in, table_named, client_in, client_of, word_after, word_or};
+ghost use Rattle.bastion.specs.declared.words.Job.TheVariants as jobs;
+ghost use Rattle.bastion.specs.declared.words.Order.TheVariants as orders;
+ghost use Rattle.bastion.specs.Words.{after_options, any_twice, calc_in, caller_in, caller_of, command_in, drill_by, drill_in, hex_in, is_option_pair, is_option_name, is_option_word, line_of, order_in, order_of, places_in, slots_in, slots_or, lone_in, name_in, netacl_by, netacl_in, peer_by, peer_in, query_of, run_in, stands, table_in, table_named, client_in, client_of, word_after, word_or};
 
 use crate::Places;
+use crate::spelling::{FileName, Spelling, calc_in, hex_in};
 use drill_lines::Drill;
 use fw_types::{HostName, Octets, Peer, in_range, read_number, read_numbered_port, read_quad};
 use gate_rules::{Label, Service};
@@ -57,23 +60,27 @@ pub enum Command {
 }
 
 /// What the words of a command line ask for that needs no table.
-#[derive(Clone, Copy, Debug, PartialEq, Eq)]
-pub enum Job {
+#[derive(Drop)]
+pub enum Job<'a> {
     /// `drill START N`: draw the lines of a table and as many peers, and print how many of them it permits.
     Drill(Drill),
     /// `spool-init`: make a free slot of each disk.
     SpoolInit,
     /// `smapd`: hand on the messages of the slots, in one round.
     Smapd,
+    /// `otp-calc FILE`: print the password that the input asks for, in words of this dictionary and in digits.
+    OtpCalc(FileName<'a>),
+    /// `otp-hex FILE W1 W2 W3 W4 W5 W6`: print the password that these words of the dictionary are, in digits.
+    OtpHex(Spelling<'a>),
 }
 
 /// What the words of a command line ask for.
 #[derive(Drop)]
-pub enum Order {
+pub enum Order<'a> {
     /// It goes by the table.
     ByTable(Command),
     /// It needs no table.
-    Alone(Job),
+    Alone(Job<'a>),
 }
 
 const DEFAULT_TABLE: &[u8] = b"/usr/local/etc/netperm-table";
@@ -369,8 +376,8 @@ fn drill_in(words: &[Octets]) -> Option<Drill>
 }
 
 // A job that has no further words.
-fn lone_in(job: Job, words: &[Octets]) -> Option<Job>
-    ensures { result ≡ lone_in job words.now }
+fn lone_in<'a>(job: Job<'a>, words: &[Octets]) -> Option<Job<'a>>
+    ensures { result ≡ lone_in job.entry words.now }
 {
     match words {
         [] => Some(job),
@@ -378,21 +385,72 @@ fn lone_in(job: Job, words: &[Octets]) -> Option<Job>
     }
 }
 
-fn order_in(words: &[Octets]) -> Option<Order>
-    ensures { result ≡ order_in words.now }
+fn drill_job(words: &[Octets]) -> Option<Job<'_>>
+    ensures { result ≡ option_map jobs.Drill (drill_in words.entry.now) }
+{
+    match drill_in(words) {
+        Some(drill) => Some(Job::Drill(drill)),
+        None => None,
+    }
+}
+
+fn calc_job(words: &[Octets]) -> Option<Job<'_>>
+    ensures { result ≡ option_map jobs.OtpCalc (calc_in words.entry.now) }
+{
+    match calc_in(words) {
+        Some(file) => Some(Job::OtpCalc(file)),
+        None => None,
+    }
+}
+
+fn hex_job(words: &[Octets]) -> Option<Job<'_>>
+    ensures { result ≡ option_map jobs.OtpHex (hex_in words.entry.now) }
+{
+    match hex_in(words) {
+        Some(spelling) => Some(Job::OtpHex(spelling)),
+        None => None,
+    }
+}
+
+fn alone(job: Option<Job<'_>>) -> Option<Order<'_>>
+    ensures { result ≡ option_map orders.Alone job.entry }
+{
+    match job {
+        Some(job) => Some(Order::Alone(job)),
+        None => None,
+    }
+}
+
+fn by_table(words: &[Octets]) -> Option<Order<'_>>
+    ensures { result ≡ option_map orders.ByTable (command_in words.entry.now) }
+{
+    match command_in(words) {
+        Some(command) => Some(Order::ByTable(command)),
+        None => None,
+    }
+}
+
+fn order_in(words: &[Octets]) -> Option<Order<'_>>
+    ensures { result ≡ order_in words.entry.now }
 {
     match words {
         [name, more @ ..] => {
             if is_word(name, b"drill") {
-                return drill_in(more).map(Job::Drill).map(Order::Alone);
+                return alone(drill_job(more));
             }
             if is_word(name, b"spool-init") {
-                return lone_in(Job::SpoolInit, more).map(Order::Alone);
+                return alone(lone_in(Job::SpoolInit, more));
             }
             if is_word(name, b"smapd") {
-                return lone_in(Job::Smapd, more).map(Order::Alone);
+                return alone(lone_in(Job::Smapd, more));
             }
-            command_in(words).map(Order::ByTable)
+            if is_word(name, b"otp-calc") {
+                return alone(calc_job(more));
+            }
+            if is_word(name, b"otp-hex") {
+                return alone(hex_job(more));
+            }
+            by_table(words)
         }
         [] => None,
     }
@@ -400,8 +458,8 @@ fn order_in(words: &[Octets]) -> Option<Order>
 
 /// The order that the words are, or nothing where they are no command.
 #[tactic(auto, unfolding(crate::specs::Words::order_of))]
-pub fn read_order(words: &[Octets]) -> Option<Order>
-    ensures { result ≡ order_of words.now }
+pub fn read_order(words: &[Octets]) -> Option<Order<'_>>
+    ensures { result ≡ order_of words.entry.now }
 {
     if any_twice(words) {
         return None;
@@ -444,7 +502,7 @@ pub fn places_in(words: &[Octets]) -> Places<'_>
 /// A command line, read.
 #[derive(Drop)]
 pub struct CommandLine<'a> {
-    pub order: Order,
+    pub order: Order<'a>,
     /// The table's name: the word after `-t`, or the place where it stands when no word says so.
     pub table: &'a [u8],
     /// What the other options name.
