@@ -1,3 +1,4 @@
+mod Rows
 pub mod LineLemmas
 pub mod PlaceLemmas
 pub mod ListLemmas
