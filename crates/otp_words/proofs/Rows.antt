@@ -1,14 +1,13 @@
 -- The definitions, computed on small texts and on a vector of RFC 2289, appendix C.
-use Rattle.std.proofs.Common.{◌≡◌, ℕ, true, false, List, [], ◌∷◌, ◌++◌, refl}
-use Rattle.std.specs.Prelude.{Some, None, Ok, Err, codes}
-use Rattle.std.specs.Str.Lines.{lines}
+use Rattle.std.proofs.Common.{◌≡◌, false, [], ◌∷◌, ◌++◌, refl}
+use Rattle.std.specs.Prelude.{Some, None, Err, codes}
 use Rattle.otp_words.specs.declared.dict_fault.DictFault.TheVariants.{BadWord, Twice, Short}
 use Rattle.otp_words.specs.declared.words_fault.WordsFault.TheVariants.{Count}
 use Rattle.otp_words.specs.Challenge.{challenge_in}
-use Rattle.otp_words.specs.Dictionary.{dictionary_of, number_of, word_at}
-use Rattle.otp_words.specs.Groups.{group_of, groups_of, hex_digit}
+use Rattle.otp_words.specs.Dictionary.{dictionary_of, number_of}
+use Rattle.otp_words.specs.Groups.{groups_of}
 use Rattle.otp_words.specs.Phrase.{is_plain, password_in}
-use Rattle.otp_words.specs.SixWords.{bits_of, check_of, digits, password_of, six}
+use Rattle.otp_words.specs.SixWords.{check_of, digits, password_of, six}
 use Rattle.otp_words.specs.Task.{is_phrase}
 
 -- 9E87 6134 D904 99DD

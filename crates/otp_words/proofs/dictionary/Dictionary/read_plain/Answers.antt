@@ -1,4 +1,4 @@
-use Rattle.std.proofs.Common.{◌≡◌, ◌∙◌, sym, ap, refl}
+use Rattle.std.proofs.Common.{◌∙◌, sym, ap, refl}
 use Rattle.otp_words.specs.Listed.{listed}
 use Rattle.otp_words.specs.Phrase.{checked}
 use Rattle.otp_words.proofs.PhraseLemmas.{fault_is, list_with, ok_or_is}
