@@ -28,7 +28,7 @@ use Rattle.bastion.specs.declared.outcome.Device.TheVariants as device
 use Rattle.bastion.specs.declared.outcome.Outcome.{Outcome}
 use Rattle.bastion.specs.declared.outcome.Outcome.TheVariants.{Unread, Failed, NoMemory}
 use Rattle.bastion.specs.declared.outcome.Refusal.{Refusal}
-use Rattle.bastion.specs.declared.outcome.Refusal.TheVariants.{Table, Rule, Record, Slot}
+use Rattle.bastion.specs.declared.outcome.Refusal.TheVariants.{Table, Rule, Record, Slot, Otp}
 use Rattle.bastion.specs.declared.outcome.Step.{Step}
 use Rattle.bastion.specs.declared.outcome.Step.TheVariants as steps
 use Rattle.bastion.specs.declared.words.Command.{Command}
@@ -58,6 +58,7 @@ lacks_early line steps.Policy old new early is = is
 lacks_early line steps.Drill old new early is = absurd (cc)
 lacks_early line steps.Slots old new early is = absurd (cc)
 lacks_early line steps.Round old new early is = absurd (cc)
+lacks_early line steps.Dictionary old new early is = absurd (cc)
 
 no_records : {A : Type 0} (refusal : Refusal) → is_of_line refusal ≡ true → is_of_table (Err refusal) ≡ false → A
 no_records refusal of_line come = absurd (cc)
@@ -89,6 +90,7 @@ early_refuses line (Table fault) old new early h = h
 early_refuses line (Rule fault) old new early h = h
 early_refuses line (Record name at) old new early h = h
 early_refuses line (Slot slot at) old new early h = absurd (cc)
+early_refuses line (Otp refusal) old new early h = absurd (cc)
 
 -- what can't be found stops the server
 pub unfound_stops : (line : ServerLine) (outcome : Outcome) (old new : WorldView) → SiteFound line (Err outcome) old.files new.files → AskedFiles old new → StopsFor line outcome old new
@@ -275,6 +277,7 @@ lacks_left line steps.Policy old new h = only_so line false old new h
 lacks_left line steps.Drill old new h = absurd h
 lacks_left line steps.Slots old new h = slots_left line (NoMemory steps.Slots) old new h
 lacks_left line steps.Round old new h = absurd h
+lacks_left line steps.Dictionary old new h = absurd h
 lacks_left line steps.Records old new h = only_so line true old new h.only
 
 cannot_left : (line : ServerLine) (refusal : Refusal) (old new : WorldView) → CannotRead line refusal old new → LeftSo old new
@@ -282,6 +285,7 @@ cannot_left line (Table fault) old new h = only_so line (not (is_of_line (Table 
 cannot_left line (Rule fault) old new h = only_so line (not (is_of_line (Rule fault))) old new h.only
 cannot_left line (Record name at) old new h = only_so line (not (is_of_line (Record name at))) old new h.only
 cannot_left line (Slot slot at) old new h = slots_left line (Unread (Slot slot at)) old new h
+cannot_left line (Otp refusal) old new h = absurd h
 
 stops_for_left : (line : ServerLine) (outcome : Outcome) (old new : WorldView) → StopsFor line outcome old new → LeftSo old new
 stops_for_left line (Unread refusal) old new h = cannot_left line refusal old new h
@@ -344,6 +348,7 @@ cannot_status line (Table fault) old mid new h later = inl (inl (refl, inl (Tabl
 cannot_status line (Rule fault) old mid new h later = inl (inl (refl, inl (Rule fault, h.read)))
 cannot_status line (Record name at) old mid new h later = inl (inl (refl, inl (Record name at, h.read)))
 cannot_status line (Slot slot at) old mid new h later = slots_status line (Unread (Slot slot at)) old mid new h later
+cannot_status line (Otp refusal) old mid new h later = absurd h
 
 status_for : (line : ServerLine) (outcome : Outcome) (old mid new : WorldView) → StopsFor line outcome old mid → Later mid new → IsStatusFor line (status_of outcome) old new
 status_for line (Unread refusal) old mid new h later = cannot_status line refusal old mid new h later

@@ -16,7 +16,7 @@ use Rattle.bastion.specs.declared.outcome.Device.TheVariants as device
 use Rattle.bastion.specs.declared.outcome.Outcome.{Outcome}
 use Rattle.bastion.specs.declared.outcome.Outcome.TheVariants.{Unread, Failed, NoMemory}
 use Rattle.bastion.specs.declared.outcome.Refusal.{Refusal}
-use Rattle.bastion.specs.declared.outcome.Refusal.TheVariants.{Table, Rule, Record, Slot}
+use Rattle.bastion.specs.declared.outcome.Refusal.TheVariants.{Table, Rule, Record, Slot, Otp}
 use Rattle.bastion.specs.declared.outcome.Step.{Step}
 use Rattle.bastion.specs.declared.outcome.Step.TheVariants as steps
 use Rattle.bastion_ready.specs.Inputs.{HasInputs, HasSite, IsSaidOf, ServerInputs, SiteRules, origin_of, site_rules_of, whose}
@@ -76,6 +76,7 @@ CannotRead line (Table fault) old new = Refuses line (Table fault) old new
 CannotRead line (Rule fault) old new = Refuses line (Rule fault) old new
 CannotRead line (Record name at) old new = Refuses line (Record name at) old new
 CannotRead line (Slot slot at) old new = SlotsStop line (Unread (Slot slot at)) old new
+CannotRead line (Otp refusal) old new = ⊥
 
 -- what the table says was read; then the keeper failed, and nothing else happened
 pub record RecordsUnread (line : ServerLine) (old new : WorldView) : Type 0 where

@@ -1,7 +1,9 @@
 //! Rows whose words are read and not run.
 
 use arrayvec::ArrayVec;
-use bastion::{Caller, Command, GatewayKind, Job, Order, Query, places, read_order, table_named};
+use bastion::{
+    Caller, Command, GatewayKind, Job, Order, Query, Spelling, places, read_order, table_named,
+};
 use format_of_rows::{Row, TABLE};
 use fw_types::{NoMemory, Octets, Peer};
 use gate_rules::Service;
@@ -64,7 +66,26 @@ fn add_command(alloc: Global, out: &mut Vec<u8>, command: &Command) -> Result<()
     }
 }
 
-fn add_job(alloc: Global, out: &mut Vec<u8>, job: Job) -> Result<(), NoMemory> {
+// The dictionary and the six words, with a blank before each.
+fn add_spelling(out: &mut Vec<u8>, spelling: &Spelling) -> Result<(), NoMemory> {
+    let words = &spelling.words;
+    out.extend_from_slice(b"otp-hex")?;
+    for word in [
+        spelling.file,
+        words.first,
+        words.second,
+        words.third,
+        words.fourth,
+        words.fifth,
+        words.last,
+    ] {
+        out.push(b' ')?;
+        out.extend_from_slice(word)?;
+    }
+    Ok(())
+}
+
+fn add_job(alloc: Global, out: &mut Vec<u8>, job: &Job) -> Result<(), NoMemory> {
     match job {
         Job::Drill(drill) => {
             let (start, count) = (drill.start, drill.count);
@@ -73,6 +94,11 @@ fn add_job(alloc: Global, out: &mut Vec<u8>, job: Job) -> Result<(), NoMemory> {
         }
         Job::SpoolInit => out.extend_from_slice(b"spool-init")?,
         Job::Smapd => out.extend_from_slice(b"smapd")?,
+        Job::OtpCalc(file) => {
+            out.extend_from_slice(b"otp-calc ")?;
+            out.extend_from_slice(file.bytes)?;
+        }
+        Job::OtpHex(spelling) => add_spelling(out, spelling)?,
     }
     Ok(())
 }
@@ -83,7 +109,7 @@ fn told_of(alloc: Global, words: &[Octets]) -> Result<Vec<u8>, NoMemory> {
     match read_order(words) {
         None => out.extend_from_slice(b"none")?,
         Some(Order::ByTable(command)) => add_command(alloc, &mut out, &command)?,
-        Some(Order::Alone(job)) => add_job(alloc, &mut out, job)?,
+        Some(Order::Alone(job)) => add_job(alloc, &mut out, &job)?,
     }
     Ok(out)
 }

@@ -8,6 +8,7 @@ mod policy;
 mod records;
 mod replies;
 mod requests;
+mod spelling;
 
 use kinds::Kinds;
 use lines_of_rows::compare;
@@ -18,6 +19,10 @@ fn call_laws() {
     auth_records::laws::first_bad_byte();
     auth_records::laws::plain_data();
     otp_md5::laws::passwords();
+    otp_words::laws::opens();
+    otp_words::laws::challenges_are_read();
+    otp_words::laws::inverse();
+    otp_words::laws::a_dictionary_is_its_lines();
     authsrv_lines::laws::inverse();
     authsrv_lines::laws::asked_again();
 }

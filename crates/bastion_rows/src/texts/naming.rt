@@ -1,10 +1,11 @@
 //! What a run comes to, by its name.
 
-use bastion::{Device, Outcome, Refusal, Step};
+use bastion::{Device, OtpRefusal, Outcome, Refusal, Step};
 use fw_types::{Ending, Name};
 use gate_rules::{RuleFault, Why};
 use lines_of_rows::{cut_word, number_of};
 use netperm_table::TableFault;
+use otp_words::{DictFault, WordsFault};
 
 /// The number that the digits are, or 0 where it is too large.
 pub(crate) fn number_32(digits: &[u8]) -> u32 {
@@ -41,6 +42,8 @@ fn device_of(name: &[u8]) -> Option<Device> {
         b"Records" => Some(Device::Records),
         b"Program" => Some(Device::Program),
         b"Mailer" => Some(Device::Mailer),
+        b"Dictionary" => Some(Device::Dictionary),
+        b"Input" => Some(Device::Input),
         _ => None,
     }
 }
@@ -56,11 +59,31 @@ fn step_of(name: &[u8]) -> Option<Step> {
         b"Slots" => Some(Step::Slots),
         b"Drill" => Some(Step::Drill),
         b"Round" => Some(Step::Round),
+        b"Dictionary" => Some(Step::Dictionary),
         _ => None,
     }
 }
 
-// `long-line LINE` of a table, `open-brace LINE` of a rule, `record NAME AT` or `slot SLOT AT`.
+// `line LINE`, `twice LINE`, `long` or `short` of a dictionary, `count`, `word PLACE` or `check` of six words, or `challenge`.
+fn otp_refusal_of(what: &[u8], number: u32) -> Option<OtpRefusal> {
+    let line = number;
+    match what {
+        b"line" => Some(OtpRefusal::Dictionary(DictFault::BadWord { line })),
+        b"twice" => Some(OtpRefusal::Dictionary(DictFault::Twice { line })),
+        b"long" => Some(OtpRefusal::Dictionary(DictFault::Long)),
+        b"short" => Some(OtpRefusal::Dictionary(DictFault::Short { words: line })),
+        b"challenge" => Some(OtpRefusal::Challenge),
+        b"count" => Some(OtpRefusal::Words(WordsFault::Count)),
+        b"word" => {
+            let at = u8::try_from(number).unwrap_or(0);
+            Some(OtpRefusal::Words(WordsFault::NoWord { at }))
+        }
+        b"check" => Some(OtpRefusal::Words(WordsFault::Check)),
+        _ => None,
+    }
+}
+
+// `long-line LINE` of a table, `open-brace LINE` of a rule, `record NAME AT`, `slot SLOT AT` or `otp WHAT NUMBER`.
 fn refusal_of(word: &[u8], rest: &[u8]) -> Option<Refusal> {
     let (first, at) = cut_word(rest);
     let line = number_32(first);
@@ -77,6 +100,7 @@ fn refusal_of(word: &[u8], rest: &[u8]) -> Option<Refusal> {
                 at: place(at),
             })
         }
+        b"otp" => otp_refusal_of(first, number_32(at)).map(Refusal::Otp),
         b"slot" => {
             let at = number_of(at);
             Some(Refusal::Slot { slot: line, at })

@@ -6,9 +6,14 @@ use crate::records::policy::{policy_of, tell_operation, tell_settings};
 use crate::records::records::{base_of, tell_base, tell_good, tell_long, tell_record, tell_seed};
 use crate::records::replies::{tell_opened, tell_reply};
 use crate::records::requests::{tell_line, tell_wire};
+use crate::records::spelling::{
+    dictionary_of, tell_apart, tell_asks, tell_breaks, tell_groups, tell_hear, tell_password,
+    tell_words,
+};
 use auth_machine::Policy;
 use fw_types::NoMemory;
 use lines_of_rows::{Rows, Told, add};
+use otp_words::Dictionary;
 use std::alloc::Global;
 
 /// Knows the kinds of row.
@@ -18,6 +23,8 @@ pub(crate) struct Kinds {
     base: Vec<u8>,
     // The policy of the last line `policy`.
     policy: Option<Policy>,
+    // The dictionary of the last line `dictionary`.
+    dictionary: Option<Dictionary>,
 }
 
 // Tells of a kind that takes no memory.
@@ -35,6 +42,8 @@ fn tell_plain(kind: &str, asked: &[u8], out: &mut Told) {
         "reply" => tell_reply(asked, out),
         "opened" => tell_opened(asked, out),
         "port" => tell_port(out),
+        "asks" => tell_asks(asked, out),
+        "groups" => tell_groups(asked, out),
         _ => add(out, b"no such kind"),
     }
 }
@@ -44,6 +53,18 @@ impl Kinds {
         Kinds {
             base: Vec::new(alloc),
             policy: None,
+            dictionary: None,
+        }
+    }
+
+    fn tell_spelled(&self, kind: &str, asked: &[u8], out: &mut Told) {
+        let Some(dictionary) = &self.dictionary else {
+            return add(out, b"no dictionary");
+        };
+        match kind {
+            "spell" => tell_words(dictionary, asked, out),
+            "apart" => tell_apart(dictionary, asked, out),
+            _ => tell_password(dictionary, asked, out),
         }
     }
 
@@ -70,6 +91,10 @@ impl Rows for Kinds {
             "damage" | "front" | "behind" => tell_base(alloc, &self.base, kind, asked, out)?,
             "policy" => self.policy = policy_of(alloc, asked, out),
             "operation" => self.tell_operation(asked, out),
+            "dictionary" => self.dictionary = dictionary_of(alloc, asked, out)?,
+            "spell" | "apart" | "read" => self.tell_spelled(kind, asked, out),
+            "hear" => tell_hear(alloc, asked, out)?,
+            "breaks" => tell_breaks(alloc, asked, out)?,
             "settings" => tell_settings(alloc, asked, out),
             _ => tell_plain(kind, asked, out),
         }
