@@ -40,6 +40,8 @@ usage: fwtk [-t FILE] netacl [-run] DAEMON ADDRESS [NAME]
        fwtk [-s FOLDER] [-n SLOTS] [-m PROGRAM] smapd
        fwtk [-s FOLDER] [-n SLOTS] spool-init
        fwtk drill START COUNT
+       fwtk otp-calc DICTIONARY
+       fwtk otp-hex DICTIONARY W1 W2 W3 W4 W5 W6
        fwtk --help | --version
   -t FILE  the permission table, /usr/local/etc/netperm-table by default
   -r FILE  the records of users, authdb in the current directory by default
@@ -49,7 +51,7 @@ usage: fwtk [-t FILE] netacl [-run] DAEMON ADDRESS [NAME]
   -b ADDRESS  the address at which serve listens, all by default, and at which ftp-gw waits for data
   -p LOW-HIGH  the ports at which data is waited for, any that the system picks by default
 fwtk(8) lists the exit statuses; netacl(8), authsrv(8), plug-gw(8), tn-gw(8), ftp-gw(8), serve(8), smap(8), smapd(8),
-netperm-table(5) and spool(5) have the rest.
+otp-calc(1), netperm-table(5) and spool(5) have the rest.
 ";
 
 const VERSION: &[u8] = b"fwtk 2.1\n";
