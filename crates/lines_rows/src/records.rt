@@ -1,11 +1,13 @@
 //! Rows of records, one-time passwords, the lines of `authsrv`, and the policy: each row of a file says what
 //! is told of what is asked, by the kinds that [`kinds`] knows. `lines_of_rows` says how a row is written.
 
+mod breaks;
 mod down;
 mod kinds;
 mod passwords;
 mod policy;
 mod records;
+mod remote;
 mod replies;
 mod requests;
 mod spelling;

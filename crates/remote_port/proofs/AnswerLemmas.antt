@@ -25,7 +25,7 @@ other_begin replies.Ok whole e = omega (arith, e)
 other_begin (replies.Shown summary) whole e = omega (arith, e)
 other_begin (replies.Denied denial) whole e = omega (arith, e)
 
-apart : (sid : ℕ) (reply : Reply) → IsTrue (is_whole reply) → reply_line reply ≡ reply_line (replies.Opened sid) → ⊥
+pub apart : (sid : ℕ) (reply : Reply) → IsTrue (is_whole reply) → reply_line reply ≡ reply_line (replies.Opened sid) → ⊥
 apart sid reply whole e = other_begin reply whole (ap head e)
 
 -- the reply, where its text holds all of it

@@ -58,11 +58,11 @@ full_stands (standings.Full told) sid limit request e = let same : told ≡ limi
 full_stands standings.Lost sid limit request e = absurd (cc)
 
 -- else none was told
-abbrev IsNotFull : Treatment → Type 0
+abbrev pub IsNotFull : Treatment → Type 0
 IsNotFull (Full limit) = ⊥
 IsNotFull treatment = Unit {0}
 
-not_full : (standing : Standing) (sid : ℕ) (request : Request) → IsNotFull (treatment_of standing sid request) → limit_of standing ≡ None
+pub not_full : (standing : Standing) (sid : ℕ) (request : Request) → IsNotFull (treatment_of standing sid request) → limit_of standing ≡ None
 not_full standings.New sid request is = refl
 not_full (standings.Open own) sid request is = refl
 not_full standings.Closed sid request is = refl
@@ -118,7 +118,7 @@ took_calm : (bytes : List ℕ) (before after : SourceView) → TookBytes bytes b
 took_calm bytes before after took = (ap (λ (s : SourceView). s.faults) took.is, ap (λ (s : SourceView). s.idles) took.is)
 
 -- a source that told its end, or that was stopped by the limit, didn't fail
-abbrev IsCalm : Heard → Type 0
+abbrev pub IsCalm : Heard → Type 0
 IsCalm (Stopped stops.Idle) = ⊥
 IsCalm (Stopped stops.Failed) = ⊥
 IsCalm _ = Unit {0}
@@ -131,7 +131,7 @@ leaves_calm (Stopped stops.Spent) reader before after calm leaves = leaves
 leaves_calm (Stopped stops.Idle) reader before after calm leaves = absurd calm
 leaves_calm (Stopped stops.Failed) reader before after calm leaves = absurd calm
 
-calm : (heard : Heard) (text : List ℕ) (old new : LinkView) → IsCalm heard → Hears heard text old new → faults_of new ≡ faults_of old
+pub calm : (heard : Heard) (text : List ℕ) (old new : LinkView) → IsCalm heard → Hears heard text old new → faults_of new ≡ faults_of old
 calm heard text old new is hears =
     let at = hears.listens in
     let took = took_calm at.reads.taken_now old.source at.middle at.reads.takes in
@@ -141,7 +141,7 @@ calm heard text old new is hears =
     let sink : new.sink.faults ≡ old.sink.faults = ap (λ (s : SinkView). s.faults) hears.gave in
     omega (arith, source, idles, sink)
 
-cut_failed : (text : List ℕ) (old new : LinkView) → IsCutOff text old new → Rose (faults_of old) (faults_of new)
+pub cut_failed : (text : List ℕ) (old new : LinkView) → IsCutOff text old new → Rose (faults_of old) (faults_of new)
 cut_failed text old new off =
     let source = ap (λ (s : SourceView). s.faults) off.source in
     let idles = ap (λ (s : SourceView). s.idles) off.source in
@@ -168,7 +168,7 @@ broke_failed text old new hears =
     let sink = ap (λ (s : SinkView). s.faults) hears.gave in
     (omega (arith, took.0, took.1, source, idles, sink, missed.rose.0, missed.rose.1), omega (arith, took.0, took.1, source, idles, sink, missed.rose.0, missed.rose.1))
 
-link_failed : (request : Request) (place : ℕ) (heard : Heard) (text : List ℕ) (old new : LinkView) → IsAnswered request place heard (Err faults.Link) → Hears heard text old new → Rose (faults_of old) (faults_of new)
+pub link_failed : (request : Request) (place : ℕ) (heard : Heard) (text : List ℕ) (old new : LinkView) → IsAnswered request place heard (Err faults.Link) → Hears heard text old new → Rose (faults_of old) (faults_of new)
 link_failed request place (Stopped stops.Idle) text old new is hears = idle_failed text old new hears
 link_failed request place (Stopped stops.Failed) text old new is hears = broke_failed text old new hears
 link_failed request place (Stopped stops.End) text old new is hears = absurd is
@@ -176,7 +176,7 @@ link_failed request place (Stopped stops.Spent) text old new is hears = absurd i
 link_failed request place (Line line) text old new is hears = absurd is
 link_failed request place TooLong text old new is hears = absurd is
 
-strange_calm : (request : Request) (place : ℕ) (heard : Heard) → IsAnswered request place heard (Err faults.Strange) → IsCalm heard
+pub strange_calm : (request : Request) (place : ℕ) (heard : Heard) → IsAnswered request place heard (Err faults.Strange) → IsCalm heard
 strange_calm request place (Stopped stops.Idle) is = absurd is
 strange_calm request place (Stopped stops.Failed) is = absurd is
 strange_calm request place (Stopped stops.End) is = tt
@@ -184,7 +184,7 @@ strange_calm request place (Stopped stops.Spent) is = tt
 strange_calm request place (Line line) is = tt
 strange_calm request place TooLong is = tt
 
-reply_calm : (request : Request) (place : ℕ) (heard : Heard) (reply : Reply) → IsAnswered request place heard (Ok reply) → IsCalm heard
+pub reply_calm : (request : Request) (place : ℕ) (heard : Heard) (reply : Reply) → IsAnswered request place heard (Ok reply) → IsCalm heard
 reply_calm request place (Line line) reply is = tt
 reply_calm request place TooLong reply is = absurd is
 reply_calm request place (Stopped stops.End) reply is = absurd is

@@ -1,6 +1,6 @@
 -- Lines one after another, the entries that a server answered, and how a port stands after them.
-use Rattle.std.proofs.Common.{arith, ◌≡◌, refl, sym, ap, ◌∙◌, subst, ℕ, ◌≤◌, Bool, true, false, List, [], ◌∷◌, ◌++◌, length, Some, None, append_assoc, append-nil}
-use Rattle.std.specs.Prelude.{if◌then◌else◌, ◌||◌, flat_map}
+use Rattle.std.proofs.Common.{arith, ◌≡◌, refl, sym, ap, ◌∙◌, subst, ℕ, suc, ◌+◌, ◌<◌, ◌==◌, Bool, true, false, List, [], ◌∷◌, ◌++◌, length, inl, inr, Some, None, append_assoc, append-nil}
+use Rattle.std.specs.Prelude.{if◌then◌else◌, ◌&&◌, ◌||◌, flat_map}
 use Rattle.std.specs.List.{list_any}
 use Rattle.std.specs.Str.Lines.{strip_carriage_return}
 use Rattle.std.proofs.lemmas.Bool.{eqb-true}
@@ -14,8 +14,10 @@ use Rattle.auth_events.specs.declared.request.Request.{Request}
 use Rattle.auth_events.specs.declared.request.Request.TheVariants as requests
 use Rattle.authsrv_lines.specs.RequestLine.{request_line}
 use Rattle.remote_port.specs.Requests.{is_close, written}
-use Rattle.remote_port.specs.Texts.{AreLines, IsStanding, answered_from, full_reply, is_sent, standing_from}
-use Rattle.remote_port.specs.Treatment.{limit_of, standing_after, treatment_of}
+use Rattle.remote_port.specs.Entries.{AreEntries, IsEntry, answered_from, is_sent, standing_from, standing_of}
+use Rattle.remote_port.specs.Requests.{has_line, is_open}
+use Rattle.remote_port.specs.Texts.{AreLines, AsksOne, Exchange, GoesOn, IsCalm, IsStanding, full_reply}
+use Rattle.remote_port.specs.Treatment.{limit_of, refused_or_strange, standing_after, treatment_of}
 use Rattle.remote_port.specs.declared.standing.Standing.{Standing}
 use Rattle.remote_port.specs.declared.standing.Standing.TheVariants as standings
 use Rattle.remote_port.specs.declared.standing.Treatment.{Treatment}
@@ -111,6 +113,37 @@ same_treatment (standings.Full limit) (requests.Open console) place sid = refl
 same_treatment standings.Lost (requests.Open console) place sid = refl
 same_treatment standing request place sid = refl
 
+-- and so it is entered
+pub same_session : (request : Request) (place sid : ℕ) → session_at request place (session_at request place sid) ≡ session_at request place sid
+same_session (requests.Open console) place sid = refl
+same_session request place sid = refl
+
+pub entries_push : (standing : Standing) (place : ℕ) (seen : List Entry) (entry : Entry) → AreEntries standing place seen → IsEntry (standing_from standing seen) (place + length seen) entry
+    → AreEntries standing place (seen ++ entry ∷ [])
+entries_push standing place [] entry are is =
+    let same : place + 0 ≡ place = omega (arith) in
+    (subst (λ (n : ℕ). IsEntry standing n entry) same is, tt)
+entries_push standing place (first ∷ seen) entry are is =
+    let next : Standing = standing_after standing first.request first.reply in
+    let same : place + suc (length seen) ≡ suc place + length seen = omega (arith) in
+    (are.0, entries_push next (suc place) seen entry are.1 (subst (λ (n : ℕ). IsEntry (standing_from next seen) n entry) same is))
+
+-- what is refused has a line
+from_refused : (line : Bool) → refused_or_strange line ≡ Refuse → line ≡ true
+from_refused true is = refl
+from_refused false is = absurd (cc)
+
+from_test : (test line : Bool) → (if test then Send else refused_or_strange line) ≡ Refuse → line ≡ true
+from_test true line is = absurd (cc)
+from_test false line is = from_refused line is
+
+pub has_line_refused : (standing : Standing) (sid : ℕ) (request : Request) → treatment_of standing sid request ≡ Refuse → has_line request ≡ true
+has_line_refused standings.New sid request is = from_test (is_open request) (has_line request) is
+has_line_refused (standings.Open own) sid request is = from_test (has_line request && sid == own) (has_line request) is
+has_line_refused standings.Closed sid request is = from_refused (has_line request) is
+has_line_refused (standings.Full limit) sid request is = absurd (cc)
+has_line_refused standings.Lost sid request is = absurd (cc)
+
 abbrev pub request_of : Entry → Request
 request_of entry = entry.request
 
@@ -150,26 +183,26 @@ after_session standing request (replies.Challenge number word_seed) is = is
 after_session standing request (replies.Shown summary) is = is
 after_session standing request (replies.Denied denial) is = is
 
--- what is known in a session
-pub record Idle (standing : Standing) (seen : List Entry) (more : List Request) (cut ahead pending : List ℕ) : Type 0 where
-  pub from : standing ≡ standing_from standings.New seen
-  pub none : more ≡ []
-  pub whole : cut ≡ []
-  pub ahead_is : ahead ≡ pending
+pub idle : (standing : Standing) (x : Exchange) → IsInSession standing → IsStanding standing x → GoesOn standing x
+idle standings.New x is h = h
+idle (standings.Open own) x is h = h
+idle standings.Closed x is h = h
+idle (standings.Full limit) x is h = absurd is
+idle standings.Lost x is h = absurd is
 
-pub idle : (standing : Standing) (seen : List Entry) (more : List Request) (cut ahead pending : List ℕ) → IsInSession standing → IsStanding standing seen more cut ahead pending → Idle standing seen more cut ahead pending
-idle standings.New seen more cut ahead pending is h = record { from = h.0; none = h.1; whole = h.2; ahead_is = h.3 }
-idle (standings.Open own) seen more cut ahead pending is h = record { from = h.0; none = h.1; whole = h.2; ahead_is = h.3 }
-idle standings.Closed seen more cut ahead pending is h = record { from = h.0; none = h.1; whole = h.2; ahead_is = h.3 }
-idle (standings.Full limit) seen more cut ahead pending is h = absurd is
-idle standings.Lost seen more cut ahead pending is h = absurd is
+pub stands : (standing : Standing) (x : Exchange) → IsInSession standing → GoesOn standing x → IsStanding standing x
+stands standings.New x is h = h
+stands (standings.Open own) x is h = h
+stands standings.Closed x is h = h
+stands (standings.Full limit) x is h = absurd is
+stands standings.Lost x is h = absurd is
 
-pub stands : (standing : Standing) (seen : List Entry) (ahead pending : List ℕ) → IsInSession standing → standing ≡ standing_from standings.New seen → ahead ≡ pending → IsStanding standing seen [] [] ahead pending
-stands standings.New seen ahead pending is from same = (from, refl, refl, same)
-stands (standings.Open own) seen ahead pending is from same = (from, refl, refl, same)
-stands standings.Closed seen ahead pending is from same = (from, refl, refl, same)
-stands (standings.Full limit) seen ahead pending is from same = absurd is
-stands standings.Lost seen ahead pending is from same = absurd is
+pub no_limit : (standing : Standing) → IsInSession standing → limit_of standing ≡ None
+no_limit standings.New is = refl
+no_limit (standings.Open own) is = refl
+no_limit standings.Closed is = refl
+no_limit (standings.Full limit) is = absurd is
+no_limit standings.Lost is = absurd is
 
 pub not_full_reply : (standing : Standing) → IsInSession standing → full_reply standing ≡ []
 not_full_reply standings.New is = refl
@@ -178,12 +211,39 @@ not_full_reply standings.Closed is = refl
 not_full_reply (standings.Full limit) is = absurd is
 not_full_reply standings.Lost is = absurd is
 
-pub few : (standing : Standing) (seen : List Entry) (more : List Request) (cut ahead pending : List ℕ) → IsStanding standing seen more cut ahead pending → length more ≤ 1
-few standings.New seen more cut ahead pending h = let none : length more ≡ 0 = ap length h.1 in omega (arith, none)
-few (standings.Open own) seen more cut ahead pending h = let none : length more ≡ 0 = ap length h.1 in omega (arith, none)
-few standings.Closed seen more cut ahead pending h = let none : length more ≡ 0 = ap length h.1 in omega (arith, none)
-few (standings.Full limit) seen more cut ahead pending h = omega (arith, h.0)
-few standings.Lost seen more cut ahead pending h = h
+-- ---- what is lost
+
+still_calm : (x : Exchange) (odd : ℕ) → IsCalm x → IsCalm (record x { odd = odd })
+still_calm x odd calm = record { whole = calm.whole; unfailed = calm.unfailed }
+
+still_one : (x : Exchange) (odd : ℕ) → AsksOne x → AsksOne (record x { odd = odd })
+still_one x odd one = record { sid = one.sid; request = one.request; is = one.is; sends = one.sends }
+
+-- what is lost stays lost
+pub lost_still : (x : Exchange) (odd : ℕ) → 0 < odd → IsStanding standings.Lost x → IsStanding standings.Lost (record x { odd = odd })
+unfolding still_one
+lost_still x odd some (inl fails) = inl (record { one = still_one x odd fails.one; failed = fails.failed })
+lost_still x odd some (inr (inl asked)) = inr (inl (record { sid = asked.sid; request = asked.request; strange = asked.strange; none = asked.none; calm = still_calm x odd asked.calm; ahead = asked.ahead; odd = some }))
+lost_still x odd some (inr (inr said)) = inr (inr (record { one = still_one x odd said.one; calm = still_calm x odd said.calm; shows = said.shows; odd = some }))
+
+asked_strange : (standing : Standing) (x : Exchange) (sid : ℕ) (request : Request) (odd : ℕ) → treatment_of standing sid request ≡ Strange → 0 < odd → GoesOn standing x → IsStanding standings.Lost (record x { odd = odd })
+asked_strange standing x sid request odd is some goes = inr (inl (record {
+  sid = sid;
+  request = request;
+  strange = ap (λ (s : Standing). treatment_of s sid request) (sym goes.from) ∙ is;
+  none = goes.none;
+  calm = still_calm x odd goes.calm;
+  ahead = goes.ahead;
+  odd = some;
+}))
+
+-- something strange was asked, now or before
+pub strange_lost : (standing : Standing) (x : Exchange) (sid : ℕ) (request : Request) (odd : ℕ) → treatment_of standing sid request ≡ Strange → 0 < odd → IsStanding standing x → IsStanding standings.Lost (record x { odd = odd })
+strange_lost standings.New x sid request odd is some h = asked_strange standings.New x sid request odd is some h
+strange_lost (standings.Open own) x sid request odd is some h = asked_strange (standings.Open own) x sid request odd is some h
+strange_lost standings.Closed x sid request odd is some h = asked_strange standings.Closed x sid request odd is some h
+strange_lost (standings.Full limit) x sid request odd is some h = absurd (cc)
+strange_lost standings.Lost x sid request odd is some h = lost_still x odd some h
 
 -- a strange request comes at no full history
 abbrev pub IsStrange : Treatment → Type 0

@@ -1,16 +1,19 @@
 -- What was given and taken are the lines of a port's entries, whatever is asked next.
-use Rattle.std.proofs.Common.{arith, ◌≡◌, refl, sym, ap, ◌∙◌, subst, ℕ, Bool, true, false, List, [], ◌∷◌, ◌++◌, length, map, inl, inr, Option, Some, Result, Ok, Err, append_assoc, append-nil}
-use Rattle.std.specs.Prelude.{if◌then◌else◌, flat_map}
-use Rattle.std.proofs.lemmas.List.{map-append}
+use Rattle.std.proofs.Common.{arith, ◌≡◌, refl, sym, ap, ◌∙◌, subst, ℕ, ◌+◌, ◌<◌, ◌^◌, ◌==◌, Bool, true, false, List, [], ◌∷◌, ◌++◌, length, map, inl, inr, Option, Some, None, Result, Ok, Err, append_assoc, append-nil}
+use Rattle.std.specs.Prelude.{if◌then◌else◌, ◌||◌, ◌&&◌, IsTrue, flat_map, is_some}
+use Rattle.std.proofs.lemmas.Bool.{eqb-true}
+use Rattle.std.proofs.lemmas.List.{length-append, map-append}
+use Rattle.fw_outside.specs.Counts.{Rose, counted}
 use Rattle.fw_outside.specs.LineReaderView.{LeavesSource, LineReaderView}
+use Rattle.fw_outside.specs.Lines.{first_line}
 use Rattle.fw_outside.specs.SinkView.{SinkView}
 use Rattle.fw_outside.specs.SourceView.{SourceView}
-use Rattle.fw_outside.specs.ToldList.{grown}
+use Rattle.fw_outside.specs.ToldList.{IsOver, grown}
 use Rattle.fw_outside.proofs.ListenLemmas.{grown-append, grown-nil}
 use Rattle.fw_outside.specs.declared.heard.Heard.{Heard}
 use Rattle.fw_outside.specs.declared.heard.Heard.TheVariants.{Line, TooLong, Stopped}
 use Rattle.fw_outside.specs.declared.heard.Stop.TheVariants as stops
-use Rattle.auth_events.specs.Port.{entry_at}
+use Rattle.auth_events.specs.Port.{entry_at, session_at}
 use Rattle.auth_events.specs.declared.denial.Denial.{Denial}
 use Rattle.auth_events.specs.declared.denial.Denial.TheVariants as denials
 use Rattle.auth_events.specs.declared.entry.Entry.{Entry}
@@ -20,19 +23,22 @@ use Rattle.auth_events.specs.declared.reply.Reply.{Reply}
 use Rattle.auth_events.specs.declared.reply.Reply.TheVariants as replies
 use Rattle.auth_events.specs.declared.request.Request.{Request}
 use Rattle.authsrv_lines.specs.Reply.{reply_line}
-use Rattle.remote_port.specs.Answers.{IsAnswered, is_kept, limit_in, limit_told}
-use Rattle.remote_port.specs.Link.{Hears, IsCutOff, LinkView}
+use Rattle.authsrv_lines.specs.RequestLine.{IsAsked}
+use Rattle.remote_port.specs.Answers.{IsAnswer, IsAnswered, is_kept, limit_in, limit_told, may_answer}
+use Rattle.remote_port.specs.Entries.{AreEntries, IsEnteredAs, IsEntry, answered, is_sent, standing_from, standing_of}
+use Rattle.remote_port.specs.Link.{Hears, IsCutOff, LinkView, failures, faults_of}
 use Rattle.remote_port.specs.Remote.{Converses, IsHeardAs, IsRefused, IsSent, IsTreated, RemoteOrigin}
-use Rattle.remote_port.specs.Requests.{written}
+use Rattle.remote_port.specs.Requests.{has_line, is_open, written}
 use Rattle.remote_port.specs.Talk.{TalkView, talk_after, with_ask, with_entry, with_limit, with_loss, with_odd, with_reply}
-use Rattle.remote_port.specs.Texts.{AreLines, IsStanding, RemoteTexts, answered, full_reply, is_sent, standing_from}
-use Rattle.remote_port.specs.Treatment.{standing_after, treatment_of}
+use Rattle.remote_port.specs.Texts.{AreLines, AsksOne, Exchange, GoesOn, IsCalm, IsStanding, RemoteTexts, ShowsOdd, full_reply}
+use Rattle.remote_port.specs.Texts.ShowsOdd.{ByEnd, ByLength, ByLimit, ByLine}
+use Rattle.remote_port.specs.Treatment.{limit_of, standing_after, treatment_of}
 use Rattle.remote_port.specs.declared.standing.Standing.{Standing}
 use Rattle.remote_port.specs.declared.standing.Standing.TheVariants as standings
 use Rattle.remote_port.specs.declared.standing.Treatment.{Treatment}
 use Rattle.remote_port.specs.declared.standing.Treatment.TheVariants.{Strange, Full, Refuse, Send}
-use Rattle.remote_port.proofs.PortLemmas.{full_stands, made}
-use Rattle.remote_port.proofs.StandingLemmas.{Idle, IsHeeded, IsInSession, IsStrange, after_session, answered_push, few, flat_push, idle, in_session, lines_more, no_full_reply, not_full_reply, reply_of, request_of, same_treatment, sent_of, standing_push, stands, stands_full}
+use Rattle.remote_port.proofs.PortLemmas.{IsCalm as IsCalmHeard, IsNotFull, calm, cut_failed, full_stands, link_failed, made, not_full, reply_calm, strange_calm}
+use Rattle.remote_port.proofs.StandingLemmas.{IsHeeded, IsInSession, IsStrange, after_session, answered_push, entries_push, flat_push, has_line_refused, idle, in_session, line_more, lines_more, no_full_reply, no_limit, not_full_reply, reply_of, request_of, same_session, same_treatment, sent_of, standing_push, stands, stands_full, strange_lost}
 
 -- ---- the ends of the link
 
@@ -51,7 +57,24 @@ took_now heard text old new h =
 gave_now : (heard : Heard) (text : List ℕ) (old new : LinkView) → Hears heard text old new → new.sink.given ≡ grown old.sink.given text
 gave_now heard text old new h = ap (λ (s : SinkView). s.given) h.gave
 
+-- the line that was heard may be what answers the request
+pub answers_by : (request : Request) (place : ℕ) (heard : Heard) (reply : Reply) → IsAnswered request place heard (Ok reply) → (line : List ℕ) × IsAnswer request place line reply
+answers_by request place (Line line) reply is = (line.items, is)
+answers_by request place TooLong reply is = absurd is
+answers_by request place (Stopped stops.End) reply is = absurd is
+answers_by request place (Stopped stops.Idle) reply is = absurd is
+answers_by request place (Stopped stops.Failed) reply is = absurd is
+answers_by request place (Stopped stops.Spent) reply is = absurd is
+
+-- a denial of what has a line may come
+may_deny : (line other : Bool) → line ≡ true → (line || other) ≡ true
+may_deny true other is = refl
+may_deny false other is = absurd (cc)
+
 -- ---- what is asked next
+
+abbrev pub exchanged : TalkView → LinkView → RemoteOrigin → List Request → List ℕ → List ℕ → List ℕ → Exchange
+exchanged talk link origin more cut read ahead = record { seen = talk.seen; odd = talk.odd; origin = origin; link = link; more = more; cut = cut; read = read; ahead = ahead }
 
 module _ (old : TalkView) (before after : LinkView) (origin : RemoteOrigin) (t : RemoteTexts (made old before origin)) where
   abbrev Texts : TalkView → LinkView → Type 0
@@ -61,13 +84,14 @@ module _ (old : TalkView) (before after : LinkView) (origin : RemoteOrigin) (t :
   as_before : after ≡ before → Texts (with_ask old) after
   as_before same =
       let P : LinkView → Type 0 = λ (l : LinkView). Texts (with_ask old) l in
-      subst P (sym same) (record { more = t.more; given = t.given; cut = t.cut; requests = t.requests; gave = t.gave; read = t.read; ahead = t.ahead; replies = t.replies; took = t.took; standing = t.standing })
+      subst P (sym same) (record { more = t.more; given = t.given; cut = t.cut; requests = t.requests; gave = t.gave; read = t.read; ahead = t.ahead; replies = t.replies; took = t.took; room = t.room; entries = t.entries; refused = t.refused; standing = t.standing })
 
   -- something strange was asked
-  strange_asked : full_reply old.standing ≡ [] → after ≡ before → Texts (with_odd (with_ask old)) after
-  strange_asked none same =
+  strange_asked : (sid : ℕ) (request : Request) → treatment_of old.standing sid request ≡ Strange → after ≡ before → Texts (with_odd (with_ask old)) after
+  strange_asked sid request strange same =
       let P : LinkView → Type 0 = λ (l : LinkView). Texts (with_odd (with_ask old)) l in
       let Q : List Reply → Type 0 = λ (r : List Reply). AreLines (map reply_line (map reply_of (answered old.seen) ++ r)) t.read in
+      let limit : limit_of old.standing ≡ None = not_full old.standing sid request (subst IsNotFull (sym strange) tt) in
       subst P (sym same) (record {
         more = t.more;
         given = t.given;
@@ -76,9 +100,12 @@ module _ (old : TalkView) (before after : LinkView) (origin : RemoteOrigin) (t :
         gave = t.gave;
         read = t.read;
         ahead = t.ahead;
-        replies = subst Q none t.replies;
+        replies = subst Q (no_full_reply old.standing sid request (subst IsStrange (sym strange) tt)) t.replies;
         took = t.took;
-        standing = few old.standing old.seen t.more t.cut t.ahead before.reader.pending t.standing;
+        room = t.room;
+        entries = t.entries;
+        refused = t.refused ∙ ap is_some limit;
+        standing = strange_lost old.standing (exchanged old before origin t.more t.cut t.read t.ahead) sid request (counted old.odd) strange (omega (arith)) t.standing;
       })
 
   -- the history was full before
@@ -86,7 +113,7 @@ module _ (old : TalkView) (before after : LinkView) (origin : RemoteOrigin) (t :
   full_asked limit stands same =
       let P : LinkView → Type 0 = λ (l : LinkView). Texts (with_limit limit (with_ask old)) l in
       let Q : Standing → Type 0 = λ (s : Standing). AreLines (map reply_line (map reply_of (answered old.seen) ++ full_reply s)) t.read in
-      let R : Standing → Type 0 = λ (s : Standing). IsStanding s old.seen t.more t.cut t.ahead before.reader.pending in
+      let R : Standing → Type 0 = λ (s : Standing). IsStanding s (exchanged old before origin t.more t.cut t.read t.ahead) in
       subst P (sym same) (record {
         more = t.more;
         given = t.given;
@@ -97,18 +124,24 @@ module _ (old : TalkView) (before after : LinkView) (origin : RemoteOrigin) (t :
         ahead = t.ahead;
         replies = subst Q (sym stands) t.replies;
         took = t.took;
+        room = t.room;
+        entries = t.entries;
+        refused = refl;
         standing = subst R (sym stands) t.standing;
       })
 
   module _ (session : IsInSession old.standing) where
-    now : Idle old.standing old.seen t.more t.cut t.ahead before.reader.pending
-    now = idle old.standing old.seen t.more t.cut t.ahead before.reader.pending session t.standing
+    now : GoesOn old.standing (exchanged old before origin t.more t.cut t.read t.ahead)
+    now = idle old.standing (exchanged old before origin t.more t.cut t.read t.ahead) session t.standing
+
+    none_refused : old.refused ≡ false
+    none_refused = t.refused ∙ ap is_some (no_limit old.standing session)
 
     -- all requests that were asked have entries, and were given
     all_given : flat_map written (map request_of (answered old.seen)) ≡ t.given
     all_given =
         ap (flat_map written) (sym (append-nil (map request_of (answered old.seen))) ∙ ap (λ (m : List Request). map request_of (answered old.seen) ++ m) (sym now.none))
-        ∙ t.requests ∙ ap (λ (c : List ℕ). t.given ++ c) now.whole ∙ append-nil t.given
+        ∙ t.requests ∙ ap (λ (c : List ℕ). t.given ++ c) now.calm.whole ∙ append-nil t.given
 
     all_read : AreLines (map reply_line (map reply_of (answered old.seen))) t.read
     all_read =
@@ -134,14 +167,80 @@ module _ (old : TalkView) (before after : LinkView) (origin : RemoteOrigin) (t :
         → after.source.taken ≡ grown origin.source.taken ((t.read ++ h.listens.bytes) ++ after.reader.pending)
     line_taken heard request h =
         one_taken heard request h
-        ∙ ap (λ (a : List ℕ). grown origin.source.taken (t.read ++ (a ++ h.listens.reads.taken_now))) now.ahead_is
+        ∙ ap (λ (a : List ℕ). grown origin.source.taken (t.read ++ (a ++ h.listens.reads.taken_now))) now.ahead
         ∙ ap (λ (a : List ℕ). grown origin.source.taken (t.read ++ a)) h.listens.reads.reader
         ∙ ap (grown origin.source.taken) (sym (append_assoc t.read h.listens.bytes after.reader.pending))
 
-    -- no reply came
-    unanswered : (heard : Heard) (request : Request) → Hears heard (written request) before after → (asks odd : ℕ) (refused : Bool)
-        → Texts (record { seen = old.seen; standing = standings.Lost; refused = refused; asks = asks; odd = odd }) after
-    unanswered heard request h asks odd refused = record {
+    -- how much may still be taken
+    room_left : (heard : Heard) (request : Request) (h : Hears heard (written request) before after)
+        → after.reader.room + length (t.read ++ (t.ahead ++ h.listens.reads.taken_now)) ≡ 2 ^ 40
+    room_left heard request h =
+        omega (arith, t.room, h.listens.reads.room, length-append t.read t.ahead, length-append t.read (t.ahead ++ h.listens.reads.taken_now), length-append t.ahead h.listens.reads.taken_now)
+
+    -- what was taken, in both ways
+    same_taken : (heard : Heard) (request : Request) (h : Hears heard (written request) before after)
+        → t.read ++ (t.ahead ++ h.listens.reads.taken_now) ≡ (t.read ++ h.listens.bytes) ++ after.reader.pending
+    same_taken heard request h =
+        ap (λ (a : List ℕ). t.read ++ (a ++ h.listens.reads.taken_now)) now.ahead
+        ∙ ap (λ (a : List ℕ). t.read ++ a) h.listens.reads.reader
+        ∙ sym (append_assoc t.read h.listens.bytes after.reader.pending)
+
+    room_now : (heard : Heard) (request : Request) (h : Hears heard (written request) before after)
+        → after.reader.room + length ((t.read ++ h.listens.bytes) ++ after.reader.pending) ≡ 2 ^ 40
+    room_now heard request h = subst (λ (l : List ℕ). after.reader.room + length l ≡ 2 ^ 40) (same_taken heard request h) (room_left heard request h)
+
+    unfailed : (heard : Heard) (request : Request) → IsCalmHeard heard → Hears heard (written request) before after → faults_of after ≡ failures origin.source origin.sink
+    unfailed heard request is h = calm heard (written request) before after is h ∙ now.calm.unfailed
+
+    failed_now : Rose (faults_of before) (faults_of after) → Rose (failures origin.source origin.sink) (faults_of after)
+    failed_now rose = subst (λ (n : ℕ). Rose n (faults_of after)) now.calm.unfailed rose
+
+    -- one request more is asked after these entries
+    asks_one : (talk : TalkView) (sid : ℕ) (request : Request) (cut read ahead : List ℕ) → talk.seen ≡ old.seen → treatment_of old.standing sid request ≡ Send
+        → AsksOne (exchanged talk after origin (request ∷ []) cut read ahead)
+    asks_one talk sid request cut read ahead same sends = record {
+      sid = sid;
+      request = request;
+      is = refl;
+      sends = ap (λ (e : List Entry). treatment_of (standing_of e) sid request) same ∙ ap (λ (s : Standing). treatment_of s sid request) (sym now.from) ∙ sends;
+    }
+
+    replies_read : AreLines (map reply_line (map reply_of (answered old.seen) ++ [])) t.read
+    replies_read = subst (λ (r : List Reply). AreLines (map reply_line r) t.read) (sym (append-nil (map reply_of (answered old.seen)))) all_read
+
+    -- the first line of what was taken
+    next_line : (heard : Heard) (request : Request) (line : List ℕ) (h : Hears heard (written request) before after) → first_line h.listens.bytes ≡ Some (line, [])
+        → first_line (t.ahead ++ h.listens.reads.taken_now) ≡ Some (line, after.reader.pending)
+    next_line heard request line h is =
+        ap (λ (a : List ℕ). first_line (a ++ h.listens.reads.taken_now)) now.ahead ∙ ap first_line h.listens.reads.reader
+        ∙ line_more h.listens.bytes after.reader.pending (line, []) is
+
+    no_next_line : (heard : Heard) (request : Request) (h : Hears heard (written request) before after) → first_line h.listens.bytes ≡ None → after.reader.pending ≡ []
+        → first_line (t.ahead ++ h.listens.reads.taken_now) ≡ None
+    no_next_line heard request h is none =
+        ap (λ (a : List ℕ). first_line (a ++ h.listens.reads.taken_now)) now.ahead ∙ ap first_line h.listens.reads.reader
+        ∙ ap (λ (p : List ℕ). first_line (h.listens.bytes ++ p)) none ∙ ap first_line (append-nil h.listens.bytes) ∙ is
+
+    -- what was taken shows that something strange came
+    shows : (heard : Heard) (request : Request) (place : ℕ) (h : Hears heard (written request) before after) → IsAnswered request place heard (Err faults.Strange)
+        → ShowsOdd request place after t.read (t.ahead ++ h.listens.reads.taken_now)
+    shows (Line line) request place h is = ByLine line.items after.reader.pending (next_line (Line line) request line.items h h.listens.is_heard.is) is
+    shows TooLong request place h is =
+        ByLength h.listens.is_heard.line after.reader.pending (next_line TooLong request h.listens.is_heard.line h h.listens.is_heard.is) h.listens.is_heard.long
+    shows (Stopped stops.End) request place h is =
+        ByEnd (no_next_line (Stopped stops.End) request h h.listens.is_heard h.listens.closes.0)
+        (subst (λ (s : SourceView). IsOver s.left) (sym h.listens.closes.1.is) h.listens.closes.1.over)
+    shows (Stopped stops.Spent) request place h is =
+        let spent : after.reader.room ≡ 0 = eqb-true after.reader.room 0 (sym h.listens.spent) in
+        ByLimit (omega (arith, spent, room_left (Stopped stops.Spent) request h))
+    shows (Stopped stops.Idle) request place h is = absurd is
+    shows (Stopped stops.Failed) request place h is = absurd is
+
+    -- something strange came
+    strange_said : (heard : Heard) (sid : ℕ) (request : Request) → treatment_of old.standing sid request ≡ Send → Hears heard (written request) before after
+        → IsAnswered request (length old.seen) heard (Err faults.Strange) → Texts (with_odd (with_ask old)) after
+    unfolding asks_one
+    strange_said heard sid request sends h is = record {
       more = request ∷ [];
       given = t.given ++ written request;
       cut = [];
@@ -149,14 +248,44 @@ module _ (old : TalkView) (before after : LinkView) (origin : RemoteOrigin) (t :
       gave = one_given heard request h;
       read = t.read;
       ahead = t.ahead ++ h.listens.reads.taken_now;
-      replies = subst (λ (r : List Reply). AreLines (map reply_line r) t.read) (sym (append-nil (map reply_of (answered old.seen)))) all_read;
+      replies = replies_read;
       took = one_taken heard request h;
-      standing = omega (arith);
+      room = room_left heard request h;
+      entries = t.entries;
+      refused = none_refused;
+      standing = inr (inr (record {
+        one = asks_one (with_odd (with_ask old)) sid request [] t.read (t.ahead ++ h.listens.reads.taken_now) refl sends;
+        calm = record { whole = refl; unfailed = unfailed heard request (strange_calm request (length old.seen) heard is) h };
+        shows = shows heard request (length old.seen) h is;
+        odd = omega (arith);
+      }));
+    }
+
+    -- the link failed while the reply was awaited
+    broken : (heard : Heard) (sid : ℕ) (request : Request) → treatment_of old.standing sid request ≡ Send → Hears heard (written request) before after
+        → IsAnswered request (length old.seen) heard (Err faults.Link) → Texts (with_loss (with_ask old)) after
+    broken heard sid request sends h is = record {
+      more = request ∷ [];
+      given = t.given ++ written request;
+      cut = [];
+      requests = one_asked request ∙ sym (append-nil (t.given ++ written request));
+      gave = one_given heard request h;
+      read = t.read;
+      ahead = t.ahead ++ h.listens.reads.taken_now;
+      replies = replies_read;
+      took = one_taken heard request h;
+      room = room_left heard request h;
+      entries = t.entries;
+      refused = none_refused;
+      standing = inl (record {
+        one = asks_one (with_loss (with_ask old)) sid request [] t.read (t.ahead ++ h.listens.reads.taken_now) refl sends;
+        failed = failed_now (link_failed request (length old.seen) heard (written request) before after is h);
+      });
     }
 
     -- the line was cut off
-    cut_off : (request : Request) → IsCutOff (written request) before after → Texts (with_loss (with_ask old)) after
-    cut_off request off = record {
+    cut_off : (sid : ℕ) (request : Request) → treatment_of old.standing sid request ≡ Send → IsCutOff (written request) before after → Texts (with_loss (with_ask old)) after
+    cut_off sid request sends off = record {
       more = request ∷ [];
       given = t.given ++ off.cut.part;
       cut = off.cut.rest;
@@ -164,9 +293,15 @@ module _ (old : TalkView) (before after : LinkView) (origin : RemoteOrigin) (t :
       gave = ap (λ (s : SinkView). s.given) off.cut.is ∙ ap (λ (g : Option (List ℕ)). grown g off.cut.part) t.gave ∙ grown-append origin.sink.given t.given off.cut.part;
       read = t.read;
       ahead = t.ahead;
-      replies = subst (λ (r : List Reply). AreLines (map reply_line r) t.read) (sym (append-nil (map reply_of (answered old.seen)))) all_read;
+      replies = replies_read;
       took = ap (λ (s : SourceView). s.taken) off.source ∙ t.took;
-      standing = omega (arith);
+      room = ap (λ (r : LineReaderView). r.room + length (t.read ++ t.ahead)) off.reader ∙ t.room;
+      entries = t.entries;
+      refused = none_refused;
+      standing = inl (record {
+        one = asks_one (with_loss (with_ask old)) sid request off.cut.rest t.read t.ahead refl sends;
+        failed = failed_now (cut_failed (written request) before after off);
+      });
     }
 
     -- one line more was read
@@ -182,8 +317,10 @@ module _ (old : TalkView) (before after : LinkView) (origin : RemoteOrigin) (t :
     line_read request place (Stopped stops.Spent) reply h is = absurd is
 
     -- it was answered that the history is full
-    filled : (request : Request) (place limit : ℕ) (h : IsHeardAs request place (Ok (replies.Denied (denials.Full limit))) before after) → Texts (with_limit limit (with_ask old)) after
-    filled request place limit h =
+    filled : (sid : ℕ) (request : Request) (limit : ℕ) → treatment_of old.standing sid request ≡ Send → (h : IsHeardAs request (length old.seen) (Ok (replies.Denied (denials.Full limit))) before after)
+        → Texts (with_limit limit (with_ask old)) after
+    unfolding asks_one
+    filled sid request limit sends h =
         let reply : Reply = replies.Denied (denials.Full limit) in
         record {
           more = request ∷ [];
@@ -194,9 +331,18 @@ module _ (old : TalkView) (before after : LinkView) (origin : RemoteOrigin) (t :
           read = t.read ++ h.hears.listens.bytes;
           ahead = after.reader.pending;
           replies = subst (λ (l : List (List ℕ)). AreLines l (t.read ++ h.hears.listens.bytes)) (sym (map-append reply_line (map reply_of (answered old.seen)) (reply ∷ [])))
-              (line_read request place h.heard reply h.hears h.answers);
+              (line_read request (length old.seen) h.heard reply h.hears h.answers);
           took = line_taken h.heard request h.hears;
-          standing = (refl, refl, refl);
+          room = room_now h.heard request h.hears;
+          entries = t.entries;
+          refused = refl;
+          standing = record {
+            one = asks_one (with_limit limit (with_ask old)) sid request [] (t.read ++ h.hears.listens.bytes) after.reader.pending refl sends;
+            may = (answers_by request (length old.seen) h.heard reply h.answers).1.may;
+            calm = record { whole = refl; unfailed = unfailed h.heard request (reply_calm request (length old.seen) h.heard reply h.answers) h.hears };
+            ahead = refl;
+            usual = now.usual;
+          };
         }
 
     -- the entry of what was asked, and those that the server answered with it
@@ -215,10 +361,50 @@ module _ (old : TalkView) (before after : LinkView) (origin : RemoteOrigin) (t :
         let entry : Entry = entry_at sid at request (is_kept reply) reply (length old.seen) in
         ap (λ (s : Standing). standing_after s request reply) now.from ∙ sym (standing_push standings.New old.seen entry)
 
+    -- the entry is one that the port may have
+    entry_now : (sid at : ℕ) (request : Request) (reply : Reply) → IsEntry old.standing (length old.seen) (entry_at sid at request (is_kept reply) reply (length old.seen))
+        → AreEntries standings.New 0 (old.seen ++ entry_at sid at request (is_kept reply) reply (length old.seen) ∷ [])
+    entry_now sid at request reply is =
+        let entry : Entry = entry_at sid at request (is_kept reply) reply (length old.seen) in
+        let first : 0 + length old.seen ≡ length old.seen = omega (arith) in
+        entries_push standings.New 0 old.seen entry t.entries
+        (subst (λ (n : ℕ). IsEntry (standing_from standings.New old.seen) n entry) (sym first) (subst (λ (s : Standing). IsEntry s (length old.seen) entry) now.from is))
+
+    entered_as : (sid : ℕ) (request : Request) (treatment : Treatment) (reply : Reply) → treatment_of old.standing sid request ≡ treatment → IsEnteredAs treatment reply
+        → IsEnteredAs (treatment_of old.standing (session_at request (length old.seen) sid) request) reply
+    entered_as sid request treatment reply is enters =
+        subst (λ (x : Treatment). IsEnteredAs x reply) (sym (same_treatment old.standing request (length old.seen) sid ∙ is)) enters
+
+    sent_entry : (sid at : ℕ) (request : Request) (reply : Reply) (line : List ℕ) → treatment_of old.standing sid request ≡ Send → limit_told reply ≡ None → IsAsked request
+        → IsAnswer request (length old.seen) line reply → IsEntry old.standing (length old.seen) (entry_at sid at request (is_kept reply) reply (length old.seen))
+    sent_entry sid at request reply line sends none asked is = record {
+      treated = entered_as sid request Send reply sends tt;
+      may = is.may;
+      enters = none;
+      placed = is.says.placed;
+      own = same_session request (length old.seen) sid;
+      kept = refl;
+      asked = asked;
+      is_reply = is.says.is_reply;
+    }
+
+    refused_entry : (sid at : ℕ) (request : Request) → treatment_of old.standing sid request ≡ Refuse → IsAsked request
+        → IsEntry old.standing (length old.seen) (entry_at sid at request true (replies.Denied denials.Closed) (length old.seen))
+    refused_entry sid at request refuses asked = record {
+      treated = entered_as sid request Refuse (replies.Denied denials.Closed) refuses refl;
+      may = may_deny (has_line request) (is_open request && false) (has_line_refused old.standing sid request refuses);
+      enters = refl;
+      placed = tt;
+      own = same_session request (length old.seen) sid;
+      kept = refl;
+      asked = asked;
+      is_reply = tt;
+    }
+
     -- it was answered
-    replied : (sid at : ℕ) (request : Request) (place : ℕ) (reply : Reply) → treatment_of old.standing sid request ≡ Send → IsHeardAs request place (Ok reply) before after
+    replied : (sid at : ℕ) (request : Request) (reply : Reply) → treatment_of old.standing sid request ≡ Send → limit_told reply ≡ None → IsAsked request → IsHeardAs request (length old.seen) (Ok reply) before after
         → Texts (with_entry sid at request reply (with_ask old)) after
-    replied sid at request place reply sends h =
+    replied sid at request reply sends none asked h =
         let entry : Entry = entry_at sid at request (is_kept reply) reply (length old.seen) in
         let all : answered (old.seen ++ entry ∷ []) ≡ answered old.seen ++ entry ∷ [] =
         answered_now sid at request reply ∙ ap (λ (x : Treatment). answered old.seen ++ (if is_sent x then entry ∷ [] else [])) sends in
@@ -231,7 +417,8 @@ module _ (old : TalkView) (before after : LinkView) (origin : RemoteOrigin) (t :
         ∙ ap (map reply_of) all ∙ map-append reply_of (answered old.seen) (entry ∷ []) in
         let lines : texts (map reply_of (answered old.seen) ++ reply ∷ []) =
         subst (λ (l : List (List ℕ)). AreLines l (t.read ++ h.hears.listens.bytes)) (sym (map-append reply_line (map reply_of (answered old.seen)) (reply ∷ [])))
-        (line_read request place h.heard reply h.hears h.answers) in
+        (line_read request (length old.seen) h.heard reply h.hears h.answers) in
+        let answer = answers_by request (length old.seen) h.heard reply h.answers in
         record {
           more = [];
           given = t.given ++ written request;
@@ -243,13 +430,22 @@ module _ (old : TalkView) (before after : LinkView) (origin : RemoteOrigin) (t :
           ahead = after.reader.pending;
           replies = subst texts (sym replies_now) lines;
           took = line_taken h.heard request h.hears;
-          standing = stands next (old.seen ++ entry ∷ []) after.reader.pending after.reader.pending session_now (stands_now sid at request reply) refl;
+          room = room_now h.heard request h.hears;
+          entries = entry_now sid at request reply (sent_entry sid at request reply answer.0 sends none asked answer.1);
+          refused = none_refused ∙ sym (ap is_some (no_limit next session_now));
+          standing = stands next (exchanged (with_entry sid at request reply (with_ask old)) after origin [] [] (t.read ++ h.hears.listens.bytes) after.reader.pending) session_now (record {
+            from = stands_now sid at request reply;
+            none = refl;
+            calm = record { whole = refl; unfailed = unfailed h.heard request (reply_calm request (length old.seen) h.heard reply h.answers) h.hears };
+            ahead = refl;
+            usual = now.usual;
+          });
         }
 
     -- it was refused
-    refused : (sid at : ℕ) (request : Request) → treatment_of old.standing sid request ≡ Refuse → after ≡ before
+    refused : (sid at : ℕ) (request : Request) → treatment_of old.standing sid request ≡ Refuse → IsAsked request → after ≡ before
         → Texts (with_entry sid at request (replies.Denied denials.Closed) (with_ask old)) after
-    refused sid at request refuses same =
+    refused sid at request refuses asked same =
         let reply : Reply = replies.Denied denials.Closed in
         let entry : Entry = entry_at sid at request true reply (length old.seen) in
         let all : answered (old.seen ++ entry ∷ []) ≡ answered old.seen =
@@ -266,61 +462,69 @@ module _ (old : TalkView) (before after : LinkView) (origin : RemoteOrigin) (t :
           ahead = t.ahead;
           replies = subst lines (sym all) t.replies;
           took = t.took;
-          standing = subst (λ (m : List Request). IsStanding old.standing (old.seen ++ entry ∷ []) m t.cut t.ahead before.reader.pending) (sym now.none)
-              (subst (λ (c : List ℕ). IsStanding old.standing (old.seen ++ entry ∷ []) [] c t.ahead before.reader.pending) (sym now.whole)
-              (stands old.standing (old.seen ++ entry ∷ []) t.ahead before.reader.pending session (stands_now sid at request reply) now.ahead_is));
+          room = t.room;
+          entries = entry_now sid at request reply (refused_entry sid at request refuses asked);
+          refused = t.refused;
+          standing = stands old.standing (exchanged (with_entry sid at request reply (with_ask old)) before origin t.more t.cut t.read t.ahead) session (record {
+            from = stands_now sid at request reply;
+            none = now.none;
+            calm = record { whole = now.calm.whole; unfailed = now.calm.unfailed };
+            ahead = now.ahead;
+            usual = now.usual;
+          });
         })
 
-    denied : (sid at : ℕ) (request : Request) (place : ℕ) (denial : Denial) → treatment_of old.standing sid request ≡ Send → IsHeardAs request place (Ok (replies.Denied denial)) before after
+    denied : (sid at : ℕ) (request : Request) (denial : Denial) → treatment_of old.standing sid request ≡ Send → IsAsked request → IsHeardAs request (length old.seen) (Ok (replies.Denied denial)) before after
         → Texts (with_reply (limit_in denial) sid at request (replies.Denied denial) (with_ask old)) after
-    denied sid at request place (denials.Full limit) sends h = filled request place limit h
-    denied sid at request place denial sends h = replied sid at request place (replies.Denied denial) sends h
+    denied sid at request (denials.Full limit) sends asked h = filled sid request limit sends h
+    denied sid at request denial sends asked h = replied sid at request (replies.Denied denial) sends refl asked h
 
-    answered_by : (sid at : ℕ) (request : Request) (place : ℕ) (reply : Reply) → treatment_of old.standing sid request ≡ Send → IsHeardAs request place (Ok reply) before after
+    answered_by : (sid at : ℕ) (request : Request) (reply : Reply) → treatment_of old.standing sid request ≡ Send → IsAsked request → IsHeardAs request (length old.seen) (Ok reply) before after
         → Texts (with_reply (limit_told reply) sid at request reply (with_ask old)) after
-    answered_by sid at request place (replies.Denied denial) sends h = denied sid at request place denial sends h
-    answered_by sid at request place reply sends h = replied sid at request place reply sends h
+    answered_by sid at request (replies.Denied denial) sends asked h = denied sid at request denial sends asked h
+    answered_by sid at request reply sends asked h = replied sid at request reply sends refl asked h
 
-    sent : (answer : Result Reply PortFault) (sid at : ℕ) (request : Request) → treatment_of old.standing sid request ≡ Send → IsSent answer request (length old.seen) before after
+    sent : (answer : Result Reply PortFault) (sid at : ℕ) (request : Request) → treatment_of old.standing sid request ≡ Send → IsAsked request → IsSent answer request (length old.seen) before after
         → Texts (talk_after answer sid at request (with_ask old)) after
-    sent (Ok reply) sid at request sends h = answered_by sid at request (length old.seen) reply sends h
-    sent (Err faults.NoMemory) sid at request sends same = as_before same
-    sent (Err faults.Link) sid at request sends (inl off) = cut_off request off
-    sent (Err faults.Link) sid at request sends (inr h) = unanswered h.heard request h.hears (with_ask old).asks old.odd old.refused
-    sent (Err faults.Strange) sid at request sends h = unanswered h.heard request h.hears (with_ask old).asks (with_odd old).odd old.refused
+    sent (Ok reply) sid at request sends asked h = answered_by sid at request reply sends asked h
+    sent (Err faults.NoMemory) sid at request sends asked same = as_before same
+    sent (Err faults.Link) sid at request sends asked (inl off) = cut_off sid request sends off
+    sent (Err faults.Link) sid at request sends asked (inr h) = broken h.heard sid request sends h.hears h.answers
+    sent (Err faults.Strange) sid at request sends asked h = strange_said h.heard sid request sends h.hears h.answers
 
-    refused_so : (answer : Result Reply PortFault) (sid at : ℕ) (request : Request) → treatment_of old.standing sid request ≡ Refuse → IsRefused answer → after ≡ before
+    refused_so : (answer : Result Reply PortFault) (sid at : ℕ) (request : Request) → treatment_of old.standing sid request ≡ Refuse → IsAsked request → IsRefused answer → after ≡ before
         → Texts (talk_after answer sid at request (with_ask old)) after
-    refused_so answer sid at request refuses (inl is) same =
+    refused_so answer sid at request refuses asked (inl is) same =
         let P : Result Reply PortFault → Type 0 = λ (a : Result Reply PortFault). Texts (talk_after a sid at request (with_ask old)) after in
-        subst P (sym is) (refused sid at request refuses same)
-    refused_so answer sid at request refuses (inr is) same =
+        subst P (sym is) (refused sid at request refuses asked same)
+    refused_so answer sid at request refuses asked (inr is) same =
         let P : Result Reply PortFault → Type 0 = λ (a : Result Reply PortFault). Texts (talk_after a sid at request (with_ask old)) after in
         subst P (sym is) (as_before same)
 
-  treated : (treatment : Treatment) (answer : Result Reply PortFault) (sid at : ℕ) (request : Request) → treatment_of old.standing sid request ≡ treatment
+  treated : (treatment : Treatment) (answer : Result Reply PortFault) (sid at : ℕ) (request : Request) → treatment_of old.standing sid request ≡ treatment → IsAsked request
       → IsTreated treatment answer request (length old.seen) before after → Texts (talk_after answer sid at request (with_ask old)) after
-  treated Strange answer sid at request is h =
+  treated Strange answer sid at request is asked h =
       let P : Result Reply PortFault → Type 0 = λ (a : Result Reply PortFault). Texts (talk_after a sid at request (with_ask old)) after in
-      subst P (sym h.0) (strange_asked (no_full_reply old.standing sid request (subst IsStrange (sym is) tt)) h.1)
-  treated (Full limit) answer sid at request is h =
+      subst P (sym h.0) (strange_asked sid request is h.1)
+  treated (Full limit) answer sid at request is asked h =
       let P : Result Reply PortFault → Type 0 = λ (a : Result Reply PortFault). Texts (talk_after a sid at request (with_ask old)) after in
       subst P (sym h.0) (full_asked limit (stands_full old.standing limit (full_stands old.standing sid limit request is)) h.1)
-  treated Refuse answer sid at request is h = refused_so (in_session old.standing sid request (subst IsHeeded (sym is) tt)) answer sid at request is h.0 h.1
-  treated Send answer sid at request is h = sent (in_session old.standing sid request (subst IsHeeded (sym is) tt)) answer sid at request is h
+  treated Refuse answer sid at request is asked h = refused_so (in_session old.standing sid request (subst IsHeeded (sym is) tt)) answer sid at request is asked h.0 h.1
+  treated Send answer sid at request is asked h = sent (in_session old.standing sid request (subst IsHeeded (sym is) tt)) answer sid at request is asked h
 
 pub texts_after : (answer : Result Reply PortFault) (sid at : ℕ) (request : Request) (old new : TalkView) (before after : LinkView) (origin : RemoteOrigin)
     → Converses answer sid at request old new before after → RemoteTexts (made old before origin) → RemoteTexts (made new after origin)
 texts_after answer sid at request old new before after origin h t =
     let P : TalkView → Type 0 = λ (x : TalkView). RemoteTexts (made x after origin) in
-    subst P (sym h.talk) (treated old before after origin t (treatment_of old.standing sid request) answer sid at request refl h.treated)
+    subst P (sym h.talk) (treated old before after origin t (treatment_of old.standing sid request) answer sid at request refl h.asked h.treated)
 
 -- before the first request
 pub texts_first : (talk : TalkView) (link : LinkView) (origin : RemoteOrigin) → talk ≡ record { seen = []; standing = standings.New; refused = false; asks = 0; odd = 0 }
-    → link.reader.pending ≡ [] → link.source ≡ origin.source → link.sink ≡ origin.sink → RemoteTexts (made talk link origin)
-texts_first talk link origin new none source sink =
+    → link.reader ≡ record { pending = []; room = 2 ^ 40 } → link.source ≡ origin.source → link.sink ≡ origin.sink → RemoteTexts (made talk link origin)
+texts_first talk link origin new reader source sink =
     let first : TalkView = record { seen = []; standing = standings.New; refused = false; asks = 0; odd = 0 } in
     let P : TalkView → Type 0 = λ (x : TalkView). RemoteTexts (made x link origin) in
+    let room : link.reader.room ≡ 2 ^ 40 = ap (λ (r : LineReaderView). r.room) reader in
     let texts : RemoteTexts (made first link origin) = record {
       more = [];
       given = [];
@@ -331,6 +535,15 @@ texts_first talk link origin new none source sink =
       ahead = [];
       replies = refl;
       took = ap (λ (s : SourceView). s.taken) source ∙ sym (grown-nil origin.source.taken);
-      standing = (refl, refl, refl, sym none);
+      room = omega (arith, room);
+      entries = tt;
+      refused = refl;
+      standing = record {
+        from = refl;
+        none = refl;
+        calm = record { whole = refl; unfailed = ap (λ (s : SourceView). failures s link.sink) source ∙ ap (failures origin.source) sink };
+        ahead = sym (ap (λ (r : LineReaderView). r.pending) reader);
+        usual = refl;
+      };
     } in
     subst P (sym new) texts

@@ -1,4 +1,5 @@
 pub mod Answers
+pub mod Entries
 pub mod Link
 pub mod Remote
 pub mod Requests

@@ -12,9 +12,13 @@ pub record LinkView : Type 0 where
   pub source : SourceView
   pub sink : SinkView
 
--- how often it failed: the failures of both ends, and how often nothing came in time, as a count of 64 bits
+-- how often two ends failed, or nothing came in time, as a count of 64 bits
+abbrev pub failures : SourceView → SinkView → ℕ
+failures source sink = min (source.faults + source.idles + sink.faults) (2 ^ 64 - 1)
+
+-- the same of a link
 abbrev pub faults_of : LinkView → ℕ
-faults_of link = min (link.source.faults + link.source.idles + link.sink.faults) (2 ^ 64 - 1)
+faults_of link = failures link.source link.sink
 
 -- the text was given, and then this was heard
 pub record Hears (heard : Heard) (text : List ℕ) (old new : LinkView) : Type 0 where

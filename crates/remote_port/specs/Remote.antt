@@ -10,6 +10,7 @@ use Rattle.auth_events.specs.declared.port.PortFault.TheVariants as faults
 use Rattle.auth_events.specs.declared.reply.Reply.{Reply}
 use Rattle.auth_events.specs.declared.reply.Reply.TheVariants.{Denied}
 use Rattle.auth_events.specs.declared.request.Request.{Request}
+use Rattle.authsrv_lines.specs.RequestLine.{IsAsked}
 use Rattle.remote_port.specs.Answers.{IsAnswered}
 use Rattle.remote_port.specs.Link.{Hears, IsCutOff, LinkView, faults_of}
 use Rattle.remote_port.specs.Requests.{written}
@@ -72,9 +73,10 @@ pub record AsksRemote (answer : Result Reply PortFault) (sid at : ℕ) (request 
   pub talk : new.talk ≡ talk_after answer sid at request (with_ask old.talk)
   pub origin : new.origin ≡ old.origin
 
--- the same of the talk and the link, whose counts are of 64 bits
+-- the same of the talk and the link, whose counts are of 64 bits, for a request of the type
 pub record Converses (answer : Result Reply PortFault) (sid at : ℕ) (request : Request) (old new : TalkView) (before after : LinkView) : Type 0 where
   pub treated : IsTreated (treatment_of old.standing sid request) answer request (length old.seen) before after
   pub talk : new ≡ talk_after answer sid at request (with_ask old)
   pub asks : old.asks < 2 ^ 64
   pub odd : old.odd < 2 ^ 64
+  pub asked : IsAsked request

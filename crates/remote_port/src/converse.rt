@@ -7,7 +7,7 @@ ghost use Rattle.remote_port.specs.Answers.{limit_told};
 
 use crate::answer::{answer_to, limit_told};
 use crate::link::Link;
-use crate::request::written;
+use crate::request::{form_of, written};
 use crate::standing::{Treatment, treatment_of};
 use crate::talk::Talk;
 use auth_events::{Denial, PortFault, Reply, Request};
@@ -107,6 +107,7 @@ pub(crate) fn converse<S: Source, K: Sink>(
 ) -> Result<Reply, PortFault>
     ensures { Converses result sid at request (talk_of talk.old) (talk_of talk.new) link.old link.new }
 {
+    form_of(&request);
     talk.count();
     match treatment_of(talk.standing, sid, &request) {
         Treatment::Strange => {

@@ -11,6 +11,7 @@ mod converse;
 pub mod laws;
 mod link;
 mod origin;
+mod outcome;
 mod port;
 mod request;
 mod standing;

@@ -18,7 +18,7 @@ use std::snapshot::Snapshot;
 /// A port over the lines of a server. It keeps its entries, which take memory.
 #[derive(Drop)]
 pub struct RemotePort<S: Source, K: Sink> {
-    talk: Talk,
+    pub(crate) talk: Talk,
     link: Link<S, K>,
     from_at_first: Snapshot<S>,
     to_at_first: Snapshot<K>,

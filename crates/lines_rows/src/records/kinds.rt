@@ -1,9 +1,11 @@
 //! The kinds of row.
 
+use crate::records::breaks::tell_remote_breaks;
 use crate::records::down::tell_port;
 use crate::records::passwords::{tell_challenge, tell_count, tell_fold, tell_hex, tell_passwords};
 use crate::records::policy::{policy_of, tell_operation, tell_settings};
 use crate::records::records::{base_of, tell_base, tell_good, tell_long, tell_record, tell_seed};
+use crate::records::remote::tell_remote;
 use crate::records::replies::{tell_opened, tell_reply};
 use crate::records::requests::{tell_line, tell_wire};
 use crate::records::spelling::{
@@ -96,6 +98,8 @@ impl Rows for Kinds {
             "hear" => tell_hear(alloc, asked, out)?,
             "breaks" => tell_breaks(alloc, asked, out)?,
             "settings" => tell_settings(alloc, asked, out),
+            "remote" => tell_remote(alloc, asked, out)?,
+            "remote-breaks" => tell_remote_breaks(alloc, asked, out)?,
             _ => tell_plain(kind, asked, out),
         }
         Ok(())

@@ -1,0 +1,5 @@
+mod ExampleLemmas
+mod HonestLemmas
+mod PlainLemmas
+mod SameLemmas
+mod ShapeLemmas

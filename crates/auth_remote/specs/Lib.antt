@@ -1,0 +1,2 @@
+pub mod HonestServer
+pub mod Same
