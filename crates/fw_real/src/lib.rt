@@ -35,6 +35,6 @@ pub use paths::Paths;
 pub use raw_file::RawFile;
 pub use reading::Reading;
 pub use slot_file::SlotFile;
-pub use standard_input::StandardInput;
+pub use standard_input::{ClientSocket, StandardInput};
 pub use timed::Timed;
 pub use writing::Writing;

@@ -14,6 +14,7 @@ use fw_real::{Paths, Reading, Records, Salts, StandardInput, SystemClock, Writin
 use fw_types::Octets;
 use process::Process;
 use real_links::{ClientHosts, LinkSink, Programs, StandardOutput, TcpDialer};
+use real_waits::shared;
 use serving::{is_server, serve_words};
 use spool::{Slots, disks_of, mailer_of};
 use std::env;
@@ -163,6 +164,7 @@ fn run_with<H, D>(
     rt: HostRuntime,
     words: &[Octets],
     needs: &Needs,
+    input: Reading<StandardInput>,
     output: LinkSink<StandardOutput>,
     dialer: TcpDialer<HostRuntime>,
     dice: D,
@@ -177,7 +179,7 @@ where
     let disks = disks_of(rt, &needs.places, needs.slots)?;
     let mut world: World<Process<D>> = World {
         files: Paths::new(rt),
-        input: Reading::new(StandardInput::of(rt.stdin())),
+        input,
         output,
         logs: Writing::new(rt.stderr()),
         clock: SystemClock::new(rt),
@@ -196,8 +198,10 @@ fn obey<H: Threads + Wait + Sync>(threads: &H, rt: HostRuntime) -> Result<u8, St
         return Ok(serve_words(threads, rt, binding.site(), &words)?);
     }
     let stdout = StandardOutput::of(rt.stdout());
-    let dialer = dialer_for(rt, &binding, stdout.hosts());
-    let mut output = LinkSink::new(stdout);
+    let activity = stdout.activity(rt).ok();
+    let input = Reading::new(StandardInput::within(shared(&activity), rt.stdin()));
+    let dialer = dialer_for(rt, &binding, stdout.hosts()).within(shared(&activity));
+    let mut output = LinkSink::within(activity, stdout);
     if let Some(text) = answer(&words) {
         return match output.give(text) {
             Ok(()) => Ok(0),
@@ -206,10 +210,19 @@ fn obey<H: Threads + Wait + Sync>(threads: &H, rt: HostRuntime) -> Result<u8, St
     }
     let needs = Needs::of(&words);
     if !needs.salts {
-        return Ok(run_with(threads, rt, &words, &needs, output, dialer, MemDice::new(0))?);
+        return Ok(run_with(
+            threads,
+            rt,
+            &words,
+            &needs,
+            input,
+            output,
+            dialer,
+            MemDice::new(0),
+        )?);
     }
     match Salts::new(&rt) {
-        Ok(salts) => Ok(run_with(threads, rt, &words, &needs, output, dialer, salts)?),
+        Ok(salts) => Ok(run_with(threads, rt, &words, &needs, input, output, dialer, salts)?),
         Err(_) => Err(Stop::NoRandomBytes),
     }
 }

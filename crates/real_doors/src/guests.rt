@@ -10,8 +10,11 @@ use fw_real::{Reading, Salts, StandardInput, SystemClock, Writing};
 use fw_types::Peer;
 use gate_rules::Service;
 use real_links::{DoorPorts, LinkSink, StandardOutput, TcpDialer};
+use real_waits::Activity;
+use std::alloc::Global;
 use std::io::{self, Stderr};
 use std::net::{SocketAddr, TcpStream};
+use std::sync::Arc;
 use std::time::Duration;
 
 /// A client over TCP. Its socket is read and written as one that inetd hands over.
@@ -55,13 +58,23 @@ fn peer(names: &HostNames, host: [u8; 4]) -> Peer
     }
 }
 
-// The two ends of a client's socket, each with a handle of its own. A read and a write wait an hour at most.
-fn ends(socket: TcpStream) -> io::Result<(StandardInput, StandardOutput)> {
+// The two ends of a client's socket, each with a handle of its own, and the activity of their session.
+#[derive(Drop)]
+struct Ends {
+    from: StandardInput,
+    to: StandardOutput,
+    activity: Arc<Activity, Global>,
+}
+
+// A read and a write wait an hour at most.
+fn both_ends(rt: HostRuntime, socket: TcpStream) -> io::Result<Ends> {
     let patience = Some(Duration::from_secs(PATIENCE));
     socket.set_read_timeout(patience)?;
     socket.set_write_timeout(patience)?;
-    let other = socket.try_clone()?;
-    Ok((StandardInput::Socket(socket), StandardOutput::Socket(other)))
+    let to = StandardOutput::Socket(socket.try_clone()?);
+    let activity = to.activity(rt)?;
+    let from = StandardInput::over(Some(Arc::try_clone(&activity)?), socket);
+    Ok(Ends { from, to, activity })
 }
 
 // The service, unless it is the access wrapper.
@@ -92,15 +105,17 @@ pub(crate) fn caller(
     let Arrival { socket, host } = arrival;
     let service = with_sessions(service)?;
     let dice = Salts::new(&rt).ok()?;
-    let (from, to) = ends(socket).ok()?;
+    let Ends { from, to, activity } = both_ends(rt, socket).ok()?;
     let hosts = to.hosts();
+    let noted = Arc::try_clone(&activity).ok()?;
+    let dialer = TcpDialer::new(rt, rt.alloc(), hosts).with_doors_at(ports);
     Some(Caller {
         service,
         peer: peer(names, host),
         from: Reading::new(from),
-        to: LinkSink::new(to),
+        to: LinkSink::within(Some(noted), to),
         logs: Writing::new(rt.stderr()),
-        dialer: TcpDialer::new(rt, rt.alloc(), hosts).with_doors_at(ports),
+        dialer: dialer.within(Some(activity)),
         clock: SystemClock::new(rt),
         dice,
     })

@@ -1,4 +1,4 @@
-ghost use Rattle.std.specs.Prelude.{◌≡◌, true, IfNone, IfSome, None, Some, if◌then◌else◌};
+ghost use Rattle.std.specs.Prelude.{◌≡◌, true, IfNone, IfOk, IfSome, None, Some, if◌then◌else◌};
 ghost use Rattle.fw_outside.specs.Counts.{Grew, Rose, counted};
 ghost use Rattle.fw_outside.specs.DialerView.{Accepts, ComesUp, HangsUp, IfRefused, IfUp, LetsGo, Opens, Refuses, RoseIf, TurnsAway, dialer_waiting, has_broken};
 ghost use Rattle.fw_outside.specs.declared.ask.Ask.TheVariants.{Back, Door, Main, Side};
@@ -16,10 +16,12 @@ use crate::wait::coming;
 use crate::{Address, ClientHosts, DoorPorts, LinkSink, LinkSource, TcpDoor};
 use fw_outside::{Dialed, Dialer, Mark};
 use fw_types::{Dest, Host, HostName};
+use real_waits::Activity;
 use std::alloc::Global;
 use std::io::{self, ErrorKind};
 use std::net::{HostAddrs, Net, SocketAddr, ToSocketAddrs};
 use std::str;
+use std::sync::Arc;
 use std::time::Clock;
 
 // The addresses of a name. That they are the name's is the system's word.
@@ -57,6 +59,7 @@ pub struct TcpDialer<R> {
     link_idles: u64,
     data_faults: u64,
     data_idles: u64,
+    activity: Option<Arc<Activity, Global>>,
 }
 
 impl<R> TcpDialer<R> {
@@ -78,6 +81,7 @@ impl<R> TcpDialer<R> {
             link_idles: 0,
             data_faults: 0,
             data_idles: 0,
+            activity: None,
         }
     }
 
@@ -98,6 +102,28 @@ impl<R> TcpDialer<R> {
             link_idles: self.link_idles,
             data_faults: self.data_faults,
             data_idles: self.data_idles,
+            activity: self.activity,
+        }
+    }
+
+    /// The same, whose links are of a session of this activity.
+    pub fn within(self, activity: Option<Arc<Activity, Global>>) -> TcpDialer<R>
+        ensures view { tcp_dialer_view result ≡ tcp_dialer_view self }
+        ensures hosts { result.hosts ≡ self.hosts }
+    {
+        TcpDialer {
+            net: self.net,
+            alloc: self.alloc,
+            hosts: self.hosts,
+            ports: self.ports,
+            waits: self.waits,
+            came: self.came,
+            refusals: self.refusals,
+            link_faults: self.link_faults,
+            link_idles: self.link_idles,
+            data_faults: self.data_faults,
+            data_idles: self.data_idles,
+            activity,
         }
     }
 
@@ -166,6 +192,17 @@ impl<R> TcpDialer<R> {
 }
 
 impl<R: Net> TcpDialer<R> {
+    // A link to this address.
+    fn reach_address(&self, to: Address) -> io::Result<Link<R::Stream>>
+        ensures to { IfOk result (λ link. link.from.to ≡ to) }
+        ensures new { IfOk result (IsNewLink self.now.waits) }
+    {
+        if let Some(activity) = &self.activity {
+            activity.probe_client();
+        }
+        open(&self.net, self.alloc, to, self.waits, &self.activity)
+    }
+
     // A link to this port of the first address of the name that answers.
     fn reach_any(&self, name: &[u8], port: u16) -> Option<Link<R::Stream>>
         requires { can_be_looked_up name.now ≡ true }
@@ -177,7 +214,7 @@ impl<R: Net> TcpDialer<R> {
                 continue;
             };
             let host = at.ip().octets();
-            if let Ok(link) = open(&self.net, self.alloc, Address { host, port }, self.waits) {
+            if let Ok(link) = self.reach_address(Address { host, port }) {
                 return Some(link);
             }
         }
@@ -202,13 +239,7 @@ impl<R: Net> TcpDialer<R> {
     {
         let port = dest.port;
         match &dest.host {
-            Host::Addr(host) => open(
-                &self.net,
-                self.alloc,
-                Address { host: *host, port },
-                self.waits,
-            )
-            .ok(),
+            Host::Addr(host) => self.reach_address(Address { host: *host, port }).ok(),
             Host::Name(name) => self.reach_name(name, port),
         }
     }
@@ -217,7 +248,7 @@ impl<R: Net> TcpDialer<R> {
         ensures leads { IfSome result (λ link. link.from.to ≡ record { host = host; port = port }) }
         ensures new { IfSome result (IsNewLink self.now.waits) }
     {
-        open(&self.net, self.alloc, Address { host, port }, self.waits).ok()
+        self.reach_address(Address { host, port }).ok()
     }
 
     // A door for the client, at our end's address.
@@ -245,8 +276,8 @@ impl<R: Net + Clock> TcpDialer<R> {
         ensures client { IfSome result (λ link. link.from.to.host ≡ door.now.client) }
         ensures new { IfSome result (IsNewLink self.now.waits) }
     {
-        let connected = wait_at(&self.net, door, coming(self.waits))?;
-        link_over(self.alloc, connected, self.waits).ok()
+        let connected = wait_at(&self.net, door, coming(self.waits), &self.activity)?;
+        link_over(self.alloc, connected, self.waits, &self.activity).ok()
     }
 }
 

@@ -2,9 +2,11 @@
 ghost use Rattle.std.specs.Prelude.{◌≡◌, true, IfOk, IfSome};
 
 use crate::link::Connected;
-use crate::wait::time_of;
 use crate::{Address, ClientHosts, DoorPorts};
+use real_waits::{Activity, time_of};
+use std::alloc::Global;
 use std::net::{Ipv4Addr, Net, OpenListener, SocketAddr, SocketAddrV4, TcpListener};
+use std::sync::Arc;
 use std::time::{Clock, Duration, Instant};
 use std::{io, thread};
 
@@ -95,11 +97,20 @@ fn is_over<R: Clock>(clock: &R, since: Instant, most: Duration) -> bool {
     }
 }
 
-/// Waits at the door for its client, so many seconds at most. Others are turned away.
+fn is_client_gone(activity: &Option<Arc<Activity, Global>>) -> bool {
+    match activity {
+        Some(activity) => activity.is_client_gone(),
+        None => false,
+    }
+}
+
+/// Waits at the door for its client, so many seconds at most, and no longer where the client of the session has gone. Others
+/// are turned away.
 pub(crate) fn wait_at<R: Net + Clock>(
     net: &R,
     door: &TcpDoor<R::Listener>,
     seconds: u32,
+    activity: &Option<Arc<Activity, Global>>,
 ) -> Option<Connected<R::Stream>>
     ensures { IfSome result (λ connected. connected.to.host ≡ door.now.client) }
 {
@@ -113,7 +124,7 @@ pub(crate) fn wait_at<R: Net + Clock>(
             }
             None => thread::sleep(net, Duration::from_millis(REST)),
         }
-        if is_over(net, since, time_of(seconds)) {
+        if is_over(net, since, time_of(seconds)) || is_client_gone(activity) {
             return None;
         }
     }

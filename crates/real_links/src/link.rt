@@ -1,11 +1,13 @@
 ghost use Rattle.std.specs.Prelude.{◌≡◌, IfOk};
 ghost use Rattle.real_links.specs.NewLinks.{IsNewLink};
 
-use crate::wait::{coming, set_wait, time_of};
+use crate::wait::{coming, set_wait};
 use crate::{Address, LinkSink, LinkSource};
+use real_waits::{Activity, shared, time_of};
 use std::alloc::Global;
 use std::io::{self, BufReader, Read, Write};
 use std::net::{Ipv4Addr, Net, OpenStream, SocketAddr, SocketAddrV4, TcpStream};
+use std::sync::Arc;
 
 // How many bytes a link reads ahead at most.
 const AHEAD: usize = 65536;
@@ -33,11 +35,13 @@ fn connect<R: Net>(net: &R, to: Address, seconds: u32) -> io::Result<Connected<R
     Ok(Connected { socket, to })
 }
 
-/// The two ends of a link over the socket, each with a handle of its own, which wait so many seconds.
+/// The two ends of a link over the socket, each with a handle of its own, which wait so many seconds, in a session of this
+/// activity.
 pub(crate) fn link_over<S: Read + Write + OpenStream + Drop>(
     alloc: Global,
     connected: Connected<S>,
     seconds: u32,
+    activity: &Option<Arc<Activity, Global>>,
 ) -> io::Result<Link<S>>
     ensures to { IfOk result (λ link. link.from.to ≡ connected.to) }
     ensures new { IfOk result (IsNewLink seconds) }
@@ -47,8 +51,8 @@ pub(crate) fn link_over<S: Read + Write + OpenStream + Drop>(
     let other = socket.try_clone()?;
     let socket = BufReader::with_capacity(alloc, AHEAD, socket)?;
     Ok(Link {
-        from: LinkSource::new(socket, to, seconds),
-        to: LinkSink::new(other),
+        from: LinkSource::new(socket, to, seconds, shared(activity)),
+        to: LinkSink::within(shared(activity), other),
     })
 }
 
@@ -58,9 +62,11 @@ pub(crate) fn open<R: Net>(
     alloc: Global,
     to: Address,
     seconds: u32,
+    activity: &Option<Arc<Activity, Global>>,
 ) -> io::Result<Link<R::Stream>>
     ensures to { IfOk result (λ link. link.from.to ≡ to) }
     ensures new { IfOk result (IsNewLink seconds) }
 {
-    link_over(alloc, connect(net, to, coming(seconds))?, seconds)
+    let connected = connect(net, to, coming(seconds))?;
+    link_over(alloc, connected, seconds, activity)
 }

@@ -5,8 +5,11 @@ ghost use Rattle.fw_outside.specs.declared.mark.Mark.TheVariants.{Own};
 ghost use Rattle.real_links.specs.Links.{Writes, untold_sink};
 
 use fw_outside::{Failed, Mark, Sink};
+use real_waits::Activity;
+use std::alloc::Global;
 use std::io::Write;
 use std::net::{OpenStream, Shutdown};
+use std::sync::Arc;
 
 // The most bytes of a piece of a relay.
 const PIECE: usize = 4096;
@@ -20,6 +23,7 @@ pub struct LinkSink<S> {
     is_hurried: bool,
     faults: u64,
     mark: Mark,
+    activity: Option<Arc<Activity, Global>>,
 }
 
 impl<S> LinkSink<S> {
@@ -28,11 +32,27 @@ impl<S> LinkSink<S> {
         ensures faults { result.faults ≡ 0 }
         ensures mark { result.mark ≡ Own }
     {
+        LinkSink::within(None, socket)
+    }
+
+    /// The same, in a session of this activity, to which it notes its gifts.
+    pub fn within(activity: Option<Arc<Activity, Global>>, socket: S) -> LinkSink<S>
+        ensures faults { result.faults ≡ 0 }
+        ensures mark { result.mark ≡ Own }
+    {
         LinkSink {
             socket,
             is_hurried: false,
             faults: 0,
             mark: Mark::Own,
+            activity,
+        }
+    }
+
+    // Notes that bytes went.
+    fn note(&self) {
+        if let Some(activity) = &self.activity {
+            activity.note();
         }
     }
 
@@ -103,7 +123,10 @@ impl<S: Write + OpenStream> LinkSink<S> {
         ensures bytes { Writes result piece.now (S.contents self.old.socket) (S.contents self.new.socket) }
     {
         match self.socket.write_all(piece) {
-            Ok(()) => Ok(()),
+            Ok(()) => {
+                self.note();
+                Ok(())
+            }
             Err(_) => Err(self.fail()),
         }
     }

@@ -9,8 +9,12 @@ ghost use Rattle.real_links.specs.Links.{HandsOn, untold_source};
 use crate::Address;
 use crate::wait::set_wait;
 use fw_outside::{Failed, Got, Mark, Source};
+use real_waits::{Activity, Waited};
+use std::alloc::Global;
 use std::io::{self, BufReader, ErrorKind, Read};
 use std::net::OpenStream;
+use std::os::fd::AsRawFd;
+use std::sync::Arc;
 
 // The count of bytes after so many more came.
 fn amount_after(amount: u64, count: usize) -> u64
@@ -42,6 +46,9 @@ enum Refusal {
 
 /// What comes over a link. It reads ahead, and gives what was read before it reads again. It counts the bytes that it gave,
 /// the reads that failed, and those for which nothing came in time. A read that a signal interrupts is tried again.
+///
+/// If it has the activity of a session, nothing came in time only where nothing moved in all the session for so long, and a
+/// read before which the client has gone has failed.
 #[derive(Drop)]
 pub struct LinkSource<S> {
     socket: BufReader<S>,
@@ -53,11 +60,18 @@ pub struct LinkSource<S> {
     waits: u32,
     waited: u32,
     mark: Mark,
+    activity: Option<Arc<Activity, Global>>,
 }
 
 impl<S> LinkSource<S> {
-    /// What comes over a socket that leads there and waits so many seconds. Nothing is counted yet.
-    pub(crate) fn new(socket: BufReader<S>, to: Address, waits: u32) -> LinkSource<S>
+    /// What comes over a socket that leads there and waits so many seconds, in a session of this activity. Nothing is counted
+    /// yet.
+    pub(crate) fn new(
+        socket: BufReader<S>,
+        to: Address,
+        waits: u32,
+        activity: Option<Arc<Activity, Global>>,
+    ) -> LinkSource<S>
         ensures socket { result.socket ≡ socket }
         ensures to { result.to ≡ to }
         ensures amount { result.amount ≡ 0 }
@@ -77,6 +91,7 @@ impl<S> LinkSource<S> {
             waits,
             waited: 0,
             mark: Mark::Own,
+            activity,
         }
     }
 
@@ -107,10 +122,27 @@ impl<S> LinkSource<S> {
     {
         self.idles
     }
+
+    // Notes that bytes came.
+    fn note(&self) {
+        if let Some(activity) = &self.activity {
+            activity.note();
+        }
+    }
 }
 
-impl<S: Read + OpenStream> LinkSource<S> {
-    // Reads, once the wait is set.
+impl<S: Read + OpenStream + AsRawFd> LinkSource<S> {
+    // Waits until a read has something to answer.
+    fn wait(&self) -> Waited {
+        match &self.activity {
+            Some(activity) if self.socket.buffer().is_empty() => {
+                activity.wait_beside_client(self.socket.get_ref().as_raw_fd(), self.waits)
+            }
+            _ => Waited::Ready,
+        }
+    }
+
+    // Reads, once the wait is set, and over.
     #[tactic(auto, using(crate::proofs::MovingLemmas::keeps_here))]
     fn read_in_time(&mut self, buf: &mut [u8]) -> Result<usize, Refusal>
         ensures bound { IfOk result (λ n. n ≤ length buf.new) }
@@ -124,6 +156,11 @@ impl<S: Read + OpenStream> LinkSource<S> {
         if !self.is_set {
             return Err(Refusal::Failed);
         }
+        match self.wait() {
+            Waited::Ready => {}
+            Waited::Late => return Err(Refusal::Late),
+            Waited::Gone => return Err(Refusal::Failed),
+        }
         match read_again(&mut self.socket, buf) {
             Ok(count) => Ok(count),
             Err(fault) if fault.kind() == ErrorKind::WouldBlock => Err(Refusal::Late),
@@ -132,7 +169,7 @@ impl<S: Read + OpenStream> LinkSource<S> {
     }
 }
 
-impl<S: Read + OpenStream + Drop> Source for LinkSource<S> {
+impl<S: Read + OpenStream + AsRawFd + Drop> Source for LinkSource<S> {
     ghost source_view = { λ s. untold_source s.amount s.faults s.idles s.waits s.waited s.mark };
 
     fn take(&mut self, buf: &mut [u8]) -> Result<Got, Failed>
@@ -147,6 +184,7 @@ impl<S: Read + OpenStream + Drop> Source for LinkSource<S> {
         match self.read_in_time(buf) {
             Ok(0) => Ok(Got::End),
             Ok(count) => {
+                self.note();
                 self.amount = amount_after(self.amount, count);
                 Ok(Got::Bytes(count))
             }

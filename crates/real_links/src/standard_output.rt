@@ -1,7 +1,10 @@
 use crate::ClientHosts;
+use real_waits::Activity;
+use std::alloc::Global;
 use std::io::{self, Stdout, Write};
 use std::net::{Ipv4Addr, OpenStream, Shutdown, SocketAddr, TcpStream};
 use std::os::fd::AsFd;
+use std::sync::Arc;
 
 /// What a process writes as its standard output. If it is a socket, as inetd and systemd hand one over, the other side can
 /// be told that no more comes; over anything else nothing is told.
@@ -49,6 +52,20 @@ impl StandardOutput {
             StandardOutput::Socket(socket) => hosts_of(socket),
             StandardOutput::Other(_) => None,
         }
+    }
+
+    // Another handle of the client's socket.
+    fn handle(&self) -> io::Result<Option<TcpStream>> {
+        match self {
+            StandardOutput::Socket(socket) => Ok(Some(socket.try_clone()?)),
+            StandardOutput::Other(_) => Ok(None),
+        }
+    }
+
+    /// The activity of a session with this client, which begins now.
+    pub fn activity(&self, system: HostRuntime) -> io::Result<Arc<Activity, Global>> {
+        let activity = Activity::new(system, self.handle()?)?;
+        Ok(Arc::new(system.alloc(), activity)?)
     }
 }
 

@@ -1,18 +1,9 @@
 //! How long a socket waits.
 ghost use Rattle.std.specs.Prelude.{◌≡◌, min};
 
+use real_waits::time_of;
 use std::io;
 use std::net::OpenStream;
-use std::time::Duration;
-
-/// So many seconds, or the shortest time that a socket can wait.
-pub(crate) fn time_of(seconds: u32) -> Duration {
-    if seconds == 0 {
-        Duration::from_micros(1)
-    } else {
-        Duration::from_secs(u64::from(seconds))
-    }
-}
 
 // How many seconds a link may take to come up at most.
 const COMING: u32 = 60;
