@@ -32,9 +32,7 @@ use Rattle.bastion.specs.declared.outcome.Outcome.TheVariants.{Ended}
 use Rattle.bastion.specs.declared.words.Client.{Client}
 use Rattle.client_service.proofs.ConnLemmas.{conn_caused, conn_refused, conn_spent, console_caused, console_spent}
 use Rattle.bastion.proofs.SessionLemmas.{serves_takes}
-
-no_rise : {A : Type 0} → Rose 0 0 → A
-no_rise rose = let late = rose.1 in absurd (omega (arith, late))
+use Rattle.bastion.proofs.StrangeLemmas.{no_rise}
 
 pub port_rose : {A : Type 0} → Rose 0 0 ⊎ Rose 0 0 → A
 port_rose (inl rose) = no_rise rose

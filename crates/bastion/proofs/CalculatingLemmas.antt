@@ -180,6 +180,7 @@ pub record OtpLeft (old new : WorldView) : Type 0 where
   pub dialer : new.inputs.dialer ≡ old.inputs.dialer
   pub keeper : new.inputs.keeper ≡ old.inputs.keeper
   pub disks : new.inputs.disks ≡ old.inputs.disks
+  pub remote : new.inputs.remote ≡ old.inputs.remote
   pub logs : new.logs ≡ old.logs
 
 asked_out : (file : List ℕ) (old new : FilesView) → AsksTable file old new → new.out ≡ old.out
@@ -201,6 +202,7 @@ none_left file outcome old new h = record {
   dialer = ap (λ (i : SessionInputs). i.dialer) h.inputs;
   keeper = ap (λ (i : SessionInputs). i.keeper) h.inputs;
   disks = ap (λ (i : SessionInputs). i.disks) h.inputs;
+  remote = ap (λ (i : SessionInputs). i.remote) h.inputs;
   logs = h.logs;
 }
 
@@ -211,6 +213,7 @@ calculated_left file outcome old new (inr h) = record {
   dialer = ap (λ (i : SessionInputs). i.dialer) h.works.inputs ∙ ap (λ (i : SessionInputs). i.dialer) h.inputs;
   keeper = ap (λ (i : SessionInputs). i.keeper) h.works.inputs ∙ ap (λ (i : SessionInputs). i.keeper) h.inputs;
   disks = ap (λ (i : SessionInputs). i.disks) h.works.inputs ∙ ap (λ (i : SessionInputs). i.disks) h.inputs;
+  remote = ap (λ (i : SessionInputs). i.remote) h.works.inputs ∙ ap (λ (i : SessionInputs). i.remote) h.inputs;
   logs = h.works.logs ∙ h.logs;
 }
 
@@ -221,6 +224,7 @@ spelled_left spelling outcome old new (inr h) = record {
   dialer = ap (λ (i : SessionInputs). i.dialer) (h.works.inputs ∙ h.inputs);
   keeper = ap (λ (i : SessionInputs). i.keeper) (h.works.inputs ∙ h.inputs);
   disks = ap (λ (i : SessionInputs). i.disks) (h.works.inputs ∙ h.inputs);
+  remote = ap (λ (i : SessionInputs). i.remote) (h.works.inputs ∙ h.inputs);
   logs = h.works.logs ∙ h.logs;
 }
 

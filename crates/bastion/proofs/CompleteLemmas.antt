@@ -1,5 +1,5 @@
 -- In a run in which no count rose, all was done.
-use Rattle.std.proofs.Common.{arith, ◌≡◌, ◌≤◌, ℕ, List, [], ◌∷◌, ◌++◌, refl, sym, ◌∙◌, ap, subst, inl, inr, ◌⊎◌, true, false}
+use Rattle.std.proofs.Common.{arith, ◌≡◌, ◌≤◌, ℕ, List, [], ◌∷◌, ◌++◌, refl, sym, ◌∙◌, ap, subst, inl, inr, ◌⊎◌, Bool, true, false}
 use Rattle.std.specs.Prelude.{Option, Some, None, Result, Ok, Err, codes, length, unwrap_or}
 use Rattle.drill_lines.specs.Drill.{drilled, tally_text}
 use Rattle.drill_lines.specs.declared.plan.Drill as drills
@@ -16,15 +16,17 @@ use Rattle.fw_types.specs.declared.peer.Peer.{Peer}
 use Rattle.gate_rules.specs.Verdict.{verdict_of}
 use Rattle.gate_rules.specs.declared.verdict.Verdict.{Verdict}
 use Rattle.session_acts.proofs.ToldLemmas.{by_both, by_nothing}
+use Rattle.session_acts.specs.Deeds.{Deed}
 use Rattle.spool_rack.specs.Opening.{CameBack, IsRackFault}
 use Rattle.spool_slots.specs.declared.slot_why.SlotWhy.{SlotWhy}
 use Rattle.spool_slots.specs.declared.slot_why.SlotWhy.TheVariants as whys
-use Rattle.bastion.specs.Complete.{AllDone, IsAllDone, IsDrilledWhole, IsFormattedWhole, IsJobComplete, IsLaunchedWhole, IsReadWhole, IsRoundWhole, IsStartedWhole, IsTakenWhole, IsToldWhole, IsWhole}
+use Rattle.bastion.specs.Complete.{AllDone, IsAllDone, IsDrilledWhole, IsFormattedWhole, IsJobComplete, IsLaunchedWhole, IsReadWhole, IsRoundWhole, IsServedAtGate, IsStartedWhole, IsTakenWhole, IsToldWhole, IsWhole, OrStrange}
+use Rattle.bastion.specs.AtGateway.{Comes}
 use Rattle.bastion.specs.Basis.{Course, no_course, of_round}
 use Rattle.bastion.specs.Gateways.{denial_words, gateway_service}
 use Rattle.bastion.specs.Gating.{Gated}
 use Rattle.bastion.specs.Headline.{IsReplied, OfGateKind}
-use Rattle.bastion.specs.Inputs.{Inputs}
+use Rattle.bastion.specs.Inputs.{Inputs, needs_records}
 use Rattle.bastion.specs.Jobs.{AreFormatted, DoesJob, DrillsBy, Formats, TellsFormatted, drill_refused, formatted_text}
 use Rattle.bastion.specs.Calculating.{Calculates, IsCalculated, IsSpelled, Spells}
 use Rattle.bastion.specs.SpellingView.{SpellingView}
@@ -41,6 +43,8 @@ use Rattle.bastion.specs.declared.outcome.Device.TheVariants as device
 use Rattle.bastion.specs.declared.outcome.Outcome.{Outcome}
 use Rattle.bastion.specs.declared.outcome.Outcome.TheVariants.{Usage, Unread, Failed, NoMemory, Done, Decided, Ended}
 use Rattle.bastion.specs.declared.outcome.Refusal.TheVariants.{Slot, Otp}
+use Rattle.bastion.specs.declared.words.Authorities.{Authorities}
+use Rattle.bastion.specs.declared.words.Authorities.TheVariants.{Records, Remote}
 use Rattle.bastion.specs.declared.words.Command.{Command}
 use Rattle.bastion.specs.declared.words.Command.TheVariants.{Netacl, NetaclRun, Table, Authsrv, PlugGw, Gateway, Smap}
 use Rattle.bastion.specs.declared.words.GatewayKind.{GatewayKind}
@@ -53,14 +57,13 @@ use Rattle.bastion.specs.declared.words.Query.{Query}
 use Rattle.bastion.proofs.AttendedLemmas.{attended_status}
 use Rattle.bastion.proofs.CalculatingLemmas.{ComesBy, calculated_comes, calculated_left, spelled_comes, spelled_left}
 use Rattle.bastion.proofs.FtpGatewayLemmas.{ftp_whole}
-use Rattle.bastion.proofs.GateStatusLemmas.{gateway_status}
+use Rattle.bastion.proofs.GateStatusLemmas.{gateway_course, gateway_status}
 use Rattle.bastion.proofs.GatewayLemmas.{telnet_whole}
 use Rattle.bastion.proofs.JobRoseLemmas.{fails_rose}
 use Rattle.bastion.proofs.LaunchLemmas.{Launching, launched}
 use Rattle.bastion.proofs.LeftLemmas.{calls_launcher, only_left, stops_left, tells_later}
-use Rattle.bastion.proofs.RoseLemmas.{by_later, count_some, rose_some, some_by, some_later, stops_rose, worked_rose}
+use Rattle.bastion.proofs.RoseLemmas.{StrangeIn, by_later, count_some, rose_some, some_by, some_later, stops_rose, worked_deeds, worked_rose}
 use Rattle.bastion.proofs.RunLemmas.{passed_then, served_then}
-use Rattle.bastion.proofs.AtGatewayLemmas.{CameAs}
 use Rattle.bastion.proofs.LinkedLemmas.{LinkedHeadline, linked_whole}
 use Rattle.bastion.proofs.MailKeptLemmas as kept
 use Rattle.bastion.proofs.QuietLemmas.{Quiet, gave_whole, quiet, same_from, same_to}
@@ -244,10 +247,14 @@ run_whole query inputs decided outcome old middle between mid new q never logs o
 
 -- ---- all commands
 
--- a status of 4 is for a count that rose
-no_four : (name : List ℕ) (command : Command) (outcome : Outcome) (old mid new : WorldView) → (RoseBy command old new → ⊥) → Worked name command outcome old mid → TellsIf (fault_line_of outcome) mid new → status_of outcome ≡ 4 → ⊥
-no_four name command outcome old mid new none h tells four =
-    none (by_later command old mid new (tells_later (fault_line_of outcome) mid new tells) (rose_some command outcome old mid (worked_rose name command outcome old mid h) four))
+-- a status of 4 is for a count that rose, or for something strange
+no_four : (name : List ℕ) (command : Command) (outcome : Outcome) (old mid new : WorldView) → (RoseBy command old new → ⊥) → (h : Worked name command outcome old mid) → TellsIf (fault_line_of outcome) mid new → status_of outcome ≡ 4
+    → StrangeIn command (worked_deeds name command outcome old mid h)
+no_four name command outcome old mid new none h tells four = by (rose_some command (worked_deeds name command outcome old mid h) outcome old mid (worked_rose name command outcome old mid h) four)
+  where
+    by : StrangeIn command (worked_deeds name command outcome old mid h) ⊎ RoseBy command old mid → StrangeIn command (worked_deeds name command outcome old mid h)
+    by (inl strange) = strange
+    by (inr rose) = absurd (none (by_later command old mid new (tells_later (fault_line_of outcome) mid new tells) rose))
 
 pub served_complete : (name : List ℕ) (client : Client) (outcome : Outcome) (course : Course) (old mid new : WorldView) → (SomeRose old new → ⊥) → (h : Worked name (Authsrv client) outcome old mid) → TellsIf (fault_line_of outcome) mid new → IsReplied client h.inputs course (status_of outcome) h.middle new
     → (status_of outcome ≡ 5) ⊎ IsAllDone (Authsrv client) h.inputs course (status_of outcome) old h.middle new
@@ -268,25 +275,47 @@ pub linked_complete : (name : List ℕ) (caller : Caller) (outcome : Outcome) (c
 linked_complete name caller outcome course old mid new none h tells so =
     linked_whole name caller h.inputs course outcome old h.middle mid new (quiet old new (λ some. none (inl some))) (no_four name (PlugGw caller) outcome old mid new none h tells) h.only h.works so
 
-gateway_whole : (kind : GatewayKind) (name : List ℕ) (peer : Peer) (inputs : Inputs) (out : Outcome) (old middle mid new : WorldView) → Quiet old new → ReadsOnly name true old middle → Gated (gateway_service kind) peer inputs out middle mid → TellsIf (fault_line_of out) mid new
-    → IsPassed (verdict_of inputs.rules peer) (status_of out) old.inputs new.inputs → (came : CameAs (Gateway kind peer) (gateway_service kind) peer (denial_words kind) (OfGateKind kind peer) inputs (status_of out) middle new)
-    → IsAllDone (Gateway kind peer) inputs came.course (status_of out) old middle new
-gateway_whole kinds.Telnet name peer inputs out old middle mid new q only h tells passed came = telnet_whole name peer inputs out old middle mid new q only h tells passed came
-gateway_whole kinds.Ftp name peer inputs out old middle mid new q only h tells passed came = ftp_whole name peer inputs out old middle mid new q only h tells passed came
+-- what the headline says of a client of a gateway
+abbrev pub GateComes : GatewayKind → Authorities → Peer → Inputs → Course → ℕ → WorldView → WorldView → Type 0
+GateComes kind authorities peer inputs course status old new = Comes authorities (Gateway kind authorities peer) (gateway_service kind) peer (denial_words kind) (OfGateKind kind authorities peer) inputs course status old new
 
-pub gateway_complete : (name : List ℕ) (kind : GatewayKind) (peer : Peer) (outcome : Outcome) (old mid new : WorldView) → (RoseBy (Gateway kind peer) old new → ⊥) → (h : Worked name (Gateway kind peer) outcome old mid) → TellsIf (fault_line_of outcome) mid new
-    → (came : CameAs (Gateway kind peer) (gateway_service kind) peer (denial_words kind) (OfGateKind kind peer) h.inputs (status_of outcome) h.middle new) → (status_of outcome ≡ 5) ⊎ IsAllDone (Gateway kind peer) h.inputs came.course (status_of outcome) old h.middle new
-gateway_complete name kind peer outcome old mid new none h tells came = by (gateway_status kind peer h.inputs outcome h.middle mid h.works)
+abbrev ServedAtGate : GatewayKind → Authorities → Peer → Inputs → Course → ℕ → WorldView → WorldView → WorldView → Type 0
+ServedAtGate kind authorities peer inputs course status old middle new =
+    IsServedAtGate authorities (verdict_for (Gateway kind authorities peer) inputs) (gateway_service kind) (denial_words kind) peer (OfGateKind kind authorities peer inputs course status middle new) course status old new
+
+gateway_whole : (kind : GatewayKind) (name : List ℕ) (records : Bool) (authorities : Authorities) (peer : Peer) (inputs : Inputs) (out : Outcome) (old middle mid new : WorldView) → Quiet old new → ReadsOnly name records old middle → (h : Gated authorities (gateway_service kind) peer inputs out middle mid)
+    → TellsIf (fault_line_of out) mid new → IsPassed authorities (verdict_of inputs.rules peer) (gateway_course kind authorities peer inputs out middle mid h).deeds (status_of out) old.inputs new.inputs
+    → GateComes kind authorities peer inputs (gateway_course kind authorities peer inputs out middle mid h) (status_of out) middle new → ServedAtGate kind authorities peer inputs (gateway_course kind authorities peer inputs out middle mid h) (status_of out) old middle new
+gateway_whole kinds.Telnet name records authorities peer inputs out old middle mid new q only h tells passed comes = telnet_whole name records authorities peer inputs out old middle mid new q only h tells passed comes
+gateway_whole kinds.Ftp name records authorities peer inputs out old middle mid new q only h tells passed comes = ftp_whole name records authorities peer inputs out old middle mid new q only h tells passed comes
+
+or_whole : (authorities : Authorities) (deeds : List Deed) (Whole : Type 0) → Whole → OrStrange authorities deeds Whole
+or_whole Records deeds Whole whole = whole
+or_whole Remote deeds Whole whole = inr whole
+
+or_strange : (kind : GatewayKind) (authorities : Authorities) (peer : Peer) (deeds : List Deed) (Whole : Type 0) → StrangeIn (Gateway kind authorities peer) deeds → OrStrange authorities deeds Whole
+or_strange kind Records peer deeds Whole strange = absurd strange
+or_strange kind Remote peer deeds Whole strange = inl strange
+
+pub gateway_complete : (name : List ℕ) (kind : GatewayKind) (authorities : Authorities) (peer : Peer) (outcome : Outcome) (old mid new : WorldView) → (RoseBy (Gateway kind authorities peer) old new → ⊥) → (h : Worked name (Gateway kind authorities peer) outcome old mid) → TellsIf (fault_line_of outcome) mid new
+    → GateComes kind authorities peer h.inputs (gateway_course kind authorities peer h.inputs outcome h.middle mid h.works) (status_of outcome) h.middle new
+    → (status_of outcome ≡ 5) ⊎ IsAllDone (Gateway kind authorities peer) h.inputs (gateway_course kind authorities peer h.inputs outcome h.middle mid h.works) (status_of outcome) old h.middle new
+gateway_complete name kind authorities peer outcome old mid new none h tells comes = by (gateway_status kind authorities peer h.inputs outcome h.middle mid h.works)
   where
-    by : ((status_of outcome ≡ 4) ⊎ (status_of outcome ≡ 5)) ⊎ IsPassed (verdict_of h.inputs.rules peer) (status_of outcome) h.middle.inputs mid.inputs
-        → (status_of outcome ≡ 5) ⊎ IsAllDone (Gateway kind peer) h.inputs came.course (status_of outcome) old h.middle new
-    by (inl (inl four)) = absurd (no_four name (Gateway kind peer) outcome old mid new none h tells four)
+    by : ((status_of outcome ≡ 4) ⊎ (status_of outcome ≡ 5)) ⊎ IsPassed authorities (verdict_of h.inputs.rules peer) (gateway_course kind authorities peer h.inputs outcome h.middle mid h.works).deeds (status_of outcome) h.middle.inputs mid.inputs
+        → (status_of outcome ≡ 5) ⊎ IsAllDone (Gateway kind authorities peer) h.inputs (gateway_course kind authorities peer h.inputs outcome h.middle mid h.works) (status_of outcome) old h.middle new
+    by (inl (inl four)) =
+        inr (or_strange kind authorities peer (gateway_course kind authorities peer h.inputs outcome h.middle mid h.works).deeds (ServedAtGate kind authorities peer h.inputs (gateway_course kind authorities peer h.inputs outcome h.middle mid h.works) (status_of outcome) old h.middle new)
+        (no_four name (Gateway kind authorities peer) outcome old mid new none h tells four))
     by (inl (inr five)) = inl five
     by (inr passed) =
         let later = tells_later (fault_line_of outcome) mid new tells in
-        let left = only_left name true old h.middle h.only in
-        inr (gateway_whole kind name peer h.inputs outcome old h.middle mid new (quiet old new (λ some. none (inl some))) h.only h.works tells
-        (passed_then (verdict_of h.inputs.rules peer) (status_of outcome) h.middle.inputs mid.inputs old.inputs new.inputs left.input left.clock later.inputs passed) came)
+        let records : Bool = needs_records (Gateway kind authorities peer) in
+        let left = only_left name records old h.middle h.only in
+        let course : Course = gateway_course kind authorities peer h.inputs outcome h.middle mid h.works in
+        inr (or_whole authorities course.deeds (ServedAtGate kind authorities peer h.inputs course (status_of outcome) old h.middle new)
+        (gateway_whole kind name records authorities peer h.inputs outcome old h.middle mid new (quiet old new (λ some. none (some_by (Gateway kind authorities peer) old new some))) h.only h.works tells
+        (passed_then authorities (verdict_of h.inputs.rules peer) course.deeds (status_of outcome) h.middle.inputs mid.inputs old.inputs new.inputs left.input left.clock later.inputs passed) comes))
 
 -- a slot has no reading, or there was no memory
 bad_done : (name : List ℕ) (peer : Peer) (outcome : Outcome) (course : Course) (old mid new : WorldView) → Quiet old new → (status_of outcome ≡ 4 → ⊥) → (h : Worked name (Smap peer) outcome old mid) → TellsIf (fault_line_of outcome) mid new → (slot : ℕ) (why : SlotWhy)

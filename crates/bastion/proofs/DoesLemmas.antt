@@ -16,7 +16,7 @@ use Rattle.gate_rules.specs.declared.verdict.Verdict.{Verdict}
 use Rattle.gate_rules.specs.declared.verdict.Verdict.TheVariants.{Permit, Deny}
 use Rattle.netperm_table.specs.declared.line.Line.{Line}
 use Rattle.bastion.specs.Deciding.{Decides, DecidesRun, Reports, RunsBy}
-use Rattle.bastion.specs.Inputs.{HasInputs, Inputs, Reading, book_needs, needs, needs_records, no_inputs}
+use Rattle.bastion.specs.Inputs.{HasInputs, Inputs, Reading, needs_records, no_inputs}
 use Rattle.bastion.specs.Outcome.{verdict_status}
 use Rattle.bastion.specs.Linking.{Linked}
 use Rattle.bastion.specs.Mailing.{Mailed}
@@ -196,10 +196,6 @@ calls_then name old mid new before after asks asked keeper called is = record {
 old_keeper : (old mid : WorldView) (before : KeeperView) → AskedFiles old mid → mid.inputs.keeper ≡ Some before → old.inputs.keeper ≡ Some before
 old_keeper old mid before asked keeper = ap (λ (i : SessionInputs). i.keeper) (sym asked.inputs) ∙ keeper
 
--- where the records are needed, the keeper was called
-calls_needed : (name : List ℕ) (command : Command) (service : Service) → needs command ≡ book_needs service → (old new : WorldView) → ReadsOnly name true old new → ReadsOnly name (needs_records command) old new
-calls_needed name command service needed old new only = subst (λ (b : Bool). ReadsOnly name b old new) (sym (needs_them command service needed)) only
-
 module _ (name : List ℕ) (service : Service) (server_rules : ServerRules) (old mid : WorldView) (found : Finds (server_rules_of service) name (Ok server_rules) old.files mid.files) (asked : AskedFiles old mid) where
   pub unopened_stops : (outcome : Outcome) (new : WorldView) → Unopened outcome mid new → StopsEach name service outcome old new
   unopened_stops (Failed device.Records) new h = λ command needed. record {
@@ -218,7 +214,7 @@ module _ (name : List ℕ) (service : Service) (server_rules : ServerRules) (old
     read = refuses_record command service needed name server_rules user at h.before h.after old (old_keeper old mid h.before asked h.keeper) found.by h.bad;
     only = calls_then name old mid new h.before h.after found.asks asked h.keeper h.called h.is;
   }
-  unopened_stops (NoMemory steps.Records) new h = λ command needed. calls_needed name command service needed old new (calls_then name old mid new h.before h.after found.asks asked h.keeper h.called h.is)
+  unopened_stops (NoMemory steps.Records) new h = λ command needed. record { needed = needs_them command service needed; only = calls_then name old mid new h.before h.after found.asks asked h.keeper h.called h.is }
   unopened_stops outcome new h = λ command needed. absurd h
 
   pub opened_opens : (rules : RuleBook) (book : BookView) (new : WorldView) → OpenedBy server_rules rules book mid new → Opens name service rules book old new

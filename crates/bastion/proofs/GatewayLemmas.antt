@@ -1,8 +1,7 @@
 -- From what a client of `tn-gw` did to the headline, and to a run in which no count rose.
-use Rattle.std.proofs.Common.{◌≡◌, ◌∙◌, ℕ, List, [], length, refl, sym, ap, subst, inl, inr, ◌⊎◌, true}
+use Rattle.std.proofs.Common.{◌≡◌, ◌∙◌, ℕ, List, [], length, refl, sym, ap, subst, inl, inr, ◌⊎◌, true, Bool}
 use Rattle.std.specs.Prelude.{Ok, Err}
 use Rattle.auth_events.specs.Port.{Port, places}
-use Rattle.auth_machine.specs.Port.{BookOrigin, book_port}
 use Rattle.fw_types.specs.declared.ending.Ending.{Ending}
 use Rattle.fw_types.specs.declared.ending.Ending.TheVariants as endings
 use Rattle.fw_types.specs.declared.peer.Peer.{Peer}
@@ -34,7 +33,8 @@ use Rattle.tn_gate.specs.Laws.{AsksExactly}
 use Rattle.tn_gate.specs.Login.{LoginStandsIn, number_opened}
 use Rattle.tn_gate.specs.Texts.{refusal}
 use Rattle.bastion.specs.Basis.{Course}
-use Rattle.bastion.specs.AtGateway.{OfGateway, begins_at, ends_at}
+use Rattle.bastion.specs.Answering.{OriginOf, port_at_first, port_of}
+use Rattle.bastion.specs.AtGateway.{Comes, OfGateway, begins_at, ends_at}
 use Rattle.bastion.specs.Complete.{IsPassedWhole, IsServedAtGate}
 use Rattle.bastion.specs.Gateway.{IsGuarded, OfTelnet, telnet_row, telnet_rows}
 use Rattle.bastion.specs.Gating.{Gated}
@@ -45,15 +45,17 @@ use Rattle.bastion.specs.Run.{ReadsOnly, TellsIf, verdict_for}
 use Rattle.bastion.specs.Status.{IsPassed}
 use Rattle.bastion.specs.WorldView.{WorldView}
 use Rattle.bastion.specs.declared.outcome.Outcome.{Outcome}
+use Rattle.bastion.specs.declared.words.Authorities.{Authorities}
 use Rattle.bastion.specs.declared.words.Command.TheVariants.{Gateway}
 use Rattle.bastion.specs.declared.words.GatewayKind.TheVariants as kinds
-use Rattle.bastion.proofs.AtGatewayLemmas.{CameAs, caller_headline, caller_whole, passed_whole}
+use Rattle.bastion.proofs.AnsweringLemmas.{all_own, first_mine}
+use Rattle.bastion.proofs.AtGatewayLemmas.{caller_headline, caller_whole, passed_whole}
 use Rattle.bastion.proofs.DenialLemmas.{done_only}
-use Rattle.bastion.proofs.GateStatusLemmas.{telnet_so, telnet_status}
+use Rattle.bastion.proofs.GateStatusLemmas.{telnet_course, telnet_so, telnet_status}
 use Rattle.bastion.proofs.QuietLemmas.{Quiet}
 
 -- a session that is done has asked for all destinations
-all_asked : (gate : Gate) (old new : World BookOrigin) (ending : Ending) (held : Held (relayed (tn_rows gate)) (then_relay (tn_row gate)) old new ending) (asks : AsksExactly gate held) → ending ≡ endings.Done → asks.rest ≡ []
+all_asked : {Origin : Type 0} (gate : Gate) (old new : World Origin) (ending : Ending) (held : Held (relayed (tn_rows gate)) (then_relay (tn_row gate)) old new ending) (asks : AsksExactly gate held) → ending ≡ endings.Done → asks.rest ≡ []
 all_asked gate old new ending held asks is = by asks.whole
   where
     by : (asks.rest ≡ []) ⊎ StopsBefore (tn_rows gate) (tn_row gate) held → asks.rest ≡ []
@@ -63,26 +65,29 @@ all_asked gate old new ending held asks is = by asks.whole
         let clash : Ok tt ≡ Err stops.cause = sym went ∙ stops.is in absurd (cc)
 
 -- by the laws of the gateway
-module _ (peer : Peer) (inputs : Inputs) (course : Course) (status : ℕ) (old new : WorldView) (at : OfGateway true (Gateway kinds.Telnet peer) services.TnGw peer (telnet_rows inputs peer) (telnet_row inputs peer) inputs course status old new) where
+module _ (authorities : Authorities) (peer : Peer) (inputs : Inputs) (course : Course) (status : ℕ) (old new : WorldView) (at : OfGateway authorities true (Gateway kinds.Telnet authorities peer) services.TnGw peer (telnet_rows inputs peer) (telnet_row inputs peer) inputs course status old new) where
   abbrev gate : Gate
   gate = gate_at inputs.rules at.line peer
 
   abbrev deeds : List Deed
   deeds = deeds_of at.session.held
 
-  abbrev begun : World BookOrigin
-  begun = at_first (begins_at services.TnGw inputs peer at.line at.before old) at.session.names
+  abbrev begun : World (OriginOf authorities)
+  begun = at_first (begins_at services.TnGw inputs peer at.line (port_at_first authorities inputs at.before) old) at.session.names
 
-  abbrev last : World BookOrigin
+  abbrev last : World (OriginOf authorities)
   last = at.session.last
 
-  port_is : last.office.port ≡ book_port at.book
-  port_is = ap (λ (d : Devices BookOrigin). d.port) at.session.leaves
+  port_is : last.office.port ≡ port_of authorities at.view
+  port_is = ap (λ (d : Devices (OriginOf authorities)). d.port) at.session.leaves
+
+  none : begun.office.port.mine ≡ []
+  none = first_mine authorities inputs at.before
 
   own : last.office.port.mine ≡ places (length last.office.port.seen)
-  own = subst (λ (p : Port BookOrigin). p.mine ≡ places (length p.seen)) (sym port_is) refl
+  own = subst (λ (p : Port (OriginOf authorities)). p.mine ≡ places (length p.seen)) (sym port_is) (all_own authorities at.view)
 
-  guarded : IsGuarded gate at.book.history at.session.held
+  guarded : IsGuarded gate (port_of authorities at.view).seen at.session.held
   guarded = record {
     lines = held_says (telnet_rows inputs peer at.line) (telnet_row inputs peer at.line) begun last course.ending at.session.held refl;
     heard = held_lines gate begun last course.ending at.session.held;
@@ -91,7 +96,7 @@ module _ (peer : Peer) (inputs : Inputs) (course : Course) (status : ℕ) (old n
     cleared = held_cleared gate begun last course.ending at.session.held;
     logins =
         λ asks before after deed dest is calls.
-        subst (λ (p : Port BookOrigin). LoginStandsIn (number_opened (gives asked deeds)) (gives asked before) p.seen) port_is (whole_login gate begun last course.ending at.session.held refl refl own asks before after deed dest is calls);
+        subst (λ (p : Port (OriginOf authorities)). LoginStandsIn (number_opened (gives asked deeds)) (gives asked before) p.seen) port_is (whole_login gate begun last course.ending at.session.held refl none own asks before after deed dest is calls);
     dialed = held_dialed gate begun last course.ending at.session.held;
     due = held_due gate begun last course.ending at.session.held;
     denials = held_logged gate begun last course.ending at.session.held;
@@ -105,31 +110,40 @@ module _ (peer : Peer) (inputs : Inputs) (course : Course) (status : ℕ) (old n
     stops = λ cause is. stops_last cause at.session.held is;
   }
 
-  of_telnet : OfTelnet peer inputs course status old new
+  of_telnet : OfTelnet authorities peer inputs course status old new
   of_telnet = record {
     at = at;
     guarded = guarded;
-    fronts = session_fronts (tn_rows gate) (tn_row gate) (begins_at services.TnGw inputs peer at.line at.before old) (ends_at at.book at.logs new) course.ending at.session (tn_keeps_quiet gate);
+    fronts = session_fronts (tn_rows gate) (tn_row gate) (begins_at services.TnGw inputs peer at.line (port_at_first authorities inputs at.before) old) (ends_at (port_of authorities at.view) at.logs new) course.ending at.session (tn_keeps_quiet gate);
   }
 
 -- ---- the headline
 
-module _ (peer : Peer) (inputs : Inputs) (out : Outcome) (old mid new : WorldView) (h : Gated services.TnGw peer inputs out old mid) (tells : TellsIf (fault_line_of out) mid new) where
-  pub telnet_headline : CameAs (Gateway kinds.Telnet peer) services.TnGw peer refusal (OfTelnet peer) inputs (status_of out) old new × LogsDenial (Gateway kinds.Telnet peer) services.TnGw peer inputs (status_of out) old new
+module _ (authorities : Authorities) (peer : Peer) (inputs : Inputs) (out : Outcome) (old mid new : WorldView) (h : Gated authorities services.TnGw peer inputs out old mid) (tells : TellsIf (fault_line_of out) mid new) where
+  pub telnet_headline : Comes authorities (Gateway kinds.Telnet authorities peer) services.TnGw peer refusal (OfTelnet authorities peer) inputs (telnet_course authorities peer inputs out old mid h) (status_of out) old new
+      × LogsDenial (Gateway kinds.Telnet authorities peer) services.TnGw peer inputs (status_of out) old new
   telnet_headline =
-      caller_headline true (Gateway kinds.Telnet peer) services.TnGw refusal inputs (telnet_rows inputs peer) (telnet_row inputs peer) out old mid new h tells (OfTelnet peer) (λ course at. of_telnet peer inputs course (status_of out) old new at) refl
-      (λ line one other same. same) (telnet_status peer inputs out old mid h) (telnet_so peer inputs out old mid h)
+      caller_headline authorities true (Gateway kinds.Telnet authorities peer) services.TnGw refusal inputs (telnet_rows inputs peer) (telnet_row inputs peer) out old mid new h tells (OfTelnet authorities peer)
+      (λ course at. of_telnet authorities peer inputs course (status_of out) old new at) refl (λ line one other same. same) (telnet_so authorities peer inputs out old mid h) (telnet_status authorities peer inputs out old mid h)
 
 -- ---- a run in which no count rose
 
-module _ (name : List ℕ) (peer : Peer) (inputs : Inputs) (out : Outcome) (old middle mid new : WorldView) (q : Quiet old new) (only : ReadsOnly name true old middle) (h : Gated services.TnGw peer inputs out middle mid) (tells : TellsIf (fault_line_of out) mid new) where
-  held_whole : (line : ℕ) → verdict_for (Gateway kinds.Telnet peer) inputs ≡ Permit line → IsPassed (Permit line) (status_of out) old.inputs new.inputs → (course : Course) → OfTelnet peer inputs course (status_of out) middle new
-      → IsPassedWhole services.TnGw peer line (OfTelnet peer inputs course (status_of out) middle new) course (status_of out) old new
-  held_whole line permitted passed course x =
-      passed_whole true (Gateway kinds.Telnet peer) services.TnGw peer (telnet_rows inputs peer) (telnet_row inputs peer) name inputs course (status_of out) old middle new q only (OfTelnet peer inputs course (status_of out) middle new) x x.at line (sym permitted ∙ x.at.permitted) passed
+module _ (name : List ℕ) (records : Bool) (authorities : Authorities) (peer : Peer) (inputs : Inputs) (out : Outcome) (old middle mid new : WorldView) (q : Quiet old new) (only : ReadsOnly name records old middle) (h : Gated authorities services.TnGw peer inputs out middle mid)
+    (tells : TellsIf (fault_line_of out) mid new) where
+  abbrev course : Course
+  course = telnet_course authorities peer inputs out middle mid h
 
-  pub telnet_whole : IsPassed (verdict_for (Gateway kinds.Telnet peer) inputs) (status_of out) old.inputs new.inputs → (came : CameAs (Gateway kinds.Telnet peer) services.TnGw peer refusal (OfTelnet peer) inputs (status_of out) middle new)
-      → IsServedAtGate (verdict_for (Gateway kinds.Telnet peer) inputs) services.TnGw refusal peer (OfTelnet peer inputs came.course (status_of out) middle new) came.course (status_of out) old new
-  telnet_whole passed came =
-      caller_whole true (Gateway kinds.Telnet peer) services.TnGw refusal inputs (telnet_rows inputs peer) (telnet_row inputs peer) name out old middle mid new q only h tells (OfTelnet peer) held_whole (verdict_for (Gateway kinds.Telnet peer) inputs) refl passed
-      came (telnet_so peer inputs out middle mid h)
+  abbrev Session : Type 0
+  Session = OfTelnet authorities peer inputs course (status_of out) middle new
+
+  held_whole : (line : ℕ) → verdict_for (Gateway kinds.Telnet authorities peer) inputs ≡ Permit line → IsPassed authorities (Permit line) course.deeds (status_of out) old.inputs new.inputs → Session
+      → IsPassedWhole authorities services.TnGw peer line Session course (status_of out) old new
+  held_whole line permitted passed x =
+      passed_whole authorities true (Gateway kinds.Telnet authorities peer) services.TnGw peer (telnet_rows inputs peer) (telnet_row inputs peer) name records inputs course (status_of out) old middle new q only Session x x.at line (sym permitted ∙ x.at.permitted) passed
+
+  pub telnet_whole : IsPassed authorities (verdict_for (Gateway kinds.Telnet authorities peer) inputs) course.deeds (status_of out) old.inputs new.inputs
+      → Comes authorities (Gateway kinds.Telnet authorities peer) services.TnGw peer refusal (OfTelnet authorities peer) inputs course (status_of out) middle new
+      → IsServedAtGate authorities (verdict_for (Gateway kinds.Telnet authorities peer) inputs) services.TnGw refusal peer Session course (status_of out) old new
+  telnet_whole passed comes =
+      caller_whole authorities true (Gateway kinds.Telnet authorities peer) services.TnGw refusal inputs (telnet_rows inputs peer) (telnet_row inputs peer) name records out old middle mid new q only h tells (OfTelnet authorities peer) course held_whole
+      (verdict_for (Gateway kinds.Telnet authorities peer) inputs) refl passed comes (telnet_so authorities peer inputs out middle mid h)

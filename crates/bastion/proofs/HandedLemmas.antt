@@ -125,9 +125,9 @@ module _ (post : Post) where
 
   -- ---- what is left
 
-  pub handed_left : (outcome : Outcome) (old new : WorldView) → HandsMail post outcome old new → (new.files ≡ old.files) × (new.inputs.input ≡ old.inputs.input) × (new.inputs.dialer ≡ old.inputs.dialer) × (new.inputs.keeper ≡ old.inputs.keeper)
-  handed_left outcome old new (inl u) = (ap (λ (w : WorldView). w.files) u.0.is, ap (λ (w : WorldView). w.inputs.input) u.0.is, ap (λ (w : WorldView). w.inputs.dialer) u.0.is, ap (λ (w : WorldView). w.inputs.keeper) u.0.is)
-  handed_left outcome old new (inr h) = (h.files, ap (λ (i : SessionInputs). i.input) h.inputs_are, ap (λ (i : SessionInputs). i.dialer) h.inputs_are, ap (λ (i : SessionInputs). i.keeper) h.inputs_are)
+  pub handed_left : (outcome : Outcome) (old new : WorldView) → HandsMail post outcome old new → (new.files ≡ old.files) × (new.inputs.input ≡ old.inputs.input) × (new.inputs.dialer ≡ old.inputs.dialer) × (new.inputs.keeper ≡ old.inputs.keeper) × (new.inputs.remote ≡ old.inputs.remote)
+  handed_left outcome old new (inl u) = (ap (λ (w : WorldView). w.files) u.0.is, ap (λ (w : WorldView). w.inputs.input) u.0.is, ap (λ (w : WorldView). w.inputs.dialer) u.0.is, ap (λ (w : WorldView). w.inputs.keeper) u.0.is, ap (λ (w : WorldView). w.inputs.remote) u.0.is)
+  handed_left outcome old new (inr h) = (h.files, ap (λ (i : SessionInputs). i.input) h.inputs_are, ap (λ (i : SessionInputs). i.dialer) h.inputs_are, ap (λ (i : SessionInputs). i.keeper) h.inputs_are, ap (λ (i : SessionInputs). i.remote) h.inputs_are)
 
   pub handed_disks : (outcome : Outcome) (old new : WorldView) → HandsMail post outcome old new → LeavesAside old.inputs.disks new.inputs.disks
   handed_disks outcome old new (inl u) = inl (record { slot = u.0.slot; why = u.0.why; fault = u.0.fault })

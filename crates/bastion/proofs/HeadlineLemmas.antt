@@ -40,6 +40,7 @@ use Rattle.bastion.specs.WorldView.{SessionInputs, WorldView}
 use Rattle.bastion.specs.declared.outcome.Device.TheVariants as device
 use Rattle.bastion.specs.declared.outcome.Outcome.{Outcome}
 use Rattle.bastion.specs.declared.outcome.Outcome.TheVariants.{Usage, Unread, Failed, NoMemory, Done, Decided, Ended}
+use Rattle.bastion.specs.declared.words.Authorities.TheVariants.{Records}
 use Rattle.bastion.specs.declared.words.Client.{Client}
 use Rattle.bastion.specs.declared.words.Command.{Command}
 use Rattle.bastion.specs.declared.words.Command.TheVariants.{NetaclRun, Authsrv}
@@ -49,7 +50,7 @@ use Rattle.bastion.proofs.DecidedLemmas.{ByVerdict}
 use Rattle.bastion.proofs.DenialLemmas.{DeniesWhole, denial_so, session_gave, told_denied, told_off}
 use Rattle.bastion.proofs.LaunchLemmas.{Launching, launched, run_status_by}
 use Rattle.bastion.proofs.SessionLemmas.{OfClient, OfSession, lent_outlet, lent_port, serves_so}
-use Rattle.bastion.proofs.TalkLemmas.{concluded, legal_talk, tells_noted, was}
+use Rattle.bastion.proofs.TalkLemmas.{concluded, session_talk, tells_noted, was}
 use Rattle.bastion.proofs.LeftLemmas.{Later, stops_left, tells_later}
 
 -- ---- nothing was done
@@ -113,6 +114,7 @@ stops_undone name command outcome old mid new h tells =
       undecided = stops_undecided name command outcome old mid new h tells;
       unserved = stops_unserved name command outcome old mid new h later;
       disks = ap (λ (i : SessionInputs). i.disks) later.inputs ∙ (stops_left name command outcome old mid h).disks;
+      remote = ap (λ (i : SessionInputs). i.remote) later.inputs ∙ (stops_left name command outcome old mid h).remote;
     }
 
 pub stops_headline : (name : List ℕ) (command : Command) (outcome : Outcome) (course : Course) (old mid new : WorldView) → (h : Stops name command outcome old mid) → TellsIf (fault_line_of outcome) mid new
@@ -221,11 +223,11 @@ of_history client inputs out old mid new h tells s =
         logs = s.logs;
         session = session;
         deeds = refl;
-        talk = legal_talk rows row first left h.ending session inputs h.before h.book out old mid h.over fresh refl;
+        talk = session_talk Records rows row first left h.ending session inputs h.before h.book fresh refl out old mid h.over;
         kept = ap (λ (i : SessionInputs). i.keeper) later.inputs ∙ h.over.kept;
         told = session_gave session ∙ ap (λ (o : SinkView). grown o.given (gives told (deeds_of session.held))) (lent_outlet client.console inputs.rules begun);
         concluded =
-            concluded services.Authsrv client.peer h.ending h.book.refused (was_refused (deeds_of session.held)) out s.logs mid new h.over.comes (was rows row first left h.ending session inputs h.before h.book out old mid h.over fresh refl) s.noted tells;
+            concluded services.Authsrv client.peer h.ending h.book.refused (was_refused (deeds_of session.held)) out s.logs mid new h.over.comes (was Records rows row first left h.ending session inputs h.before h.book fresh refl) s.noted tells;
       };
     }
 
@@ -297,8 +299,8 @@ denial_headline client inputs out old mid new h tells line outside denied (inr w
     let kept : h.book.keeper ≡ h.before = untouched_deny client.console (verdict_for (Authsrv client) inputs) line h.before h.book.keeper outside denied h.untouched in
     record {
       course = no_course;
-      replied = inr (inl (told_off (Authsrv client) services.Authsrv denied_text client.peer inputs nowhere h.dialer h.before h.book h.ending out old mid new h.over tells line denied whole outside kept));
-      denials = inr (inr (told_denied (Authsrv client) services.Authsrv denied_text client.peer inputs nowhere h.dialer h.before h.book h.ending out old mid new h.over tells line denied whole));
+      replied = inr (inl (told_off Records (Authsrv client) services.Authsrv denied_text client.peer inputs nowhere h.dialer h.before h.book h.ending out old mid new h.over.comes tells line denied whole outside h.over.keeper (h.over.kept ∙ ap (λ (k : KeeperView). Some k) kept)));
+      denials = inr (inr (told_denied Records (Authsrv client) services.Authsrv denied_text client.peer inputs nowhere h.dialer h.before h.book h.ending out old mid new h.over.comes tells line denied whole));
     }
 
 attended_by : (client : Client) (inputs : Inputs) (out : Outcome) (old mid new : WorldView) → (h : Attended client inputs out old mid) → TellsIf (fault_line_of out) mid new

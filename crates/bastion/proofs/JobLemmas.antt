@@ -82,12 +82,14 @@ pub record JobLeft (old new : WorldView) : Type 0 where
   pub out : new.files.out ≡ old.files.out
   pub dialer : new.inputs.dialer ≡ old.inputs.dialer
   pub keeper : new.inputs.keeper ≡ old.inputs.keeper
+  pub remote : new.inputs.remote ≡ old.inputs.remote
 
 left_same : (old new : WorldView) → new ≡ old → JobLeft old new
 left_same old new is = record {
   out = ap (λ (w : WorldView). w.files.out) is;
   dialer = ap (λ (w : WorldView). w.inputs.dialer) is;
   keeper = ap (λ (w : WorldView). w.inputs.keeper) is;
+  remote = ap (λ (w : WorldView). w.inputs.remote) is;
 }
 
 drill_left : (drill : drills.Drill) (read : Result Tally DrillFault) (outcome : Outcome) (old new : WorldView) → DrillsBy drill read outcome old new → JobLeft old new
@@ -95,6 +97,7 @@ drill_left drill (Ok tally) outcome old new h = record {
   out = ap (λ (f : FilesView). f.out) h.files;
   dialer = ap (λ (i : SessionInputs). i.dialer) h.inputs;
   keeper = ap (λ (i : SessionInputs). i.keeper) h.inputs;
+  remote = ap (λ (i : SessionInputs). i.remote) h.inputs;
 }
 drill_left drill (Err fault) outcome old new h = left_same old new h.same
 
@@ -103,17 +106,18 @@ job_left post (Drill drill) outcome old new (inl h) = left_same old new h.same
 job_left post (Drill drill) outcome old new (inr h) = drill_left drill (drilled drill) outcome old new h
 job_left post Smapd outcome old new h =
     let left = handed_left post outcome old new h in
-    record { out = ap (λ (f : FilesView). f.out) left.0; dialer = left.2; keeper = left.3 }
+    record { out = ap (λ (f : FilesView). f.out) left.0; dialer = left.2; keeper = left.3; remote = left.4 }
 job_left post (OtpCalc file) outcome old new h =
     let left = calculated_left file outcome old new h in
-    record { out = left.out; dialer = left.dialer; keeper = left.keeper }
+    record { out = left.out; dialer = left.dialer; keeper = left.keeper; remote = left.remote }
 job_left post (OtpHex spelling) outcome old new h =
     let left = spelled_left spelling outcome old new h in
-    record { out = left.out; dialer = left.dialer; keeper = left.keeper }
+    record { out = left.out; dialer = left.dialer; keeper = left.keeper; remote = left.remote }
 job_left post SpoolInit outcome old new h = record {
   out = ap (λ (f : FilesView). f.out) h.files;
   dialer = ap (λ (i : SessionInputs). i.dialer) h.inputs;
   keeper = ap (λ (i : SessionInputs). i.keeper) h.inputs;
+  remote = ap (λ (i : SessionInputs). i.remote) h.inputs;
 }
 
 -- ---- the input

@@ -43,6 +43,7 @@ pub record RunLeft (old new : WorldView) : Type 0 where
   pub dialer : new.inputs.dialer ≡ old.inputs.dialer
   pub keeper : new.inputs.keeper ≡ old.inputs.keeper
   pub disks : new.inputs.disks ≡ old.inputs.disks
+  pub remote : new.inputs.remote ≡ old.inputs.remote
 
 left_by : (words : List (List ℕ)) (decided outcome : Outcome) (old mid new : WorldView) → mid.files ≡ old.files → mid.inputs ≡ old.inputs → StaysSo decided outcome mid new ⊎ Launching words decided outcome mid new → RunLeft old new
 left_by words decided outcome old mid new files inputs (inl stays) = record {
@@ -51,6 +52,7 @@ left_by words decided outcome old mid new files inputs (inl stays) = record {
   dialer = ap (λ (w : WorldView). w.inputs.dialer) stays.same ∙ ap (λ (i : SessionInputs). i.dialer) inputs;
   keeper = ap (λ (w : WorldView). w.inputs.keeper) stays.same ∙ ap (λ (i : SessionInputs). i.keeper) inputs;
   disks = ap (λ (w : WorldView). w.inputs.disks) stays.same ∙ ap (λ (i : SessionInputs). i.disks) inputs;
+  remote = ap (λ (w : WorldView). w.inputs.remote) stays.same ∙ ap (λ (i : SessionInputs). i.remote) inputs;
 }
 left_by words decided outcome old mid new files inputs (inr h) = record {
   files = h.launches.files ∙ files;
@@ -58,6 +60,7 @@ left_by words decided outcome old mid new files inputs (inr h) = record {
   dialer = ap (λ (i : SessionInputs). i.dialer) h.launches.inputs ∙ ap (λ (i : SessionInputs). i.dialer) inputs;
   keeper = ap (λ (i : SessionInputs). i.keeper) h.launches.inputs ∙ ap (λ (i : SessionInputs). i.keeper) inputs;
   disks = ap (λ (i : SessionInputs). i.disks) h.launches.inputs ∙ ap (λ (i : SessionInputs). i.disks) inputs;
+  remote = ap (λ (i : SessionInputs). i.remote) h.launches.inputs ∙ ap (λ (i : SessionInputs). i.remote) inputs;
 }
 
 pub run_left : (query : Query) (verdict : Verdict) (text : List ℕ) (words : List (List ℕ)) (outcome : Outcome) (old new : WorldView) → AnnouncedRun query verdict text words outcome old new → RunLeft old new

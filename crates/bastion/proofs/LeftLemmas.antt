@@ -25,6 +25,7 @@ pub record Left (old new : WorldView) : Type 0 where
   pub clock : new.inputs.clock ≡ old.inputs.clock
   pub dialer : new.inputs.dialer ≡ old.inputs.dialer
   pub disks : new.inputs.disks ≡ old.inputs.disks
+  pub remote : new.inputs.remote ≡ old.inputs.remote
   pub output : new.output ≡ old.output
   pub logs : new.logs ≡ old.logs
   pub keeper : IsSome old.inputs.keeper → IsSome new.inputs.keeper
@@ -49,6 +50,10 @@ calls_disks : (records : Bool) (old new : SessionInputs) → CallsIf records old
 calls_disks true old new h = ap (λ (i : SessionInputs). i.disks) h.is
 calls_disks false old new h = ap (λ (i : SessionInputs). i.disks) h
 
+calls_remote : (records : Bool) (old new : SessionInputs) → CallsIf records old new → new.remote ≡ old.remote
+calls_remote true old new h = ap (λ (i : SessionInputs). i.remote) h.is
+calls_remote false old new h = ap (λ (i : SessionInputs). i.remote) h
+
 calls_there : (records : Bool) (old new : SessionInputs) → CallsIf records old new → IsSome old.keeper → IsSome new.keeper
 calls_there true old new h there = some_there new.keeper h.after (ap (λ (i : SessionInputs). i.keeper) h.is)
 calls_there false old new h there = subst (λ (i : SessionInputs). IsSome i.keeper) (sym h) there
@@ -69,6 +74,7 @@ only_left name records old new h = record {
   clock = calls_clock records old.inputs new.inputs h.inputs;
   dialer = calls_dialer records old.inputs new.inputs h.inputs;
   disks = calls_disks records old.inputs new.inputs h.inputs;
+  remote = calls_remote records old.inputs new.inputs h.inputs;
   output = h.output;
   logs = h.logs;
   keeper = calls_there records old.inputs new.inputs h.inputs;
@@ -89,7 +95,7 @@ lacks_left name command steps.Drill old new h = absurd h
 lacks_left name command steps.Slots old new h = absurd h
 lacks_left name command steps.Round old new h = absurd h
 lacks_left name command steps.Dictionary old new h = absurd h
-lacks_left name command steps.Records old new h = only_left name (needs_records command) old new h
+lacks_left name command steps.Records old new h = only_left name true old new h.only
 
 pub stops_left : (name : List ℕ) (command : Command) (outcome : Outcome) (old new : WorldView) → Stops name command outcome old new → Left old new
 stops_left name command (Unread refusal) old new h = only_left name (not (is_of_line refusal)) old new h.only
@@ -99,6 +105,7 @@ stops_left name command (Failed device.Table) old new h = record {
   clock = ap (λ (i : SessionInputs). i.clock) h.inputs;
   dialer = ap (λ (i : SessionInputs). i.dialer) h.inputs;
   disks = ap (λ (i : SessionInputs). i.disks) h.inputs;
+  remote = ap (λ (i : SessionInputs). i.remote) h.inputs;
   output = h.output;
   logs = h.logs;
   keeper = λ there. subst (λ (i : SessionInputs). IsSome i.keeper) (sym h.inputs) there;
@@ -110,6 +117,7 @@ stops_left name command (Failed device.Records) old new h = record {
   clock = ap (λ (i : SessionInputs). i.clock) h.inputs;
   dialer = ap (λ (i : SessionInputs). i.dialer) h.inputs;
   disks = ap (λ (i : SessionInputs). i.disks) h.inputs;
+  remote = ap (λ (i : SessionInputs). i.remote) h.inputs;
   output = h.output;
   logs = h.logs;
   keeper = λ there. some_there new.inputs.keeper h.after (ap (λ (i : SessionInputs). i.keeper) h.inputs);

@@ -1,4 +1,5 @@
 pub mod AccountLemmas
+pub mod AnsweringLemmas
 pub mod AtGatewayLemmas
 pub mod AttendedLemmas
 pub mod CalculatedLemmas
@@ -32,6 +33,7 @@ pub mod ServedLemmas
 pub mod SessionLemmas
 pub mod SpoolLemmas
 pub mod StoreLemmas
+pub mod StrangeLemmas
 pub mod TalkLemmas
 pub mod HandedLemmas
 pub mod HandedRoseLemmas

@@ -1,5 +1,5 @@
 -- What a session of the plug comes to, by its ending.
-use Rattle.std.proofs.Common.{◌≡◌, ◌∙◌, ℕ, refl, sym, ap, subst, inl, inr, ◌⊎◌, ◌==◌, Bool, true, false}
+use Rattle.std.proofs.Common.{◌≡◌, ◌∙◌, ℕ, [], refl, sym, ap, subst, inl, inr, ◌⊎◌, ◌==◌, Bool, true, false}
 use Rattle.client_service.proofs.ConnLemmas.{conn_caused, conn_refused, conn_spent}
 use Rattle.client_service.specs.Conn.{Causes, IsRefused, TakesBy}
 use Rattle.client_service.specs.Kind.{kind_of}
@@ -65,9 +65,9 @@ linked_caused : (caller : Caller) (inputs : Inputs) (out : Outcome) (old new : W
     → Causes (kind_of (services.PlugGw caller.port) (verdict_of inputs.rules caller.peer)) (verdict_of inputs.rules caller.peer) h.ending (devices_for old) (devices_for new)
 linked_caused caller inputs out old new h = conn_caused (services.PlugGw caller.port) inputs.rules caller.peer (devices_for old) (devices_for new) h.ending h.serves
 
-pub linked_rose : (caller : Caller) (inputs : Inputs) (out : Outcome) (old new : WorldView) → Linked caller inputs out old new → RoseFor (PlugGw caller) out old new
+pub linked_rose : (caller : Caller) (inputs : Inputs) (out : Outcome) (old new : WorldView) → Linked caller inputs out old new → RoseFor (PlugGw caller) [] out old new
 linked_rose caller inputs out old new h =
-    subst (λ (o : Outcome). RoseFor (PlugGw caller) o old new) (sym h.comes) (causes_rose caller (verdict_of inputs.rules caller.peer) h.ending old new (linked_caused caller inputs out old new h))
+    subst (λ (o : Outcome). RoseFor (PlugGw caller) [] o old new) (sym h.comes) (causes_rose caller (verdict_of inputs.rules caller.peer) h.ending old new (linked_caused caller inputs out old new h))
 
 -- ---- bytes
 

@@ -375,3 +375,7 @@ mailed_left peer inputs out old new (inr h) = (h.files, λ there. subst (λ (k :
 pub mailed_unasked : (peer : Peer) (inputs : Inputs) (out : Outcome) (old new : WorldView) → Mailed peer inputs out old new → new.inputs.dialer ≡ old.inputs.dialer
 mailed_unasked peer inputs out old new (inl u) = ap (λ (w : WorldView). w.inputs.dialer) u.is
 mailed_unasked peer inputs out old new (inr h) = ap (λ (i : SessionInputs). i.dialer) h.inputs_are
+
+pub mailed_remote : (peer : Peer) (inputs : Inputs) (out : Outcome) (old new : WorldView) → Mailed peer inputs out old new → new.inputs.remote ≡ old.inputs.remote
+mailed_remote peer inputs out old new (inl u) = ap (λ (w : WorldView). w.inputs.remote) u.is
+mailed_remote peer inputs out old new (inr h) = ap (λ (i : SessionInputs). i.remote) h.inputs_are

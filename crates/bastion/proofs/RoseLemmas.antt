@@ -1,5 +1,5 @@
 -- Whose count has risen.
-use Rattle.std.proofs.Common.{◌≡◌, ℕ, List, sym, ap, subst, inl, inr, arith, ◌⊎◌, Bool, true, false}
+use Rattle.std.proofs.Common.{◌≡◌, ◌≢◌, ℕ, List, [], refl, sym, ap, subst, inl, inr, arith, ◌⊎◌, Bool, true, false}
 use Rattle.std.specs.Prelude.{Option, Some, None}
 use Rattle.fw_outside.specs.Counts.{Rose}
 use Rattle.fw_outside.specs.DialerView.{DialerView}
@@ -14,24 +14,24 @@ use Rattle.gate_rules.specs.Verdict.{verdict_of}
 use Rattle.gate_rules.specs.declared.verdict.Verdict.{Verdict}
 use Rattle.gate_rules.specs.declared.verdict.Verdict.TheVariants.{Permit, Deny}
 use Rattle.bastion.specs.Inputs.{Inputs, needs_records}
-use Rattle.bastion.specs.Outcome.{CountRose, DeviceRose, DiskRose, EndingRose, GateRose, KeeperRose, LinkRose, OrderRose, RoseFor, RoseIn, SlotsRose, status_of, verdict_status}
-use Rattle.bastion.specs.Run.{CallsIf, DoesLine, DoesOrder, FilesFailed, ReadsOnly, Stops, Worked}
-use Rattle.bastion.specs.Words.{LineView}
+use Rattle.bastion.specs.Outcome.{AuthRose, CountRose, DeviceRose, DiskRose, EndingRose, EndsRose, GateRose, KeeperRose, LinkRose, RoseFor, SlotsRose, WasStrange, status_of, verdict_status}
+use Rattle.bastion.specs.Run.{CallsIf, FilesFailed, ReadsOnly, Stops, Worked}
 use Rattle.bastion.specs.Works.{Works}
-use Rattle.bastion.specs.WorldView.{Post, SessionInputs, WorldView}
+use Rattle.bastion.specs.WorldView.{SessionInputs, WorldView}
 use Rattle.bastion.specs.declared.outcome.Device.{Device}
 use Rattle.bastion.specs.declared.outcome.Device.TheVariants as device
 use Rattle.bastion.specs.declared.outcome.Outcome.{Outcome}
 use Rattle.bastion.specs.declared.outcome.Outcome.TheVariants.{Usage, Unread, Failed, NoMemory, Done, Decided, Ended}
+use Rattle.bastion.specs.declared.words.Authorities.{Authorities}
+use Rattle.bastion.specs.declared.words.Authorities.TheVariants.{Records, Remote}
 use Rattle.bastion.specs.declared.words.Command.{Command}
 use Rattle.bastion.specs.declared.words.Command.TheVariants.{Netacl, NetaclRun, Table, Authsrv, PlugGw, Gateway, Smap}
-use Rattle.bastion.specs.declared.words.Order.{Order}
-use Rattle.bastion.specs.declared.words.Order.TheVariants.{ByTable, Alone}
+use Rattle.remote_port.specs.Remote.{RemoteOrigin}
+use Rattle.session_acts.specs.Deeds.{Deed}
 use Rattle.bastion.proofs.AttendedLemmas.{attended_rose}
 use Rattle.bastion.proofs.DecidedLemmas.{after_rose, shown_rose}
-use Rattle.bastion.proofs.JobRoseLemmas.{job_rose}
 use Rattle.bastion.proofs.LaunchLemmas.{run_rose}
-use Rattle.bastion.proofs.GateStatusLemmas.{gateway_rose}
+use Rattle.bastion.proofs.GateStatusLemmas.{gateway_course, gateway_rose}
 use Rattle.bastion.proofs.LinkingLemmas.{linked_rose}
 use Rattle.bastion.proofs.MailedLemmas.{mailed_rose}
 use Rattle.client_service.proofs.SinkLemmas.{rose_later}
@@ -78,53 +78,59 @@ ending_link endings.NoRoute old new h = absurd h
 ending_link endings.Spent old new h = h
 ending_link endings.NoMemory old new h = h
 
-ending_gate : (ending : Ending) (old new : WorldView) → EndingRose ending old new → GateRose ending old new
-ending_gate endings.NoRoute old new h = h
-ending_gate ending old new h = ending_link ending old new h
+ending_gate : (authorities : Authorities) (deeds : List Deed) (ending : Ending) (old new : WorldView) → EndingRose ending old new → GateRose authorities deeds ending old new
+ending_gate authorities deeds endings.NoRoute old new h = h
+ending_gate authorities deeds endings.AuthFault old new h = absurd h
+ending_gate authorities deeds ending old new h = ending_link ending old new h
 
-pub rose_for : (command : Command) (outcome : Outcome) (old new : WorldView) → CountRose outcome old new → RoseFor command outcome old new
-rose_for (PlugGw caller) (Ended ending refused) old new h = ending_link ending old new h
-rose_for (Gateway kind peer) (Ended ending refused) old new h = ending_gate ending old new h
-rose_for (PlugGw caller) Usage old new h = h
-rose_for (PlugGw caller) (Unread refusal) old new h = h
-rose_for (PlugGw caller) (Failed which) old new h = h
-rose_for (PlugGw caller) (NoMemory step) old new h = h
-rose_for (PlugGw caller) Done old new h = h
-rose_for (PlugGw caller) (Decided verdict) old new h = h
-rose_for (Gateway kind peer) Usage old new h = h
-rose_for (Gateway kind peer) (Unread refusal) old new h = h
-rose_for (Gateway kind peer) (Failed which) old new h = h
-rose_for (Gateway kind peer) (NoMemory step) old new h = h
-rose_for (Gateway kind peer) Done old new h = h
-rose_for (Gateway kind peer) (Decided verdict) old new h = h
-rose_for (Smap peer) Usage old new h = h
-rose_for (Smap peer) (Unread refusal) old new h = h
-rose_for (Smap peer) (Failed device.Table) old new h = h
-rose_for (Smap peer) (Failed device.Output) old new h = h
-rose_for (Smap peer) (Failed device.Log) old new h = h
-rose_for (Smap peer) (Failed device.Records) old new h = h
-rose_for (Smap peer) (Failed device.Program) old new h = h
-rose_for (Smap peer) (Failed device.Mailer) old new h = absurd h
-rose_for (Smap peer) (Failed device.Dictionary) old new h = h
-rose_for (Smap peer) (Failed device.Input) old new h = h
-rose_for (Smap peer) (Failed (device.Disk slot)) old new h = absurd h
-rose_for (Smap peer) (NoMemory step) old new h = h
-rose_for (Smap peer) Done old new h = h
-rose_for (Smap peer) (Decided verdict) old new h = h
-rose_for (Smap peer) (Ended ending refused) old new h = h
-rose_for (Netacl query) outcome old new h = h
-rose_for (NetaclRun query) outcome old new h = h
-rose_for (Table query) outcome old new h = h
-rose_for (Authsrv client) outcome old new h = h
+pub rose_for : (command : Command) (deeds : List Deed) (outcome : Outcome) (old new : WorldView) → CountRose outcome old new → RoseFor command deeds outcome old new
+rose_for (PlugGw caller) deeds (Ended ending refused) old new h = ending_link ending old new h
+rose_for (Gateway kind authorities peer) deeds (Ended ending refused) old new h = ending_gate authorities deeds ending old new h
+rose_for (PlugGw caller) deeds Usage old new h = h
+rose_for (PlugGw caller) deeds (Unread refusal) old new h = h
+rose_for (PlugGw caller) deeds (Failed which) old new h = h
+rose_for (PlugGw caller) deeds (NoMemory step) old new h = h
+rose_for (PlugGw caller) deeds Done old new h = h
+rose_for (PlugGw caller) deeds (Decided verdict) old new h = h
+rose_for (Gateway kind authorities peer) deeds Usage old new h = h
+rose_for (Gateway kind authorities peer) deeds (Unread refusal) old new h = h
+rose_for (Gateway kind authorities peer) deeds (Failed which) old new h = h
+rose_for (Gateway kind authorities peer) deeds (NoMemory step) old new h = h
+rose_for (Gateway kind authorities peer) deeds Done old new h = h
+rose_for (Gateway kind authorities peer) deeds (Decided verdict) old new h = h
+rose_for (Smap peer) deeds Usage old new h = h
+rose_for (Smap peer) deeds (Unread refusal) old new h = h
+rose_for (Smap peer) deeds (Failed device.Table) old new h = h
+rose_for (Smap peer) deeds (Failed device.Output) old new h = h
+rose_for (Smap peer) deeds (Failed device.Log) old new h = h
+rose_for (Smap peer) deeds (Failed device.Records) old new h = h
+rose_for (Smap peer) deeds (Failed device.Program) old new h = h
+rose_for (Smap peer) deeds (Failed device.Mailer) old new h = absurd h
+rose_for (Smap peer) deeds (Failed device.Dictionary) old new h = h
+rose_for (Smap peer) deeds (Failed device.Input) old new h = h
+rose_for (Smap peer) deeds (Failed (device.Disk slot)) old new h = absurd h
+rose_for (Smap peer) deeds (NoMemory step) old new h = h
+rose_for (Smap peer) deeds Done old new h = h
+rose_for (Smap peer) deeds (Decided verdict) old new h = h
+rose_for (Smap peer) deeds (Ended ending refused) old new h = h
+rose_for (Netacl query) deeds outcome old new h = h
+rose_for (NetaclRun query) deeds outcome old new h = h
+rose_for (Table query) deeds outcome old new h = h
+rose_for (Authsrv client) deeds outcome old new h = h
 
-works_rose : (command : Command) (inputs : Inputs) (outcome : Outcome) (old new : WorldView) → Works command inputs outcome old new → RoseFor command outcome old new
+-- what the session of a gateway did; of any other command nothing is said by it
+abbrev pub works_deeds : (command : Command) (inputs : Inputs) (outcome : Outcome) (old new : WorldView) → Works command inputs outcome old new → List Deed
+works_deeds (Gateway kind authorities peer) inputs outcome old new h = (gateway_course kind authorities peer inputs outcome old new h).deeds
+works_deeds command inputs outcome old new h = []
+
+works_rose : (command : Command) (inputs : Inputs) (outcome : Outcome) (old new : WorldView) (h : Works command inputs outcome old new) → RoseFor command (works_deeds command inputs outcome old new h) outcome old new
 works_rose (Netacl query) inputs outcome old new h = after_rose h.logging (verdict_of inputs.rules query.peer) _ _ outcome old new h.logged h.printed
 works_rose (NetaclRun query) inputs outcome old new h = run_rose query (verdict_of inputs.rules query.peer) _ _ outcome old new h
 works_rose (Table query) inputs outcome old new h =
     subst (λ (o : Outcome). CountRose o old new) (sym h.printed.is) (shown_rose (verdict_of inputs.rules query.peer) h.printed.printing _ old new h.printed.gives)
 works_rose (Authsrv client) inputs outcome old new h = attended_rose client inputs outcome old new h
 works_rose (PlugGw caller) inputs outcome old new h = linked_rose caller inputs outcome old new h
-works_rose (Gateway kind peer) inputs outcome old new h = gateway_rose kind peer inputs outcome old new h
+works_rose (Gateway kind authorities peer) inputs outcome old new h = gateway_rose kind authorities peer inputs outcome old new h
 works_rose (Smap peer) inputs outcome old new h = mailed_rose peer inputs outcome old new h
 
 -- ---- from where the work began to where the run did
@@ -190,9 +196,16 @@ link_only name records ending old mid new only h =
     let left = only_left name records old mid only in
     link_from ending old mid new left.input left.dialer only.output only.logs h
 
-gate_only : (name : List ℕ) (records : Bool) (ending : Ending) (old mid new : WorldView) → ReadsOnly name records old mid → GateRose ending mid new → GateRose ending old new
-gate_only name records endings.NoRoute old mid new only h = h
-gate_only name records ending old mid new only h = link_only name records ending old mid new only h
+-- so is what the link to a server elsewhere has
+auth_from : (authorities : Authorities) (deeds : List Deed) (old mid new : WorldView) → mid.inputs.remote ≡ old.inputs.remote → AuthRose authorities deeds mid new → AuthRose authorities deeds old new
+auth_from Records deeds old mid new remote h = h
+auth_from Remote deeds old mid new remote (inl ends) = inl (subst (λ (o : Option RemoteOrigin). EndsRose o new.inputs.remote) remote ends)
+auth_from Remote deeds old mid new remote (inr strange) = inr strange
+
+gate_only : (name : List ℕ) (records : Bool) (authorities : Authorities) (deeds : List Deed) (ending : Ending) (old mid new : WorldView) → ReadsOnly name records old mid → GateRose authorities deeds ending mid new → GateRose authorities deeds ending old new
+gate_only name records authorities deeds endings.NoRoute old mid new only h = h
+gate_only name records authorities deeds endings.AuthFault old mid new only h = auth_from authorities deeds old mid new (only_left name records old mid only).remote h
+gate_only name records authorities deeds ending old mid new only h = link_only name records ending old mid new only h
 
 count_from : (name : List ℕ) (records : Bool) (outcome : Outcome) (old mid new : WorldView) → ReadsOnly name records old mid → CountRose outcome mid new → CountRose outcome old new
 count_from name records (Failed which) old mid new only h = device_from name records which old mid new only h
@@ -217,38 +230,32 @@ slots_from name Done old mid new only h = tt
 slots_from name (Decided verdict) old mid new only h = tt
 slots_from name (Ended ending refused) old mid new only h = count_from name false (Ended ending refused) old mid new only h
 
-rose_from : (name : List ℕ) (command : Command) (outcome : Outcome) (old mid new : WorldView) → ReadsOnly name (needs_records command) old mid → RoseFor command outcome mid new → RoseFor command outcome old new
-rose_from name (PlugGw caller) (Ended ending refused) old mid new only h = link_only name false ending old mid new only h
-rose_from name (Gateway kind peer) (Ended ending refused) old mid new only h = gate_only name true ending old mid new only h
-rose_from name (PlugGw caller) Usage old mid new only h = tt
-rose_from name (PlugGw caller) (Unread refusal) old mid new only h = tt
-rose_from name (PlugGw caller) (Failed which) old mid new only h = device_from name false which old mid new only h
-rose_from name (PlugGw caller) (NoMemory step) old mid new only h = tt
-rose_from name (PlugGw caller) Done old mid new only h = tt
-rose_from name (PlugGw caller) (Decided verdict) old mid new only h = tt
-rose_from name (Gateway kind peer) Usage old mid new only h = tt
-rose_from name (Gateway kind peer) (Unread refusal) old mid new only h = tt
-rose_from name (Gateway kind peer) (Failed which) old mid new only h = device_from name true which old mid new only h
-rose_from name (Gateway kind peer) (NoMemory step) old mid new only h = tt
-rose_from name (Gateway kind peer) Done old mid new only h = tt
-rose_from name (Gateway kind peer) (Decided verdict) old mid new only h = tt
-rose_from name (Smap peer) outcome old mid new only h = slots_from name outcome old mid new only h
-rose_from name (Netacl query) outcome old mid new only h = count_from name false outcome old mid new only h
-rose_from name (NetaclRun query) outcome old mid new only h = count_from name false outcome old mid new only h
-rose_from name (Table query) outcome old mid new only h = count_from name false outcome old mid new only h
-rose_from name (Authsrv client) outcome old mid new only h = count_from name true outcome old mid new only h
+rose_from : (name : List ℕ) (command : Command) (deeds : List Deed) (outcome : Outcome) (old mid new : WorldView) → ReadsOnly name (needs_records command) old mid → RoseFor command deeds outcome mid new → RoseFor command deeds outcome old new
+rose_from name (PlugGw caller) deeds (Ended ending refused) old mid new only h = link_only name false ending old mid new only h
+rose_from name (Gateway kind authorities peer) deeds (Ended ending refused) old mid new only h = gate_only name (needs_records (Gateway kind authorities peer)) authorities deeds ending old mid new only h
+rose_from name (PlugGw caller) deeds Usage old mid new only h = tt
+rose_from name (PlugGw caller) deeds (Unread refusal) old mid new only h = tt
+rose_from name (PlugGw caller) deeds (Failed which) old mid new only h = device_from name false which old mid new only h
+rose_from name (PlugGw caller) deeds (NoMemory step) old mid new only h = tt
+rose_from name (PlugGw caller) deeds Done old mid new only h = tt
+rose_from name (PlugGw caller) deeds (Decided verdict) old mid new only h = tt
+rose_from name (Gateway kind authorities peer) deeds Usage old mid new only h = tt
+rose_from name (Gateway kind authorities peer) deeds (Unread refusal) old mid new only h = tt
+rose_from name (Gateway kind authorities peer) deeds (Failed which) old mid new only h = device_from name (needs_records (Gateway kind authorities peer)) which old mid new only h
+rose_from name (Gateway kind authorities peer) deeds (NoMemory step) old mid new only h = tt
+rose_from name (Gateway kind authorities peer) deeds Done old mid new only h = tt
+rose_from name (Gateway kind authorities peer) deeds (Decided verdict) old mid new only h = tt
+rose_from name (Smap peer) deeds outcome old mid new only h = slots_from name outcome old mid new only h
+rose_from name (Netacl query) deeds outcome old mid new only h = count_from name false outcome old mid new only h
+rose_from name (NetaclRun query) deeds outcome old mid new only h = count_from name false outcome old mid new only h
+rose_from name (Table query) deeds outcome old mid new only h = count_from name false outcome old mid new only h
+rose_from name (Authsrv client) deeds outcome old mid new only h = count_from name true outcome old mid new only h
 
-pub worked_rose : (name : List ℕ) (command : Command) (outcome : Outcome) (old new : WorldView) → Worked name command outcome old new → RoseFor command outcome old new
-worked_rose name command outcome old new h = rose_from name command outcome old h.middle new h.only (works_rose command h.inputs outcome h.middle new h.works)
+abbrev pub worked_deeds : (name : List ℕ) (command : Command) (outcome : Outcome) (old new : WorldView) → Worked name command outcome old new → List Deed
+worked_deeds name command outcome old new h = works_deeds command h.inputs outcome h.middle new h.works
 
-order_rose : (post : Post) → (name : List ℕ) (order : Order) (outcome : Outcome) (old new : WorldView) → DoesOrder post name order outcome old new → OrderRose post order outcome old new
-order_rose post name (ByTable command) outcome old new (inl h) = rose_for command outcome old new (stops_rose name command outcome old new h)
-order_rose post name (ByTable command) outcome old new (inr h) = worked_rose name command outcome old new h
-order_rose post name (Alone job) outcome old new h = job_rose post job outcome old new h
-
-pub does_rose : (post : Post) → (line : Option LineView) (outcome : Outcome) (old new : WorldView) → DoesLine post line outcome old new → RoseIn post line outcome old new
-does_rose post None outcome old new h = subst (λ (o : Outcome). CountRose o old new) (sym h.usage) tt
-does_rose post (Some line) outcome old new h = order_rose post line.table line.order outcome old new h
+pub worked_rose : (name : List ℕ) (command : Command) (outcome : Outcome) (old new : WorldView) (h : Worked name command outcome old new) → RoseFor command (worked_deeds name command outcome old new h) outcome old new
+worked_rose name command outcome old new h = rose_from name command (worked_deeds name command outcome old new h) outcome old h.middle new h.only (works_rose command h.inputs outcome h.middle new h.works)
 
 pub some_later : (old mid new : WorldView) → Later mid new → SomeRose old mid → SomeRose old new
 some_later old mid new h (inl files) = inl (subst (λ (f : FilesView). Rose old.files.missing f.missing ⊎ Rose old.files.read_faults f.read_faults) (sym h.files) files)
@@ -281,9 +288,18 @@ disks_later : (old mid new : WorldView) → Later mid new → SomeOrDisks old mi
 disks_later old mid new later (inl some) = inl (some_later old mid new later some)
 disks_later old mid new later (inr disks) = inr (subst (λ (i : SessionInputs). DisksRose old.inputs.disks i.disks) (sym later.inputs) disks)
 
+-- or that of the link to a server elsewhere
+abbrev SomeOrEnds : WorldView → WorldView → Type 0
+SomeOrEnds old new = SomeOrFailed old new ⊎ EndsRose old.inputs.remote new.inputs.remote
+
+ends_later : (old mid new : WorldView) → Later mid new → SomeOrEnds old mid → SomeOrEnds old new
+ends_later old mid new later (inl some) = inl (failed_later old mid new later some)
+ends_later old mid new later (inr ends) = inr (subst (λ (i : SessionInputs). EndsRose old.inputs.remote i.remote) (sym later.inputs) ends)
+
 pub by_later : (command : Command) (old mid new : WorldView) → Later mid new → RoseBy command old mid → RoseBy command old new
 by_later (PlugGw caller) old mid new later h = links_later old mid new later h
-by_later (Gateway kind peer) old mid new later h = failed_later old mid new later h
+by_later (Gateway kind Records peer) old mid new later h = failed_later old mid new later h
+by_later (Gateway kind Remote peer) old mid new later h = ends_later old mid new later h
 by_later (Smap peer) old mid new later h = disks_later old mid new later h
 by_later (Netacl query) old mid new later h = some_later old mid new later h
 by_later (NetaclRun query) old mid new later h = some_later old mid new later h
@@ -294,7 +310,8 @@ by_later (Authsrv client) old mid new later h = some_later old mid new later h
 
 pub some_by : (command : Command) (old new : WorldView) → SomeRose old new → RoseBy command old new
 some_by (PlugGw caller) old new h = inl h
-some_by (Gateway kind peer) old new h = inl h
+some_by (Gateway kind Records peer) old new h = inl h
+some_by (Gateway kind Remote peer) old new h = inl (inl h)
 some_by (Smap peer) old new h = inl h
 some_by (Netacl query) old new h = h
 some_by (NetaclRun query) old new h = h
@@ -358,12 +375,38 @@ link_some endings.NoRoute refused old new h is = inr (inl h)
 link_some endings.Spent refused old new h is = inl (ending_some endings.Spent refused old new h is)
 link_some endings.NoMemory refused old new h is = inl (ending_some endings.NoMemory refused old new h is)
 
-gate_some : (ending : Ending) (refused : Bool) (old new : WorldView) → GateRose ending old new → status_of (Ended ending refused) ≡ 4 → SomeOrFailed old new
-gate_some endings.ServerFault refused old new h is = inr (inl h)
-gate_some endings.Idle refused old new (inl source) is = inl (ending_some endings.Idle refused old new source is)
-gate_some endings.Idle refused old new (inr link) is = inr (inr link)
-gate_some endings.NoRoute refused old new h is = absurd h
-gate_some ending refused old new h is = inl (ending_some ending refused old new h is)
+gate_some : (ending : Ending) (refused : Bool) (old new : WorldView) → LinkRose ending old new → ending ≢ endings.NoRoute → status_of (Ended ending refused) ≡ 4 → SomeOrFailed old new
+gate_some endings.ServerFault refused old new h routed is = inr (inl h)
+gate_some endings.Idle refused old new (inl source) routed is = inl (ending_some endings.Idle refused old new source is)
+gate_some endings.Idle refused old new (inr link) routed is = inr (inr link)
+gate_some endings.NoRoute refused old new h routed is = absurd (routed refl)
+gate_some ending refused old new h routed is = inl (ending_some ending refused old new h is)
+
+-- something strange came to the session of a gateway whose users a server elsewhere knows
+abbrev pub StrangeIn : Command → List Deed → Type 0
+StrangeIn (Gateway kind Remote peer) deeds = WasStrange deeds
+StrangeIn command deeds = ⊥
+
+pub none_strange : (command : Command) → StrangeIn command [] → ⊥
+none_strange (Gateway kind Records peer) h = h
+none_strange (Gateway kind Remote peer) h = absurd (cc)
+none_strange (Netacl query) h = h
+none_strange (NetaclRun query) h = h
+none_strange (Table query) h = h
+none_strange (Authsrv client) h = h
+none_strange (PlugGw caller) h = h
+none_strange (Smap peer) h = h
+
+records_some : (deeds : List Deed) (ending : Ending) (refused : Bool) (old new : WorldView) → GateRose Records deeds ending old new → status_of (Ended ending refused) ≡ 4 → SomeOrFailed old new
+records_some deeds endings.NoRoute refused old new h is = absurd h
+records_some deeds endings.AuthFault refused old new h is = absurd h
+records_some deeds ending refused old new h is = gate_some ending refused old new h (λ clash. absurd (cc)) is
+
+remote_some : (deeds : List Deed) (ending : Ending) (refused : Bool) (old new : WorldView) → GateRose Remote deeds ending old new → status_of (Ended ending refused) ≡ 4 → WasStrange deeds ⊎ SomeOrEnds old new
+remote_some deeds endings.NoRoute refused old new h is = absurd h
+remote_some deeds endings.AuthFault refused old new (inl ends) is = inr (inr ends)
+remote_some deeds endings.AuthFault refused old new (inr strange) is = inl strange
+remote_some deeds ending refused old new h is = inr (inl (gate_some ending refused old new h (λ clash. absurd (cc)) is))
 
 slots_some : (outcome : Outcome) (old new : WorldView) → SlotsRose outcome old new → status_of outcome ≡ 4 → SomeOrDisks old new
 slots_some (Failed device.Table) old new h is = inl (device_some device.Table old new h)
@@ -382,23 +425,24 @@ slots_some Done old new h is = inl (count_some Done old new h is)
 slots_some (Decided verdict) old new h is = inl (count_some (Decided verdict) old new h is)
 slots_some (Ended ending refused) old new h is = inl (count_some (Ended ending refused) old new h is)
 
-pub rose_some : (command : Command) (outcome : Outcome) (old new : WorldView) → RoseFor command outcome old new → status_of outcome ≡ 4 → RoseBy command old new
-rose_some (PlugGw caller) (Ended ending refused) old new h is = link_some ending refused old new h is
-rose_some (PlugGw caller) Usage old new h is = inl (count_some Usage old new h is)
-rose_some (PlugGw caller) (Unread refusal) old new h is = inl (count_some (Unread refusal) old new h is)
-rose_some (PlugGw caller) (Failed which) old new h is = inl (count_some (Failed which) old new h is)
-rose_some (PlugGw caller) (NoMemory step) old new h is = inl (count_some (NoMemory step) old new h is)
-rose_some (PlugGw caller) Done old new h is = inl (count_some Done old new h is)
-rose_some (PlugGw caller) (Decided verdict) old new h is = inl (count_some (Decided verdict) old new h is)
-rose_some (Gateway kind peer) (Ended ending refused) old new h is = gate_some ending refused old new h is
-rose_some (Gateway kind peer) Usage old new h is = inl (count_some Usage old new h is)
-rose_some (Gateway kind peer) (Unread refusal) old new h is = inl (count_some (Unread refusal) old new h is)
-rose_some (Gateway kind peer) (Failed which) old new h is = inl (count_some (Failed which) old new h is)
-rose_some (Gateway kind peer) (NoMemory step) old new h is = inl (count_some (NoMemory step) old new h is)
-rose_some (Gateway kind peer) Done old new h is = inl (count_some Done old new h is)
-rose_some (Gateway kind peer) (Decided verdict) old new h is = inl (count_some (Decided verdict) old new h is)
-rose_some (Smap peer) outcome old new h is = slots_some outcome old new h is
-rose_some (Netacl query) outcome old new h is = count_some outcome old new h is
-rose_some (NetaclRun query) outcome old new h is = count_some outcome old new h is
-rose_some (Table query) outcome old new h is = count_some outcome old new h is
-rose_some (Authsrv client) outcome old new h is = count_some outcome old new h is
+pub rose_some : (command : Command) (deeds : List Deed) (outcome : Outcome) (old new : WorldView) → RoseFor command deeds outcome old new → status_of outcome ≡ 4 → StrangeIn command deeds ⊎ RoseBy command old new
+rose_some (PlugGw caller) deeds (Ended ending refused) old new h is = inr (link_some ending refused old new h is)
+rose_some (PlugGw caller) deeds Usage old new h is = inr (inl (count_some Usage old new h is))
+rose_some (PlugGw caller) deeds (Unread refusal) old new h is = inr (inl (count_some (Unread refusal) old new h is))
+rose_some (PlugGw caller) deeds (Failed which) old new h is = inr (inl (count_some (Failed which) old new h is))
+rose_some (PlugGw caller) deeds (NoMemory step) old new h is = inr (inl (count_some (NoMemory step) old new h is))
+rose_some (PlugGw caller) deeds Done old new h is = inr (inl (count_some Done old new h is))
+rose_some (PlugGw caller) deeds (Decided verdict) old new h is = inr (inl (count_some (Decided verdict) old new h is))
+rose_some (Gateway kind Records peer) deeds (Ended ending refused) old new h is = inr (records_some deeds ending refused old new h is)
+rose_some (Gateway kind Remote peer) deeds (Ended ending refused) old new h is = remote_some deeds ending refused old new h is
+rose_some (Gateway kind authorities peer) deeds Usage old new h is = inr (some_by (Gateway kind authorities peer) old new (count_some Usage old new h is))
+rose_some (Gateway kind authorities peer) deeds (Unread refusal) old new h is = inr (some_by (Gateway kind authorities peer) old new (count_some (Unread refusal) old new h is))
+rose_some (Gateway kind authorities peer) deeds (Failed which) old new h is = inr (some_by (Gateway kind authorities peer) old new (count_some (Failed which) old new h is))
+rose_some (Gateway kind authorities peer) deeds (NoMemory step) old new h is = inr (some_by (Gateway kind authorities peer) old new (count_some (NoMemory step) old new h is))
+rose_some (Gateway kind authorities peer) deeds Done old new h is = inr (some_by (Gateway kind authorities peer) old new (count_some Done old new h is))
+rose_some (Gateway kind authorities peer) deeds (Decided verdict) old new h is = inr (some_by (Gateway kind authorities peer) old new (count_some (Decided verdict) old new h is))
+rose_some (Smap peer) deeds outcome old new h is = inr (slots_some outcome old new h is)
+rose_some (Netacl query) deeds outcome old new h is = inr (count_some outcome old new h is)
+rose_some (NetaclRun query) deeds outcome old new h is = inr (count_some outcome old new h is)
+rose_some (Table query) deeds outcome old new h is = inr (count_some outcome old new h is)
+rose_some (Authsrv client) deeds outcome old new h is = inr (count_some outcome old new h is)

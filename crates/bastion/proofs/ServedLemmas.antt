@@ -34,6 +34,7 @@ use Rattle.bastion.specs.Status.{IsHeld, IsServed}
 use Rattle.bastion.specs.Talk.{was_refused}
 use Rattle.bastion.specs.WorldView.{WorldView}
 use Rattle.bastion.specs.declared.outcome.Outcome.{Outcome}
+use Rattle.bastion.specs.declared.words.Authorities.TheVariants.{Records}
 use Rattle.bastion.specs.declared.words.Client.{Client}
 use Rattle.bastion.specs.declared.words.Command.TheVariants.{Authsrv}
 use Rattle.bastion.proofs.DenialLemmas.{denial_so, denial_whole}
@@ -129,7 +130,7 @@ served_by name client inputs course out old middle mid new q only h tells served
     (λ held. history_whole name client inputs course (status_of out) old middle new q only (held_so client inputs course s.line (status_of out) old new middle s.admitted held replied) held)
 served_by name client inputs course out old middle mid new q only h tells served replied (inr d) =
     told_off_whole client.console (verdict_for (Authsrv client) inputs) d.line client inputs course (status_of out) old middle new d.outside d.denied
-    (denial_whole (Authsrv client) services.Authsrv denied_text client.peer inputs nowhere h.dialer h.before h.book h.ending out old middle mid new h.over tells d.line d.denied q only.logs only.output (tells_later (fault_line_of out) mid new tells).logs
+    (denial_whole Records (Authsrv client) services.Authsrv denied_text client.peer inputs nowhere h.dialer h.before h.book h.ending out old middle mid new h.over.comes tells d.line d.denied q only.logs only.output (tells_later (fault_line_of out) mid new tells).logs
     (denial_so services.Authsrv denied_text client.console (verdict_for (Authsrv client) inputs) client.peer (devices_at middle (book_at_first (origin_of inputs) most_entries h.before) nowhere) (devices_at mid h.book h.dialer) h.ending d))
 
 pub attended_whole : (name : List ℕ) (client : Client) (inputs : Inputs) (course : Course) (out : Outcome) (old middle mid new : WorldView) → Quiet old new → ReadsOnly name true old middle → Attended client inputs out middle mid → TellsIf (fault_line_of out) mid new

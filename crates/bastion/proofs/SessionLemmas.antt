@@ -25,6 +25,7 @@ use Rattle.bastion.specs.Inputs.{Inputs}
 use Rattle.bastion.specs.Serving.{OverBook, Serves, book_at_first, devices_at, most_entries, origin_of}
 use Rattle.bastion.specs.WorldView.{WorldView}
 use Rattle.bastion.specs.declared.outcome.Outcome.{Outcome}
+use Rattle.bastion.specs.declared.words.Authorities.TheVariants.{Records}
 use Rattle.bastion.proofs.DenialLemmas.{OfDenial, denial_refuses}
 use Rattle.bastion.proofs.TalkLemmas.{TakesMore, takes_more}
 
@@ -73,7 +74,7 @@ module _ (console : Bool) (inputs : Inputs) (peer : Peer) (before : KeeperView) 
 
   takes_by : OfClient console (verdict_of inputs.rules peer) inputs.rules peer first (devices_at new book dialer) ending → book.refused ≡ true → TakesMore (length book.history) old.inputs.clock new.inputs.clock
   takes_by (inl s) refused =
-      let takes = takes_more rows (begins console peer s.line) (lent_to console inputs.rules first) (record (devices_at new book dialer) { logs = s.logs }) ending s.session inputs before book out old new over (lent_port console inputs.rules first) refl refused in
+      let takes = takes_more Records rows (begins console peer s.line) (lent_to console inputs.rules first) (record (devices_at new book dialer) { logs = s.logs }) ending s.session inputs before book (lent_port console inputs.rules first) refl refused in
       subst (λ (c : ClockView). TakesMore (length book.history) c new.inputs.clock) (lent_clock console inputs.rules first) takes
   takes_by (inr d) refused = absurd (never book.refused (denial_refuses services.Authsrv denied_text console (verdict_of inputs.rules peer) peer first (devices_at new book dialer) ending d) refused)
 

@@ -7,23 +7,20 @@ use Rattle.std.proofs.lemmas.List.Filters.{length-filter_both}
 use Rattle.auth_events.specs.Port.{Port, places}
 use Rattle.auth_events.specs.declared.reply.Reply.{Reply}
 use Rattle.auth_events.specs.declared.request.Request.{Request}
-use Rattle.auth_machine.specs.Book.{BookView}
+use Rattle.auth_events.specs.declared.entry.Entry.{Entry}
 use Rattle.auth_machine.proofs.HistoryLemmas.{calls_for}
-use Rattle.auth_machine.specs.History.{CountsCalls}
-use Rattle.auth_machine.specs.Port.{BookOrigin, book_port}
 use Rattle.client_service.specs.Conn.{NotedIf}
 use Rattle.client_service.specs.Endings.{ending_line}
 use Rattle.fw_acts.specs.Acts.{PlaceTable, Row}
 use Rattle.fw_outside.specs.ClockView.{ClockView}
 use Rattle.fw_outside.specs.Counts.{Rose}
-use Rattle.fw_outside.specs.KeeperView.{KeeperView}
 use Rattle.fw_outside.specs.SinkView.{SinkView}
 use Rattle.fw_outside.specs.ToldList.{grown}
 use Rattle.fw_types.specs.declared.ending.Ending.{Ending}
 use Rattle.fw_types.specs.declared.ending.Ending.TheVariants as endings
 use Rattle.fw_types.specs.declared.peer.Peer.{Peer}
 use Rattle.gate_rules.specs.declared.service.Service.{Service}
-use Rattle.session_acts.specs.Deeds.{gives}
+use Rattle.session_acts.specs.Deeds.{Deed, gives}
 use Rattle.session_acts.specs.Laws.{Adds}
 use Rattle.session_acts.specs.Met.{acts}
 use Rattle.session_acts.specs.Session.{SessionAs, deeds_of}
@@ -34,16 +31,22 @@ use Rattle.session_acts.proofs.DeedLemmas.{all_gain, held_deeds}
 use Rattle.session_acts.proofs.EntryLemmas.{whole_talk}
 use Rattle.session_acts.proofs.TalkLemmas.{entered_gains}
 use Rattle.session_acts.proofs.ToldLemmas.{by_both}
+use Rattle.bastion.specs.Answering.{Answerer, OriginOf, PortView, port_at_first, port_of}
 use Rattle.bastion.specs.Complete.{closing_text}
+use Rattle.bastion.specs.Gating.{Over}
 use Rattle.bastion.specs.Inputs.{Inputs}
-use Rattle.bastion.specs.Outcome.{fault_line_of, status_of}
+use Rattle.bastion.specs.Outcome.{WasStrange, fault_line_of, status_of}
 use Rattle.bastion.specs.Run.{TellsIf}
-use Rattle.bastion.specs.Serving.{OverBook, book_at_first, most_entries, origin_of}
-use Rattle.bastion.specs.Talk.{IsConcluded, IsLegalTalk, was_refused}
+use Rattle.bastion.specs.Serving.{origin_of}
+use Rattle.bastion.specs.Talk.{IsConcluded, IsTalk, was_refused}
 use Rattle.bastion.specs.WorldView.{WorldView}
 use Rattle.bastion.specs.declared.outcome.Outcome.{Outcome}
 use Rattle.bastion.specs.declared.outcome.Outcome.TheVariants.{Ended}
+use Rattle.bastion.specs.declared.words.Authorities.{Authorities}
+use Rattle.bastion.specs.declared.words.Authorities.TheVariants.{Records, Remote}
+use Rattle.bastion.proofs.AnsweringLemmas.{all_own, first_even, first_mine, first_seen, first_unasked, first_unrefused}
 use Rattle.bastion.proofs.QuietLemmas.{noted_later, noted_whole}
+use Rattle.bastion.proofs.StrangeLemmas.{was_strange}
 
 -- ---- more requests than fit
 
@@ -70,93 +73,100 @@ few_answered : (asks : List (Request × Option Reply)) → length (answered asks
 few_answered [] = omega (arith)
 few_answered (ask ∷ asks) = some_or (replied ask.0 ask.1) (answered asks) (length asks) (few_answered asks)
 
--- ---- a session over a book
+-- ---- a session over a port
 
--- nothing was asked of the book yet
-abbrev fresh : Inputs → KeeperView → Port BookOrigin
-fresh inputs before = book_port (book_at_first (origin_of inputs) most_entries before)
+-- what a port was asked is the whole of what it has seen, and it was refused where the session was
+talk_over : (authorities : Authorities) (inputs : Inputs) (before : Answerer authorities) (view : PortView authorities) (deeds : List Deed) (ending : Ending) (out : Outcome) (begun ended : WorldView) → map said_of (port_of authorities view).seen ≡ filter is_entered (answered (gives asked deeds))
+    → (port_of authorities view).asks ≤ length (gives asked deeds) → (port_of authorities view).refused ≡ was_refused deeds → Over authorities inputs before view ending out begun ended → IsTalk authorities inputs before deeds view
+talk_over Records inputs before book deeds ending out begun ended said most was over = record {
+  sound = over.sound;
+  legal = over.legal;
+  talk = said;
+  has = over.has;
+  faults = over.faults;
+  called = calls_for before.calls (origin_of inputs) book.history book.asks (length (gives asked deeds)) book.keeper most over.called;
+  full = λ refused. over.full (was ∙ refused);
+}
+talk_over Remote inputs ends remote deeds ending out begun ended said most was over = record { origin = over.origin; talk = said; texts = over.texts }
 
-module _ {P : Type 0} {relays : Bool} (table : PlaceTable (acts BookOrigin) P) (first : Row (acts BookOrigin) P) (old new : Devices BookOrigin) (ending : Ending) (session : SessionAs relays table first old new ending)
-    (inputs : Inputs) (before : KeeperView) (book : BookView) (out : Outcome) (begun ended : WorldView) (over : OverBook inputs before book ending out begun ended) (starts : old.port ≡ fresh inputs before) (leaves : new.port ≡ book_port book) where
+module _ {P : Type 0} {relays : Bool} (authorities : Authorities) (table : PlaceTable (acts (OriginOf authorities)) P) (first : Row (acts (OriginOf authorities)) P) (old new : Devices (OriginOf authorities)) (ending : Ending) (session : SessionAs relays table first old new ending)
+    (inputs : Inputs) (before : Answerer authorities) (view : PortView authorities) (starts : old.port ≡ port_at_first authorities inputs before) (leaves : new.port ≡ port_of authorities view) where
   abbrev asks : List (Request × Option Reply)
   asks = gives asked (deeds_of session.held)
 
-  abbrev last : World BookOrigin
+  abbrev last : World (OriginOf authorities)
   last = session.last
 
-  port_left : last.office.port ≡ book_port book
-  port_left = ap (λ (d : Devices BookOrigin). d.port) session.leaves ∙ leaves
+  port_left : last.office.port ≡ port_of authorities view
+  port_left = ap (λ (d : Devices (OriginOf authorities)). d.port) session.leaves ∙ leaves
 
   none : old.port.mine ≡ []
-  none = ap (λ (p : Port BookOrigin). p.mine) starts
+  none = ap (λ (p : Port (OriginOf authorities)). p.mine) starts ∙ first_mine authorities inputs before
 
   unrefused : old.port.refused ≡ false
-  unrefused = ap (λ (p : Port BookOrigin). p.refused) starts
+  unrefused = ap (λ (p : Port (OriginOf authorities)). p.refused) starts ∙ first_unrefused authorities inputs before
 
   unasked : old.port.asks ≡ 0
-  unasked = ap (λ (p : Port BookOrigin). p.asks) starts
+  unasked = ap (λ (p : Port (OriginOf authorities)). p.asks) starts ∙ first_unasked authorities inputs before
+
+  even : old.port.odd ≡ 0
+  even = ap (λ (p : Port (OriginOf authorities)). p.odd) starts ∙ first_even authorities inputs before
 
   own : last.office.port.mine ≡ places (length last.office.port.seen)
-  own = subst (λ (p : Port BookOrigin). p.mine ≡ places (length p.seen)) (sym port_left) refl
+  own = subst (λ (p : Port (OriginOf authorities)). p.mine ≡ places (length p.seen)) (sym port_left) (all_own authorities view)
 
-  pub was : book.refused ≡ was_refused (deeds_of session.held)
+  pub was : (port_of authorities view).refused ≡ was_refused (deeds_of session.held)
   was =
       let entered = all_gain entered_gains (deeds_of session.held) (at_first old session.names) last (held_deeds session.held) in
-      ap (λ (p : Port BookOrigin). p.refused) (sym port_left) ∙ entered.port.refused ∙ ap (λ (b : Bool). (b || list_any is_refused_as_full (answered asks))) unrefused
+      ap (λ (p : Port (OriginOf authorities)). p.refused) (sym port_left) ∙ entered.port.refused ∙ ap (λ (b : Bool). (b || list_any is_refused_as_full (answered asks))) unrefused
 
-  said : map said_of book.history ≡ filter is_entered (answered asks)
+  said : map said_of (port_of authorities view).seen ≡ filter is_entered (answered asks)
   said =
       let entered = all_gain entered_gains (deeds_of session.held) (at_first old session.names) last (held_deeds session.held) in
       let whole = (whole_talk (numbers_told (at_first old session.names).office.opened asks) entered.moments asks old.port last.office.port none own entered.port).0 in
-      ap (λ (p : Port BookOrigin). map said_of p.seen) (sym port_left) ∙ whole
+      ap (λ (p : Port (OriginOf authorities)). map said_of p.seen) (sym port_left) ∙ whole
 
-  called : CountsCalls before.calls (origin_of inputs) book.history (length asks) book.keeper
-  called =
+  most_asked : (port_of authorities view).asks ≤ length asks
+  most_asked =
       let counted = all_gain count_gains (deeds_of session.held) (at_first old session.names) last (held_deeds session.held) in
-      let port : last.office.port.asks ≡ book.asks = ap (λ (p : Port BookOrigin). p.asks) port_left in
+      let port : last.office.port.asks ≡ (port_of authorities view).asks = ap (λ (p : Port (OriginOf authorities)). p.asks) port_left in
       let started : old.port.asks ≡ 0 = unasked in
       let most = counted.most in
-      calls_for before.calls (origin_of inputs) book.history book.asks (length asks) book.keeper (omega (arith, port, most, started)) over.called
+      omega (arith, port, most, started)
 
-  -- it is one legal history
-  pub legal_talk : IsLegalTalk inputs before (deeds_of session.held) book
-  legal_talk = record {
-    sound = over.sound;
-    legal = over.legal;
-    talk = said;
-    has = over.has;
-    faults = over.faults;
-    called = called;
-    full = λ refused. over.full (was ∙ refused);
-  }
+  -- so it is what that port has seen
+  pub session_talk : (out : Outcome) (begun ended : WorldView) → Over authorities inputs before view ending out begun ended → IsTalk authorities inputs before (deeds_of session.held) view
+  session_talk out begun ended over = talk_over authorities inputs before view (deeds_of session.held) ending out begun ended said most_asked was over
+
+  -- where something strange was counted, the session was answered so
+  pub strayed : Rose (port_at_first authorities inputs before).odd (port_of authorities view).odd → WasStrange (deeds_of session.held)
+  strayed rose =
+      let counted : Rose 0 (port_of authorities view).odd = subst (λ (n : ℕ). Rose n (port_of authorities view).odd) (first_even authorities inputs before) rose in
+      was_strange (deeds_of session.held) (at_first old session.names) last (held_deeds session.held) even (subst (λ (p : Port (OriginOf authorities)). Rose 0 p.odd) (sym port_left) counted)
 
   -- where a request was refused, there were more than fit
-  pub takes_more : book.refused ≡ true → TakesMore (length book.history) old.clock new.clock
+  pub takes_more : (port_of authorities view).refused ≡ true → TakesMore (length (port_of authorities view).seen) old.clock new.clock
   takes_more refused =
       let entered = all_gain entered_gains (deeds_of session.held) (at_first old session.names) last (held_deeds session.held) in
       let any : list_any is_refused_as_full (answered asks) ≡ true = sym was ∙ refused in
       let some = some_refused (answered asks) any in
       let parts = length-filter_both is_refused_as_full is_entered (λ (ask : Request × Reply). refl) (answered asks) in
       let fewer = few_answered asks in
-      let seen : length book.history ≡ length (filter is_entered (answered asks)) = sym (length-map book.history said_of) ∙ ap length said in
+      let seen : length (port_of authorities view).seen ≡ length (filter is_entered (answered asks)) = sym (length-map (port_of authorities view).seen said_of) ∙ ap length said in
       let each = entered.one_each in
       record {
         moments = entered.moments;
-        told = subst (λ (c : ClockView). Adds entered.moments old.clock.told c.told) (ap (λ (d : Devices BookOrigin). d.clock) session.leaves) entered.told;
+        told = subst (λ (c : ClockView). Adds entered.moments old.clock.told c.told) (ap (λ (d : Devices (OriginOf authorities)). d.clock) session.leaves) entered.told;
         many = omega (arith, some, parts, fewer, seen, each);
       }
 
--- nothing was asked of it, and its port says so
-pub no_talk : (inputs : Inputs) (before : KeeperView) (book : BookView) (ending : Ending) (out : Outcome) (old new : WorldView) → OverBook inputs before book ending out old new → book_port book ≡ fresh inputs before → IsLegalTalk inputs before [] book
-no_talk inputs before book ending out old new over same = record {
-  sound = over.sound;
-  legal = over.legal;
-  talk = ap (λ (p : Port BookOrigin). map said_of p.seen) same;
-  has = over.has;
-  faults = over.faults;
-  called = subst (λ (n : ℕ). CountsCalls before.calls (origin_of inputs) book.history n book.keeper) (ap (λ (p : Port BookOrigin). p.asks) same) over.called;
-  full = λ refused. absurd (cc);
-}
+-- nothing was asked of it, and the port says so
+pub no_talk : (authorities : Authorities) (inputs : Inputs) (before : Answerer authorities) (view : PortView authorities) (ending : Ending) (out : Outcome) (old new : WorldView) → Over authorities inputs before view ending out old new → port_of authorities view ≡ port_at_first authorities inputs before
+    → IsTalk authorities inputs before [] view
+no_talk authorities inputs before view ending out old new over same =
+    let unasked : (port_of authorities view).asks ≡ 0 = ap (λ (p : Port (OriginOf authorities)). p.asks) same ∙ first_unasked authorities inputs before in
+    talk_over authorities inputs before view [] ending out old new (ap (λ (p : Port (OriginOf authorities)). map said_of p.seen) same ∙ ap (λ (s : List Entry). map said_of s) (first_seen authorities inputs before)) (omega (arith, unasked))
+    (ap (λ (p : Port (OriginOf authorities)). p.refused) same ∙ first_unrefused authorities inputs before) over
 
 -- ---- the ending
 

@@ -15,7 +15,7 @@ use Rattle.gate_rules.specs.declared.service.Service.{Service}
 use Rattle.gate_rules.specs.declared.service.Service.TheVariants as services
 use Rattle.gate_rules.specs.declared.verdict.Verdict.{Verdict}
 use Rattle.gate_rules.specs.declared.verdict.Verdict.TheVariants.{Permit, Deny}
-use Rattle.session_acts.specs.Deeds.{gives}
+use Rattle.session_acts.specs.Deeds.{Deed, gives}
 use Rattle.session_acts.specs.Laws.{logged}
 use Rattle.client_service.specs.Endings.{denied_text, ending_line, refusal_reply}
 use Rattle.bastion.specs.Asking.{IsAsked, linking_text}
@@ -34,7 +34,7 @@ use Rattle.bastion.specs.HandingOn.{round_text}
 use Rattle.bastion.specs.HandedOn.{HandsRound}
 use Rattle.bastion.specs.Calculating.{IsCalculated, IsSpelled}
 use Rattle.bastion.specs.Jobs.{AreFormatted, drill_refused, formatted_text}
-use Rattle.bastion.specs.Outcome.{fault_line_of, refusal_text, status_of, verdict_status}
+use Rattle.bastion.specs.Outcome.{WasStrange, fault_line_of, refusal_text, status_of, verdict_status}
 use Rattle.bastion.specs.Run.{verdict_for}
 use Rattle.bastion.specs.Status.{IsHeld, IsPassed}
 use Rattle.bastion.specs.Talk.{was_refused}
@@ -46,6 +46,8 @@ use Rattle.bastion.specs.WorldView.{Post, WorldView}
 use Rattle.bastion.specs.declared.outcome.Outcome.TheVariants.{Ended}
 use Rattle.bastion.specs.declared.outcome.OtpRefusal.{OtpRefusal}
 use Rattle.bastion.specs.declared.outcome.Refusal.TheVariants.{Slot, Otp}
+use Rattle.bastion.specs.declared.words.Authorities.{Authorities}
+use Rattle.bastion.specs.declared.words.Authorities.TheVariants.{Records, Remote}
 use Rattle.bastion.specs.declared.words.Caller.{Caller}
 use Rattle.bastion.specs.declared.words.Client.{Client}
 use Rattle.bastion.specs.declared.words.Command.{Command}
@@ -128,16 +130,21 @@ IsLinkedWhole (Deny line) caller inputs course status old ready new = IsWhole (d
 
 -- The session of this run, as the headline has it, came to its end, or to the most bytes that it may take. The log has taken its
 -- lines whole, and nothing else.
-pub record IsPassedWhole (service : Service) (peer : Peer) (line : ℕ) (Session : Type 0) (course : Course) (status : ℕ) (old new : WorldView) : Type 0 where
+pub record IsPassedWhole (authorities : Authorities) (service : Service) (peer : Peer) (line : ℕ) (Session : Type 0) (course : Course) (status : ℕ) (old new : WorldView) : Type 0 where
   pub session : Session
   pub ends : HasEnded course
   pub logs : new.logs.given ≡ grown old.logs.given (decision_text (Permit line) service peer ++ gives logged course.deeds ++ closing_text service peer course.ending (was_refused course.deeds))
-  pub passed : IsPassed (Permit line) status old.inputs new.inputs
+  pub passed : IsPassed authorities (Permit line) course.deeds status old.inputs new.inputs
 
 -- a client whom the rules deny is told so by these words
-abbrev pub IsServedAtGate : Verdict → Service → (ℕ → List ℕ) → Peer → Type 0 → Course → ℕ → WorldView → WorldView → Type 0
-IsServedAtGate (Permit line) service words peer Session course status old new = IsPassedWhole service peer line Session course status old new
-IsServedAtGate (Deny line) service words peer Session course status old new = IsWhole (decision_text (Deny line) service peer) (words line) 1 status old new
+abbrev pub IsServedAtGate : Authorities → Verdict → Service → (ℕ → List ℕ) → Peer → Type 0 → Course → ℕ → WorldView → WorldView → Type 0
+IsServedAtGate authorities (Permit line) service words peer Session course status old new = IsPassedWhole authorities service peer line Session course status old new
+IsServedAtGate authorities (Deny line) service words peer Session course status old new = IsWhole (decision_text (Deny line) service peer) (words line) 1 status old new
+
+-- or this session was answered that something strange came of a server elsewhere
+abbrev pub OrStrange : Authorities → List Deed → Type 0 → Type 0
+OrStrange Records deeds Whole = Whole
+OrStrange Remote deeds Whole = WasStrange deeds ⊎ Whole
 
 -- ---- mail
 
@@ -172,8 +179,8 @@ IsAllDone (Table query) inputs course status old ready new =
 IsAllDone (Authsrv client) inputs course status old ready new = IsServedWhole client.console (verdict_for (Authsrv client) inputs) client inputs course status old ready new
 IsAllDone (PlugGw caller) inputs course status old ready new = IsLinkedWhole (verdict_for (PlugGw caller) inputs) caller inputs course status old ready new
 IsAllDone (Smap peer) inputs course status old ready new = IsBadWhole status old new ⊎ IsTakenWhole (verdict_for (Smap peer) inputs) peer inputs course status old ready new
-IsAllDone (Gateway kind peer) inputs course status old ready new =
-    IsServedAtGate (verdict_for (Gateway kind peer) inputs) (gateway_service kind) (denial_words kind) peer (OfGateKind kind peer inputs course status ready new) course status old new
+IsAllDone (Gateway kind authorities peer) inputs course status old ready new =
+    OrStrange authorities course.deeds (IsServedAtGate authorities (verdict_for (Gateway kind authorities peer) inputs) (gateway_service kind) (denial_words kind) peer (OfGateKind kind authorities peer inputs course status ready new) course status old new)
 
 -- by the inputs of the command, or by what can't be read, which is told to the log; or there was no memory
 abbrev pub AllDone : Command → Basis → Course → ℕ → WorldView → WorldView → Type 0

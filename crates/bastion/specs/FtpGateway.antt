@@ -2,7 +2,6 @@
 use Rattle.std.specs.Prelude.{◌≡◌, ℕ, false, List, [], ◌∷◌, ◌++◌, None, Err}
 use Rattle.auth_events.specs.Login.{login_in}
 use Rattle.auth_events.specs.declared.entry.Entry.{Entry}
-use Rattle.auth_machine.specs.Port.{BookOrigin}
 use Rattle.fw_acts.specs.Acts.{Row, PlaceTable}
 use Rattle.ftp_gate.specs.Breaks.{CopiesCarry, CountsBreaks}
 use Rattle.ftp_gate.specs.Copied.{CopiesMarked}
@@ -31,18 +30,20 @@ use Rattle.session_acts.specs.Session.{Held, deeds_of}
 use Rattle.session_acts.specs.Talk.{Entered, answered, asked}
 use Rattle.session_acts.specs.World.{World}
 use Rattle.session_acts.specs.declared.cause.Cause.{Cause}
+use Rattle.bastion.specs.Answering.{port_of}
 use Rattle.bastion.specs.AtGateway.{OfGateway}
 use Rattle.bastion.specs.Basis.{Course}
 use Rattle.bastion.specs.Inputs.{Inputs}
 use Rattle.bastion.specs.WorldView.{WorldView}
+use Rattle.bastion.specs.declared.words.Authorities.{Authorities}
 use Rattle.bastion.specs.declared.words.Command.TheVariants.{Gateway}
 use Rattle.bastion.specs.declared.words.GatewayKind.TheVariants as kinds
 
 -- the rows of its session, by the line that permits it
-abbrev pub serving_rows : Inputs → Peer → ℕ → PlaceTable (acts BookOrigin) Place
+abbrev pub serving_rows : {Origin : Type 0} → Inputs → Peer → ℕ → PlaceTable (acts Origin) Place
 serving_rows inputs peer line = ftp_rows (gate_at inputs.rules line peer)
 
-abbrev pub serving_row : Inputs → Peer → ℕ → Row (acts BookOrigin) Place
+abbrev pub serving_row : {Origin : Type 0} → Inputs → Peer → ℕ → Row (acts Origin) Place
 serving_row inputs peer line = ftp_row
 
 -- whether a login is known to stand is what the requests and their answers tell
@@ -56,7 +57,7 @@ abbrev pub LoginsStand : Gate → List Deed → List Entry → Type 0
 LoginsStand gate deeds history =
     (before after : List Deed) (deed : Deed) → deeds ≡ before ++ deed ∷ after → IsOutward deed.act → NeedsLogin gate (known gate before) → LoginStandsIn (number_opened (gives asked deeds)) (gives asked before) history
 
--- What holds of a session of the gateway over a book with this history. It goes by the lines that it heard of the client, which
+-- What holds of a session of the gateway over a port that has seen this history. It goes by the lines that it heard of the client, which
 -- are what it took of the client. The destinations that it asked for are those that the client's commands ask for: all of them in
 -- a session that is done, else up to where the dialogue stopped. Each was asked for right behind its connect line, which the log
 -- has whole, and behind the permission for its host with `-extnd`; the permission line allows it; the verb isn't denied, and where
@@ -66,7 +67,7 @@ LoginsStand gate deeds history =
 -- data copied, for commands that were passed. What the gateway told as a denial, the log was given right before, whole. Behind
 -- each deed came what was due, and no line, destination, request, reply or copy that wasn't. Where the gateway told of a
 -- failure, that was so. After openings in vain a session was opened at most once, and closed once, as the last.
-pub record IsUpheld (gate : Gate) (history : List Entry) {old new : World BookOrigin} {ending : Ending} (held : Held (ftp_rows gate) ftp_row old new ending) : Type 0 where
+pub record IsUpheld {Origin : Type 0} (gate : Gate) (history : List Entry) {old new : World Origin} {ending : Ending} (held : Held (ftp_rows gate) ftp_row old new ending) : Type 0 where
   pub lines : TakesHeard (gives heard_in (deeds_of held)) old.client new.client
   pub exactly : AsksExactly gate held
   pub all : ending ≡ Done → exactly.rest ≡ []
@@ -115,6 +116,6 @@ pub record IsUpheld (gate : Gate) (history : List Entry) {old new : World BookOr
   pub stops : (cause : Cause) → held.dialogue ≡ Err cause → StopsLast cause held
 
 -- a session of the gateway was held
-pub record OfFtp (peer : Peer) (inputs : Inputs) (course : Course) (status : ℕ) (old new : WorldView) : Type 0 where
-  pub at : OfGateway false (Gateway kinds.Ftp peer) services.FtpGw peer (serving_rows inputs peer) (serving_row inputs peer) inputs course status old new
-  pub upheld : IsUpheld (gate_at inputs.rules at.line peer) at.book.history at.session.held
+pub record OfFtp (authorities : Authorities) (peer : Peer) (inputs : Inputs) (course : Course) (status : ℕ) (old new : WorldView) : Type 0 where
+  pub at : OfGateway authorities false (Gateway kinds.Ftp authorities peer) services.FtpGw peer (serving_rows inputs peer) (serving_row inputs peer) inputs course status old new
+  pub upheld : IsUpheld (gate_at inputs.rules at.line peer) (port_of authorities at.view).seen at.session.held

@@ -1,7 +1,6 @@
 -- A client of `tn-gw`: what it is told, for which destinations the dialer is asked, and what goes over the link.
 use Rattle.std.specs.Prelude.{◌≡◌, ℕ, true, List, [], ◌∷◌, ◌++◌, Err}
 use Rattle.auth_events.specs.declared.entry.Entry.{Entry}
-use Rattle.auth_machine.specs.Port.{BookOrigin}
 use Rattle.fw_acts.specs.Acts.{Row, PlaceTable}
 use Rattle.fw_outside.specs.declared.ask.Ask.TheVariants.{Main}
 use Rattle.fw_types.specs.declared.dest.Dest.{Dest}
@@ -32,18 +31,20 @@ use Rattle.tn_gate.specs.Gate.{Gate, asks_login, gate_at}
 use Rattle.tn_gate.specs.Laws.{AsksExactly, DenialsLogged, DialsCleared, LinesDialed}
 use Rattle.tn_gate.specs.Login.{LoginStandsIn, number_opened}
 use Rattle.tn_gate.specs.declared.place.Place.{Place}
+use Rattle.bastion.specs.Answering.{port_at_first, port_of}
 use Rattle.bastion.specs.AtGateway.{OfGateway, begins_at, ends_at}
 use Rattle.bastion.specs.Basis.{Course}
 use Rattle.bastion.specs.Inputs.{Inputs}
 use Rattle.bastion.specs.WorldView.{WorldView}
+use Rattle.bastion.specs.declared.words.Authorities.{Authorities}
 use Rattle.bastion.specs.declared.words.Command.TheVariants.{Gateway}
 use Rattle.bastion.specs.declared.words.GatewayKind.TheVariants as kinds
 
 -- the rows of its session, by the line that permits it; a relay is at its end
-abbrev pub telnet_rows : Inputs → Peer → ℕ → PlaceTable (acts BookOrigin) Place
+abbrev pub telnet_rows : {Origin : Type 0} → Inputs → Peer → ℕ → PlaceTable (acts Origin) Place
 telnet_rows inputs peer line = relayed (tn_rows (gate_at inputs.rules line peer))
 
-abbrev pub telnet_row : Inputs → Peer → ℕ → Row (acts BookOrigin) Place
+abbrev pub telnet_row : {Origin : Type 0} → Inputs → Peer → ℕ → Row (acts Origin) Place
 telnet_row inputs peer line = then_relay (tn_row (gate_at inputs.rules line peer))
 
 -- Where a login is asked for, each destination is asked for after one: what the session had asked by then is a front of the
@@ -52,7 +53,7 @@ abbrev pub LoginsStand : Gate → List Deed → List Entry → Type 0
 LoginsStand gate deeds history =
     asks_login gate.options ≡ true → (before after : List Deed) (deed : Deed) (dest : Dest) → deeds ≡ before ++ deed ∷ after → called deed.act deed.outcome ≡ Main dest ∷ [] → LoginStandsIn (number_opened (gives asked deeds)) (gives asked before) history
 
--- What holds of a session of the gateway over a book with this history. The lines that it heard are the first lines of the
+-- What holds of a session of the gateway over a port that has seen this history. The lines that it heard are the first lines of the
 -- text that it took of the client, in order, and it goes by these. The destinations that it asked for are those that these
 -- lines ask for: all of them in a session that is done, else up to where the dialogue stopped. Each was asked for right behind
 -- its connect line, which the log has whole, and behind the permission for its host with `-extnd`; the permission line allows
@@ -61,7 +62,7 @@ LoginsStand gate deeds history =
 -- failed, right behind what it was due for, and no other. What the client was told as a denial, of a destination or of a login,
 -- the log was given right before, whole. After openings in vain a session was opened at most once, and closed once, as the
 -- last.
-pub record IsGuarded (gate : Gate) (history : List Entry) {old new : World BookOrigin} {ending : Ending} (held : Held (relayed (tn_rows gate)) (then_relay (tn_row gate)) old new ending) : Type 0 where
+pub record IsGuarded {Origin : Type 0} (gate : Gate) (history : List Entry) {old new : World Origin} {ending : Ending} (held : Held (relayed (tn_rows gate)) (then_relay (tn_row gate)) old new ending) : Type 0 where
   pub lines : SaysLines (gives heard_in (deeds_of held)) old.client new.client
   pub heard : lines_in (turns_of (deeds_of held)) ≡ lines_said (gives heard_in (deeds_of held))
   pub exactly : AsksExactly gate held
@@ -89,7 +90,7 @@ pub record IsGuarded (gate : Gate) (history : List Entry) {old new : World BookO
 -- A session of the gateway was held. If a link came up, its server was given a front of what was taken of the client behind the
 -- lines that were heard, and the client, behind what it was told, a front of what was taken of the server; else nothing was
 -- given to a server, and nothing taken of one.
-pub record OfTelnet (peer : Peer) (inputs : Inputs) (course : Course) (status : ℕ) (old new : WorldView) : Type 0 where
-  pub at : OfGateway true (Gateway kinds.Telnet peer) services.TnGw peer (telnet_rows inputs peer) (telnet_row inputs peer) inputs course status old new
-  pub guarded : IsGuarded (gate_at inputs.rules at.line peer) at.book.history at.session.held
-  pub fronts : RelaysFronts (deeds_of at.session.held) (begins_at services.TnGw inputs peer at.line at.before old) (ends_at at.book at.logs new) course.ending
+pub record OfTelnet (authorities : Authorities) (peer : Peer) (inputs : Inputs) (course : Course) (status : ℕ) (old new : WorldView) : Type 0 where
+  pub at : OfGateway authorities true (Gateway kinds.Telnet authorities peer) services.TnGw peer (telnet_rows inputs peer) (telnet_row inputs peer) inputs course status old new
+  pub guarded : IsGuarded (gate_at inputs.rules at.line peer) (port_of authorities at.view).seen at.session.held
+  pub fronts : RelaysFronts (deeds_of at.session.held) (begins_at services.TnGw inputs peer at.line (port_at_first authorities inputs at.before) old) (ends_at (port_of authorities at.view) at.logs new) course.ending

@@ -1,5 +1,5 @@
 -- The headline, a field a sentence, as far as there are commands for it: the replies of the authentication server are those
--- of one legal history; a destination is asked for exactly if the table permits it; every denial logs its line; what is
+-- of one legal history, or those of a server elsewhere; a destination is asked for exactly if the table permits it; every denial logs its line; what is
 -- relayed is a front of what was taken; each message that is answered as kept stands whole in its slot.
 use Rattle.std.specs.Prelude.{◌≡◌, ◌≢◌, ℕ, ◌⊎◌, Bool, true, false, List, Option, Some, None, Ok, Err}
 use Rattle.auth_machine.specs.Book.{BookView}
@@ -42,6 +42,8 @@ use Rattle.bastion.specs.Talk.{IsConcluded, IsLegalTalk, IsSilent, IsToldOff, Is
 use Rattle.bastion.specs.Words.{LineView}
 use Rattle.bastion.specs.Works.{with_given}
 use Rattle.bastion.specs.WorldView.{Post, WorldView}
+use Rattle.bastion.specs.declared.words.Authorities.{Authorities}
+use Rattle.bastion.specs.declared.words.Authorities.TheVariants.{Records}
 use Rattle.bastion.specs.declared.words.Client.{Client}
 use Rattle.bastion.specs.declared.words.Command.{Command}
 use Rattle.bastion.specs.declared.words.Command.TheVariants.{Netacl, NetaclRun, Table, Authsrv, PlugGw, Gateway, Smap}
@@ -76,7 +78,7 @@ DenialLogged (NetaclRun query) inputs status old new = LogsDenial (NetaclRun que
 DenialLogged (Table query) inputs status old new = Unit {0}
 DenialLogged (Authsrv client) inputs status old new = LogsDenial (Authsrv client) services.Authsrv client.peer inputs status old new
 DenialLogged (PlugGw caller) inputs status old new = LogsDenial (PlugGw caller) (services.PlugGw caller.port) caller.peer inputs status old new × (status ≡ 1 → new.output ≡ old.output)
-DenialLogged (Gateway kind peer) inputs status old new = LogsDenial (Gateway kind peer) (gateway_service kind) peer inputs status old new
+DenialLogged (Gateway kind authorities peer) inputs status old new = LogsDenial (Gateway kind authorities peer) (gateway_service kind) peer inputs status old new
 DenialLogged (Smap peer) inputs status old new = LogsDenial (Smap peer) services.Smap peer inputs status old new
 
 -- ---- the replies are those of one legal history
@@ -112,21 +114,22 @@ pub record OfHistory (client : Client) (inputs : Inputs) (course : Course) (stat
 -- what came of a client of the authentication server
 abbrev pub IsReplied : Client → Inputs → Course → ℕ → WorldView → WorldView → Type 0
 IsReplied client inputs course status old new =
-    IsUnserved status old new ⊎ (IsToldOff (Authsrv client) services.Authsrv client.peer denied_text nowhere inputs old new ⊎ OfHistory client inputs course status old new)
+    IsUnserved status old new ⊎ (IsToldOff Records (Authsrv client) services.Authsrv client.peer denied_text nowhere inputs old new ⊎ OfHistory client inputs course status old new)
 
 -- what holds of a session of a gateway that was held
-abbrev pub OfGateKind : GatewayKind → Peer → Inputs → Course → ℕ → WorldView → WorldView → Type 0
-OfGateKind kinds.Telnet peer inputs course status old new = OfTelnet peer inputs course status old new
-OfGateKind kinds.Ftp peer inputs course status old new = OfFtp peer inputs course status old new
+abbrev pub OfGateKind : GatewayKind → Authorities → Peer → Inputs → Course → ℕ → WorldView → WorldView → Type 0
+OfGateKind kinds.Telnet authorities peer inputs course status old new = OfTelnet authorities peer inputs course status old new
+OfGateKind kinds.Ftp authorities peer inputs course status old new = OfFtp authorities peer inputs course status old new
 
 -- what came of a client of a gateway
-abbrev pub IsGated : GatewayKind → Peer → Inputs → Course → ℕ → WorldView → WorldView → Type 0
-IsGated kind peer inputs course status old new = Comes (Gateway kind peer) (gateway_service kind) peer (denial_words kind) (OfGateKind kind peer) inputs course status old new
+abbrev pub IsGated : GatewayKind → Authorities → Peer → Inputs → Course → ℕ → WorldView → WorldView → Type 0
+IsGated kind authorities peer inputs course status old new =
+    Comes authorities (Gateway kind authorities peer) (gateway_service kind) peer (denial_words kind) (OfGateKind kind authorities peer) inputs course status old new
 
 -- a client of a gateway is one of whom destinations are asked, too: both sentences are of one session
 abbrev pub IsReplying : Command → Inputs → Course → ℕ → WorldView → WorldView → Type 0
 IsReplying (Authsrv client) inputs course status old new = IsReplied client inputs course status old new
-IsReplying (Gateway kind peer) inputs course status old new = IsGated kind peer inputs course status old new
+IsReplying (Gateway kind authorities peer) inputs course status old new = IsGated kind authorities peer inputs course status old new
 IsReplying command inputs course status old new = Unit {0}
 
 -- ---- destinations are asked for as the table permits
@@ -134,7 +137,7 @@ IsReplying command inputs course status old new = Unit {0}
 -- a command without a link asks for nothing
 abbrev pub AsksPermitted : Command → Inputs → Course → ℕ → WorldView → WorldView → Type 0
 AsksPermitted (PlugGw caller) inputs course status old new = AsksAtMost caller inputs course.ending status old new
-AsksPermitted (Gateway kind peer) inputs course status old new = IsGated kind peer inputs course status old new
+AsksPermitted (Gateway kind authorities peer) inputs course status old new = IsGated kind authorities peer inputs course status old new
 AsksPermitted command inputs course status old new = new.inputs.dialer ≡ old.inputs.dialer
 
 -- ---- each message that is answered as kept stands
@@ -154,7 +157,7 @@ HandsStand post job course status old new = Unit {0}
 -- of a command whose inputs were read, from the devices as they were then
 pub record HeadlineBy (command : Command) (inputs : Inputs) (course : Course) (status : ℕ) (old new : WorldView) : Type 0 where
   -- a client of `authsrv`, `tn-gw` or `ftp-gw` is told nothing, and the keeper has what it had; or that it is denied; or the replies of
-  -- one legal history
+  -- one legal history, and of a gateway whose users a server elsewhere knows those that this server's lines say
   pub replies_legal : IsReplying command inputs course status old new
   -- `plug-gw` asks for the target of the first line that fits, if that permits, once both lines stand whole in the log, and
   -- relays fronts of what was taken; `tn-gw` asks for exactly the destinations that its client's lines ask for, the permission
@@ -169,11 +172,12 @@ pub record HeadlineBy (command : Command) (inputs : Inputs) (course : Course) (s
   pub answered_stands : AnswersStand command inputs course status old new
 
 -- What a command needs couldn't be had, or refuses. The log was told so, and nothing else; no destination was asked for, nobody was
--- told anything or denied, and the keeper and the disks have what they had.
+-- told anything or denied, the keeper and the disks have what they had, and nothing was asked of a server elsewhere.
 pub record IsUndone (status : ℕ) (old new : WorldView) : Type 0 where
   pub undecided : IsUndecided status old new
   pub unserved : IsUnserved status old new
   pub disks : new.inputs.disks ≡ old.inputs.disks
+  pub remote : new.inputs.remote ≡ old.inputs.remote
 
 -- of a command, by what it goes by
 abbrev pub HeadlineFor : Command → Basis → Course → ℕ → WorldView → WorldView → Type 0

@@ -17,6 +17,8 @@ use Rattle.netperm_table.specs.declared.table_fault.TableFault.{TableFault}
 use Rattle.bastion.specs.WorldView.{WorldView}
 use Rattle.bastion.specs.declared.outcome.Refusal.{Refusal}
 use Rattle.bastion.specs.declared.outcome.Refusal.TheVariants.{Table, Rule, Record, Slot, Otp}
+use Rattle.bastion.specs.declared.words.Authorities.{Authorities}
+use Rattle.bastion.specs.declared.words.Authorities.TheVariants.{Records, Remote}
 use Rattle.bastion.specs.declared.words.Command.{Command}
 use Rattle.bastion.specs.declared.words.Command.TheVariants as commands
 use Rattle.bastion.specs.Gateways.{gateway_service}
@@ -33,6 +35,11 @@ pub data Need : Type 0 where
 abbrev pub book_needs : Service → List Need
 book_needs service = RulesOf service ∷ ThePolicy ∷ TheRecords ∷ []
 
+-- what one of a gateway needs: where a server elsewhere knows the users, the rules alone
+abbrev pub gateway_needs : Authorities → Service → List Need
+gateway_needs Records service = book_needs service
+gateway_needs Remote service = RulesOf service ∷ []
+
 -- in the order in which it is read
 abbrev pub needs : Command → List Need
 needs (commands.Netacl query) = RulesOf query.service ∷ []
@@ -40,7 +47,7 @@ needs (commands.NetaclRun query) = RulesOf query.service ∷ []
 needs (commands.Table query) = RulesOf query.service ∷ []
 needs (commands.Authsrv client) = book_needs services.Authsrv
 needs (commands.PlugGw caller) = RulesOf (services.PlugGw caller.port) ∷ []
-needs (commands.Gateway kind peer) = book_needs (gateway_service kind)
+needs (commands.Gateway kind authorities peer) = gateway_needs authorities (gateway_service kind)
 needs (commands.Smap peer) = RulesOf services.Smap ∷ []
 
 abbrev pub is_of_records : Need → Bool

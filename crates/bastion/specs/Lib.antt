@@ -1,10 +1,12 @@
 pub mod Account
+pub mod Answering
 pub mod Asking
 pub mod AtGateway
 pub mod Calculating
 pub mod Basis
 pub mod Complete
 pub mod Deciding
+pub mod DestWord
 pub mod FilesAsked
 pub mod FtpGateway
 pub mod Gateway

@@ -25,6 +25,7 @@ pub record Linked (caller : Caller) (inputs : Inputs) (out : outcomes.Outcome) (
   pub serves : Conn (PlugGw caller.port) inputs.rules caller.peer (devices_for old) (devices_for new) ending
   pub comes : out ≡ outcome.Ended ending false
   pub keeper : new.inputs.keeper ≡ old.inputs.keeper
+  pub remote : new.inputs.remote ≡ old.inputs.remote
   pub launcher : new.inputs.launcher ≡ old.inputs.launcher
   pub disks : new.inputs.disks ≡ old.inputs.disks
   pub files : new.files ≡ old.files

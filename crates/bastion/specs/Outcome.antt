@@ -1,6 +1,9 @@
 -- What a run comes to: its status, its line in the log, and whose count has risen. Three tables, by cases.
-use Rattle.std.specs.Prelude.{ℕ, zero, suc, ◌⊎◌, Bool, true, false, List, [], ◌∷◌, ◌++◌, Option, Some, None, unwrap_or, codes, if◌then◌else◌}
+use Rattle.std.specs.Prelude.{◌≡◌, ℕ, zero, suc, ◌⊎◌, Bool, true, false, List, [], ◌∷◌, ◌++◌, Option, Some, None, Result, Ok, Err, unwrap_or, codes, if◌then◌else◌}
+use Rattle.std.specs.List.{list_any}
 use Rattle.std.specs.Fmt.{decimal}
+use Rattle.auth_events.specs.declared.port.PortFault.{PortFault}
+use Rattle.auth_events.specs.declared.port.PortFault.TheVariants as faults
 use Rattle.fw_disk.specs.DiskView.{DiskView}
 use Rattle.fw_mail.specs.MailerView.{MailerView}
 use Rattle.fw_outside.specs.Counts.{Rose}
@@ -15,6 +18,12 @@ use Rattle.otp_words.specs.declared.dict_fault.DictFault.{DictFault}
 use Rattle.otp_words.specs.declared.dict_fault.DictFault.TheVariants as dictionary
 use Rattle.otp_words.specs.declared.words_fault.WordsFault.{WordsFault}
 use Rattle.otp_words.specs.declared.words_fault.WordsFault.TheVariants as spelled
+use Rattle.remote_port.specs.Link.{failures}
+use Rattle.remote_port.specs.Remote.{RemoteOrigin}
+use Rattle.session_acts.specs.Acts as doing
+use Rattle.session_acts.specs.Acts.{Act}
+use Rattle.session_acts.specs.Acts.Act.{Ask, Renew}
+use Rattle.session_acts.specs.Deeds.{Deed, gives}
 use Rattle.bastion.specs.Words.{LineView}
 use Rattle.bastion.specs.WorldView.{Post, WorldView}
 use Rattle.bastion.specs.declared.outcome.Device.{Device}
@@ -25,6 +34,8 @@ use Rattle.bastion.specs.declared.outcome.OtpRefusal.{OtpRefusal}
 use Rattle.bastion.specs.declared.outcome.OtpRefusal.TheVariants as otp
 use Rattle.bastion.specs.declared.outcome.Refusal.{Refusal}
 use Rattle.bastion.specs.declared.outcome.Refusal.TheVariants.{Table, Rule, Record, Slot, Otp}
+use Rattle.bastion.specs.declared.words.Authorities.{Authorities}
+use Rattle.bastion.specs.declared.words.Authorities.TheVariants.{Records, Remote}
 use Rattle.bastion.specs.declared.words.Command.{Command}
 use Rattle.bastion.specs.declared.words.Command.TheVariants.{PlugGw, Gateway, Smap}
 use Rattle.bastion.specs.declared.words.Order.{Order}
@@ -176,10 +187,43 @@ LinkRose endings.Idle old new = Rose old.inputs.input.idles new.inputs.input.idl
 LinkRose endings.NoRoute old new = Rose old.inputs.dialer.refusals new.inputs.dialer.refusals
 LinkRose ending old new = EndingRose ending old new
 
+-- the link to a server elsewhere failed: its source or its sink, or nothing came of it in time
+abbrev pub EndsRose : Option RemoteOrigin → Option RemoteOrigin → Type 0
+EndsRose (Some old) (Some new) = Rose (failures old.source old.sink) (failures new.source new.sink)
+EndsRose _ _ = ⊥
+
+-- why a request got no reply
+abbrev pub fault_in : {A : Type 0} → Result A PortFault → List PortFault
+fault_in (Ok reply) = []
+fault_in (Err fault) = fault ∷ []
+
+abbrev pub fault_with : {A : Type 0} → Result A (List ℕ × PortFault) → List PortFault
+fault_with (Ok reply) = []
+fault_with (Err salted) = salted.1 ∷ []
+
+abbrev pub unanswered : (act : Act) → doing.Outcome act → List PortFault
+unanswered (Ask request) outcome = fault_in outcome
+unanswered (Renew name hash) outcome = fault_with outcome
+unanswered act outcome = []
+
+abbrev pub is_strange : PortFault → Bool
+is_strange faults.Strange = true
+is_strange _ = false
+
+-- something strange came: a request of this session was answered so, which its port counts
+abbrev pub WasStrange : List Deed → Type 0
+WasStrange deeds = list_any is_strange (gives unanswered deeds) ≡ true
+
+-- what ends a session by whom it asks: a book never does
+abbrev pub AuthRose : Authorities → List Deed → WorldView → WorldView → Type 0
+AuthRose Records deeds old new = ⊥
+AuthRose Remote deeds old new = EndsRose old.inputs.remote new.inputs.remote ⊎ WasStrange deeds
+
 -- and of one of a gateway, which no link that is refused ends
-abbrev pub GateRose : Ending → WorldView → WorldView → Type 0
-GateRose endings.NoRoute old new = ⊥
-GateRose ending old new = LinkRose ending old new
+abbrev pub GateRose : Authorities → List Deed → Ending → WorldView → WorldView → Type 0
+GateRose authorities deeds endings.NoRoute old new = ⊥
+GateRose authorities deeds endings.AuthFault old new = AuthRose authorities deeds old new
+GateRose authorities deeds ending old new = LinkRose ending old new
 
 -- the disk at a place counted a failure
 abbrev pub DiskRose : ℕ → List DiskView → List DiskView → Type 0
@@ -202,17 +246,17 @@ abbrev pub JobRose : Post → Outcome → WorldView → WorldView → Type 0
 JobRose post (Failed device.Mailer) old new = MailersRose post.before post.after
 JobRose post outcome old new = SlotsRose outcome old new
 
--- only a session of the plug or of a gateway has a link, and only one of the mail gateway slots
-abbrev pub RoseFor : Command → Outcome → WorldView → WorldView → Type 0
-RoseFor (PlugGw caller) (Ended ending refused) old new = LinkRose ending old new
-RoseFor (Gateway kind peer) (Ended ending refused) old new = GateRose ending old new
-RoseFor (Smap peer) outcome old new = SlotsRose outcome old new
-RoseFor command outcome old new = CountRose outcome old new
+-- only a session of the plug or of a gateway has a link, and only one of the mail gateway slots; these are the deeds of the session
+abbrev pub RoseFor : Command → List Deed → Outcome → WorldView → WorldView → Type 0
+RoseFor (PlugGw caller) deeds (Ended ending refused) old new = LinkRose ending old new
+RoseFor (Gateway kind authorities peer) deeds (Ended ending refused) old new = GateRose authorities deeds ending old new
+RoseFor (Smap peer) deeds outcome old new = SlotsRose outcome old new
+RoseFor command deeds outcome old new = CountRose outcome old new
 
-abbrev pub OrderRose : Post → Order → Outcome → WorldView → WorldView → Type 0
-OrderRose post (ByTable command) outcome old new = RoseFor command outcome old new
-OrderRose post (Alone job) outcome old new = JobRose post outcome old new
+abbrev pub OrderRose : Post → Order → List Deed → Outcome → WorldView → WorldView → Type 0
+OrderRose post (ByTable command) deeds outcome old new = RoseFor command deeds outcome old new
+OrderRose post (Alone job) deeds outcome old new = JobRose post outcome old new
 
-abbrev pub RoseIn : Post → Option LineView → Outcome → WorldView → WorldView → Type 0
-RoseIn post None outcome old new = CountRose outcome old new
-RoseIn post (Some line) outcome old new = OrderRose post line.order outcome old new
+abbrev pub RoseIn : Post → Option LineView → List Deed → Outcome → WorldView → WorldView → Type 0
+RoseIn post None deeds outcome old new = CountRose outcome old new
+RoseIn post (Some line) deeds outcome old new = OrderRose post line.order deeds outcome old new

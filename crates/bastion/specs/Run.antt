@@ -11,7 +11,7 @@ use Rattle.fw_types.specs.declared.peer.Peer.{Peer}
 use Rattle.gate_rules.specs.Verdict.{verdict_of}
 use Rattle.gate_rules.specs.declared.verdict.Verdict.{Verdict}
 pub use Rattle.bastion.specs.FilesAsked.{AsksTable, FilesFailed, TookBackFailed}
-use Rattle.bastion.specs.Basis.{Basis}
+use Rattle.bastion.specs.Basis.{Basis, Course}
 use Rattle.bastion.specs.Basis.Basis.{Nothing, Refused, Given}
 use Rattle.bastion.specs.Inputs.{HasInputs, Inputs, Reading, is_of_line, needs_records}
 use Rattle.bastion.specs.Jobs.{DoesJob}
@@ -84,7 +84,7 @@ peer_of (NetaclRun query) = query.peer
 peer_of (Table query) = query.peer
 peer_of (Authsrv client) = client.peer
 peer_of (PlugGw caller) = caller.peer
-peer_of (Gateway kind peer) = peer
+peer_of (Gateway kind authorities peer) = peer
 peer_of (Smap peer) = peer
 
 -- whom the rules don't decide of
@@ -103,10 +103,15 @@ pub record LacksPrint (name : List ℕ) (command : Command) (old new : WorldView
   pub permitted : verdict_status (verdict_for command inputs) ≡ 0
   pub only : ReadsOnly name (needs_records command) old new
 
+-- memory was wanting for the records, of a command that needs them
+pub record LacksRecords (name : List ℕ) (command : Command) (old new : WorldView) : Type 0 where
+  pub needed : needs_records command ≡ true
+  pub only : ReadsOnly name true old new
+
 -- memory was wanting before the verdict; or for the text of one, and then only where it is a permission
 abbrev pub Lacks : List ℕ → Command → Step → WorldView → WorldView → Type 0
 Lacks name command steps.Print old new = LacksPrint name command old new
-Lacks name command steps.Records old new = ReadsOnly name (needs_records command) old new
+Lacks name command steps.Records old new = LacksRecords name command old new
 Lacks name command steps.Slots old new = ⊥
 Lacks name command steps.Drill old new = ⊥
 Lacks name command steps.Round old new = ⊥
@@ -181,12 +186,14 @@ abbrev pub TellsIf : Option (List ℕ) → WorldView → WorldView → Type 0
 TellsIf None old new = new ≡ old
 TellsIf (Some text) old new = Tells text old new
 
--- The run came to an outcome: what it did for that; a failure that it names was counted; then the outcome's line was given to
--- the log, where it has one; and its status is the outcome's, whatever became of that line.
+-- The run came to an outcome: what it did for that, and what its session did; a failure that it names was counted, or came to that
+-- session as something strange; then the outcome's line was given to the log, where it has one; and its status is the outcome's,
+-- whatever became of that line.
 pub record Run (post : Post) (line : Option LineView) (status : ℕ) (old new : WorldView) : Type 0 where
   pub outcome : Outcome
   pub middle : WorldView
   pub does : DoesLine post line outcome old middle
-  pub rose : RoseIn post line outcome old middle
+  pub course : Course
+  pub rose : RoseIn post line course.deeds outcome old middle
   pub tells : TellsIf (fault_line_of outcome) middle new
   pub status_is : status ≡ status_of outcome

@@ -1,5 +1,6 @@
 -- The work of `authsrv`: a client is served over a book of the records, and the keeper is given back.
 use Rattle.std.specs.Prelude.{◌≡◌, ℕ, Bool, true, false, [], length, Some}
+use Rattle.auth_events.specs.Port.{Port}
 use Rattle.auth_machine.specs.Book.{BookView}
 use Rattle.auth_machine.specs.History.{CountsCalls, CountsUnkept, HasRecords, IsLegal, IsSound, Origin}
 use Rattle.auth_machine.specs.Port.{BookOrigin, book_port}
@@ -20,9 +21,13 @@ use Rattle.bastion.specs.declared.outcome.Outcome as outcomes
 use Rattle.bastion.specs.declared.outcome.Outcome.TheVariants as outcome
 use Rattle.bastion.specs.declared.words.Client.{Client}
 
--- the devices that a client of the server meets: those of the world, and a dialer that has no server
+-- the devices that a client meets: those of the world, a port, and a dialer
+abbrev pub met_at : {Origin : Type 0} → WorldView → Port Origin → DialerView → Devices Origin
+met_at world port dialer = devices_with port world.inputs.input world.output world.logs dialer world.inputs.clock world.inputs.dice
+
+-- those that a client of the server meets: a book, and a dialer that has no server
 abbrev pub devices_at : WorldView → BookView → DialerView → Devices BookOrigin
-devices_at world book dialer = devices_with (book_port book) world.inputs.input world.output world.logs dialer world.inputs.clock world.inputs.dice
+devices_at world book dialer = met_at world (book_port book) dialer
 
 -- a session at the console is held whatever the rules say of the peer; any other client goes by the verdict
 abbrev pub Serves : Bool → RuleBook → Peer → Devices BookOrigin → Devices BookOrigin → Ending → Type 0
@@ -50,7 +55,7 @@ origin_of inputs = record { policy = inputs.policy; records = inputs.records }
 
 -- The book was of the records that the keeper had. These are sound; the history of the requests is legal, and full where one
 -- was refused for that; the keeper has the records after it, and has counted a failure for each entry that was not kept, and
--- its calls as the history has it. Neither the files were asked for anything, nor the launcher, nor the disks.
+-- its calls as the history has it. Neither the files were asked for anything, nor the launcher, nor the disks, nor a server elsewhere.
 pub record OverBook (inputs : Inputs) (before : KeeperView) (book : BookView) (ending : Ending) (out : outcomes.Outcome) (old new : WorldView) : Type 0 where
   pub keeper : old.inputs.keeper ≡ Some before
   pub sound : IsSound (origin_of inputs)
@@ -64,6 +69,7 @@ pub record OverBook (inputs : Inputs) (before : KeeperView) (book : BookView) (e
   pub files : new.files ≡ old.files
   pub launcher : new.inputs.launcher ≡ old.inputs.launcher
   pub disks : new.inputs.disks ≡ old.inputs.disks
+  pub remote : new.inputs.remote ≡ old.inputs.remote
 
 -- A client of `authsrv` was served over the book, and no server met. After a client whom the rules deny, the keeper is as the
 -- load left it, its count of calls too.

@@ -8,6 +8,7 @@ use Rattle.auth_machine.specs.Book.{BookView}
 use Rattle.auth_machine.specs.History.{CountsCalls, CountsUnkept, HasRecords, IsLegal, IsSound}
 use Rattle.auth_machine.specs.Opening.{ReadsAs}
 use Rattle.auth_machine.specs.Policy.{PolicyView}
+use Rattle.auth_machine.specs.Port.{book_port}
 use Rattle.auth_machine.specs.declared.open_fault.OpenFault.{OpenFault}
 use Rattle.auth_machine.specs.declared.open_fault.OpenFault.TheVariants as faults
 use Rattle.client_service.specs.Conn.{Conn, Untouched}
@@ -16,6 +17,9 @@ use Rattle.fw_types.specs.declared.peer.Peer.{Peer}
 use Rattle.gate_rules.specs.Reading.{RuleBook}
 use Rattle.gate_rules.specs.Verdict.{verdict_of}
 use Rattle.gate_rules.specs.declared.service.Service.{Service}
+use Rattle.remote_port.specs.Remote.{RemoteOrigin, RemoteView, remote_port}
+use Rattle.remote_port.specs.Texts.{RemoteTexts}
+use Rattle.bastion.specs.Answering.{GivenBack, answerer_of, remote_at_first}
 use Rattle.bastion.specs.Gating.{devices_over}
 use Rattle.bastion.specs.Inputs.{HasInputs, Inputs, Reading, book_needs, needs}
 use Rattle.bastion.specs.Run.{ReadsOnly, Stops}
@@ -28,6 +32,7 @@ use Rattle.bastion.specs.declared.outcome.Refusal.{Refusal}
 use Rattle.bastion.specs.declared.outcome.Refusal.TheVariants.{Record}
 use Rattle.bastion.specs.declared.outcome.Step.TheVariants as steps
 use Rattle.bastion.specs.declared.server_rules.ServerRules.{ServerRules}
+use Rattle.bastion.specs.declared.words.Authorities.TheVariants.{Remote}
 use Rattle.bastion.specs.declared.words.Client.{Client}
 use Rattle.bastion.specs.declared.words.Command.{Command}
 
@@ -141,6 +146,7 @@ pub record HoldsOver (client : Client) (rules : RuleBook) (first : BookView) (ou
   pub links : middle.inputs.dialer ≡ old.inputs.dialer
   pub launcher : middle.inputs.launcher ≡ old.inputs.launcher
   pub disks : middle.inputs.disks ≡ old.inputs.disks
+  pub remote : middle.inputs.remote ≡ old.inputs.remote
   pub ends : EndsOver book ending out middle new
 
 -- and a client of a gateway
@@ -148,9 +154,27 @@ pub record PassesOver (service : Service) (peer : Peer) (rules : RuleBook) (firs
   pub book : BookView
   pub ending : Ending
   pub middle : WorldView
-  pub serves : Conn service rules peer (devices_over old first) (devices_over middle book) ending
+  pub serves : Conn service rules peer (devices_over old (book_port first)) (devices_over middle (book_port book)) ending
   pub untouched : Untouched service (verdict_of rules peer) first book
   pub files : middle.files ≡ old.files
   pub launcher : middle.inputs.launcher ≡ old.inputs.launcher
   pub disks : middle.inputs.disks ≡ old.inputs.disks
+  pub remote : middle.inputs.remote ≡ old.inputs.remote
   pub ends : EndsOver book ending out middle new
+
+-- ---- a session over a link
+
+-- a client of a gateway was served over both ends of the link, and then these were given back
+pub record PassesLink (service : Service) (peer : Peer) (rules : RuleBook) (out : Outcome) (old new : WorldView) : Type 0 where
+  pub ends : RemoteOrigin
+  pub there : old.inputs.remote ≡ Some ends
+  pub remote : RemoteView
+  pub ending : Ending
+  pub serves : Conn service rules peer (devices_over old (remote_port (remote_at_first ends))) (devices_over new (remote_port remote)) ending
+  pub untouched : Untouched service (verdict_of rules peer) (remote_at_first ends) remote
+  pub texts : RemoteTexts remote
+  pub comes : out ≡ outcome.Ended ending remote.talk.refused
+  pub back : GivenBack Remote (answerer_of Remote remote) old.inputs new.inputs
+  pub files : new.files ≡ old.files
+  pub launcher : new.inputs.launcher ≡ old.inputs.launcher
+  pub disks : new.inputs.disks ≡ old.inputs.disks

@@ -1,6 +1,7 @@
 -- What the status of a run says, and when it comes.
-use Rattle.std.specs.Prelude.{◌≡◌, ℕ, ◌<◌, ◌⊎◌, Bool, true, false, List, length, Option, Some, None, Result, Ok, Err}
+use Rattle.std.specs.Prelude.{◌≡◌, ℕ, ◌<◌, ◌⊎◌, Bool, true, false, List, length, Option, Some, None, IsSome, Result, Ok, Err}
 use Rattle.session_acts.specs.Causes.{IsLast, TookAtMost, TookMost}
+use Rattle.session_acts.specs.Deeds.{Deed}
 use Rattle.session_acts.specs.Laws.{Adds}
 use Rattle.session_acts.specs.World.{most_taken}
 use Rattle.drill_lines.specs.Drill.{drilled}
@@ -11,17 +12,20 @@ use Rattle.fw_outside.specs.SourceView.{SourceView}
 use Rattle.gate_rules.specs.declared.verdict.Verdict.{Verdict}
 use Rattle.gate_rules.specs.declared.verdict.Verdict.TheVariants.{Permit, Deny}
 use Rattle.bastion.specs.Calculating.{IsCalculated, IsSpelled}
-use Rattle.bastion.specs.Basis.{Basis}
+use Rattle.bastion.specs.Basis.{Basis, Course}
 use Rattle.bastion.specs.Basis.Basis.{Nothing, Refused, Given}
 use Rattle.bastion.specs.Inputs.{Inputs}
 use Rattle.bastion.specs.Jobs.{AreFormatted}
-use Rattle.bastion.specs.Outcome.{DiskRose, KeeperRose, MailersRose, verdict_status}
+use Rattle.bastion.specs.Outcome.{DiskRose, EndsRose, KeeperRose, MailersRose, WasStrange, verdict_status}
 use Rattle.bastion.specs.Run.{verdict_for}
 use Rattle.bastion.specs.Serving.{most_entries}
 use Rattle.bastion.specs.Spool.{AreOpened, HasBadSlot, LeavesAside, LeavesSlots}
-use Rattle.bastion.specs.Words.{LineView}
+use Rattle.bastion.specs.Talk.{was_refused}
+use Rattle.bastion.specs.Words.{LineView, is_remote}
 use Rattle.bastion.specs.WorldView.{Post, SessionInputs, WorldView}
 use Rattle.bastion.specs.declared.outcome.OtpRefusal.{OtpRefusal}
+use Rattle.bastion.specs.declared.words.Authorities.{Authorities}
+use Rattle.bastion.specs.declared.words.Authorities.TheVariants.{Records, Remote}
 use Rattle.bastion.specs.declared.words.Command.{Command}
 use Rattle.bastion.specs.declared.words.Command.TheVariants.{Netacl, NetaclRun, Table, Authsrv, PlugGw, Gateway, Smap}
 use Rattle.bastion.specs.declared.words.GatewayKind.TheVariants as kinds
@@ -51,10 +55,12 @@ abbrev pub DisksRose : List DiskView → List DiskView → Type 0
 DisksRose old new = (slot : ℕ) × DiskRose slot old new
 
 -- a device's own count rose: the dialer's, too, where the command has a link; but a link that is refused is no failure of a
--- session of a gateway, which goes on; and those of the disks of a command that calls them
+-- session of a gateway, which goes on; that of the link to a server elsewhere, where it knows a gateway's users; and those of the disks
+-- of a command that calls them
 abbrev pub RoseBy : Command → WorldView → WorldView → Type 0
 RoseBy (PlugGw caller) old new = SomeRose old new ⊎ LinksRose old.inputs.dialer new.inputs.dialer
-RoseBy (Gateway kind peer) old new = SomeRose old new ⊎ LinksFailed old.inputs.dialer new.inputs.dialer
+RoseBy (Gateway kind Records peer) old new = SomeRose old new ⊎ LinksFailed old.inputs.dialer new.inputs.dialer
+RoseBy (Gateway kind Remote peer) old new = (SomeRose old new ⊎ LinksFailed old.inputs.dialer new.inputs.dialer) ⊎ EndsRose old.inputs.remote new.inputs.remote
 RoseBy (Smap peer) old new = SomeRose old new ⊎ DisksRose old.inputs.disks new.inputs.disks
 RoseBy command old new = SomeRose old new
 
@@ -105,11 +111,21 @@ abbrev pub IsLinked : Verdict → ℕ → SessionInputs → SessionInputs → Ty
 IsLinked (Permit line) status old new = (status ≡ 0) ⊎ ((status ≡ 6) × (TookMost old.input new.input ⊎ LinkSpent new.dialer))
 IsLinked (Deny line) status old new = status ≡ 1
 
+-- more was asked than fits in a history; of a server elsewhere, this session was answered that no more fits in its
+abbrev pub IsFullAt : Authorities → List Deed → SessionInputs → SessionInputs → Type 0
+IsFullAt Records deeds old new = IsFull old new
+IsFullAt Remote deeds old new = was_refused deeds ≡ true
+
 -- a session of a gateway: 0, or 6 where it came to a limit, or all that may be was taken of a link; 1 where the rules deny
 -- the peer
-abbrev pub IsPassed : Verdict → ℕ → SessionInputs → SessionInputs → Type 0
-IsPassed (Permit line) status old new = (status ≡ 0) ⊎ ((status ≡ 6) × (IsAtLimit old new ⊎ LinkSpent new.dialer))
-IsPassed (Deny line) status old new = status ≡ 1
+abbrev pub IsPassed : Authorities → Verdict → List Deed → ℕ → SessionInputs → SessionInputs → Type 0
+IsPassed authorities (Permit line) deeds status old new = (status ≡ 0) ⊎ ((status ≡ 6) × ((TookMost old.input new.input ⊎ IsFullAt authorities deeds old new) ⊎ LinkSpent new.dialer))
+IsPassed authorities (Deny line) deeds status old new = status ≡ 1
+
+-- or 4, where this session was answered that something strange came of a server elsewhere
+abbrev pub IsAnswered : Authorities → Verdict → List Deed → ℕ → SessionInputs → SessionInputs → Type 0
+IsAnswered Records verdict deeds status old new = IsPassed Records verdict deeds status old new
+IsAnswered Remote verdict deeds status old new = ((status ≡ 4) × WasStrange deeds) ⊎ IsPassed Remote verdict deeds status old new
 
 -- a session of the mail gateway: 0, or 6 where as many bytes as may be were taken of the input; 1 where the rules deny the peer
 abbrev pub IsTaken : Verdict → ℕ → SessionInputs → SessionInputs → Type 0
@@ -120,15 +136,15 @@ IsTaken (Deny line) status old new = status ≡ 1
 abbrev pub IsMailed : Verdict → ℕ → SessionInputs → SessionInputs → Type 0
 IsMailed verdict status old new = ((status ≡ 3) × ((slot : ℕ) × (at : ℕ) × HasBadSlot slot at old.disks new.disks)) ⊎ (AreOpened old.disks × IsTaken verdict status old new)
 
--- 0 or 1 as the rules permit or deny the peer
-abbrev pub IsBy : Command → Inputs → ℕ → SessionInputs → SessionInputs → Type 0
-IsBy (Netacl query) inputs status old new = status ≡ verdict_status (verdict_for (Netacl query) inputs)
-IsBy (NetaclRun query) inputs status old new = status ≡ verdict_status (verdict_for (NetaclRun query) inputs)
-IsBy (Table query) inputs status old new = status ≡ verdict_status (verdict_for (Table query) inputs)
-IsBy (Authsrv client) inputs status old new = IsServed client.console (verdict_for (Authsrv client) inputs) status old new
-IsBy (PlugGw caller) inputs status old new = IsLinked (verdict_for (PlugGw caller) inputs) status old new
-IsBy (Gateway kind peer) inputs status old new = IsPassed (verdict_for (Gateway kind peer) inputs) status old new
-IsBy (Smap peer) inputs status old new = IsMailed (verdict_for (Smap peer) inputs) status old new
+-- 0 or 1 as the rules permit or deny the peer; these are the deeds of the session
+abbrev pub IsBy : Command → Inputs → List Deed → ℕ → SessionInputs → SessionInputs → Type 0
+IsBy (Netacl query) inputs deeds status old new = status ≡ verdict_status (verdict_for (Netacl query) inputs)
+IsBy (NetaclRun query) inputs deeds status old new = status ≡ verdict_status (verdict_for (NetaclRun query) inputs)
+IsBy (Table query) inputs deeds status old new = status ≡ verdict_status (verdict_for (Table query) inputs)
+IsBy (Authsrv client) inputs deeds status old new = IsServed client.console (verdict_for (Authsrv client) inputs) status old new
+IsBy (PlugGw caller) inputs deeds status old new = IsLinked (verdict_for (PlugGw caller) inputs) status old new
+IsBy (Gateway kind authorities peer) inputs deeds status old new = IsAnswered authorities (verdict_for (Gateway kind authorities peer) inputs) deeds status old new
+IsBy (Smap peer) inputs deeds status old new = IsMailed (verdict_for (Smap peer) inputs) status old new
 
 -- a device failed, which its own count shows
 pub record ByCount (command : Command) (status : ℕ) (old new : WorldView) : Type 0 where
@@ -141,10 +157,10 @@ IsOutside command status old new = ByCount command status old new ⊎ (status �
 
 -- so is the status of a command, where what it needs couldn't be had; 3 where something can't be read; else it is by the inputs, or
 -- so
-abbrev pub IsStatusFor : Command → Basis → ℕ → WorldView → WorldView → Type 0
-IsStatusFor command Nothing status old new = IsOutside command status old new
-IsStatusFor command (Refused reading refusal) status old new = status ≡ 3
-IsStatusFor command (Given reading inputs ready) status old new = IsOutside command status old new ⊎ IsBy command inputs status old.inputs new.inputs
+abbrev pub IsStatusFor : Command → Basis → Course → ℕ → WorldView → WorldView → Type 0
+IsStatusFor command Nothing course status old new = IsOutside command status old new
+IsStatusFor command (Refused reading refusal) course status old new = status ≡ 3
+IsStatusFor command (Given reading inputs ready) course status old new = IsOutside command status old new ⊎ IsBy command inputs course.deeds status old.inputs new.inputs
 
 -- 0 where a drill has its counts, 3 where a line of it can't be read
 abbrev pub drill_status : {A B : Type 0} → Result A B → ℕ
@@ -169,14 +185,14 @@ IsStatusOfJob post (OtpCalc file) status old new = (((status ≡ 4) × SomeRose 
 IsStatusOfJob post (OtpHex spelling) status old new = (((status ≡ 4) × SomeRose old new) ⊎ (status ≡ 5)) ⊎ IsByReading (IsSpelled spelling) status old
 IsStatusOfJob post SpoolInit status old new = ((status ≡ 4) × (SomeRose old new ⊎ DisksRose old.inputs.disks new.inputs.disks)) ⊎ (status ≡ 0)
 
-abbrev pub IsStatusOf : Post → Order → Basis → ℕ → WorldView → WorldView → Type 0
-IsStatusOf post (ByTable command) basis status old new = IsStatusFor command basis status old new
-IsStatusOf post (Alone job) basis status old new = IsStatusOfJob post job status old new
+abbrev pub IsStatusOf : Post → Order → Basis → Course → ℕ → WorldView → WorldView → Type 0
+IsStatusOf post (ByTable command) basis course status old new = IsStatusFor command basis course status old new
+IsStatusOf post (Alone job) basis course status old new = IsStatusOfJob post job status old new
 
 -- 2 is for words that are no command
-abbrev pub IsStatus : Post → Option LineView → Basis → ℕ → WorldView → WorldView → Type 0
-IsStatus post None basis status old new = status ≡ 2
-IsStatus post (Some line) basis status old new = IsStatusOf post line.order basis status old new
+abbrev pub IsStatus : Post → Option LineView → Basis → Course → ℕ → WorldView → WorldView → Type 0
+IsStatus post None basis course status old new = status ≡ 2
+IsStatus post (Some line) basis course status old new = IsStatusOf post line.order basis course status old new
 
 -- ---- the disks
 
@@ -219,6 +235,23 @@ abbrev pub LeavesMailers : Post → Option LineView → Type 0
 LeavesMailers post None = post.after ≡ post.before
 LeavesMailers post (Some line) = OrderLeavesMailers post line.order
 
+-- ---- the server elsewhere
+
+-- whether a gateway's users are known elsewhere, so that both ends of the link are wanted
+abbrev pub is_remote_line : Option LineView → Bool
+is_remote_line None = false
+is_remote_line (Some line) = is_remote line.order
+
+-- such a gateway gives both ends back, and doesn't call the keeper; any other order leaves the ends as they were
+abbrev pub LeavesRemoteIf : Bool → SessionInputs → SessionInputs → Type 0
+LeavesRemoteIf false old new = new.remote ≡ old.remote
+LeavesRemoteIf true old new = (IsSome old.remote → IsSome new.remote) × (new.keeper ≡ old.keeper)
+
+abbrev pub LeavesRemote : Option LineView → SessionInputs → SessionInputs → Type 0
+LeavesRemote line old new = LeavesRemoteIf (is_remote_line line) old new
+
+-- ---- the bytes
+
 -- no more bytes were taken than a session may take; and after so many the status is 6
 pub record TakesIn (status : ℕ) (old new : SourceView) : Type 0 where
   pub took : TookAtMost old new
@@ -231,7 +264,7 @@ pub record TakesOver (status : ℕ) (old new : SourceView) : Type 0 where
 
 abbrev pub TakesFor : Command → ℕ → SourceView → SourceView → Type 0
 TakesFor (PlugGw caller) status old new = TakesOver status old new
-TakesFor (Gateway kinds.Telnet peer) status old new = TakesOver status old new
+TakesFor (Gateway kinds.Telnet authorities peer) status old new = TakesOver status old new
 TakesFor command status old new = TakesIn status old new
 
 -- of the jobs without a table `otp-calc` alone takes anything

@@ -1,4 +1,5 @@
--- What a session over a book leaves: its talk as one legal history, and the lines behind it.
+-- What a session over a port leaves: over a book, its talk as one legal history, and over a link, its talk as the entries of the port;
+-- and the lines behind it.
 use Rattle.std.specs.Prelude.{◌≡◌, ◌≢◌, ℕ, Bool, true, false, List, ◌∷◌, [], filter, length, map, Option, Some, Ok, Result}
 use Rattle.std.specs.List.{list_any}
 use Rattle.std.specs.Option.{option_map}
@@ -18,6 +19,8 @@ use Rattle.fw_types.specs.declared.ending.Ending.TheVariants.{Done}
 use Rattle.fw_types.specs.declared.peer.Peer.{Peer}
 use Rattle.gate_rules.specs.declared.service.Service.{Service}
 use Rattle.gate_rules.specs.declared.verdict.Verdict.TheVariants.{Deny}
+use Rattle.remote_port.specs.Remote.{RemoteOrigin, RemoteView}
+use Rattle.remote_port.specs.Texts.{RemoteTexts}
 use Rattle.session_acts.specs.Acts.{Front}
 use Rattle.session_acts.specs.Acts.Act.{Try}
 use Rattle.session_acts.specs.Client.{line_logged}
@@ -26,12 +29,15 @@ use Rattle.session_acts.specs.Denying.{denying_row, no_rows}
 use Rattle.session_acts.specs.Laws.{told}
 use Rattle.session_acts.specs.Session.{Session, deeds_of}
 use Rattle.session_acts.specs.Talk.{answered, asked, is_entered, is_refused_as_full, said_of}
+use Rattle.bastion.specs.Answering.{Answerer, GivenBack, PortView, answerer_in, port_at_first, port_of}
 use Rattle.bastion.specs.Inputs.{Inputs}
 use Rattle.bastion.specs.Outcome.{fault_line_of, status_of}
 use Rattle.bastion.specs.Run.{is_at_console, verdict_for}
-use Rattle.bastion.specs.Serving.{book_at_first, devices_at, most_entries, origin_of}
+use Rattle.bastion.specs.Serving.{met_at, most_entries, origin_of}
 use Rattle.bastion.specs.WorldView.{SessionInputs, WorldView}
 use Rattle.bastion.specs.declared.outcome.Outcome.TheVariants.{Ended}
+use Rattle.bastion.specs.declared.words.Authorities.{Authorities}
+use Rattle.bastion.specs.declared.words.Authorities.TheVariants.{Records, Remote}
 use Rattle.bastion.specs.declared.words.Command.{Command}
 
 -- the names with their bytes that a keeper has, where one is there and tells
@@ -70,6 +76,19 @@ pub record IsLegalTalk (inputs : Inputs) (before : KeeperView) (deeds : List Dee
   pub called : CountsCalls before.calls (origin_of inputs) book.history (length (gives asked deeds)) book.keeper
   pub full : was_refused deeds ≡ true → length book.history ≡ most_entries
 
+-- What these deeds asked and were answered, but for what was refused since the server's history was full, are the entries of the port,
+-- in order. What the ends gave and took are the lines of these. That they are of one legal history isn't said here: it is by the law of
+-- `auth_remote` alone, of a server that is honest.
+pub record IsRemoteTalk (ends : RemoteOrigin) (deeds : List Deed) (remote : RemoteView) : Type 0 where
+  pub origin : remote.origin ≡ ends
+  pub talk : map said_of remote.talk.seen ≡ filter is_entered (talk_of deeds)
+  pub texts : RemoteTexts remote
+
+-- what a session asked, by who knows the users
+abbrev pub IsTalk : (authorities : Authorities) → Inputs → Answerer authorities → List Deed → PortView authorities → Type 0
+IsTalk Records inputs before deeds book = IsLegalTalk inputs before deeds book
+IsTalk Remote inputs ends deeds remote = IsRemoteTalk ends deeds remote
+
 -- Behind a session the log was given the ending's line, and that of the limit, where there are such. The status is the
 -- ending's, but 6 where the session was done and a request had been refused.
 pub record IsConcluded (service : Service) (peer : Peer) (ending : Ending) (refused : Bool) (status : ℕ) (old new : SinkView) : Type 0 where
@@ -79,17 +98,18 @@ pub record IsConcluded (service : Service) (peer : Peer) (ending : Ending) (refu
   pub status_is : status ≡ status_of (Ended ending refused)
 
 -- The rules deny the client, who isn't at the console. Over these devices two deeds were done, in this order: the line of the denial was given to the
--- log, whole; and then the client was given the words of it, or a front of them. The keeper is as the load left it.
-pub record IsToldOff (command : Command) (service : Service) (peer : Peer) (words : ℕ → List ℕ) (dialer : DialerView) (inputs : Inputs) (old new : WorldView) : Type 0 where
+-- log, whole; and then the client was given the words of it, or a front of them. The keeper is as the load left it, or both ends of the
+-- link as they were.
+pub record IsToldOff (authorities : Authorities) (command : Command) (service : Service) (peer : Peer) (words : ℕ → List ℕ) (dialer : DialerView) (inputs : Inputs) (old new : WorldView) : Type 0 where
   pub outside : is_at_console command ≡ false
   pub line : ℕ
   pub denied : verdict_for command inputs ≡ Deny line
-  pub before : KeeperView
-  pub keeper : old.inputs.keeper ≡ Some before
-  pub book : BookView
+  pub before : Answerer authorities
+  pub there : answerer_in authorities old.inputs ≡ Some before
+  pub view : PortView authorities
   pub left : DialerView
-  pub session : Session no_rows (denying_row (decision_text (Deny line) service peer) (words line)) (devices_at old (book_at_first (origin_of inputs) most_entries before) dialer) (devices_at new book left) Done
+  pub session : Session no_rows (denying_row (decision_text (Deny line) service peer) (words line)) (met_at old (port_at_first authorities inputs before) dialer) (met_at new (port_of authorities view) left) Done
   pub tried : Result (Unit {0}) (Front (words line))
   pub deeds : deeds_ran session.held.ran ≡ line_logged (decision_text (Deny line) service peer) ∷ record { act = Try (words line); outcome = Ok tried } ∷ []
   pub told : new.output.given ≡ grown old.output.given (gives told (deeds_of session.held))
-  pub kept : new.inputs.keeper ≡ Some before
+  pub kept : GivenBack authorities before old.inputs new.inputs

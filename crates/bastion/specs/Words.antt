@@ -1,4 +1,4 @@
--- What the words of a command line ask for: `[-t FILE] [-r FILE] [-s FOLDER] [-n SLOTS] [-m PROGRAM] COMMAND ARGUMENTS`.
+-- What the words of a command line ask for: `[-t FILE] [-r FILE] [-s FOLDER] [-n SLOTS] [-m PROGRAM] [-a DEST] COMMAND ARGUMENTS`.
 use Rattle.std.specs.Prelude.{ℕ, Bool, true, false, ◌&&◌, ◌||◌, ◌==◌, not, List, [], ◌∷◌, length, Option, Some, None, is_some, unwrap_or, codes, if◌then◌else◌}
 use Rattle.std.specs.Option.{option_map}
 use Rattle.std.specs.Str.{bytes_eq}
@@ -6,12 +6,16 @@ use Rattle.fw_types.specs.HostName.{host_name_of}
 use Rattle.fw_types.specs.Number.{in_range, number_of}
 use Rattle.fw_types.specs.Port.{numbered_port}
 use Rattle.fw_types.specs.Quad.{quad_of}
+use Rattle.fw_types.specs.declared.dest.Dest.{Dest}
 use Rattle.fw_types.specs.declared.peer.Peer.{Peer}
 use Rattle.gate_rules.specs.Label.{label_of}
 use Rattle.gate_rules.specs.Service.{service_of}
 use Rattle.gate_rules.specs.declared.service.Service.{Service}
 use Rattle.gate_rules.specs.declared.service.Service.TheVariants as service
+use Rattle.bastion.specs.DestWord.{dest_in}
 use Rattle.bastion.specs.SpellingView.{SpellingView}
+use Rattle.bastion.specs.declared.words.Authorities.{Authorities}
+use Rattle.bastion.specs.declared.words.Authorities.TheVariants.{Records, Remote}
 use Rattle.bastion.specs.declared.words.Command.{Command}
 use Rattle.bastion.specs.declared.words.Command.TheVariants.{Netacl, NetaclRun, Table, Authsrv, PlugGw, Gateway, Smap}
 use Rattle.bastion.specs.declared.words.GatewayKind.{GatewayKind}
@@ -28,15 +32,18 @@ use Rattle.drill_lines.specs.declared.plan.Drill.{Drill}
 -- the options that there are
 abbrev pub is_option_name : List ℕ → Bool
 is_option_name name =
-    bytes_eq name (codes "-t") || bytes_eq name (codes "-r") || bytes_eq name (codes "-s") || bytes_eq name (codes "-n") || bytes_eq name (codes "-m")
+    bytes_eq name (codes "-t") || bytes_eq name (codes "-r") || bytes_eq name (codes "-s") || bytes_eq name (codes "-n") || bytes_eq name (codes "-m") || bytes_eq name (codes "-a")
 
 -- how many slots there are: a decimal number from 1 to 64
 abbrev pub slots_in : List ℕ → Option ℕ
 slots_in word = in_range 1 64 (number_of word)
 
--- behind `-n` stands such a number, and behind any other option a word that isn't empty
+-- after `-n` comes such a number, after `-a` a destination, and after any other option a word that isn't empty
 abbrev pub is_option_word : List ℕ → List ℕ → Bool
-is_option_word name word = if bytes_eq name (codes "-n") then is_some (slots_in word) else not (length word == 0)
+is_option_word name word =
+    if bytes_eq name (codes "-n") then is_some (slots_in word)
+    else if bytes_eq name (codes "-a") then is_some (dest_in word)
+    else not (length word == 0)
 
 -- an option with its word
 abbrev pub is_option_pair : List ℕ → List ℕ → Bool
@@ -123,23 +130,23 @@ abbrev pub caller_in : List (List ℕ) → Option Caller
 caller_in (port ∷ words) = caller_of (numbered_port port) (peer_in words)
 caller_in [] = None
 
-abbrev pub gateway_of : GatewayKind → Option Peer → Option Command
-gateway_of kind (Some peer) = Some (Gateway kind peer)
-gateway_of kind None = None
+abbrev pub gateway_of : GatewayKind → Authorities → Option Peer → Option Command
+gateway_of kind authorities (Some peer) = Some (Gateway kind authorities peer)
+gateway_of kind authorities None = None
 
 -- `netacl [-run] DAEMON ADDR [NAME]`, `table SERVICE ADDR [NAME]`, `authsrv [-console] ADDR [NAME]`,
--- `plug-gw PORT ADDR [NAME]`, `tn-gw ADDR [NAME]`, `ftp-gw ADDR [NAME]` and `smap ADDR [NAME]`
-abbrev pub command_in : List (List ℕ) → Option Command
-command_in (name ∷ words) =
+-- `plug-gw PORT ADDR [NAME]`, `tn-gw ADDR [NAME]`, `ftp-gw ADDR [NAME]` and `smap ADDR [NAME]`; a gateway goes by these authorities
+abbrev pub command_in : Authorities → List (List ℕ) → Option Command
+command_in authorities (name ∷ words) =
     if bytes_eq name (codes "netacl") then netacl_by (netacl_in words) (run_in words)
     else if bytes_eq name (codes "table") then option_map Table (table_in words)
     else if bytes_eq name (codes "authsrv") then option_map Authsrv (client_in words)
     else if bytes_eq name (codes "plug-gw") then option_map PlugGw (caller_in words)
-    else if bytes_eq name (codes "tn-gw") then gateway_of kinds.Telnet (peer_in words)
-    else if bytes_eq name (codes "ftp-gw") then gateway_of kinds.Ftp (peer_in words)
+    else if bytes_eq name (codes "tn-gw") then gateway_of kinds.Telnet authorities (peer_in words)
+    else if bytes_eq name (codes "ftp-gw") then gateway_of kinds.Ftp authorities (peer_in words)
     else if bytes_eq name (codes "smap") then option_map Smap (peer_in words)
     else None
-command_in [] = None
+command_in authorities [] = None
 
 abbrev pub drill_by : Option ℕ → Option ℕ → Option Drill
 drill_by (Some start) (Some count) = Some (record { start = start; count = count })
@@ -167,19 +174,28 @@ hex_in (file ∷ first ∷ second ∷ third ∷ fourth ∷ fifth ∷ last ∷ []
 hex_in _ = None
 
 -- a command by the table, or `drill START N`, `spool-init`, `smapd`, `otp-calc FILE` or `otp-hex FILE W1 .. W6`, which need none
-abbrev pub order_in : List (List ℕ) → Option Order
-order_in (name ∷ words) =
+abbrev pub order_in : Authorities → List (List ℕ) → Option Order
+order_in authorities (name ∷ words) =
     if bytes_eq name (codes "drill") then option_map Alone (option_map jobs.Drill (drill_in words))
     else if bytes_eq name (codes "spool-init") then option_map Alone (lone_in jobs.SpoolInit words)
     else if bytes_eq name (codes "smapd") then option_map Alone (lone_in jobs.Smapd words)
     else if bytes_eq name (codes "otp-calc") then option_map Alone (option_map jobs.OtpCalc (calc_in words))
     else if bytes_eq name (codes "otp-hex") then option_map Alone (option_map jobs.OtpHex (hex_in words))
-    else option_map ByTable (command_in (name ∷ words))
-order_in [] = None
+    else option_map ByTable (command_in authorities (name ∷ words))
+order_in authorities [] = None
+
+-- who knows the users: a server elsewhere where `-a` stands before the command, else the records of this host
+abbrev pub authorities_in : List (List ℕ) → Authorities
+authorities_in words = if stands (codes "-a") words then Remote else Records
 
 -- the order that the words are: options, of which none stands twice, and then a command with its words
 unfoldable pub order_of : List (List ℕ) → Option Order
-order_of words = if any_twice words then None else order_in (after_options words)
+order_of words = if any_twice words then None else order_in (authorities_in words) (after_options words)
+
+-- whether the order is that of a gateway whose users a server elsewhere knows
+abbrev pub is_remote : Order → Bool
+is_remote (ByTable (Gateway kind Remote peer)) = true
+is_remote _ = false
 
 -- the word after an option, or another text where it isn't there
 abbrev pub word_or : List ℕ → List ℕ → List (List ℕ) → List ℕ
@@ -217,9 +233,16 @@ pub record PlaceNames : Type 0 where
   pub slots : ℕ
   -- the program that mail is handed to: the word after `-m`
   pub mailer : List ℕ
+  -- the server that knows the users, where it isn't this host: the word after `-a`
+  pub remote : Option Dest
 
 abbrev pub default_places : PlaceNames
-default_places = record { db = default_db; spool = default_spool; slots = default_slots; mailer = default_mailer }
+default_places = record { db = default_db; spool = default_spool; slots = default_slots; mailer = default_mailer; remote = None }
+
+-- the server that the word after `-a` names, if there is one
+abbrev pub remote_of : Option (List ℕ) → Option Dest
+remote_of None = None
+remote_of (Some word) = dest_in word
 
 abbrev pub places_in : List (List ℕ) → PlaceNames
 places_in words = record {
@@ -227,6 +250,7 @@ places_in words = record {
   spool = word_or (codes "-s") default_spool words;
   slots = slots_or default_slots (word_after (codes "-n") words);
   mailer = word_or (codes "-m") default_mailer words;
+  remote = remote_of (word_after (codes "-a") words);
 }
 
 -- a command line: the order, the table's name, which is the word after `-t`, and what the other options name

@@ -117,5 +117,5 @@ Works (NetaclRun query) inputs outcome old new =
 Works (Table query) inputs outcome old new = Shown (verdict_of inputs.rules query.peer) (report_text inputs.rules (verdict_of inputs.rules query.peer)) outcome old new
 Works (Authsrv client) inputs outcome old new = Attended client inputs outcome old new
 Works (PlugGw caller) inputs outcome old new = Linked caller inputs outcome old new
-Works (Gateway kind peer) inputs outcome old new = Gated (gateway_service kind) peer inputs outcome old new
+Works (Gateway kind authorities peer) inputs outcome old new = Gated authorities (gateway_service kind) peer inputs outcome old new
 Works (Smap peer) inputs outcome old new = Mailed peer inputs outcome old new

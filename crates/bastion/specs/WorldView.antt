@@ -10,9 +10,11 @@ use Rattle.fw_outside.specs.SourceView.{SourceView}
 use Rattle.fw_outside.specs.DiceView.{DiceView}
 use Rattle.fw_outside.specs.KeeperView.{KeeperView}
 use Rattle.fw_outside.specs.LauncherView.{LauncherView}
+use Rattle.remote_port.specs.Remote.{RemoteOrigin}
 
 -- what a run meets besides the files, the output and the log: what the client says, the clock, the dice, the keeper of the
--- users' records, where one is there, who makes links to servers, who starts programs, and the disks of the slots
+-- users' records, where one is there, who makes links to servers, who starts programs, the disks of the slots, and both ends of the
+-- link to an authentication server elsewhere, where they are there
 pub record SessionInputs : Type 0 where
   pub input : SourceView
   pub clock : ClockView
@@ -21,6 +23,7 @@ pub record SessionInputs : Type 0 where
   pub dialer : DialerView
   pub launcher : LauncherView
   pub disks : List DiskView
+  pub remote : Option RemoteOrigin
 
 -- the files that the table is read from, standard output, the log, and what else a run meets
 pub record WorldView : Type 0 where

@@ -32,6 +32,7 @@ fn hold_at_console<T: Kit>(
     ensures links { world.new.inputs.dialer ≡ world.old.inputs.dialer }
     ensures launcher { world.new.inputs.launcher ≡ world.old.inputs.launcher }
     ensures disks { world.new.inputs.disks ≡ world.old.inputs.disks }
+    ensures remote { world.new.inputs.remote ≡ world.old.inputs.remote }
 {
     console(
         &Service::Authsrv,
@@ -67,6 +68,7 @@ where
     ensures links { world.new.inputs.dialer ≡ world.old.inputs.dialer }
     ensures launcher { world.new.inputs.launcher ≡ world.old.inputs.launcher }
     ensures disks { world.new.inputs.disks ≡ world.old.inputs.disks }
+    ensures remote { world.new.inputs.remote ≡ world.old.inputs.remote }
 {
     let mut store = NoStore;
     conn(
@@ -107,6 +109,7 @@ where
     ensures links { world.new.inputs.dialer ≡ world.old.inputs.dialer }
     ensures launcher { world.new.inputs.launcher ≡ world.old.inputs.launcher }
     ensures disks { world.new.inputs.disks ≡ world.old.inputs.disks }
+    ensures remote { world.new.inputs.remote ≡ world.old.inputs.remote }
 {
     if client.console {
         return hold_at_console(&client.peer, book, world, dialer);

@@ -28,6 +28,10 @@ pub trait Kit {
     type Launch: Launcher;
 
     type Disk: Disk;
+
+    type AuthIn: Source;
+
+    type AuthOut: Sink;
 }
 
 /// The devices that a run is given.
@@ -53,6 +57,9 @@ pub struct World<T: Kit> {
     pub launcher: T::Launch,
     /// The disks of the mail's slots, in order of their numbers.
     pub disks: Vec<T::Disk>,
+    /// What comes from an authentication server elsewhere, and what goes to it. Both are there whenever a run of a gateway
+    /// whose users are known there begins or ends.
+    pub remote: Option<(T::AuthIn, T::AuthOut)>,
 }
 
 impl<T: Kit> Model for World<T> {
@@ -74,6 +81,7 @@ impl<T: Kit> Model for World<T> {
         dialer = T.Dial.dialer_view w.dialer;
         launcher = T.Launch.launcher_view w.launcher;
         disks = map T.Disk.disk_view w.disks.items;
+        remote = option_map (λ ends. record { source = T.AuthIn.source_view ends.0; sink = T.AuthOut.sink_view ends.1 }) w.remote;
       };
     } };
 }

@@ -6,11 +6,11 @@
 //! every way in which a device may fail, which status it answers and what it leaves: wherever `netacl` has printed
 //! anything, the line of its verdict stands whole in the log; what is printed and logged is told byte for byte, where
 //! the devices tell it; the replies that a client of `authsrv`, `tn-gw` or `ftp-gw` is told are those of a legal
-//! history; the destinations that `plug-gw`, `tn-gw` and `ftp-gw` ask for are those that the table permits, and no other
+//! history, or those that the lines of a server elsewhere say, where it knows the users; the destinations that `plug-gw`, `tn-gw` and `ftp-gw` ask for are those that the table permits, and no other
 //! command asks for one; a server of `ftp-gw` is given what its client's commands are passed as, without those that are denied;
 //! each message that `smap` tells its client to be kept stands whole in the slot of the number that it tells;
-//! and each status but 5, want of memory, has its cause: in the words, in a limit, in the count of a device that rose,
-//! or, where the devices tell what they hold, in the table's text, the records and the slots. All that is said of what was
+//! and each status but 5, want of memory, has its cause: in the words, in a limit, in the count of a device that rose, in
+//! something strange that a server elsewhere answered, or, where the devices tell what they hold, in the table's text, the records and the slots. All that is said of what was
 //! read is said of one table and of one list of records. [`conn`] serves one client.
 //!
 //! A server takes the steps before its sessions one by one: [`after_options`], [`any_twice`], [`word_or`] and [`places_in`]
@@ -21,6 +21,7 @@ mod authsrv;
 mod book;
 mod calculating;
 mod deciding;
+mod dest_word;
 mod gateways;
 mod handing_on;
 mod jobs;
@@ -54,6 +55,6 @@ pub use running::run;
 pub use server_rules::ServerRules;
 pub use spelling::{FileName, Spelling};
 pub use words::{
-    Caller, Client, Command, CommandLine, GatewayKind, Job, Order, Query, after_options, any_twice,
-    places, places_in, read_order, table_named, word_or,
+    Authorities, Caller, Client, Command, CommandLine, GatewayKind, Job, Order, Query,
+    after_options, any_twice, places, places_in, read_order, table_named, word_or,
 };

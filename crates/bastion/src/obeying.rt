@@ -1,11 +1,12 @@
 //! What the words ask for, by the table: a row for each command.
-ghost use Rattle.std.specs.Prelude.{◌≡◌, ◌≤◌, ◌<◌, length, map, IsSome};
+ghost use Rattle.std.specs.Prelude.{◌≡◌, ◌≤◌, ◌<◌, length, map, true, IsSome};
 ghost use Rattle.bastion.specs.Outcome.{fault_line_of};
 ghost use Rattle.bastion.specs.Run.{DoesFor, DoesLine, DoesOrder, TellsIf};
-ghost use Rattle.bastion.specs.Status.{LeavesMailers, OrderLeavesMailers};
-ghost use Rattle.bastion.specs.Words.{line_of};
+ghost use Rattle.bastion.specs.Status.{LeavesMailers, OrderLeavesMailers, is_remote_line};
+ghost use Rattle.bastion.specs.Words.{is_remote, line_of};
 ghost use Rattle.bastion.specs.WorldView.{post_of};
 ghost use Rattle.bastion.specs.declared.words.Command.TheVariants.{Netacl, NetaclRun, Table};
+ghost use Rattle.bastion.specs.declared.words.Order.TheVariants.{ByTable};
 
 use crate::authsrv::attend;
 use crate::deciding::{decide, show};
@@ -64,6 +65,7 @@ where
     T: Kit,
     requires keeper { IsSome world.old.inputs.keeper }
     requires disks { length world.old.inputs.disks ≤ 64 }
+    requires remote { is_remote (ByTable command.now) ≡ true → IsSome world.old.inputs.remote }
     ensures { DoesFor name.now command.now result world.old world.new }
 {
     match command {
@@ -72,7 +74,11 @@ where
         Command::Table(query) => table(alloc, name, query, world),
         Command::Authsrv(client) => attend(rt, alloc, name, client, world),
         Command::PlugGw(caller) => plug(rt, alloc, name, caller, world),
-        Command::Gateway { kind, peer } => through(rt, alloc, name, *kind, peer, world),
+        Command::Gateway {
+            kind,
+            authorities,
+            peer,
+        } => through(rt, alloc, name, *kind, *authorities, peer, world),
         Command::Smap(peer) => take_mail(rt, alloc, name, peer, world),
     }
 }
@@ -91,6 +97,7 @@ where
     T: Kit,
     requires keeper { IsSome world.old.inputs.keeper }
     requires disks { length world.old.inputs.disks ≤ 64 }
+    requires remote { is_remote order.now ≡ true → IsSome world.old.inputs.remote }
     requires some { 0 < length mailers.old.items }
     ensures does { DoesOrder (post_of (map (λ m. mailer_view m) mailers.old.items) (map (λ m. mailer_view m) mailers.new.items))
         name.now order.now result world.old world.new }
@@ -115,6 +122,7 @@ where
     T: Kit,
     requires keeper { IsSome world.old.inputs.keeper }
     requires disks { length world.old.inputs.disks ≤ 64 }
+    requires remote { is_remote_line (line_of words.now) ≡ true → IsSome world.old.inputs.remote }
     requires some { 0 < length mailers.old.items }
     ensures does { DoesLine (post_of (map (λ m. mailer_view m) mailers.old.items) (map (λ m. mailer_view m) mailers.new.items))
         (line_of words.now) result world.old world.new }

@@ -1,4 +1,5 @@
 //! What the options of a command name, but for the table.
+use fw_types::Dest;
 use std::marker::Model;
 
 /// What the options of a command name.
@@ -12,6 +13,8 @@ pub struct Places<'a> {
     pub slots: u32,
     /// The program that mail is handed to.
     pub mailer: &'a [u8],
+    /// The server that knows the users, where it isn't this host.
+    pub remote: Option<Dest>,
 }
 
 impl<'a> Model for Places<'a> {
@@ -19,5 +22,5 @@ impl<'a> Model for Places<'a> {
 
     ghost Value = { PlaceNames };
 
-    ghost view = { λ places. record { db = places.db.now; spool = places.spool.now; slots = places.slots; mailer = places.mailer.now } };
+    ghost view = { λ places. record { db = places.db.now; spool = places.spool.now; slots = places.slots; mailer = places.mailer.now; remote = places.remote } };
 }

@@ -3,15 +3,19 @@ ghost use Rattle.std.specs.Option.{option_copied, option_map};
 ghost use Rattle.std.specs.Str.{bytes_eq};
 ghost use Rattle.fw_types.specs.Number.{in_range, number_of};
 ghost use Rattle.gate_rules.specs.Label.{label_of};
+ghost use Rattle.bastion.specs.DestWord.{dest_in};
 ghost use Rattle.bastion.specs.Places.{places_of};
 ghost use Rattle.bastion.specs.declared.words.Job.TheVariants as jobs;
 ghost use Rattle.bastion.specs.declared.words.Order.TheVariants as orders;
-ghost use Rattle.bastion.specs.Words.{after_options, any_twice, calc_in, caller_in, caller_of, command_in, gateway_of, drill_by, drill_in, hex_in, is_option_pair, is_option_name, is_option_word, line_of, order_in, order_of, places_in, slots_in, slots_or, lone_in, name_in, netacl_by, netacl_in, peer_by, peer_in, query_of, run_in, stands, table_in, table_named, client_in, client_of, word_after, word_or};
+ghost use Rattle.bastion.specs.Words.{after_options, any_twice, authorities_in, calc_in, caller_in, caller_of, command_in, gateway_of, drill_by, drill_in, hex_in, is_option_pair, is_option_name, is_option_word, is_remote, line_of, order_in, order_of, places_in, remote_of, slots_in, slots_or, lone_in, name_in, netacl_by, netacl_in, peer_by, peer_in, query_of, run_in, stands, table_in, table_named, client_in, client_of, word_after, word_or};
 
 use crate::Places;
+use crate::dest_word::dest_in;
 use crate::spelling::{FileName, Spelling, calc_in, hex_in};
 use drill_lines::Drill;
-use fw_types::{HostName, Octets, Peer, in_range, read_number, read_numbered_port, read_quad};
+use fw_types::{
+    Dest, HostName, Octets, Peer, in_range, read_number, read_numbered_port, read_quad,
+};
 use gate_rules::{Label, Service};
 use std::marker::Model;
 
@@ -47,6 +51,15 @@ pub enum GatewayKind {
     Ftp,
 }
 
+/// Who knows the users that a gateway asks for.
+#[derive(Clone, Copy, Debug, PartialEq, Eq)]
+pub enum Authorities {
+    /// The records of this host.
+    Records,
+    /// A server elsewhere, which `-a` names.
+    Remote,
+}
+
 /// What the words of a command line ask for that goes by the table.
 #[derive(Drop)]
 pub enum Command {
@@ -61,7 +74,11 @@ pub enum Command {
     /// `plug-gw PORT ADDR [NAME]`: link a peer to the server that the table names for this port.
     PlugGw(Caller),
     /// `tn-gw ADDR [NAME]` or `ftp-gw ADDR [NAME]`: link a peer to the destination that it asks for, where the table permits it.
-    Gateway { kind: GatewayKind, peer: Peer },
+    Gateway {
+        kind: GatewayKind,
+        authorities: Authorities,
+        peer: Peer,
+    },
     /// `smap ADDR [NAME]`: take a peer's mail into the slots.
     Smap(Peer),
 }
@@ -90,6 +107,21 @@ pub enum Order<'a> {
     Alone(Job<'a>),
 }
 
+impl<'a> Order<'a> {
+    /// Whether it is that of a gateway whose users a server elsewhere knows.
+    pub fn is_remote(&self) -> bool
+        ensures { result ≡ is_remote self.now }
+    {
+        matches!(
+            self,
+            Order::ByTable(Command::Gateway {
+                authorities: Authorities::Remote,
+                ..
+            })
+        )
+    }
+}
+
 const DEFAULT_TABLE: &[u8] = b"/usr/local/etc/netperm-table";
 
 const DEFAULT_DB: &[u8] = b"authdb";
@@ -114,6 +146,7 @@ fn is_option_name(word: &Octets) -> bool
         || is_word(word, b"-s")
         || is_word(word, b"-n")
         || is_word(word, b"-m")
+        || is_word(word, b"-a")
 }
 
 fn slots_in(word: &[u8]) -> Option<u32>
@@ -130,6 +163,9 @@ fn is_option_word(option: &Octets, word: &Octets) -> bool
 {
     if is_word(option, b"-n") {
         return slots_in(word.bytes()).is_some();
+    }
+    if is_word(option, b"-a") {
+        return dest_in(word.bytes()).is_some();
     }
     !word.bytes().is_empty()
 }
@@ -320,15 +356,19 @@ fn caller_in(words: &[Octets]) -> Option<Caller>
     }
 }
 
-fn gateway_of(kind: GatewayKind, peer: Option<Peer>) -> Option<Command>
-    ensures { result ≡ gateway_of kind peer }
+fn gateway_of(kind: GatewayKind, authorities: Authorities, peer: Option<Peer>) -> Option<Command>
+    ensures { result ≡ gateway_of kind authorities peer }
 {
     let peer = peer?;
-    Some(Command::Gateway { kind, peer })
+    Some(Command::Gateway {
+        kind,
+        authorities,
+        peer,
+    })
 }
 
-fn command_in(words: &[Octets]) -> Option<Command>
-    ensures { result ≡ command_in words.now }
+fn command_in(authorities: Authorities, words: &[Octets]) -> Option<Command>
+    ensures { result ≡ command_in authorities words.now }
 {
     match words {
         [name, words @ ..] => {
@@ -345,10 +385,10 @@ fn command_in(words: &[Octets]) -> Option<Command>
                 return caller_in(words).map(Command::PlugGw);
             }
             if is_word(name, b"tn-gw") {
-                return gateway_of(GatewayKind::Telnet, peer_in(words));
+                return gateway_of(GatewayKind::Telnet, authorities, peer_in(words));
             }
             if is_word(name, b"ftp-gw") {
-                return gateway_of(GatewayKind::Ftp, peer_in(words));
+                return gateway_of(GatewayKind::Ftp, authorities, peer_in(words));
             }
             if is_word(name, b"smap") {
                 return peer_in(words).map(Command::Smap);
@@ -435,17 +475,17 @@ fn alone(job: Option<Job<'_>>) -> Option<Order<'_>>
     }
 }
 
-fn by_table(words: &[Octets]) -> Option<Order<'_>>
-    ensures { result ≡ option_map orders.ByTable (command_in words.entry.now) }
+fn by_table(authorities: Authorities, words: &[Octets]) -> Option<Order<'_>>
+    ensures { result ≡ option_map orders.ByTable (command_in authorities words.entry.now) }
 {
-    match command_in(words) {
+    match command_in(authorities, words) {
         Some(command) => Some(Order::ByTable(command)),
         None => None,
     }
 }
 
-fn order_in(words: &[Octets]) -> Option<Order<'_>>
-    ensures { result ≡ order_in words.entry.now }
+fn order_in(authorities: Authorities, words: &[Octets]) -> Option<Order<'_>>
+    ensures { result ≡ order_in authorities words.entry.now }
 {
     match words {
         [name, more @ ..] => {
@@ -464,9 +504,20 @@ fn order_in(words: &[Octets]) -> Option<Order<'_>>
             if is_word(name, b"otp-hex") {
                 return alone(hex_job(more));
             }
-            by_table(words)
+            by_table(authorities, words)
         }
         [] => None,
+    }
+}
+
+// Who knows the users, by the options.
+fn authorities_in(words: &[Octets]) -> Authorities
+    ensures { result ≡ authorities_in words.now }
+{
+    if is_named(b"-a", words) {
+        Authorities::Remote
+    } else {
+        Authorities::Records
     }
 }
 
@@ -478,7 +529,7 @@ pub fn read_order(words: &[Octets]) -> Option<Order<'_>>
     if any_twice(words) {
         return None;
     }
-    order_in(after_options(words))
+    order_in(authorities_in(words), after_options(words))
 }
 
 /// The word after an option. Another text where it isn't there.
@@ -501,6 +552,16 @@ fn slots_or(other: u32, word: Option<&[u8]>) -> u32
     }
 }
 
+// The server that the word after `-a` names, if there is one.
+fn remote_of(word: Option<&[u8]>) -> Option<Dest>
+    ensures { result ≡ remote_of (option_copied word.entry) }
+{
+    match word {
+        Some(word) => dest_in(word),
+        None => None,
+    }
+}
+
 /// What the options name, whatever the command is.
 pub fn places_in(words: &[Octets]) -> Places<'_>
     ensures { result ≡ places_in words.entry.now }
@@ -510,6 +571,7 @@ pub fn places_in(words: &[Octets]) -> Places<'_>
         spool: word_or(b"-s", DEFAULT_SPOOL, words),
         slots: slots_or(DEFAULT_SLOTS, word_after(b"-n", words)),
         mailer: word_or(b"-m", DEFAULT_MAILER, words),
+        remote: remote_of(word_after(b"-a", words)),
     }
 }
 
@@ -568,6 +630,7 @@ pub fn places(words: &[Octets]) -> Places<'_>
             spool: DEFAULT_SPOOL,
             slots: DEFAULT_SLOTS,
             mailer: DEFAULT_MAILER,
+            remote: None,
         },
     }
 }

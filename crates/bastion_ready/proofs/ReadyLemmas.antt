@@ -31,6 +31,7 @@ use Rattle.bastion.specs.declared.outcome.Refusal.{Refusal}
 use Rattle.bastion.specs.declared.outcome.Refusal.TheVariants.{Table, Rule, Record, Slot, Otp}
 use Rattle.bastion.specs.declared.outcome.Step.{Step}
 use Rattle.bastion.specs.declared.outcome.Step.TheVariants as steps
+use Rattle.bastion.specs.declared.words.Authorities.TheVariants as authorities
 use Rattle.bastion.specs.declared.words.Command.{Command}
 use Rattle.bastion.specs.declared.words.Command.TheVariants.{Gateway}
 use Rattle.bastion.specs.declared.words.GatewayKind.TheVariants as kinds
@@ -247,10 +248,10 @@ lacks_start (Some line) world is = inl refl
 
 -- a command that needs what a server does
 abbrev any_command : Command
-any_command = Gateway kinds.Telnet (record { addr = None; name = None })
+any_command = Gateway kinds.Telnet authorities.Records (record { addr = None; name = None })
 
 same_left : (old new : WorldView) → new ≡ old → Left old new
-same_left old new is = subst (λ (w : WorldView). Left old w) (sym is) (record { out = refl; input = refl; clock = refl; dialer = refl; disks = refl; output = refl; logs = refl; keeper = λ there. there; table = refl })
+same_left old new is = subst (λ (w : WorldView). Left old w) (sym is) (record { out = refl; input = refl; clock = refl; dialer = refl; disks = refl; remote = refl; output = refl; logs = refl; keeper = λ there. there; table = refl })
 
 -- as many sources are out, the disks are there, and so is the keeper
 pub record LeftSo (old new : WorldView) : Type 0 where

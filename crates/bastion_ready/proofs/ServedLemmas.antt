@@ -4,7 +4,7 @@ use Rattle.std.specs.Prelude.{All, Option, Some, None, IfSome, if◌then◌else�
 use Rattle.std.proofs.lemmas.List.Elements.{All-cons, All-head, All-nil, All-tail}
 use Rattle.bastion.specs.Words.{after_options, any_twice}
 use Rattle.gate_rules.specs.declared.service.Service.{Service}
-use Rattle.bastion_ready.specs.Words.{Door, Plan, any_port_twice, door_by, door_in, doors_in, has_service, in_front, is_for_server, line_with, others_in, plan_by, plan_in, plan_of, plan_with, services_of, workers_in}
+use Rattle.bastion_ready.specs.Words.{Door, Plan, any_port_twice, door_by, door_in, doors_in, has_service, in_front, is_for_server, line_with, names_remote, others_in, plan_by, plan_in, plan_of, plan_with, services_of, workers_in}
 
 abbrev pub MayBe : Service → Type 0
 MayBe service = is_for_server service ≡ true
@@ -66,7 +66,9 @@ in_served (name ∷ workers ∷ []) = tt
 in_served (name ∷ workers ∷ post ∷ more) = if_served _ (plan_by (workers_in workers) (post ∷ more)) (by_served (workers_in workers) (post ∷ more))
 
 plan_served : (words : List (List ℕ)) → PlanServed (plan_of words)
-plan_served words = unless_served (any_twice words) (plan_in (after_options words)) (in_served (after_options words))
+plan_served words =
+    let plan = plan_in (after_options words) in
+    unless_served (any_twice words) (if names_remote words then None else plan) (unless_served (names_remote words) plan (in_served (after_options words)))
 
 line_served : (words : List (List ℕ)) (plan : Option Plan) → PlanServed plan → IfSome (line_with words plan) (λ line. AllServed line.plan.posts)
 line_served words (Some plan) all = all

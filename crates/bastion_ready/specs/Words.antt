@@ -1,5 +1,5 @@
 -- The words of a server: `[OPTIONS] serve WORKERS SERVICE@PORT`, and more of these.
-use Rattle.std.specs.Prelude.{ℕ, Bool, true, false, ◌*◌, ◌==◌, ◌||◌, nat_le, List, [], ◌∷◌, ◌++◌, length, flat_map, replicate, Option, Some, None, codes, if◌then◌else◌}
+use Rattle.std.specs.Prelude.{ℕ, Bool, true, false, ◌*◌, ◌==◌, ◌||◌, nat_le, List, [], ◌∷◌, ◌++◌, length, flat_map, replicate, Option, Some, None, is_some, codes, if◌then◌else◌}
 use Rattle.std.specs.List.{after_first, before_first, list_any}
 use Rattle.std.specs.Str.{bytes_eq}
 use Rattle.bastion.specs.Words.{PlaceNames, after_options, any_twice, default_table, places_in, word_or}
@@ -89,9 +89,14 @@ abbrev pub plan_in : List (List ℕ) → Option Plan
 plan_in (name ∷ workers ∷ post ∷ more) = if bytes_eq name (codes "serve") then plan_by (workers_in workers) (post ∷ more) else None
 plan_in _ = None
 
--- options, of which none stands twice, and then these words
+-- whether the options name a server elsewhere that knows the users
+abbrev pub names_remote : List (List ℕ) → Bool
+names_remote words = is_some (places_in words).remote
+
+-- options, of which none stands twice and none names such a server, since the users are those of the records here; and then these
+-- words
 abbrev pub plan_of : List (List ℕ) → Option Plan
-plan_of words = if any_twice words then None else plan_in (after_options words)
+plan_of words = if any_twice words then None else if names_remote words then None else plan_in (after_options words)
 
 -- a server's words: the plan, the table's name, which is the word after `-t`, and what the other options name
 pub record ServerLine : Type 0 where

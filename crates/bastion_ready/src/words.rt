@@ -1,7 +1,7 @@
 ghost use Rattle.std.specs.Prelude.{◌≡◌, ◌*◌, ◌+◌, ◌≤◌, codes, drop, length, nat_le, is_some, true, All, IfOk, IfErr, IfSome, Some};
 ghost use Rattle.std.specs.List.{list_any, position_or_len};
 ghost use Rattle.std.specs.Str.{bytes_eq};
-ghost use Rattle.bastion_ready.specs.Words.{any_port_twice, door_by, door_in, doors_in, is_at, is_for_server, is_port, names_port, plan_by, plan_in, port_in, server_of, workers_in};
+ghost use Rattle.bastion_ready.specs.Words.{any_port_twice, door_by, door_in, doors_in, is_at, is_for_server, is_port, names_port, names_remote, plan_by, plan_in, port_in, server_of, workers_in};
 
 use bastion::{Places, after_options, any_twice, places_in, word_or};
 use fw_types::{NoMemory, Octets, in_range, read_number, read_numbered_port};
@@ -244,12 +244,22 @@ fn read_plan(alloc: Global, words: &[Octets]) -> Result<Option<Plan>, NoMemory>
     }
 }
 
+// Whether the options name a server elsewhere that knows the users.
+fn names_remote(words: &[Octets]) -> bool
+    ensures { result ≡ names_remote words.now }
+{
+    places_in(words).remote.is_some()
+}
+
 // The server that the words ask for, if they ask for one.
 fn read_line<'a>(alloc: Global, words: &'a [Octets]) -> Result<Option<ServerLine<'a>>, NoMemory>
     ensures line { IfOk result (λ line. line ≡ server_of words.entry.now) }
     ensures lacks { IfErr result (λ _. is_some (server_of words.entry.now) ≡ true) }
 {
     if any_twice(words) {
+        return Ok(None);
+    }
+    if names_remote(words) {
         return Ok(None);
     }
     match read_plan(alloc, after_options(words)) {

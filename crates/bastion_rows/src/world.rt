@@ -1,8 +1,10 @@
 //! Worlds of devices in memory, and the one call of `run`.
-ghost use Rattle.std.specs.Prelude.{◌<◌, ◌≤◌, length};
+ghost use Rattle.std.specs.Prelude.{◌≡◌, ◌<◌, ◌≤◌, false, length};
+ghost use Rattle.bastion.specs.Status.{is_remote_line};
+ghost use Rattle.bastion.specs.Words.{line_of};
 
 use crate::shown::shown_by;
-use bastion::{Kit, World, run};
+use bastion::{CommandLine, Kit, World, run};
 use fw_mail::{Handed, Mailer};
 use fw_memory::{
     Calls, MemClock, MemDialer, MemDice, MemDisk, MemFiles, MemKeeper, MemLauncher, MemMailer,
@@ -39,6 +41,10 @@ impl Kit for Memory {
     type Launch = MemLauncher;
 
     type Disk = MemDisk;
+
+    type AuthIn = MemSource;
+
+    type AuthOut = MemSink;
 }
 
 /// The words of a command line.
@@ -126,6 +132,7 @@ fn ended_of(status: u8, world: World<Memory>, shown: Vec<u8>) -> Ended {
         dialer,
         launcher,
         disks,
+        remote: _,
     } = world;
     drop(files);
     drop(input);
@@ -153,6 +160,7 @@ fn run_with<H: Threads + Sync>(
 ) -> (u8, World<Memory>)
     requires few { length disks.items ≤ 64 }
     requires some { 0 < length mailers.old.items }
+    requires here { is_remote_line (line_of words.now) ≡ false }
 {
     let Devices {
         files,
@@ -172,6 +180,7 @@ fn run_with<H: Threads + Sync>(
         dialer,
         launcher: MemLauncher::new(alloc, Vec::new(alloc), Calls::none()),
         disks,
+        remote: None,
     };
     let status = run(threads, alloc, words, mailers, &mut world);
     (status, world)
@@ -197,8 +206,18 @@ fn ended_by(
     }
 }
 
+// Whether the words are those of a gateway whose users a server elsewhere knows.
+fn is_remote(words: &[Octets]) -> bool
+    ensures { result ≡ is_remote_line (line_of words.now) }
+{
+    match CommandLine::read(words) {
+        Some(line) => line.order.is_remote(),
+        None => false,
+    }
+}
+
 /// Runs a command line over these devices and disks, with no records, and with a mailer that gives these answers; nothing where there
-/// are too many disks.
+/// are too many disks, or a server elsewhere is wanted.
 pub(crate) fn run_over<H: Threads + Sync>(
     threads: &H,
     alloc: Global,
@@ -211,6 +230,9 @@ pub(crate) fn run_over<H: Threads + Sync>(
         return Ok(None);
     }
     let words = words_of(alloc, line)?;
+    if is_remote(&words) {
+        return Ok(None);
+    }
     let mut mailers: Vec<Box<dyn Mailer>> = Vec::new(alloc);
     mailers.push(Box::new(alloc, MemMailer::new(alloc, answers))?)?;
     let (status, world) = run_with(threads, alloc, &words, devices, disks, &mut mailers);

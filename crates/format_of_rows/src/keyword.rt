@@ -21,6 +21,8 @@ pub(crate) enum Keyword {
     Door,
     Server,
     ServerPart,
+    Remote,
+    RemotePart,
     Ends,
     Fails,
     Idle,
@@ -40,13 +42,17 @@ pub(crate) enum Keyword {
     GivenPart,
     GivenLink,
     HungUp,
+    RemoteGiven,
+    RemoteGivenPart,
     Status,
     Untaken,
     Unchanged,
+    Closed,
     Keeper,
     Command,
     TableName,
     RecordsName,
+    RemoteName,
 }
 
 const KEYWORDS: &[(&str, Keyword)] = &[
@@ -70,6 +76,8 @@ const KEYWORDS: &[(&str, Keyword)] = &[
     ("door", Keyword::Door),
     ("server", Keyword::Server),
     ("server-part", Keyword::ServerPart),
+    ("remote", Keyword::Remote),
+    ("remote-part", Keyword::RemotePart),
     ("ends", Keyword::Ends),
     ("fails", Keyword::Fails),
     ("idle", Keyword::Idle),
@@ -89,13 +97,17 @@ const KEYWORDS: &[(&str, Keyword)] = &[
     ("given-part", Keyword::GivenPart),
     ("given-link", Keyword::GivenLink),
     ("hung-up", Keyword::HungUp),
+    ("remote-given", Keyword::RemoteGiven),
+    ("remote-given-part", Keyword::RemoteGivenPart),
     ("status", Keyword::Status),
     ("untaken", Keyword::Untaken),
     ("unchanged", Keyword::Unchanged),
+    ("closed", Keyword::Closed),
     ("keeper", Keyword::Keeper),
     ("command", Keyword::Command),
     ("table-name", Keyword::TableName),
     ("records-name", Keyword::RecordsName),
+    ("remote-name", Keyword::RemoteName),
 ];
 
 impl Keyword {
@@ -120,6 +132,8 @@ impl Keyword {
             Keyword::NoneStarted => Keyword::Started,
             Keyword::Data | Keyword::Server | Keyword::ServerPart => Keyword::Link,
             Keyword::NoneAsked => Keyword::Asked,
+            Keyword::RemotePart => Keyword::Remote,
+            Keyword::RemoteGivenPart => Keyword::RemoteGiven,
             Keyword::GivenPart | Keyword::GivenLink => Keyword::Given,
             other => other,
         }
@@ -129,7 +143,11 @@ impl Keyword {
     pub(crate) fn is_of_called(self) -> bool {
         matches!(
             self.family(),
-            Keyword::Started | Keyword::Asked | Keyword::Given | Keyword::HungUp
+            Keyword::Started
+                | Keyword::Asked
+                | Keyword::Given
+                | Keyword::HungUp
+                | Keyword::RemoteGiven
         )
     }
 
@@ -137,7 +155,7 @@ impl Keyword {
     pub(crate) fn is_taken_over(self) -> bool {
         !matches!(
             self,
-            Keyword::Row | Keyword::Like | Keyword::Sweep | Keyword::Paced
+            Keyword::Row | Keyword::Like | Keyword::Sweep | Keyword::Paced | Keyword::Closed
         )
     }
 
@@ -155,6 +173,7 @@ impl Keyword {
                 | Keyword::GivenLink
                 | Keyword::Untaken
                 | Keyword::Unchanged
+                | Keyword::Closed
         )
     }
 }

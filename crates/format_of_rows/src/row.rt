@@ -78,13 +78,17 @@ impl Row {
             | Keyword::GivenPart
             | Keyword::GivenLink
             | Keyword::HungUp
+            | Keyword::RemoteGiven
+            | Keyword::RemoteGivenPart
             | Keyword::Status
             | Keyword::Untaken
             | Keyword::Unchanged
+            | Keyword::Closed
             | Keyword::Keeper
             | Keyword::Command
             | Keyword::TableName
-            | Keyword::RecordsName => self.wanted.add(alloc, line),
+            | Keyword::RecordsName
+            | Keyword::RemoteName => self.wanted.add(alloc, line),
             _ => self.setting.add(alloc, line),
         }
     }

@@ -48,6 +48,8 @@ pub struct Setting {
     pub limit: Option<u64>,
     /// The links, in the order in which they come up.
     pub links: Vec<Link>,
+    /// What an authentication server elsewhere says, where there is one.
+    pub remote: Option<Vec<u8>>,
     /// The doors that can be opened, in order, each with its address and port.
     pub doors: Vec<([u8; 4], u16)>,
     /// The statuses with which programs end, in the order in which they are started; 0 past these.
@@ -76,6 +78,7 @@ impl Setting {
             client: Vec::new(alloc),
             limit: None,
             links: Vec::new(alloc),
+            remote: None,
             doors: Vec::new(alloc),
             ends: Vec::new(alloc),
         })
@@ -134,6 +137,18 @@ impl Setting {
         }
     }
 
+    // Adds a line that an authentication server elsewhere says.
+    fn add_remote(&mut self, alloc: Global, line: &Line) -> Result<(), Why> {
+        let end: &[u8] = match line.keyword {
+            Keyword::Remote => b"\n",
+            _ => b"",
+        };
+        let mut said = self.remote.take().unwrap_or(Vec::new(alloc));
+        add_unescaped(alloc, &mut said, line.text, end)?;
+        self.remote = Some(said);
+        Ok(())
+    }
+
     // Adds a line about the servers.
     fn add_link_line(&mut self, alloc: Global, line: &Line) -> Result<(), Why> {
         match line.keyword {
@@ -188,6 +203,7 @@ impl Setting {
             }
             Keyword::Link => self.add_link_line(alloc, line),
             Keyword::Door => self.add_door(line.text),
+            Keyword::Remote => self.add_remote(alloc, line),
             Keyword::Ends => add_statuses(&mut self.ends, line.text),
             _ => self.add_record_line(alloc, line),
         }

@@ -49,6 +49,14 @@ pub enum Part {
     DataGiven,
     /// There is room for so many bytes in it.
     DataRoom,
+    /// The source of an authentication server elsewhere fails.
+    Remote,
+    /// Nothing comes of it.
+    RemoteIdle,
+    /// The sink of what such a server is given fails.
+    RemoteGiven,
+    /// There is room for so many bytes in it.
+    RemoteRoom,
 }
 
 const PARTS: &[(Keyword, &str, Part)] = &[
@@ -64,14 +72,18 @@ const PARTS: &[(Keyword, &str, Part)] = &[
     (Keyword::Fails, "given", Part::Given),
     (Keyword::Fails, "data", Part::Data),
     (Keyword::Fails, "data-given", Part::DataGiven),
+    (Keyword::Fails, "remote", Part::Remote),
+    (Keyword::Fails, "remote-given", Part::RemoteGiven),
     (Keyword::Idle, "table", Part::TableIdle),
     (Keyword::Idle, "client", Part::ClientIdle),
     (Keyword::Idle, "server", Part::ServerIdle),
     (Keyword::Idle, "data", Part::DataIdle),
+    (Keyword::Idle, "remote", Part::RemoteIdle),
     (Keyword::Room, "output", Part::OutputRoom),
     (Keyword::Room, "log", Part::LogRoom),
     (Keyword::Room, "given", Part::GivenRoom),
     (Keyword::Room, "data-given", Part::DataRoom),
+    (Keyword::Room, "remote-given", Part::RemoteRoom),
 ];
 
 /// Calls of a device, numbered from 0; for a sink's room the count of bytes.

@@ -17,6 +17,8 @@ pub struct Reading {
     pub table: Option<Vec<u8>>,
     /// The records' name, where the words give one.
     pub records: Option<Vec<u8>>,
+    /// The authentication server elsewhere, where the words give one.
+    pub remote: Option<Vec<u8>>,
 }
 
 /// What is expected of those whom a run calls.
@@ -32,6 +34,8 @@ pub struct Called {
     pub ends: Vec<usize>,
     /// How many links are hung up.
     pub hung_up: u64,
+    /// What an authentication server elsewhere is given.
+    pub remote: Vec<u8>,
 }
 
 /// What is expected of a run.
@@ -47,6 +51,8 @@ pub struct Wanted {
     pub untaken: bool,
     /// Whether the keeper has the records that it had.
     pub unchanged: bool,
+    /// Whether the last entry of the history closes its first session.
+    pub closed: bool,
     /// The records that the keeper has afterwards, in order.
     pub keeper: Option<Vec<(Name, Octets)>>,
     pub reading: Reading,
@@ -58,6 +64,7 @@ impl Reading {
             command: None,
             table: None,
             records: None,
+            remote: None,
         }
     }
 }
@@ -70,6 +77,7 @@ impl Called {
             given: Vec::new(alloc),
             ends: Vec::new(alloc),
             hung_up: 0,
+            remote: Vec::new(alloc),
         }
     }
 
@@ -79,6 +87,8 @@ impl Called {
             Keyword::Asked => add_unescaped(alloc, &mut self.asked, line.text, b"\n"),
             Keyword::Given => add_unescaped(alloc, &mut self.given, line.text, b"\r\n"),
             Keyword::GivenPart => add_unescaped(alloc, &mut self.given, line.text, b""),
+            Keyword::RemoteGiven => add_unescaped(alloc, &mut self.remote, line.text, b"\n"),
+            Keyword::RemoteGivenPart => add_unescaped(alloc, &mut self.remote, line.text, b""),
             Keyword::GivenLink => {
                 self.ends.push(self.given.len())?;
                 Ok(())
@@ -110,6 +120,7 @@ impl Wanted {
             status: None,
             untaken: false,
             unchanged: false,
+            closed: false,
             keeper: None,
             reading: Reading::new(),
         }
@@ -153,6 +164,7 @@ impl Wanted {
         match line.keyword {
             Keyword::TableName => self.reading.table = Some(text),
             Keyword::RecordsName => self.reading.records = Some(text),
+            Keyword::RemoteName => self.reading.remote = Some(text),
             _ => self.reading.command = Some(text),
         }
         Ok(())
@@ -164,6 +176,7 @@ impl Wanted {
             Keyword::Status => self.status = Some(status_of(line.text)?),
             Keyword::Untaken => self.untaken = true,
             Keyword::Unchanged => self.unchanged = true,
+            Keyword::Closed => self.closed = true,
             Keyword::Keeper => self.add_record(alloc, line.text)?,
             _ => self.add_reading(alloc, line)?,
         }

@@ -40,7 +40,7 @@ fn behind(word: &[u8]) -> Next {
     match word {
         b"-b" => Next::Address,
         b"-p" => Next::Ports,
-        b"-t" | b"-r" | b"-s" | b"-n" | b"-m" => Next::Value,
+        b"-t" | b"-r" | b"-s" | b"-n" | b"-m" | b"-a" => Next::Value,
         _ => Next::Argument,
     }
 }

@@ -15,6 +15,7 @@ use fw_types::Octets;
 use process::Process;
 use real_links::{ClientHosts, LinkSink, Programs, StandardOutput, TcpDialer};
 use real_waits::shared;
+use remote::remote_for;
 use serving::{is_server, serve_words};
 use spool::{Slots, disks_of, mailer_of};
 use std::env;
@@ -26,6 +27,7 @@ use std::thread::Threads;
 
 mod binding;
 mod process;
+mod remote;
 mod serving;
 mod spool;
 
@@ -34,8 +36,8 @@ usage: fwtk [-t FILE] netacl [-run] DAEMON ADDRESS [NAME]
        fwtk [-t FILE] table SERVICE ADDRESS [NAME]
        fwtk [-t FILE] [-r FILE] authsrv [-console] ADDRESS [NAME]
        fwtk [-t FILE] plug-gw PORT ADDRESS [NAME]
-       fwtk [-t FILE] [-r FILE] tn-gw ADDRESS [NAME]
-       fwtk [-t FILE] [-r FILE] [-b ADDRESS] [-p LOW-HIGH] ftp-gw ADDRESS [NAME]
+       fwtk [-t FILE] [-r FILE] [-a HOST:PORT] tn-gw ADDRESS [NAME]
+       fwtk [-t FILE] [-r FILE] [-a HOST:PORT] [-b ADDRESS] [-p LOW-HIGH] ftp-gw ADDRESS [NAME]
        fwtk [-t FILE] [-r FILE] [-s FOLDER] [-n SLOTS] [-m PROGRAM] [-b ADDRESS] [-p LOW-HIGH] serve WORKERS SERVICE@PORT ..
        fwtk [-t FILE] [-s FOLDER] [-n SLOTS] smap ADDRESS [NAME]
        fwtk [-s FOLDER] [-n SLOTS] [-m PROGRAM] smapd
@@ -49,6 +51,7 @@ usage: fwtk [-t FILE] netacl [-run] DAEMON ADDRESS [NAME]
   -s FOLDER  the folder of the mail's slots, spool in the current directory by default
   -n SLOTS  how many slots there are, 1 to 64, 8 by default
   -m PROGRAM  the program that mail is handed to, /usr/lib/sendmail by default
+  -a HOST:PORT  the authentication server that a gateway asks in place of the records
   -b ADDRESS  the address at which serve listens, all by default, and at which ftp-gw waits for data
   -p LOW-HIGH  the ports at which data is waited for, any that the system picks by default
 fwtk(8) lists the exit statuses; netacl(8), authsrv(8), plug-gw(8), tn-gw(8), ftp-gw(8), serve(8), smap(8), smapd(8),
@@ -188,6 +191,7 @@ where
         dialer,
         launcher: Programs::new(rt, rt.alloc()),
         disks,
+        remote: remote_for(rt, words),
     };
     Ok(run(threads, rt.alloc(), words, &mut mailers, &mut world))
 }

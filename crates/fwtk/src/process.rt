@@ -3,13 +3,20 @@
 use bastion::Kit;
 use fw_outside::Dice;
 use fw_real::{FileDisk, Paths, Reading, Records, SlotFile, StandardInput, SystemClock, Writing};
-use real_links::{LinkSink, Programs, StandardOutput, TcpDialer};
+use real_links::{LinkSink, Programs, RemoteSink, RemoteSource, StandardOutput, TcpDialer};
 use std::fs::File;
 use std::io::Stderr;
 use std::marker::PhantomData;
+use std::net::TcpStream;
 
 /// The file of a slot, as a disk.
 pub type SlotDisk = FileDisk<SlotFile, File>;
+
+/// What comes from the server that knows the users.
+pub type AuthSource = RemoteSource<TcpStream>;
+
+/// What goes to it.
+pub type AuthSink = RemoteSink<TcpStream>;
 
 /// The kinds of device that a process has, with dice of this kind.
 #[derive(Drop)]
@@ -37,4 +44,8 @@ impl<D: Dice> Kit for Process<D> {
     type Launch = Programs<HostRuntime>;
 
     type Disk = SlotDisk;
+
+    type AuthIn = AuthSource;
+
+    type AuthOut = AuthSink;
 }

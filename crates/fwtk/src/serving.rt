@@ -172,6 +172,7 @@ fn make_ready(
         dialer: TcpDialer::new(rt, rt.alloc(), hosts),
         launcher: Programs::new(rt, rt.alloc()),
         disks,
+        remote: None,
     };
     ready(rt.alloc(), words, &mut world)
 }

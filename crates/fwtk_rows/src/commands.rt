@@ -2,16 +2,20 @@
 
 use arrayvec::ArrayVec;
 use bastion::{
-    Caller, Command, GatewayKind, Job, Order, Query, Spelling, places, read_order, table_named,
+    Authorities, Caller, Command, GatewayKind, Job, Order, Query, Spelling, places, read_order,
+    table_named,
 };
 use format_of_rows::{Row, TABLE};
-use fw_types::{NoMemory, Octets, Peer};
+use fw_types::{Dest, NoMemory, Octets, Peer};
 use gate_rules::Service;
 use runs_of_rows::Difference;
 use std::alloc::Global;
 
 /// The name of the records' file where the command line names none.
 const RECORDS: &str = "authdb";
+
+/// What is told where the command line names no server elsewhere.
+const NONE: &str = "none";
 
 fn add_service(out: &mut Vec<u8>, service: &Service) -> Result<(), NoMemory> {
     let mut text = ArrayVec::new();
@@ -45,6 +49,31 @@ fn add_caller(alloc: Global, out: &mut Vec<u8>, caller: &Caller) -> Result<(), N
     add_client(out, word.as_bytes(), &caller.peer)
 }
 
+// The command of a gateway, with `-a` where a server elsewhere knows its users.
+fn gateway_word(kind: GatewayKind, authorities: Authorities) -> &'static [u8] {
+    match (kind, authorities) {
+        (GatewayKind::Telnet, Authorities::Records) => b"tn-gw ",
+        (GatewayKind::Telnet, Authorities::Remote) => b"tn-gw -a ",
+        (GatewayKind::Ftp, Authorities::Records) => b"ftp-gw ",
+        (GatewayKind::Ftp, Authorities::Remote) => b"ftp-gw -a ",
+    }
+}
+
+// A destination, or `none`.
+fn add_dest(alloc: Global, out: &mut Vec<u8>, dest: &Option<Dest>) -> Result<(), NoMemory> {
+    let Some(dest) = dest else {
+        out.extend_from_slice(b"none")?;
+        return Ok(());
+    };
+    let mut text = ArrayVec::new();
+    dest.host.write(&mut text);
+    out.extend_from_slice(text.as_slice())?;
+    let port = dest.port;
+    let port = format!(in alloc; " {port}")?;
+    out.extend_from_slice(port.as_bytes())?;
+    Ok(())
+}
+
 // What a command asks for, with the service and the peer.
 fn add_command(alloc: Global, out: &mut Vec<u8>, command: &Command) -> Result<(), NoMemory> {
     match command {
@@ -54,13 +83,10 @@ fn add_command(alloc: Global, out: &mut Vec<u8>, command: &Command) -> Result<()
         Command::Authsrv(client) if client.console => add_client(out, b"console ", &client.peer),
         Command::PlugGw(caller) => add_caller(alloc, out, caller),
         Command::Gateway {
-            kind: GatewayKind::Telnet,
+            kind,
+            authorities,
             peer,
-        } => add_client(out, b"tn-gw ", peer),
-        Command::Gateway {
-            kind: GatewayKind::Ftp,
-            peer,
-        } => add_client(out, b"ftp-gw ", peer),
+        } => add_client(out, gateway_word(*kind, *authorities), peer),
         Command::Smap(peer) => add_client(out, b"smap ", peer),
         Command::Authsrv(client) => add_client(out, b"authsrv ", &client.peer),
     }
@@ -137,5 +163,9 @@ pub(crate) fn misread(
     difference.text_of(b"the table's name", table, table_named(words));
     let records = name_or(&reading.records, RECORDS);
     difference.text_of(b"the records' name", records, places(words).db);
+    let remote = name_or(&reading.remote, NONE);
+    let mut told = Vec::new(alloc);
+    add_dest(alloc, &mut told, &places(words).remote)?;
+    difference.text_of(b"the server elsewhere", remote, &told);
     Ok(())
 }

@@ -1,6 +1,9 @@
 //! The one call of `run`.
+ghost use Rattle.std.specs.Prelude.{◌≡◌, true, IsSome};
+ghost use Rattle.bastion.specs.Status.{is_remote_line};
+ghost use Rattle.bastion.specs.Words.{line_of};
 
-use bastion::{Kit, Mailer, World, run};
+use bastion::{CommandLine, Kit, Mailer, World, run};
 use fw_memory::{
     MemClock, MemDialer, MemDice, MemDisk, MemFiles, MemKeeper, MemLauncher, MemMailer, MemSink,
     MemSource,
@@ -34,6 +37,10 @@ impl Kit for Memory {
     type Launch = MemLauncher;
 
     type Disk = MemDisk;
+
+    type AuthIn = MemSource;
+
+    type AuthOut = MemSink;
 }
 
 // The status, and the devices after the run.
@@ -49,6 +56,7 @@ fn ended_of(status: u8, world: World<Memory>) -> Ended {
         dialer,
         launcher,
         disks: _,
+        remote,
     } = world;
     let place = Place {
         files,
@@ -59,26 +67,46 @@ fn ended_of(status: u8, world: World<Memory>) -> Ended {
     let devices = Devices {
         talk: Talk { input, output },
         place,
-        helpers: Helpers { dialer, launcher },
+        helpers: Helpers {
+            dialer,
+            launcher,
+            remote,
+        },
     };
     Ended {
         status,
         devices,
         keeper,
+        closed: false,
     }
 }
 
 // The status for want of memory, here for the mailer, which no row calls.
 const WANTS_MEMORY: u8 = 5;
 
-/// Runs the command line over the devices and the keeper.
-pub(crate) fn run_over<H: Threads + Sync>(
+// The status of a row of a gateway whose users a server elsewhere knows, where the row has no such server.
+const WANTS_SERVER: u8 = 254;
+
+// Whether the words are those of such a gateway.
+fn is_remote(words: &[Octets]) -> bool
+    ensures { result ≡ is_remote_line (line_of words.now) }
+{
+    match CommandLine::read(words) {
+        Some(line) => line.order.is_remote(),
+        None => false,
+    }
+}
+
+// Runs the command line over the devices and the keeper.
+fn run_in<H: Threads + Sync>(
     rt: &H,
     alloc: Global,
     words: &[Octets],
     devices: Devices,
     keeper: MemKeeper,
-) -> Ended {
+) -> Ended
+    requires remote { is_remote_line (line_of words.now) ≡ true → IsSome devices.helpers.remote }
+{
     let mut mailers: Vec<Box<dyn Mailer>> = Vec::new(alloc);
     let is_made = match Box::new(alloc, MemMailer::new(alloc, Vec::new(alloc))) {
         Ok(mailer) => mailers.push(mailer).is_ok(),
@@ -89,6 +117,7 @@ pub(crate) fn run_over<H: Threads + Sync>(
             status: WANTS_MEMORY,
             devices,
             keeper: Some(keeper),
+            closed: false,
         };
     }
     let Devices {
@@ -103,7 +132,11 @@ pub(crate) fn run_over<H: Threads + Sync>(
         clock,
         dice,
     } = place;
-    let Helpers { dialer, launcher } = helpers;
+    let Helpers {
+        dialer,
+        launcher,
+        remote,
+    } = helpers;
     let mut world: World<Memory> = World {
         files,
         input,
@@ -115,7 +148,41 @@ pub(crate) fn run_over<H: Threads + Sync>(
         dialer,
         launcher,
         disks: Vec::new(alloc),
+        remote,
     };
     let status = run(rt, alloc, words, &mut mailers, &mut world);
     ended_of(status, world)
+}
+
+// The same, where there is no server elsewhere.
+fn run_alone<H: Threads + Sync>(
+    rt: &H,
+    alloc: Global,
+    words: &[Octets],
+    devices: Devices,
+    keeper: MemKeeper,
+) -> Ended {
+    if is_remote(words) {
+        return Ended {
+            status: WANTS_SERVER,
+            devices,
+            keeper: Some(keeper),
+            closed: false,
+        };
+    }
+    run_in(rt, alloc, words, devices, keeper)
+}
+
+/// Runs the command line over the devices and the keeper.
+pub(crate) fn run_over<H: Threads + Sync>(
+    rt: &H,
+    alloc: Global,
+    words: &[Octets],
+    devices: Devices,
+    keeper: MemKeeper,
+) -> Ended {
+    match &devices.helpers.remote {
+        Some(_) => run_in(rt, alloc, words, devices, keeper),
+        None => run_alone(rt, alloc, words, devices, keeper),
+    }
 }

@@ -1,9 +1,10 @@
 //! A client of a server in whose history there is room for few requests, or whose port fails.
 ghost use Rattle.client_service.specs.Conn.{IsServed};
 
+use auth_events::{Entry, Request};
 use auth_machine::{Book, OpenFault, Policy};
 use auth_port::FaultyPort;
-use bastion::{Command, GatewayKind, Order, Outcome, conn, read_order, table_named};
+use bastion::{Authorities, Command, GatewayKind, Order, Outcome, conn, read_order, table_named};
 use fw_memory::{Calls, MemFiles, MemKeeper, MemSource};
 use fw_outside::Files;
 use fw_types::{Ending, Octets, Peer};
@@ -35,6 +36,7 @@ fn client_of(words: &[Octets]) -> Option<(Service, Peer)> {
             Order::ByTable(
                 Command::Gateway {
                     kind: GatewayKind::Telnet,
+                    authorities: Authorities::Records,
                     peer,
                 },
             ),
@@ -43,6 +45,7 @@ fn client_of(words: &[Octets]) -> Option<(Service, Peer)> {
             Order::ByTable(
                 Command::Gateway {
                     kind: GatewayKind::Ftp,
+                    authorities: Authorities::Records,
                     peer,
                 },
             ),
@@ -70,14 +73,25 @@ fn server_in(alloc: Global, words: &[Octets], files: &mut MemFiles) -> Option<(S
     Some((server, policy))
 }
 
+// Whether the last entry closes the first session.
+fn is_closed(history: &[Entry]) -> bool {
+    match history.last() {
+        Some(entry) => entry.sid == 0 && matches!(entry.request, Request::Close),
+        None => false,
+    }
+}
+
 // Ends the book, and says what it came to.
-fn close(book: Book<MemKeeper>, limit: u64, ending: Ending) -> (u8, MemKeeper) {
+fn close(book: Book<MemKeeper>, limit: u64, ending: Ending, ended: &mut Ended) {
     let refused = book.refused();
     let (keeper, history) = book.close();
-    if history.len() as u64 > limit {
-        return (UNSERVED, keeper);
-    }
-    (Outcome::Ended { ending, refused }.status(), keeper)
+    ended.closed = is_closed(&history);
+    ended.status = if history.len() as u64 > limit {
+        UNSERVED
+    } else {
+        Outcome::Ended { ending, refused }.status()
+    };
+    ended.keeper = Some(keeper);
 }
 
 // The one call of `conn`.
@@ -134,9 +148,7 @@ fn hold<H: Threads + Sync>(
     ended: &mut Ended,
 ) {
     let ending = conn_over(rt, alloc, server, &mut port, ended);
-    let (status, keeper) = close(port.into_book(), limit, ending);
-    ended.status = status;
-    ended.keeper = Some(keeper);
+    close(port.into_book(), limit, ending, ended);
 }
 
 // The same over a book, where it is opened.
@@ -181,6 +193,7 @@ pub(crate) fn serve_over<H: Threads + Sync>(
         status: UNSERVED,
         devices,
         keeper: None,
+        closed: false,
     };
     let fails = fails.unwrap_or(Calls::none());
     match server_in(alloc, words, &mut ended.devices.place.files) {

@@ -4,6 +4,7 @@ pub mod Links
 pub mod Names
 pub mod NewLinks
 pub mod Programs
+pub mod Remote
 pub mod TcpDialerView
 pub mod MailerPrograms
 pub mod Takings

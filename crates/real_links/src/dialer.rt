@@ -2,18 +2,22 @@ ghost use Rattle.std.specs.Prelude.{◌≡◌, true, IfNone, IfOk, IfSome, None,
 ghost use Rattle.fw_outside.specs.Counts.{Grew, Rose, counted};
 ghost use Rattle.fw_outside.specs.DialerView.{Accepts, ComesUp, HangsUp, IfRefused, IfUp, LetsGo, Opens, Refuses, RoseIf, TurnsAway, dialer_waiting, has_broken};
 ghost use Rattle.fw_outside.specs.declared.ask.Ask.TheVariants.{Back, Door, Main, Side};
+ghost use Rattle.fw_outside.specs.declared.mark.Mark.TheVariants.{Own};
 ghost use Rattle.fw_types.specs.declared.host.Host.TheVariants.{Name};
 ghost use Rattle.real_links.specs.Dialing.{LeadsTo, LeadsToHost, untold_dialer};
 ghost use Rattle.real_links.specs.Links.{ReadsAhead, untold_sink, untold_source};
 ghost use Rattle.real_links.specs.Names.{can_be_looked_up};
 ghost use Rattle.real_links.specs.NewLinks.{IsNewLink};
+ghost use Rattle.real_links.specs.Remote.{IfUpLeadsTo, remote_sink_view, remote_source_view};
 ghost use Rattle.real_links.specs.TcpDialerView.{tcp_dialer_view};
 
 use crate::door::{Opened, open_door, wait_at};
 use crate::link::{Link, link_over, open};
 use crate::names::{can_be_looked_up, without_last_period};
 use crate::wait::coming;
-use crate::{Address, ClientHosts, DoorPorts, LinkSink, LinkSource, TcpDoor};
+use crate::{
+    Address, ClientHosts, DoorPorts, LinkSink, LinkSource, RemoteSink, RemoteSource, TcpDoor,
+};
 use fw_outside::{Dialed, Dialer, Mark};
 use fw_types::{Dest, Host, HostName};
 use real_waits::Activity;
@@ -241,6 +245,25 @@ impl<R: Net> TcpDialer<R> {
         match &dest.host {
             Host::Addr(host) => self.reach_address(Address { host: *host, port }).ok(),
             Host::Name(name) => self.reach_name(name, port),
+        }
+    }
+
+    /// The two ends of a link to a server, which waits as the dialer's links do. It is reached as a destination is, and not
+    /// counted. Where it doesn't come up, each call of the ends fails.
+    pub fn reach_server(&self, dest: &Dest) -> (RemoteSource<R::Stream>, RemoteSink<R::Stream>)
+        ensures source { remote_source_view result.0 ≡ untold_source 0 0 0 self.now.waits 0 Own }
+        ensures sink { remote_sink_view result.1 ≡ untold_sink 0 Own }
+        ensures leads { IfUpLeadsTo dest.now result.0 }
+    {
+        match self.reach(dest) {
+            Some(Link { from, to }) => (RemoteSource::Up(from), RemoteSink::Up(to)),
+            None => (
+                RemoteSource::Down {
+                    faults: 0,
+                    waits: self.waits,
+                },
+                RemoteSink::Down { faults: 0 },
+            ),
         }
     }
 

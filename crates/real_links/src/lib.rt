@@ -9,6 +9,8 @@
 //! [`MailerProgram`] is the mailer of `fw_mail` over a program: it hands a message to it, waits so long at most, and goes
 //! by the status with which it ended.
 //!
+//! [`RemoteSource`] and [`RemoteSink`] are the ends of a link to a server that may not have come up.
+//!
 //! A [`LinkSink`] over [`StandardOutput`] is the sink to a client whom inetd or systemd handed over: its end is told too.
 //!
 //! A name is looked up only if no resolver can take it for an address ([`can_be_looked_up`]), and a program is run only
@@ -28,9 +30,12 @@ mod link_sink;
 mod link_source;
 mod mail_words;
 mod mailer_program;
+mod missed;
 mod names;
 mod programs;
 mod ran;
+mod remote_sink;
+mod remote_source;
 mod standard_output;
 mod taken;
 mod wait;
@@ -45,4 +50,6 @@ pub use link_source::LinkSource;
 pub use mailer_program::MailerProgram;
 pub use names::can_be_looked_up;
 pub use programs::Programs;
+pub use remote_sink::RemoteSink;
+pub use remote_source::RemoteSource;
 pub use standard_output::StandardOutput;

@@ -1,6 +1,7 @@
 //! What differs in a run in which a device fails at a call that is made.
 
 use crate::comparing::{Called, Difference, Expected};
+use crate::elsewhere::remote_differs;
 use crate::file_gates::ftp_differs;
 use crate::gates::gate_differs;
 use crate::parts::{both, whole, with_last_word, without_line};
@@ -207,6 +208,9 @@ fn part_differs(plan: &Plan, part: Part, was: &mut Ended, difference: &mut Diffe
     match part {
         Part::Table | Part::TableIdle => {
             untouched_differs(plan, b"fault outside table\n", was, difference);
+        }
+        Part::Remote | Part::RemoteIdle | Part::RemoteGiven | Part::RemoteRoom => {
+            remote_differs(plan, part, was, difference);
         }
         _ if is_gate(plan.row) => gate_differs(plan, part, was, difference),
         _ if is_ftp(plan.row) => ftp_differs(plan, part, was, difference),

@@ -3,7 +3,9 @@
 use crate::devices::{Helpers, Place, Talk};
 use crate::parts::{Parts, whole};
 use crate::runner::Ended;
-use crate::seen::{add_asked, add_given, add_left, add_records, add_started, table_of};
+use crate::seen::{
+    add_asked, add_given, add_left, add_records, add_started, remote_given, table_of,
+};
 use crate::writing::{Text, add, add_number};
 use fw_outside::Clock;
 use fw_types::{Name, Octets};
@@ -21,6 +23,8 @@ pub(crate) struct Called<'a> {
     pub(crate) ends: &'a [usize],
     /// How many links were hung up.
     pub(crate) hung_up: u64,
+    /// What an authentication server elsewhere was given. `None` may be anything.
+    pub(crate) remote: Option<&'a [u8]>,
 }
 
 /// What is expected of what a run leaves. What is `None` may be anything.
@@ -32,6 +36,8 @@ pub(crate) struct Rest<'a> {
     pub(crate) left: Option<&'a [u8]>,
     /// What the keeper has.
     pub(crate) records: Option<&'a [(Name, Octets)]>,
+    /// Whether the last entry of the history closes the first session. Where it is `false`, the entry may be any.
+    pub(crate) closed: bool,
 }
 
 /// What is expected of a run.
@@ -52,6 +58,7 @@ pub(crate) const UNCALLED: Called<'static> = Called {
     given: &[],
     ends: &[],
     hung_up: 0,
+    remote: None,
 };
 
 // Says that a text isn't the one that was expected, unless something is said already.
@@ -171,6 +178,17 @@ impl Difference {
         }
     }
 
+    // Compares what an authentication server elsewhere was given, where that is any matter.
+    fn remote_of(&mut self, expected: &Called, helpers: &Helpers) {
+        if let Some(wanted) = expected.remote {
+            self.text_of(
+                b"what the server elsewhere was given",
+                wanted,
+                remote_given(helpers),
+            );
+        }
+    }
+
     // Compares what those were told whom the run called.
     fn called_of(&mut self, expected: &Called, helpers: &Helpers) {
         self.started_of(expected, helpers);
@@ -178,9 +196,11 @@ impl Difference {
         self.given_of(expected, helpers);
         let hung_up = helpers.dialer.ended().len() as u64;
         self.number_of(b"the links hung up", expected.hung_up, hung_up);
+        self.remote_of(expected, helpers);
     }
 
-    fn records_of(&mut self, wanted: &[(Name, Octets)], was: &[(Name, Octets)]) {
+    /// Compares the records that the keeper has, unless something differs already.
+    pub(crate) fn records_of(&mut self, wanted: &[(Name, Octets)], was: &[(Name, Octets)]) {
         if !self.is_none() || are_same(wanted, was) {
             return;
         }
@@ -211,6 +231,9 @@ impl Difference {
         }
         if let Some(records) = expected.records {
             self.records_of(records, table_of(&was.keeper));
+        }
+        if self.is_none() && expected.closed && !was.closed {
+            self.say(b"the history's last entry doesn't close the session");
         }
     }
 

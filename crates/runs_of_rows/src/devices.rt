@@ -44,6 +44,8 @@ pub struct Place {
 pub struct Helpers {
     pub dialer: MemDialer,
     pub launcher: MemLauncher,
+    /// Both ends of the link to an authentication server elsewhere, where there is one.
+    pub remote: Option<(MemSource, MemSink)>,
 }
 
 /// The devices that a run is given, but for its keeper.
@@ -232,9 +234,36 @@ fn place_of(plan: &Plan) -> Result<Place, NoMemory> {
     })
 }
 
+// Both ends of a link to an authentication server elsewhere that says this.
+fn ends_of(plan: &Plan, said: &[u8]) -> Result<(MemSource, MemSink), NoMemory> {
+    let source = both(
+        calls_of(plan, Part::Remote),
+        calls_of(plan, Part::RemoteIdle),
+    );
+    let other = both(
+        Octets::copy(plan.alloc, said),
+        calls_of(plan, Part::RemoteGiven),
+    );
+    let ((fails, idle), (said, refuses)) = both(source, other)?;
+    let to = MemSink::new(plan.alloc, room_of(plan, Part::RemoteRoom), refuses)?;
+    Ok((MemSource::new(said, plan.piece.max(1), fails, idle), to))
+}
+
+fn remote_of(plan: &Plan) -> Result<Option<(MemSource, MemSink)>, NoMemory> {
+    match &plan.row.setting.remote {
+        Some(said) => Ok(Some(ends_of(plan, said)?)),
+        None => Ok(None),
+    }
+}
+
 fn helpers_of(plan: &Plan) -> Result<Helpers, NoMemory> {
-    let (launcher, dialer) = both(launcher_of(plan), dialer_of(plan))?;
-    Ok(Helpers { dialer, launcher })
+    let called = both(launcher_of(plan), dialer_of(plan));
+    let ((launcher, dialer), remote) = both(called, remote_of(plan))?;
+    Ok(Helpers {
+        dialer,
+        launcher,
+        remote,
+    })
 }
 
 /// What a row's run meets.

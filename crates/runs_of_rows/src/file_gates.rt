@@ -106,8 +106,8 @@ fn given_differs(row: &Row, was: &Ended, difference: &mut Difference) {
     }
 }
 
-// What was told, asked for and given is as the row says, as far as it goes.
-fn fronts_differ(plan: &Plan, was: &Ended, difference: &mut Difference) {
+/// What was told, asked for and given is as the row says, as far as it goes.
+pub(crate) fn fronts_differ(plan: &Plan, was: &Ended, difference: &mut Difference) {
     let (row, asked) = (plan.row, asked_of(was));
     front_of(
         difference,

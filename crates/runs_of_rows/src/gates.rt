@@ -34,11 +34,13 @@ fn asking<'a>(
             given: &[],
             ends: &[],
             hung_up,
+            remote: None,
         },
         rest: Rest {
             next: None,
             left: None,
             records: None,
+            closed: false,
         },
     }
 }

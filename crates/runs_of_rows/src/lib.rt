@@ -9,6 +9,7 @@ mod broken;
 mod calls;
 mod comparing;
 mod devices;
+mod elsewhere;
 mod file_gates;
 mod gates;
 mod gateways;

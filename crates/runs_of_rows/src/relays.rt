@@ -68,6 +68,7 @@ pub(crate) fn refused_differs(plan: &Plan, was: &mut Ended, difference: &mut Dif
         given: &[],
         ends: &[],
         hung_up: 0,
+        remote: None,
     };
     let log = with_last_word(&row.wanted.log, b"noroute");
     let expected = Expected {

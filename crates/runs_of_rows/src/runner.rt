@@ -16,6 +16,8 @@ pub struct Ended {
     pub devices: Devices,
     /// What the run gives back of its keeper.
     pub keeper: Option<MemKeeper>,
+    /// Whether the last entry of its history closes the first session; not where it keeps none.
+    pub closed: bool,
 }
 
 /// What the program under test does with a row.

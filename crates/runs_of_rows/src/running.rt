@@ -33,6 +33,10 @@ fn name_of(part: Part) -> &'static [u8] {
         Part::DataIdle => b"a data link is idle at call ",
         Part::DataGiven => b"a data link takes nothing at call ",
         Part::DataRoom => b"a data link has bytes of room, ",
+        Part::Remote => b"the server elsewhere fails at call ",
+        Part::RemoteIdle => b"the server elsewhere is idle at call ",
+        Part::RemoteGiven => b"the server elsewhere takes nothing at call ",
+        Part::RemoteRoom => b"the server elsewhere has bytes of room, ",
     }
 }
 

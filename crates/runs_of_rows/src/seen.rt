@@ -1,5 +1,6 @@
 //! What the devices show after a run.
 
+use crate::devices::Helpers;
 use crate::writing::{Text, add, add_hex, add_number};
 use arrayvec::ArrayVec;
 use fw_memory::{MemDialer, MemKeeper, MemLauncher, MemSource};
@@ -102,5 +103,13 @@ pub(crate) fn add_asked(out: &mut Text, dialer: &MemDialer) {
 pub(crate) fn add_given(out: &mut Text, dialer: &MemDialer) {
     for (_, to) in dialer.ended() {
         add(out, to.bytes());
+    }
+}
+
+/// What an authentication server elsewhere was given.
+pub(crate) fn remote_given(helpers: &Helpers) -> &[u8] {
+    match &helpers.remote {
+        Some((_, to)) => to.bytes(),
+        None => &[],
     }
 }

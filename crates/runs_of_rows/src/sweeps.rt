@@ -85,11 +85,19 @@ fn said_bytes(row: &Row, is_data: bool) -> usize {
     bytes
 }
 
+fn remote_bytes(row: &Row) -> usize {
+    match &row.setting.remote {
+        Some(said) => said.len(),
+        None => 0,
+    }
+}
+
 // How many bytes a device gives or is given whose calls there are more of the smaller the pieces; nothing for any other.
 fn bytes_of(row: &Row, part: Part) -> Option<usize> {
     match part {
         Part::Client => Some(row.setting.client.len()),
         Part::Table => Some(table_bytes(row)),
+        Part::Remote => Some(remote_bytes(row)),
         Part::Data | Part::DataGiven => Some(said_bytes(row, true)),
         Part::Server if is_ftp(row) => Some(said_bytes(row, false)),
         Part::Given if is_ftp(row) => None,
@@ -118,6 +126,7 @@ fn idle_of(part: Part) -> Option<Part> {
         Part::Table => Some(Part::TableIdle),
         Part::Server => Some(Part::ServerIdle),
         Part::Data => Some(Part::DataIdle),
+        Part::Remote => Some(Part::RemoteIdle),
         _ => None,
     }
 }
@@ -185,6 +194,7 @@ fn sweep_room<H: Threads + Sync, R: Runner>(
         Part::Log => (Part::LogRoom, wanted.log.len()),
         Part::Given => (Part::GivenRoom, last_given(&wanted.called)),
         Part::DataGiven => (Part::DataRoom, said_bytes(plan.row, true)),
+        Part::RemoteGiven => (Part::RemoteRoom, wanted.called.remote.len()),
         _ => return Ok(()),
     };
     sweep_part(rt, runner, plan, room, bytes as u64, swept)

@@ -39,6 +39,7 @@ pub(crate) fn called_by(wanted: &Wanted) -> Called<'_> {
         given: &wanted.called.given,
         ends: &wanted.called.ends,
         hung_up: wanted.called.hung_up,
+        remote: Some(&wanted.called.remote),
     }
 }
 
@@ -58,6 +59,7 @@ pub(crate) fn usual<'a>(row: &'a Row, records: &'a [(Name, Octets)]) -> Expected
             next: next_by(row),
             left: left_by(row),
             records: kept_by(row, records),
+            closed: row.wanted.closed,
         },
     }
 }
@@ -72,11 +74,15 @@ pub(crate) fn untouched<'a>(
         status: 4,
         output: Some(&[]),
         log,
-        called: UNCALLED,
+        called: Called {
+            remote: Some(&[]),
+            ..UNCALLED
+        },
         rest: Rest {
             next: Some(moment_after(row, 0)),
             left: Some(&row.setting.client),
             records: Some(records),
+            closed: false,
         },
     }
 }
@@ -92,6 +98,7 @@ pub(crate) fn stopped<'a>(output: &'a [u8], log: Parts<'a>, next: Option<u64>) -
             next,
             left: None,
             records: None,
+            closed: false,
         },
     }
 }
@@ -107,6 +114,7 @@ pub(crate) fn lasting(row: &Row) -> Expected<'_> {
             next: None,
             left: Some(&[]),
             records: None,
+            closed: false,
         },
     }
 }

@@ -3,6 +3,7 @@
 
 mod kinds;
 mod play;
+mod queues;
 mod stops;
 mod tellings;
 

@@ -8,6 +8,7 @@ mod kinds;
 mod letters;
 mod marks;
 mod racks;
+mod refills;
 mod slots;
 
 use kinds::Kinds;

@@ -42,6 +42,31 @@ fn stands<H: Threads + Sync>(
     }
 }
 
+/// Places at which a slot is torn where a disk fails from a call on: within the head, the length, the recipients and the body of a
+/// message of the rows.
+const TEARS: [u64; 5] = [4, 13, 20, 25, 29];
+
+// The number that picks the image which is as read below this place, and synced from there on.
+fn tear_at(place: u64) -> u64 {
+    place.saturating_mul(4).saturating_add(2)
+}
+
+// Whether it is in each image that is torn.
+fn stands_torn<H: Threads + Sync>(
+    threads: &H,
+    alloc: Global,
+    asked: Asked,
+    letters: &[u8],
+    broken: Broken,
+) -> Result<bool, NoMemory> {
+    for place in TEARS {
+        if !stands(threads, alloc, asked, letters, broken, tear_at(place))? {
+            return Ok(false);
+        }
+    }
+    Ok(true)
+}
+
 // Whether it is in each image that is looked at.
 fn stands_whole<H: Threads + Sync>(
     threads: &H,
@@ -56,7 +81,7 @@ fn stands_whole<H: Threads + Sync>(
             return Ok(false);
         }
     }
-    Ok(true)
+    stands_torn(threads, alloc, asked, letters, broken)
 }
 
 // How many of the runs in which a disk fails from a call on aren't.

@@ -82,6 +82,7 @@ fn ready_in(
         dialer,
         launcher: MemLauncher::new(alloc, Vec::new(alloc), Calls::none()),
         disks,
+        remote: None,
     };
     let server = match ready(alloc, words, &mut world) {
         Ok(ready) => Ok(server_of(ready)),
@@ -103,6 +104,7 @@ fn came_of(server: Result<Server, u8>, world: World<Memory>) -> Came {
         dialer,
         launcher,
         disks,
+        remote: _,
     } = world;
     drop(files);
     drop(input);

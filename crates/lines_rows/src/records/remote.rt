@@ -1,5 +1,5 @@
 //! What is told of a port to a server at the other end of a link, over both ends in memory.
-ghost use Rattle.std.specs.Prelude.{◌≡◌, ◌<◌};
+ghost use Rattle.std.specs.Prelude.{◌<◌};
 
 use arrayvec::ArrayVec;
 use auth_events::{AuthPort, PortFault, Reply, Request};
@@ -60,36 +60,6 @@ pub(crate) struct Came {
     pub(crate) left: Told,
 }
 
-// A port, and how often something strange came, which is what it counts.
-#[derive(Drop)]
-struct Counted {
-    port: RemotePort<MemSource, MemSink>,
-    odd: u64,
-    ghost same: { odd ≡ port.talk.odd },
-}
-
-impl Counted {
-    fn new(alloc: Global, from: MemSource, to: MemSink) -> Counted {
-        Counted {
-            port: RemotePort::new(alloc, from, to),
-            odd: 0,
-        }
-    }
-
-    fn ask(self, sid: u64, request: Request) -> (Counted, Result<Reply, PortFault>) {
-        let Counted { mut port, odd } = self;
-        match port.ask(sid, MOMENT, request) {
-            Ok(reply) => (Counted { port, odd }, Ok(reply)),
-            Err(PortFault::NoMemory) => (Counted { port, odd }, Err(PortFault::NoMemory)),
-            Err(PortFault::Link) => (Counted { port, odd }, Err(PortFault::Link)),
-            Err(PortFault::Strange) => {
-                let odd = odd.saturating_add(1);
-                (Counted { port, odd }, Err(PortFault::Strange))
-            }
-        }
-    }
-}
-
 // The request of a line of a client.
 fn request_on(line: &[u8]) -> Option<Request> {
     match read_request(line) {
@@ -135,15 +105,12 @@ fn add_answer(answer: &Result<Reply, PortFault>, out: &mut Told) {
 }
 
 // Asks what the text asks, a session's number and a request, and adds the answer.
-fn ask(counted: Counted, text: &[u8], out: &mut Told) -> Counted {
+fn ask(port: &mut RemotePort<MemSource, MemSink>, text: &[u8], out: &mut Told) {
     let (sid, line) = cut_word(text);
-    let Some(request) = request_of(line) else {
-        add(out, b"no request");
-        return counted;
-    };
-    let (counted, answer) = counted.ask(number_of(sid), request);
-    add_answer(&answer, out);
-    counted
+    match request_of(line) {
+        Some(request) => add_answer(&port.ask(number_of(sid), MOMENT, request), out),
+        None => add(out, b"no request"),
+    }
 }
 
 // The calls of the device at which it is to fail.
@@ -193,8 +160,8 @@ fn left_of(mut from: MemSource) -> Told {
 }
 
 // What came of it.
-fn came_of(counted: Counted, answers: Told) -> Came {
-    let Counted { port, odd } = counted;
+fn came_of(port: RemotePort<MemSource, MemSink>, answers: Told) -> Came {
+    let odd = port.odd();
     let (from, to) = port.into_ends();
     let mut given = Told::new();
     add(&mut given, to.bytes());
@@ -217,15 +184,15 @@ pub(crate) fn talk_over(
 {
     let from = source_of(alloc, talk.said, piece, broken)?;
     let to = sink_of(alloc, broken)?;
-    let mut counted = Counted::new(alloc, from, to);
+    let mut port = RemotePort::new(alloc, from, to);
     let mut answers = Told::new();
     for text in talk.asked.split(|byte| *byte == b';') {
         if !answers.is_empty() {
             add(&mut answers, b";");
         }
-        counted = ask(counted, text, &mut answers);
+        ask(&mut port, text, &mut answers);
     }
-    Ok(came_of(counted, answers))
+    Ok(came_of(port, answers))
 }
 
 /// The device of this name.

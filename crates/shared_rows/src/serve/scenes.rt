@@ -5,7 +5,7 @@ ghost use Rattle.fwtk_serve.specs.RulesFor.{MayServe};
 use crate::serve::door::{Asked, Door, new_door};
 use crate::serve::parts::{ATTACK, BOTH_GREETED, ONE_WORD, Part, TWO_LETTERS};
 use crate::serve::records::{book, mail_rules, rules};
-use crate::serve::spool::{Resting, rack, took};
+use crate::serve::spool::{Resting, rack, taken_by};
 use crate::serve::telling::{tell_mail, tell_report, tell_told};
 use acceptors::Acceptor;
 use auth_machine::Book;
@@ -22,8 +22,8 @@ use std::sync::Wait;
 use std::sync::atomic::AtomicU64;
 use std::thread::{Parker, Threads};
 
-/// What a server answered, and how many messages its mailer took.
-type Answer<A> = Result<(Report<MemKeeper, A, MemDisk>, u64), NoMemory>;
+/// What a server answered, and the messages that its mailer took.
+type Answer<A> = Result<(Report<MemKeeper, A, MemDisk>, Told), NoMemory>;
 
 // The server's own log has room for so many bytes.
 const LOG_ROOM: usize = 1000;
@@ -91,7 +91,7 @@ where
         &mut logs,
         &mut pacer,
     );
-    let taken = took(&mailers);
+    let taken = taken_by(&mailers);
     report.map(|report| (report, taken))
 }
 
@@ -182,7 +182,11 @@ fn hand_in<'a, H: Threads + Wait + Sync>(
 pub(crate) fn tell_two_letters<H: Threads + Wait + Sync>(rt: &H, alloc: Global, out: &mut Told) {
     let told = AtomicU64::new(0);
     match hand_in(rt, alloc, &told, &TWO_LETTERS) {
-        Ok((report, taken)) => tell_mail(out, report, taken),
+        Ok((report, taken)) => {
+            if tell_mail(alloc, out, report, taken.as_slice()).is_err() {
+                add_word(out, b"no memory");
+            }
+        }
         Err(NoMemory) => add_word(out, b"no memory"),
     }
 }

@@ -1,11 +1,13 @@
 //! What is told of a report.
 use crate::serve::door::Door;
+use crate::serve::spool::add_freed;
 use acceptors::Acceptor;
 use auth_events::Entry;
 use fw_memory::{MemDisk, MemKeeper};
-use fw_types::Ending;
+use fw_types::{Ending, NoMemory};
 use fwtk_serve::{Report, Served};
 use lines_of_rows::{Told, add_number, add_word};
+use std::alloc::Global;
 use std::sync::Wait;
 
 fn tell_ending(out: &mut Told, ending: Ending) {
@@ -121,24 +123,14 @@ fn lines_behind(text: &[u8], first: &[u8], front: &[u8]) -> u64 {
     count
 }
 
-// Of how many disks the first byte is 0, as of a free slot.
-fn free_slots(disks: &[MemDisk]) -> u64 {
-    let mut count = 0u64;
-    for disk in disks {
-        if disk.bytes().starts_with(b"\0") {
-            count = count.saturating_add(1);
-        }
-    }
-    count
-}
-
-/// How often each client was told 250 for the data of its message; what the rounds came to; how many messages the mailer took, and
-/// how many slots are free then.
+/// How often each client was told 250 for the data of its message; what the rounds came to; the messages that the mailer took, and
+/// those that the free slots had last.
 pub(crate) fn tell_mail<H: Wait + Sync>(
+    alloc: Global,
     out: &mut Told,
     report: Report<MemKeeper, Door<'_, H>, MemDisk>,
-    taken: u64,
-) {
+    taken: &[u8],
+) -> Result<(), NoMemory> {
     tell_report(out, &report);
     add_word(out, b"| for the data");
     for door in &report.doors {
@@ -155,9 +147,9 @@ pub(crate) fn tell_mail<H: Wait + Sync>(
     add_word(out, b"starved");
     add_number(out, u64::from(report.starved));
     add_word(out, b"| taken");
-    add_number(out, taken);
+    add_word(out, taken);
     let Report { rack, .. } = report;
     let disks = rack.close();
-    add_word(out, b"free");
-    add_number(out, free_slots(&disks));
+    add_word(out, b"| free after");
+    add_freed(alloc, out, &disks)
 }

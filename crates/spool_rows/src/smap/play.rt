@@ -59,6 +59,15 @@ impl Fails {
     }
 }
 
+/// What came of a session, and the rack afterwards.
+#[derive(Drop)]
+pub(crate) struct Held {
+    pub ending: Ending,
+    pub to: MemSink,
+    pub log: MemSink,
+    pub rack: Rack<MemDisk>,
+}
+
 /// What came of a session.
 #[derive(Drop)]
 pub(crate) struct Played {
@@ -67,6 +76,24 @@ pub(crate) struct Played {
     pub log: MemSink,
     /// The disks of all slots afterwards, in order.
     pub disks: Vec<MemDisk>,
+}
+
+impl Held {
+    // Closes the rack.
+    fn close(self) -> Played {
+        let Held {
+            ending,
+            to,
+            log,
+            rack,
+        } = self;
+        Played {
+            ending,
+            to,
+            log,
+            disks: rack.close(),
+        }
+    }
 }
 
 // The bytes of a slot: `f` a free one, `w` with a message of 31 bytes, or digits.
@@ -175,24 +202,27 @@ fn hold(
 }
 
 // The session over a rack.
-fn serve(alloc: Global, limits: (u64, u32), mut rack: Rack<MemDisk>, mut devices: Devices) -> Played
+fn serve(alloc: Global, limits: (u64, u32), mut rack: Rack<MemDisk>, mut devices: Devices) -> Held
     requires bytes { limits.0 ≤ 67108864 }
     requires rcpts { limits.1 ≤ 1000 }
 {
     let ending = hold(alloc, limits, &mut rack, &mut devices);
-    let disks = rack.close();
     let Devices { from, to, log } = devices;
     drop(from);
-    Played {
+    Held {
         ending,
         to,
         log,
-        disks,
+        rack,
     }
 }
 
-// A rack of the slots, where there aren't too many, and each of them is opened.
-fn rack_of(alloc: Global, slots: &[u8], fails: Fails) -> Result<Option<Rack<MemDisk>>, NoMemory> {
+/// A rack of the slots, where there aren't too many, and each of them is opened.
+pub(crate) fn rack_of(
+    alloc: Global,
+    slots: &[u8],
+    fails: Fails,
+) -> Result<Option<Rack<MemDisk>>, NoMemory> {
     let disks = disks_of(alloc, slots, fails)?;
     if disks.len() > 64 {
         return Ok(None);
@@ -213,7 +243,7 @@ fn play_over(
     client: &[u8],
     rack: Rack<MemDisk>,
     fails: Fails,
-) -> Result<Played, NoMemory>
+) -> Result<Held, NoMemory>
     requires bytes { limits.0 ≤ 67108864 }
     requires rcpts { limits.1 ≤ 1000 }
 {
@@ -226,9 +256,13 @@ fn play_over(
     }
 }
 
-/// Plays the session that is asked for, and tells what came of it; nothing where there are too many slots, or one of them
-/// isn't opened.
-pub(crate) fn play(alloc: Global, asked: &[u8], fails: Fails) -> Result<Option<Played>, NoMemory> {
+/// Holds the session that is asked for, and gives the rack back with what came of it; nothing where there are too many slots, or one
+/// of them isn't opened.
+pub(crate) fn hold_all(
+    alloc: Global,
+    asked: &[u8],
+    fails: Fails,
+) -> Result<Option<Held>, NoMemory> {
     let (slots, rest) = cut_word(asked);
     let (bytes, rest) = cut_word(rest);
     let (rcpts, client) = cut_word(rest);
@@ -237,6 +271,15 @@ pub(crate) fn play(alloc: Global, asked: &[u8], fails: Fails) -> Result<Option<P
             let limits = (number_up_to(bytes, 67108864), count_up_to_1000(rcpts));
             Ok(Some(play_over(alloc, limits, client, rack, fails)?))
         }
+        None => Ok(None),
+    }
+}
+
+/// Plays the session that is asked for, and tells what came of it; nothing where there are too many slots, or one of them
+/// isn't opened.
+pub(crate) fn play(alloc: Global, asked: &[u8], fails: Fails) -> Result<Option<Played>, NoMemory> {
+    match hold_all(alloc, asked, fails)? {
+        Some(held) => Ok(Some(held.close())),
         None => Ok(None),
     }
 }

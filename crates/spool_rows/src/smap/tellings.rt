@@ -18,7 +18,7 @@ fn add_text(out: &mut Told, text: &[u8]) {
     }
 }
 
-fn ending_name(ending: Ending) -> &'static [u8] {
+pub(crate) fn ending_name(ending: Ending) -> &'static [u8] {
     match ending {
         Ending::Done => b"Done",
         Ending::Denied { .. } => b"Denied",
@@ -132,10 +132,11 @@ pub(crate) fn tell_bytes(alloc: Global, asked: &[u8], out: &mut Told) -> Result<
     Ok(())
 }
 
-// The calls of one device that fail, from this one on.
-fn fails_of(device: &[u8], first: u64) -> Fails {
+/// The calls of one device that fail, from this one on; `disk` is that of slot 0, after its opening.
+pub(crate) fn fails_of(device: &[u8], first: u64) -> Fails {
     let mut fails = Fails::none();
     match device {
+        b"disk" => fails.disk = Some((0, first)),
         b"client" => fails.source = Some(first),
         b"output" => fails.sink = Some(first),
         b"log" => fails.log = Some(first),
@@ -145,7 +146,7 @@ fn fails_of(device: &[u8], first: u64) -> Fails {
 }
 
 /// `faults DEVICE CALL SLOTS BYTES RCPTS CLIENT => ENDING LETTERS TEXT`: the same, and what the client is told, where `client`,
-/// `output` or `log` fails from this call on.
+/// `output`, `log` or `disk` fails from this call on.
 pub(crate) fn tell_faults(alloc: Global, asked: &[u8], out: &mut Told) -> Result<(), NoMemory> {
     let (device, rest) = cut_word(asked);
     let (first, asked) = cut_word(rest);

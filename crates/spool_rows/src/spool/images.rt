@@ -9,9 +9,33 @@ use slot_bytes::{Message, Slot, SlotFault, read_slot};
 use spool_slots::{Aside, Broken, Full, Opened, ReadBack, SlotWhy, open};
 use std::alloc::Global;
 
-// How many images open as what; a message other than the one that was written is told as bad.
+// The numbers below pick images of each kind, and tear a slot at places 0 to 3.
+const FIRST_PICKS: u64 = 16;
+
+/// Places at which a slot with a message of the rows is torn too: within the head, the length, the number of recipients, a name, the
+/// body's first bytes, and the pieces of a long body.
+const TEARS: [u64; 9] = [4, 10, 13, 15, 20, 25, 29, 5000, 20000];
+
+/// The number that picks the image which is as read below this place, and synced from there on.
+pub(crate) fn tear_at(place: u64) -> u64 {
+    place.saturating_mul(4).saturating_add(2)
+}
+
+/// The numbers of the images that are looked at where a message is written.
+pub(crate) fn picks(alloc: Global) -> Result<Vec<u64>, NoMemory> {
+    let mut picks = Vec::new(alloc);
+    for pick in 0..FIRST_PICKS {
+        picks.push(pick)?;
+    }
+    for place in TEARS {
+        picks.push(tear_at(place))?;
+    }
+    Ok(picks)
+}
+
+/// How many images open as what; a message other than the one that was written is told as bad.
 #[derive(Clone, Copy)]
-struct Counts {
+pub(crate) struct Counts {
     free: u64,
     full: u64,
     aside: u64,
@@ -147,21 +171,28 @@ fn count_opened(
     }
 }
 
-fn count(alloc: Global, disk: MemDisk, body: &[u8], counts: &mut Counts) -> Result<(), NoMemory> {
+/// Counts an image as what it opens as.
+pub(crate) fn count(
+    alloc: Global,
+    disk: MemDisk,
+    body: &[u8],
+    counts: &mut Counts,
+) -> Result<(), NoMemory> {
     match open(alloc, 7, disk) {
         Ok(opened) => count_opened(alloc, opened, body, counts),
         Err((broken, why)) => count_broken(broken, why, counts),
     }
 }
 
-fn tell_counts(counts: Counts, out: &mut Told) {
+pub(crate) fn tell_counts(counts: Counts, out: &mut Told) {
     add_number(out, counts.free);
     add_number(out, counts.full);
     add_number(out, counts.aside);
     add_number(out, counts.bad);
 }
 
-const NONE: Counts = Counts {
+/// No images.
+pub(crate) const NONE: Counts = Counts {
     free: 0,
     full: 0,
     aside: 0,
@@ -176,8 +207,8 @@ fn add_letters(body: &mut Vec<u8>, len: u64) -> Result<(), NoMemory> {
     Ok(())
 }
 
-// A body of pieces of these lengths.
-fn body_of(alloc: Global, lengths: &[u8]) -> Result<Vec<u8>, NoMemory> {
+/// A body of pieces of these lengths.
+pub(crate) fn body_of(alloc: Global, lengths: &[u8]) -> Result<Vec<u8>, NoMemory> {
     let lengths = numbers_of(alloc, lengths)?;
     let mut body = Vec::new(alloc);
     for len in &lengths {
@@ -212,8 +243,8 @@ fn count_marked(
     count(alloc, image, b"abc\r\n", counts)
 }
 
-/// `fill-crashes LENGTHS FIRST => FREE FULL ASIDE BAD`: how many of the images that the numbers 0 to 15 pick after
-/// `fill` open as what; full or aside only where the message is the one that was written.
+/// `fill-crashes LENGTHS FIRST => FREE FULL ASIDE BAD`: how many of the images after `fill` that the numbers 0 to 15 pick, or that are
+/// torn at one of nine places, open as what; full or aside only where the message is the one that was written.
 pub(crate) fn tell_fill_crashes(
     alloc: Global,
     asked: &[u8],
@@ -221,15 +252,16 @@ pub(crate) fn tell_fill_crashes(
 ) -> Result<(), NoMemory> {
     let body = body_of(alloc, cut_word(asked).0)?;
     let mut counts = NONE;
-    for pick in 0..16 {
-        count_filled(alloc, asked, pick, &body, &mut counts)?;
+    for pick in picks(alloc)?.as_slice() {
+        count_filled(alloc, asked, *pick, &body, &mut counts)?;
     }
     tell_counts(counts, out);
     Ok(())
 }
 
-/// `set-aside-crashes DIGITS FIRST`, `release-crashes DIGITS FIRST => FREE FULL ASIDE BAD`: the same after `set-aside`
-/// and `release` of a slot whose body is `abc`, CR, LF.
+/// `set-aside-crashes DIGITS FIRST`, `release-crashes DIGITS FIRST => FREE FULL ASIDE BAD`: how many of the images that the numbers 0
+/// to 15 pick after `set-aside` and `release` of a slot whose body is `abc`, CR, LF open as what. These write one byte, the first or
+/// the second.
 pub(crate) fn tell_mark_crashes(
     alloc: Global,
     kind: &str,
@@ -237,7 +269,7 @@ pub(crate) fn tell_mark_crashes(
     out: &mut Told,
 ) -> Result<(), NoMemory> {
     let mut counts = NONE;
-    for pick in 0..16 {
+    for pick in 0..FIRST_PICKS {
         count_marked(alloc, kind, asked, pick, &mut counts)?;
     }
     tell_counts(counts, out);

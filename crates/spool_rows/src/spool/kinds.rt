@@ -6,6 +6,7 @@ use crate::spool::images::{tell_fill_crashes, tell_mark_crashes};
 use crate::spool::letters::{tell_abandon, tell_fill};
 use crate::spool::marks::{tell_mark, tell_open};
 use crate::spool::racks::tell_rack;
+use crate::spool::refills::{tell_refill, tell_refill_crashes, tell_torn};
 use crate::spool::slots::{base_of, tell_base, tell_head, tell_length, tell_slot};
 use fw_types::NoMemory;
 use lines_of_rows::{Rows, Told, add};
@@ -70,6 +71,7 @@ fn tell_in_slot(alloc: Global, kind: &str, asked: &[u8], out: &mut Told) -> Resu
     match kind {
         "fill" => tell_fill(alloc, asked, out),
         "abandon" => tell_abandon(alloc, asked, out),
+        "refill" => tell_refill(alloc, asked, out),
         "open" => tell_open(alloc, asked, out),
         "set-aside" | "release" => tell_mark(alloc, kind, asked, out),
         _ => tell_crashed(alloc, kind, asked, out),
@@ -80,6 +82,8 @@ fn tell_in_slot(alloc: Global, kind: &str, asked: &[u8], out: &mut Told) -> Resu
 fn tell_crashed(alloc: Global, kind: &str, asked: &[u8], out: &mut Told) -> Result<(), NoMemory> {
     match kind {
         "fill-crashes" => tell_fill_crashes(alloc, asked, out),
+        "refill-crashes" => tell_refill_crashes(alloc, asked, out),
+        "torn" => tell_torn(alloc, asked, out),
         "set-aside-crashes" => tell_mark_crashes(alloc, "set-aside", asked, out),
         "release-crashes" => tell_mark_crashes(alloc, "release", asked, out),
         _ => {

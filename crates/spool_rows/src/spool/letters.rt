@@ -8,15 +8,20 @@ use lines_of_rows::{Told, add_number, add_word, cut_word, number_of, numbers_of}
 use spool_slots::{Aside, Broken, Filling, Free, Full, StartFault, format};
 use std::alloc::Global;
 
-// How many calls of the disk `format` makes, and `open` of a small slot.
+// How many calls of the disk `format` makes, and `open` of a small slot with a message.
 const BEFORE: u64 = 3;
 
-// From this call on, counted behind these calls, or none for `-`.
-pub(crate) fn failing(first: &[u8]) -> Calls {
+/// From this call on, counted after so many, or none for `-`.
+pub(crate) fn failing_after(before: u64, first: &[u8]) -> Calls {
     match first {
         [b'-'] => Calls::none(),
-        _ => Calls::onward(number_of(first).saturating_add(BEFORE)),
+        _ => Calls::onward(number_of(first).saturating_add(before)),
     }
+}
+
+/// From this call on, counted after those of `format`, or of `open` of a small slot with a message.
+pub(crate) fn failing(first: &[u8]) -> Calls {
+    failing_after(BEFORE, first)
 }
 
 pub(crate) fn tell_broken(broken: Broken<MemDisk>, out: &mut Told) -> MemDisk {
@@ -42,7 +47,7 @@ pub(crate) fn tell_aside(aside: Aside<MemDisk>, out: &mut Told) -> MemDisk {
     aside.into_disk()
 }
 
-fn tell_full(full: Full<MemDisk>, out: &mut Told) -> MemDisk {
+pub(crate) fn tell_full(full: Full<MemDisk>, out: &mut Told) -> MemDisk {
     add_word(out, b"full");
     add_number(out, u64::from(full.number()));
     full.into_disk()
@@ -93,7 +98,8 @@ fn fill(filling: Filling<MemDisk>, lengths: &[u64], keep: bool, out: &mut Told) 
     }
 }
 
-fn start_and_fill(
+/// A message in this free slot, with pieces of these lengths.
+pub(crate) fn start_and_fill(
     alloc: Global,
     free: Free<MemDisk>,
     rcpts: &OctetsList,

@@ -1,6 +1,6 @@
 use Rattle.bastion.specs.Words.{line_of}
 use Rattle.bastion.proofs.AccountLemmas.{account_headline, run_account}
-use Rattle.bastion.proofs.RunLemmas.{run_back, run_disks, run_so, run_takes}
+use Rattle.bastion.proofs.RunLemmas.{run_back, run_disks, run_remote, run_takes}
 use Rattle.bastion.proofs.running.run.Goals as goal
 
 pub returns : goal.returns
@@ -9,9 +9,9 @@ returns g c =
     let new = c.tell.new.world in
     let line = line_of c.args.words.now in
     let does = c.obey-outcome.ensures.does in
-    let ran = run_so _ line c.obey-outcome.result c.status.result old c.obey-outcome.new.world new does c.tell.ensures c.status.ensures in
+    let account = run_account _ line c.obey-outcome.result c.status.result old c.obey-outcome.new.world new does c.tell.ensures c.status.ensures in
+    let ran = account.ran in
     let back = run_back _ line c.status.result old new ran in
-    let account = run_account _ line c.status.result old new ran in
     record {
       account = account;
       headline = account_headline _ line c.status.result old new account;
@@ -19,5 +19,6 @@ returns g c =
       disks = run_disks _ line c.status.result old new ran;
       mailers = c.obey-outcome.ensures.mailers;
       returned = back.out;
+      remote = run_remote _ line c.status.result old new ran;
       kept = back.keeper c.requires.keeper;
     }
