@@ -1,7 +1,7 @@
 #!/bin/sh
-# Installs fwtk, its manual pages, an example table and the words of one-time passwords under a prefix. The program is built if it isn't yet or a source is
-# newer, or is the one that FWTK_PROGRAM names. DESTDIR, if it is set, stands before the prefix. No permission table is
-# written or changed.
+# Installs fwtk, its manual pages, what these call "of the sources", an example table and the words of one-time passwords under a
+# prefix. The program is built if it isn't yet or a source is newer, or is the one that FWTK_PROGRAM names. DESTDIR, if it is set,
+# stands before the prefix. No permission table is written or changed.
 set -eu
 
 if [ $# -ne 1 ]; then
@@ -52,5 +52,11 @@ done
 for page in authsrv ftp-gw fwtk netacl plug-gw serve smap smapd tn-gw; do
   put 644 "$top/docs/man/$page.8" "$under/share/man/man8/$page.8"
 done
+# The other pages and the files for operators, in the folders in which the manual has them, with one line for all.
+(CDPATH='' cd -- "$top" && find README.md CHANGELOG.md LICENSE SECURITY.md docs contrib -type f) | while read -r file; do
+  if [ -x "$top/$file" ]; then mode=755; else mode=644; fi
+  put "$mode" "$top/$file" "$under/share/doc/fwtk/$file" >/dev/null
+done
+echo "$under/share/doc/fwtk"
 put 644 "$top/contrib/otp-words" "$under/share/fwtk/otp-words"
 put 644 "$crate/data/site-table" "$under/etc/netperm-table.example"
